@@ -1,0 +1,47 @@
+-- What one frame says: its kind, its channel, the number that it carries, and its lane. The kinds of frame are those of LCMUX; lanes are this project's own.
+use Rattle.std.specs.Prelude.{ℕ, ◌+◌, length}
+use Rattle.lc_frame.specs.declared.channel.Channel.{Channel}
+use Rattle.lc_frame.specs.declared.kind.Kind.{Kind}
+use Rattle.lc_frame.specs.declared.kind.Kind.TheVariants as kinds
+use Rattle.lc_frame.specs.declared.frame.Frame.{Frame}
+use Rattle.lc_frame.specs.declared.frame.Frame.TheVariants.{Send, Issue, Absolve, Plead, LimitSending, LimitReceiving}
+use Rattle.lc_frame.specs.Channel.{number_of}
+use Rattle.lc_frame.specs.Kind.{IsInRange}
+
+abbrev pub kind_of : Frame → Kind
+kind_of (Send c body) = kinds.Send
+kind_of (Issue c amount) = kinds.Issue
+kind_of (Absolve c amount) = kinds.Absolve
+kind_of (Plead c target) = kinds.Plead
+kind_of (LimitSending c bound) = kinds.LimitSending
+kind_of (LimitReceiving c bound) = kinds.LimitReceiving
+
+abbrev pub channel_of : Frame → Channel
+channel_of (Send c body) = c
+channel_of (Issue c amount) = c
+channel_of (Absolve c amount) = c
+channel_of (Plead c target) = c
+channel_of (LimitSending c bound) = c
+channel_of (LimitReceiving c bound) = c
+
+-- the number that a frame carries: a message's length, an amount, a target or a bound
+abbrev pub field_of : Frame → ℕ
+field_of (Send c body) = length body
+field_of (Issue c amount) = amount
+field_of (Absolve c amount) = amount
+field_of (Plead c target) = target
+field_of (LimitSending c bound) = bound
+field_of (LimitReceiving c bound) = bound
+
+-- a frame is valid where its number is in the range of its kind
+abbrev pub IsValid : Frame → Type 0
+IsValid f = IsInRange (kind_of f) (field_of f)
+
+-- what a client puts has its channel's number, what a server puts has 7 more
+abbrev pub lane_of : Frame → ℕ
+lane_of (Send c body) = number_of c
+lane_of (Issue c amount) = 7 + number_of c
+lane_of (Absolve c amount) = number_of c
+lane_of (Plead c target) = 7 + number_of c
+lane_of (LimitSending c bound) = number_of c
+lane_of (LimitReceiving c bound) = 7 + number_of c

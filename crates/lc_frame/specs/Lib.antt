@@ -1,0 +1,4 @@
+pub mod Channel
+pub mod Kind
+pub mod Frame
+pub mod Stream

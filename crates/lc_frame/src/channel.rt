@@ -1,0 +1,41 @@
+//! The seven logical channels.
+ghost use Rattle.std.specs.Prelude.{◌≡◌, ◌<◌};
+ghost use Rattle.lc_frame.specs.Channel.{number_of, channel_at};
+
+/// A logical channel. Each runs in both directions, independently.
+#[derive(Clone, Copy, Debug, PartialEq, Eq)]
+pub enum Channel {
+    ReconciliationChannel,
+    DataChannel,
+    OverlapChannel,
+    CapabilityChannel,
+    AreaOfInterestChannel,
+    PayloadRequestChannel,
+    StaticTokenChannel,
+}
+
+impl Channel {
+    /// The channel's number, 0 to 6.
+    pub fn number(self) -> u8
+        ensures value { result ≡ number_of self }
+        ensures range { result < 7 }
+    {
+        self as u8
+    }
+
+    /// The channel of a number, `None` above 6.
+    pub fn from_number(number: u8) -> Option<Channel>
+        ensures { result ≡ channel_at number }
+    {
+        match number {
+            0 => Some(Channel::ReconciliationChannel),
+            1 => Some(Channel::DataChannel),
+            2 => Some(Channel::OverlapChannel),
+            3 => Some(Channel::CapabilityChannel),
+            4 => Some(Channel::AreaOfInterestChannel),
+            5 => Some(Channel::PayloadRequestChannel),
+            6 => Some(Channel::StaticTokenChannel),
+            _ => None,
+        }
+    }
+}
