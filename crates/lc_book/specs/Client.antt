@@ -1,0 +1,94 @@
+-- The client's book of one channel direction, and its row of the table of rules. Guarantees, sending within them and absolving are LCMUX's, also that a server may plead; the order of refusals, what a plead names and what an honour absolves are this project's own.
+use Rattle.std.specs.Prelude.{ℕ, ◌+◌, ◌-◌, ◌≤◌, ◌==◌, nat_lt, if◌then◌else◌, Option, Some, None, unwrap_or}
+use Rattle.std.specs.Option.{option_and_then, ForSome}
+use Rattle.lc_frame.specs.Kind.{max_body, max_amount, max_total}
+use Rattle.lc_book.specs.declared.client.ClientParts.{ClientParts}
+use Rattle.lc_book.specs.declared.fault.Refusal.{Refusal}
+use Rattle.lc_book.specs.declared.fault.Refusal.TheVariants.{EmptyBody, BodyTooLong, PastSendLimit, NoGuarantee, ZeroAmount, NotHeld}
+use Rattle.lc_book.specs.declared.fault.Violation.{Violation}
+use Rattle.lc_book.specs.declared.fault.Violation.TheVariants.{IssuedPastLimit, TooManyGuarantees, ReceiveLimitRaised, TotalPassed}
+use Rattle.lc_book.specs.Limit.{is_past, less, left_of}
+
+-- the guarantees that came, those that messages used up, those that the client gave up, what is left of both limits, and the target of the plead that is kept
+pub record Client : Type 0 where
+  pub received : ℕ
+  pub spent : ℕ
+  pub absolved : ℕ
+  pub send_left : Option ℕ
+  pub receive_left : Option ℕ
+  pub asked : Option ℕ
+
+abbrev pub new_client : Client
+new_client = record { received = 0; spent = 0; absolved = 0; send_left = None; receive_left = None; asked = None }
+
+-- the guarantees that the client has left. On these numbers the minus stops at 0; IsClient says that it never has to
+abbrev pub held : Client → ℕ
+held b = b.received - b.spent - b.absolved
+
+-- no balance is below 0, and the numbers are within the profile's limits
+pub record IsClient (b : Client) : Type 0 where
+  pub paid : b.spent + b.absolved ≤ b.received
+  pub total : b.received ≤ max_total
+  pub small : held b ≤ max_amount
+  pub send_bound : ForSome b.send_left (λ left. left ≤ max_total)
+  pub receive_bound : ForSome b.receive_left (λ left. left ≤ max_total)
+  pub target : ForSome b.asked (λ target. target ≤ max_amount)
+
+abbrev pub client_of_parts : ClientParts → Client
+client_of_parts p = record { received = p.received; spent = p.spent; absolved = p.absolved; send_left = p.send_left; receive_left = p.receive_left; asked = p.asked }
+
+-- why a client may not send so many bytes, and what a message leaves
+abbrev pub spend_refusal : Client → ℕ → Option Refusal
+spend_refusal b len =
+    if len == 0 then Some EmptyBody
+    else (if nat_lt max_body len then Some BodyTooLong
+    else (if is_past b.send_left len then Some (PastSendLimit (left_of b.send_left))
+    else (if nat_lt (held b) len then Some (NoGuarantee (held b))
+    else None)))
+
+abbrev pub spend : Client → ℕ → Client
+spend b len = record b { spent = b.spent + len; send_left = less b.send_left len }
+
+-- why a client may not absolve so much, and what absolving leaves
+abbrev pub absolve_refusal : Client → ℕ → Option Refusal
+absolve_refusal b n =
+    if n == 0 then Some ZeroAmount
+    else (if nat_lt (held b) n then Some (NotHeld (held b))
+    else None)
+
+abbrev pub absolve : Client → ℕ → Client
+absolve b n = record b { absolved = b.absolved + n }
+
+-- what it takes to come down to the target of the plead that is kept, where more is held
+abbrev pub amount_to_absolve : Client → Option ℕ
+amount_to_absolve b = option_and_then (λ target. if nat_lt target (held b) then Some (held b - target) else None) b.asked
+
+-- honouring absolves that amount, and forgets the plead
+abbrev pub honour : Client → Client
+honour b = record b { absolved = b.absolved + unwrap_or (amount_to_absolve b) 0; asked = None }
+
+-- a limit on sending
+abbrev pub limit_client : Client → ℕ → Client
+limit_client b bound = record b { send_left = Some bound }
+
+-- what is wrong with guarantees that arrive, and what they leave
+abbrev pub issued_violation : Client → ℕ → Option Violation
+issued_violation b n =
+    if is_past b.receive_left n then Some IssuedPastLimit
+    else (if nat_lt max_amount (held b + n) then Some TooManyGuarantees
+    else (if nat_lt max_total (b.received + n) then Some TotalPassed
+    else None))
+
+abbrev pub add_received : Client → ℕ → Client
+add_received b n = record b { received = b.received + n; receive_left = less b.receive_left n }
+
+-- a plead that arrives is kept in place of an older one
+abbrev pub keep_plead : Client → ℕ → Client
+keep_plead b target = record b { asked = Some target }
+
+-- what is wrong with a limit on receiving that arrives, and what it leaves
+abbrev pub receive_limit_violation : Client → ℕ → Option Violation
+receive_limit_violation b bound = if is_past b.receive_left bound then Some ReceiveLimitRaised else None
+
+abbrev pub note_receive_limit : Client → ℕ → Client
+note_receive_limit b bound = record b { receive_left = Some bound }

@@ -1,0 +1,4 @@
+pub mod Fault
+pub mod Limit
+pub mod Client
+pub mod Server

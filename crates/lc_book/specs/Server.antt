@@ -1,0 +1,102 @@
+-- The server's book of one channel direction, and its row of the table of rules. Guarantees as promises of free buffer space, and pleading for their absolution, are LCMUX's; the order of refusals and the violations are this project's own.
+use Rattle.std.specs.Prelude.{◌≡◌, ℕ, ◌+◌, ◌-◌, ◌≤◌, ◌==◌, nat_lt, nat_le, if◌then◌else◌, Option, Some, None}
+use Rattle.std.specs.Option.{ForSome}
+use Rattle.lc_frame.specs.Kind.{max_amount, max_total}
+use Rattle.lc_book.specs.declared.server.ServerParts.{ServerParts}
+use Rattle.lc_book.specs.declared.fault.Refusal.{Refusal}
+use Rattle.lc_book.specs.declared.fault.Refusal.TheVariants.{ZeroAmount, PastReceiveLimit, NoRoom, NothingToAsk, TotalReached}
+use Rattle.lc_book.specs.declared.fault.Violation.{Violation}
+use Rattle.lc_book.specs.declared.fault.Violation.TheVariants.{NotGuaranteed, SentPastLimit, AbsolvedTooMuch, SendLimitRaised}
+use Rattle.lc_book.specs.Limit.{is_past, less, left_of}
+
+-- the bytes of the receiving ring, the guarantees issued, the bytes that arrived and those that were taken, the guarantees absolved, and what is left of both limits
+pub record Server : Type 0 where
+  pub capacity : ℕ
+  pub issued : ℕ
+  pub arrived : ℕ
+  pub taken : ℕ
+  pub absolved : ℕ
+  pub send_left : Option ℕ
+  pub receive_left : Option ℕ
+
+pub record IsCapacity (capacity : ℕ) : Type 0 where
+  pub at_least : 1 ≤ capacity
+  pub at_most : capacity ≤ max_amount
+
+abbrev pub new_server : ℕ → Server
+new_server capacity = record { capacity = capacity; issued = 0; arrived = 0; taken = 0; absolved = 0; send_left = None; receive_left = None }
+
+-- the promises that still stand, the bytes that wait, and the rest of the ring. On these numbers the minus stops at 0; IsServer says that it never has to
+abbrev pub outstanding : Server → ℕ
+outstanding b = b.issued - b.arrived - b.absolved
+
+abbrev pub buffered : Server → ℕ
+buffered b = b.arrived - b.taken
+
+abbrev pub room : Server → ℕ
+room b = b.capacity - outstanding b - buffered b
+
+-- the client will send nothing more
+abbrev pub IsEnded : Server → Type 0
+IsEnded b = b.send_left ≡ Some 0
+
+-- no balance is below 0, the ring holds what is buffered and what is promised, and the numbers are within the profile's limits
+pub record IsServer (b : Server) : Type 0 where
+  pub capacity : IsCapacity b.capacity
+  pub used : b.arrived + b.absolved ≤ b.issued
+  pub total : b.issued ≤ max_total
+  pub taken : b.taken ≤ b.arrived
+  pub fits : outstanding b + buffered b ≤ b.capacity
+  pub send_bound : ForSome b.send_left (λ left. left ≤ max_total)
+  pub receive_bound : ForSome b.receive_left (λ left. left ≤ max_total)
+
+abbrev pub server_of_parts : ServerParts → Server
+server_of_parts p = record { capacity = p.capacity; issued = p.issued; arrived = p.arrived; taken = p.taken; absolved = p.absolved; send_left = p.send_left; receive_left = p.receive_left }
+
+-- why a server may not issue so much, and what issuing leaves
+abbrev pub issue_refusal : Server → ℕ → Option Refusal
+issue_refusal b n =
+    if n == 0 then Some ZeroAmount
+    else (if is_past b.receive_left n then Some (PastReceiveLimit (left_of b.receive_left))
+    else (if nat_lt (room b) n then Some (NoRoom (room b))
+    else (if nat_lt max_total (b.issued + n) then Some TotalReached
+    else None)))
+
+abbrev pub issue : Server → ℕ → Server
+issue b n = record b { issued = b.issued + n; receive_left = less b.receive_left n }
+
+-- why a server may not plead: the target is met already
+abbrev pub plead_refusal : Server → ℕ → Option Refusal
+plead_refusal b target = if nat_le (outstanding b) target then Some (NothingToAsk (outstanding b)) else None
+
+-- a limit on receiving
+abbrev pub limit_server : Server → ℕ → Server
+limit_server b bound = record b { receive_left = Some bound }
+
+-- a message was taken out of the ring
+abbrev pub note_taken : Server → ℕ → Server
+note_taken b len = record b { taken = b.taken + len }
+
+-- what is wrong with a message that arrives, and what it leaves
+abbrev pub message_violation : Server → ℕ → Option Violation
+message_violation b len =
+    if nat_lt (outstanding b) len then Some NotGuaranteed
+    else (if is_past b.send_left len then Some SentPastLimit
+    else None)
+
+abbrev pub add_arrived : Server → ℕ → Server
+add_arrived b len = record b { arrived = b.arrived + len; send_left = less b.send_left len }
+
+-- what is wrong with an absolving that arrives, and what it leaves
+abbrev pub absolve_violation : Server → ℕ → Option Violation
+absolve_violation b n = if nat_lt (outstanding b) n then Some AbsolvedTooMuch else None
+
+abbrev pub add_absolved : Server → ℕ → Server
+add_absolved b n = record b { absolved = b.absolved + n }
+
+-- what is wrong with a limit on sending that arrives, and what it leaves
+abbrev pub send_limit_violation : Server → ℕ → Option Violation
+send_limit_violation b bound = if is_past b.send_left bound then Some SendLimitRaised else None
+
+abbrev pub note_send_limit : Server → ℕ → Server
+note_send_limit b bound = record b { send_left = Some bound }

@@ -1,0 +1,272 @@
+//! The server's book: guarantees issued, used up by messages and absolved, what is buffered, and both limits.
+ghost use Rattle.std.specs.Prelude.{◌≡◌, ◌≤◌, ◌<◌, ◌↔◌, ◌⊎◌, if◌then◌else◌, is_ok, IsSome, IfSome, IsTrue, ◌+◌};
+ghost use Rattle.std.specs.Result.{result_err};
+ghost use Rattle.lc_frame.specs.Kind.{max_body, max_amount, max_total};
+ghost use Rattle.lc_book.specs.Limit.{limit_refusal};
+ghost use Rattle.lc_book.specs.Server.{IsCapacity, IsServer, server_of_parts, new_server, outstanding, buffered, room, IsEnded, issue_refusal, issue, plead_refusal, limit_server, note_taken, message_violation, add_arrived, absolve_violation, add_absolved, send_limit_violation, note_send_limit};
+
+use crate::fault::{Refusal, Violation};
+use crate::limit::{is_bound, limited};
+use lc_frame::{MAX_AMOUNT, MAX_TOTAL};
+use std::marker::Model;
+
+/// The book of a channel direction at its server. All numbers count bytes of messages.
+#[derive(Clone, Copy, Debug, PartialEq, Eq)]
+pub struct ServerBook {
+    capacity: u32,
+    issued: u64,
+    arrived: u64,
+    taken: u64,
+    absolved: u64,
+    send_left: Option<u64>,
+    receive_left: Option<u64>,
+}
+
+impl Model for ServerBook {
+    ghost use Rattle.lc_book.specs.Server.{Server, IsServer};
+
+    ghost Value = { Server };
+
+    ghost view = { λ b. record { capacity = b.capacity; issued = b.issued; arrived = b.arrived; taken = b.taken; absolved = b.absolved; send_left = b.send_left; receive_left = b.receive_left } };
+
+    ghost invariant = { λ b. IsServer (record { capacity = b.capacity; issued = b.issued; arrived = b.arrived; taken = b.taken; absolved = b.absolved; send_left = b.send_left; receive_left = b.receive_left }) };
+
+    ghost inverse = { λ b. record { capacity = b.capacity; issued = b.issued; arrived = b.arrived; taken = b.taken; absolved = b.absolved; send_left = b.send_left; receive_left = b.receive_left } };
+}
+
+/// The fields of a server's book, by name. `None` is no limit.
+#[derive(Clone, Copy, Debug, PartialEq, Eq)]
+pub struct ServerParts {
+    pub capacity: u32,
+    pub issued: u64,
+    pub arrived: u64,
+    pub taken: u64,
+    pub absolved: u64,
+    pub send_left: Option<u64>,
+    pub receive_left: Option<u64>,
+}
+
+impl ServerBook {
+    /// The book of a channel on which nothing has happened, over a receiving ring of so many
+    /// bytes. `None` where the capacity is not 1 to 2^24.
+    pub fn new(capacity: u32) -> Option<ServerBook>
+        ensures valid { IsSome result ↔ IsCapacity capacity }
+        ensures value { IfSome result (λ b. b ≡ new_server capacity) }
+    {
+        if capacity == 0 || capacity > MAX_AMOUNT {
+            return None;
+        }
+        Some(ServerBook {
+            capacity,
+            issued: 0,
+            arrived: 0,
+            taken: 0,
+            absolved: 0,
+            send_left: None,
+            receive_left: None,
+        })
+    }
+
+    /// A book of these fields, `None` exactly where they break what every book keeps: the capacity
+    /// is 1 to 2^24, what arrived and was absolved is at most what was issued, what was issued and
+    /// both limits are at most 2^62, what was taken is at most what arrived, and what is
+    /// outstanding and buffered together at most the capacity. For tests.
+    pub fn restore(parts: ServerParts) -> Option<ServerBook>
+        ensures valid { IsSome result ↔ IsServer (server_of_parts parts) }
+        ensures value { IfSome result (λ b. b ≡ server_of_parts parts) }
+    {
+        let ServerParts {
+            capacity,
+            issued,
+            arrived,
+            taken,
+            absolved,
+            send_left,
+            receive_left,
+        } = parts;
+        if capacity == 0 || capacity > MAX_AMOUNT || issued > MAX_TOTAL {
+            return None;
+        }
+        if arrived > issued || absolved > issued - arrived || taken > arrived {
+            return None;
+        }
+        if (issued - arrived - absolved) + (arrived - taken) > u64::from(capacity) {
+            return None;
+        }
+        if !is_bound(send_left) || !is_bound(receive_left) {
+            return None;
+        }
+        Some(ServerBook {
+            capacity,
+            issued,
+            arrived,
+            taken,
+            absolved,
+            send_left,
+            receive_left,
+        })
+    }
+
+    /// The bytes of the receiving ring, 1 to 2^24.
+    pub fn capacity(&self) -> u32
+        ensures value { result ≡ self.now.capacity }
+        ensures range { IsCapacity result }
+    {
+        self.capacity
+    }
+
+    /// The guarantees that were issued, and neither used up by a message that arrived nor absolved.
+    pub fn outstanding(&self) -> u64
+        ensures value { result ≡ outstanding self.now }
+        ensures fits { result + buffered self.now ≤ self.now.capacity }
+    {
+        self.issued - self.arrived - self.absolved
+    }
+
+    /// The bytes that arrived and were not taken.
+    pub fn buffered(&self) -> u64
+        ensures value { result ≡ buffered self.now }
+        ensures fits { result + outstanding self.now ≤ self.now.capacity }
+    {
+        self.arrived - self.taken
+    }
+
+    /// The bytes of the ring that are neither buffered nor promised.
+    pub fn room(&self) -> u64
+        ensures value { result ≡ room self.now }
+        ensures sum { result + outstanding self.now + buffered self.now ≡ self.now.capacity }
+    {
+        u64::from(self.capacity) - self.outstanding() - self.buffered()
+    }
+
+    /// All guarantees that were issued.
+    pub fn issued(&self) -> u64
+        ensures { result ≡ self.now.issued }
+    {
+        self.issued
+    }
+
+    /// What the client may still send, `None` without a limit.
+    pub fn send_left(&self) -> Option<u64>
+        ensures { result ≡ self.now.send_left }
+    {
+        self.send_left
+    }
+
+    /// What may still be issued, `None` without a limit.
+    pub fn receive_left(&self) -> Option<u64>
+        ensures { result ≡ self.now.receive_left }
+    {
+        self.receive_left
+    }
+
+    /// Whether the client will send nothing more: its limit on sending is used up.
+    pub fn is_ended(&self) -> bool
+        ensures { IsTrue result ↔ IsEnded self.now }
+    {
+        matches!(self.send_left, Some(0))
+    }
+
+    /// `n` guarantees are issued. Refused by 5, 9, 10 and 12, in this order.
+    pub fn issue(&mut self, n: u32) -> Result<(), Refusal>
+        ensures answer { result_err result ≡ issue_refusal self.old n }
+        ensures after { self.new ≡ (if is_ok result then issue self.old n else self.old) }
+    {
+        if n == 0 {
+            return Err(Refusal::ZeroAmount);
+        }
+        let amount = u64::from(n);
+        let receive_left = match self.receive_left {
+            Some(left) if amount > left => return Err(Refusal::PastReceiveLimit { left }),
+            Some(left) => Some(left - amount),
+            None => None,
+        };
+        let room = self.room();
+        if amount > room {
+            return Err(Refusal::NoRoom { room });
+        }
+        if self.issued + amount > MAX_TOTAL {
+            return Err(Refusal::TotalReached);
+        }
+        self.issued += amount;
+        self.receive_left = receive_left;
+        Ok(())
+    }
+
+    /// The client is asked to absolve until it holds at most `target`. Refused by 11; the book
+    /// stays as it is.
+    pub fn plead(&self, target: u32) -> Result<(), Refusal>
+        ensures { result_err result ≡ plead_refusal self.now target }
+    {
+        let outstanding = self.outstanding();
+        if u64::from(target) >= outstanding {
+            return Err(Refusal::NothingToAsk { outstanding });
+        }
+        Ok(())
+    }
+
+    /// At most `bound` guarantees are issued from here on. Refused by 7 and 8, in this order.
+    pub fn limit_receiving(&mut self, bound: u64) -> Result<(), Refusal>
+        ensures answer { result_err result ≡ limit_refusal self.old.receive_left bound }
+        ensures after { self.new ≡ (if is_ok result then limit_server self.old bound else self.old) }
+    {
+        self.receive_left = Some(limited(self.receive_left, bound)?);
+        Ok(())
+    }
+
+    /// A buffered message of `len` bytes was taken.
+    pub fn note_taken(&mut self, len: u32)
+        requires { len ≤ buffered self.old }
+        ensures { self.new ≡ note_taken self.old len }
+    {
+        self.taken += u64::from(len);
+    }
+
+    /// A message of `len` bytes arrives. Violations 1 and 2, in this order.
+    pub fn message(&mut self, len: u32) -> Result<(), Violation>
+        requires { len ≤ max_body }
+        ensures answer { result_err result ≡ message_violation self.old len }
+        ensures after { self.new ≡ (if is_ok result then add_arrived self.old len else self.old) }
+    {
+        let cost = u64::from(len);
+        if cost > self.outstanding() {
+            return Err(Violation::NotGuaranteed);
+        }
+        let send_left = match self.send_left {
+            Some(left) if cost > left => return Err(Violation::SentPastLimit),
+            Some(left) => Some(left - cost),
+            None => None,
+        };
+        self.arrived += cost;
+        self.send_left = send_left;
+        Ok(())
+    }
+
+    /// `n` absolved guarantees arrive. Violation 3.
+    pub fn was_absolved(&mut self, n: u32) -> Result<(), Violation>
+        requires { n ≤ max_amount }
+        ensures answer { result_err result ≡ absolve_violation self.old n }
+        ensures after { self.new ≡ (if is_ok result then add_absolved self.old n else self.old) }
+    {
+        if u64::from(n) > self.outstanding() {
+            return Err(Violation::AbsolvedTooMuch);
+        }
+        self.absolved += u64::from(n);
+        Ok(())
+    }
+
+    /// The client's limit arrives. Violation 4.
+    pub fn sending_limited(&mut self, bound: u64) -> Result<(), Violation>
+        requires { bound ≤ max_total }
+        ensures answer { result_err result ≡ send_limit_violation self.old bound }
+        ensures after { self.new ≡ (if is_ok result then note_send_limit self.old bound else self.old) }
+    {
+        if let Some(left) = self.send_left
+            && bound > left
+        {
+            return Err(Violation::SendLimitRaised);
+        }
+        self.send_left = Some(bound);
+        Ok(())
+    }
+}
