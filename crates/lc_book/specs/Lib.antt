@@ -2,3 +2,4 @@ pub mod Fault
 pub mod Limit
 pub mod Client
 pub mod Server
+pub mod Sums

@@ -1,0 +1,115 @@
+-- The books as sums over the streams of both sides, and what one frame more makes of them. That a book's balances are those of the frames on the streams is what LCMUX means by guarantees issued, used and absolved.
+use Rattle.std.specs.Prelude.{◌≡◌, ℕ, ◌+◌, List, [], ◌∷◌, ◌++◌, length, false, Option, Some, None}
+use Rattle.lc_frame.specs.declared.channel.Channel.{Channel}
+use Rattle.lc_frame.specs.declared.frame.Frame.{Frame}
+use Rattle.lc_frame.specs.declared.frame.Frame.TheVariants.{Send, Issue, Absolve, Plead, LimitSending, LimitReceiving}
+use Rattle.lc_frame.specs.Channel.{is_same, number_of}
+use Rattle.lc_frame.specs.Frame.{channel_of, IsValid}
+use Rattle.lc_frame.specs.Stream.{of_lane, messages, cost, issued as issued_on, absolved as absolved_on, send_left as send_left_on, receive_left as receive_left_on}
+use Rattle.lc_book.specs.Limit.{limit_refusal}
+use Rattle.lc_book.specs.Client.{Client, IsClient, spend_refusal, spend, absolve_refusal, absolve, amount_to_absolve, honour, limit_client, add_received, keep_plead, note_receive_limit}
+use Rattle.lc_book.specs.Server.{Server, IsServer, issue_refusal, issue, plead_refusal, limit_server, add_arrived, add_absolved, note_send_limit}
+
+-- the client's book of a channel, by all frames that it put, the frames that arrived at it, and the target of the plead that it keeps
+abbrev pub client_of : Channel → List Frame → List Frame → Option ℕ → Client
+client_of c put arrived asked =
+    record {
+      received = issued_on c arrived;
+      spent = cost c put;
+      absolved = absolved_on c put;
+      send_left = send_left_on c put;
+      receive_left = receive_left_on c arrived;
+      asked = asked;
+    }
+
+-- the server's book, by all frames that it put, the frames that arrived at it, and the bytes that were taken
+abbrev pub server_of : ℕ → Channel → List Frame → List Frame → ℕ → Server
+server_of capacity c put arrived taken =
+    record {
+      capacity = capacity;
+      issued = issued_on c put;
+      arrived = cost c arrived;
+      taken = taken;
+      absolved = absolved_on c arrived;
+      send_left = send_left_on c arrived;
+      receive_left = receive_left_on c put;
+    }
+
+-- what a frame on its channel leaves of the client's book, where the client put it, and where it arrived
+abbrev pub client_after_put : Frame → Client → Client
+client_after_put (Send c body) b = spend b (length body)
+client_after_put (Absolve c amount) b = absolve b amount
+client_after_put (LimitSending c bound) b = limit_client b bound
+client_after_put f b = b
+
+abbrev pub client_after_arrival : Frame → Client → Client
+client_after_arrival (Issue c amount) b = add_received b amount
+client_after_arrival (Plead c target) b = keep_plead b target
+client_after_arrival (LimitReceiving c bound) b = note_receive_limit b bound
+client_after_arrival f b = b
+
+-- and of the server's
+abbrev pub server_after_put : Frame → Server → Server
+server_after_put (Issue c amount) b = issue b amount
+server_after_put (LimitReceiving c bound) b = limit_server b bound
+server_after_put f b = b
+
+abbrev pub server_after_arrival : Frame → Server → Server
+server_after_arrival (Send c body) b = add_arrived b (length body)
+server_after_arrival (Absolve c amount) b = add_absolved b amount
+server_after_arrival (LimitSending c bound) b = note_send_limit b bound
+server_after_arrival f b = b
+
+-- the plead that is kept after a frame on its channel arrived
+abbrev pub asked_after : Frame → Option ℕ → Option ℕ
+asked_after (Plead c target) asked = Some target
+asked_after f asked = asked
+
+-- a book of sums is one again after a frame: by the frame's row on its own channel, as it was on every other
+pub record ClientKeepsSums (put arrived : List Frame) (asked : Option ℕ) (f : Frame) : Type 0 where
+  pub put_here : client_after_put f (client_of (channel_of f) put arrived asked) ≡ client_of (channel_of f) (put ++ f ∷ []) arrived asked
+  pub put_elsewhere : (c : Channel) → is_same c (channel_of f) ≡ false → client_of c put arrived asked ≡ client_of c (put ++ f ∷ []) arrived asked
+  pub arrived_here : client_after_arrival f (client_of (channel_of f) put arrived asked) ≡ client_of (channel_of f) put (arrived ++ f ∷ []) (asked_after f asked)
+  pub arrived_elsewhere : (c : Channel) → is_same c (channel_of f) ≡ false → client_of c put arrived asked ≡ client_of c put (arrived ++ f ∷ []) asked
+
+pub record ServerKeepsSums (capacity : ℕ) (put arrived : List Frame) (taken : ℕ) (f : Frame) : Type 0 where
+  pub put_here : server_after_put f (server_of capacity (channel_of f) put arrived taken) ≡ server_of capacity (channel_of f) (put ++ f ∷ []) arrived taken
+  pub put_elsewhere : (c : Channel) → is_same c (channel_of f) ≡ false → server_of capacity c put arrived taken ≡ server_of capacity c (put ++ f ∷ []) arrived taken
+  pub arrived_here : server_after_arrival f (server_of capacity (channel_of f) put arrived taken) ≡ server_of capacity (channel_of f) put (arrived ++ f ∷ []) taken
+  pub arrived_elsewhere : (c : Channel) → is_same c (channel_of f) ≡ false → server_of capacity c put arrived taken ≡ server_of capacity c put (arrived ++ f ∷ []) taken
+
+abbrev pub BooksKeepSums : Type 0
+BooksKeepSums = (capacity : ℕ) (put arrived : List Frame) (asked : Option ℕ) (taken : ℕ) (f : Frame) → ClientKeepsSums put arrived asked f × ServerKeepsSums capacity put arrived taken f
+
+-- an honour that absolves is that absolving, and forgets the plead; one that does not only forgets it
+pub record HonourKeepsSums (c : Channel) (put arrived : List Frame) (asked : Option ℕ) : Type 0 where
+  pub absolves : (amount : ℕ) → amount_to_absolve (client_of c put arrived asked) ≡ Some amount → honour (client_of c put arrived asked) ≡ client_of c (put ++ Absolve c amount ∷ []) arrived None
+  pub forgets : amount_to_absolve (client_of c put arrived asked) ≡ None → honour (client_of c put arrived asked) ≡ client_of c put arrived None
+
+abbrev pub EveryHonourKeepsSums : Type 0
+EveryHonourKeepsSums = (c : Channel) (put arrived : List Frame) (asked : Option ℕ) → HonourKeepsSums c put arrived asked
+
+-- the frame of an event that is accepted is valid
+pub record PutsValidFrames (client : Client) (server : Server) (c : Channel) : Type 0 where
+  pub send : (body : List ℕ) → spend_refusal client (length body) ≡ None → IsValid (Send c body)
+  pub absolve : (amount : ℕ) → absolve_refusal client amount ≡ None → IsValid (Absolve c amount)
+  pub honour : (amount : ℕ) → amount_to_absolve client ≡ Some amount → IsValid (Absolve c amount)
+  pub limit_sending : (bound : ℕ) → limit_refusal client.send_left bound ≡ None → IsValid (LimitSending c bound)
+  pub issue : (amount : ℕ) → issue_refusal server amount ≡ None → IsValid (Issue c amount)
+  pub plead : (target : ℕ) → plead_refusal server target ≡ None → IsValid (Plead c target)
+  pub limit_receiving : (bound : ℕ) → limit_refusal server.receive_left bound ≡ None → IsValid (LimitReceiving c bound)
+
+abbrev pub EveryBookPutsValidFrames : Type 0
+EveryBookPutsValidFrames = (client : Client) (server : Server) (c : Channel) → IsClient client → IsServer server → PutsValidFrames client server c
+
+-- each sum over a list of frames is that over the frames of its lane
+pub record SumsAreOfLanes (c : Channel) (frames : List Frame) : Type 0 where
+  pub messages_are : messages c (of_lane (number_of c) frames) ≡ messages c frames
+  pub cost_is : cost c (of_lane (number_of c) frames) ≡ cost c frames
+  pub absolved_is : absolved_on c (of_lane (number_of c) frames) ≡ absolved_on c frames
+  pub send_left_is : send_left_on c (of_lane (number_of c) frames) ≡ send_left_on c frames
+  pub issued_is : issued_on c (of_lane (7 + number_of c) frames) ≡ issued_on c frames
+  pub receive_left_is : receive_left_on c (of_lane (7 + number_of c) frames) ≡ receive_left_on c frames
+
+abbrev pub EverySumIsOfItsLane : Type 0
+EverySumIsOfItsLane = (c : Channel) (frames : List Frame) → SumsAreOfLanes c frames
