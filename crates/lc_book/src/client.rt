@@ -1,5 +1,5 @@
 //! The client's book: guarantees received, spent and absolved, both limits, and the plead that is kept.
-ghost use Rattle.std.specs.Prelude.{◌≡◌, ◌≤◌, ◌↔◌, if◌then◌else◌, is_ok, IsSome, IfSome, IsTrue};
+ghost use Rattle.std.specs.Prelude.{◌≡◌, ◌≤◌, ◌↔◌, if◌then◌else◌, is_ok, IsSome, IfSome, IsTrue, OnOk, ◌<◌};
 ghost use Rattle.std.specs.Result.{result_err};
 ghost use Rattle.std.specs.Option.{ForSome};
 ghost use Rattle.lc_frame.specs.Kind.{max_amount, max_total};
@@ -173,6 +173,7 @@ impl ClientBook {
     /// `n` guarantees are given up. Refused by 5 and 6, in this order.
     pub fn absolve(&mut self, n: u32) -> Result<(), Refusal>
         ensures answer { result_err result ≡ absolve_refusal self.old n }
+        ensures small { OnOk result (n ≤ max_amount) }
         ensures after { self.new ≡ (if is_ok result then absolve self.old n else self.old) }
     {
         if n == 0 {
@@ -190,6 +191,7 @@ impl ClientBook {
     /// absolved, and the answer is that amount. The plead is forgotten in any case.
     pub fn honour(&mut self) -> Option<u32>
         ensures answer { result ≡ amount_to_absolve self.old }
+        ensures range { IfSome result (λ n. (0 < n) × (n ≤ max_amount)) }
         ensures after { self.new ≡ honour self.old }
     {
         let target = u64::from(self.asked.take()?);

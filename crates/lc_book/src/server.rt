@@ -1,5 +1,5 @@
 //! The server's book: guarantees issued, used up by messages and absolved, what is buffered, and both limits.
-ghost use Rattle.std.specs.Prelude.{◌≡◌, ◌≤◌, ◌<◌, ◌↔◌, ◌⊎◌, if◌then◌else◌, is_ok, IsSome, IfSome, IsTrue, ◌+◌};
+ghost use Rattle.std.specs.Prelude.{◌≡◌, ◌≤◌, ◌<◌, ◌↔◌, ◌⊎◌, if◌then◌else◌, is_ok, IsSome, IfSome, IsTrue, OnOk, ◌+◌};
 ghost use Rattle.std.specs.Result.{result_err};
 ghost use Rattle.lc_frame.specs.Kind.{max_body, max_amount, max_total};
 ghost use Rattle.lc_book.specs.Limit.{limit_refusal};
@@ -118,6 +118,7 @@ impl ServerBook {
     /// The guarantees that were issued, and neither used up by a message that arrived nor absolved.
     pub fn outstanding(&self) -> u64
         ensures value { result ≡ outstanding self.now }
+        ensures small { result ≤ max_amount }
         ensures fits { result + buffered self.now ≤ self.now.capacity }
     {
         self.issued - self.arrived - self.absolved
@@ -170,6 +171,7 @@ impl ServerBook {
     /// `n` guarantees are issued. Refused by 5, 9, 10 and 12, in this order.
     pub fn issue(&mut self, n: u32) -> Result<(), Refusal>
         ensures answer { result_err result ≡ issue_refusal self.old n }
+        ensures small { OnOk result (n ≤ max_amount) }
         ensures after { self.new ≡ (if is_ok result then issue self.old n else self.old) }
     {
         if n == 0 {
@@ -196,7 +198,8 @@ impl ServerBook {
     /// The client is asked to absolve until it holds at most `target`. Refused by 11; the book
     /// stays as it is.
     pub fn plead(&self, target: u32) -> Result<(), Refusal>
-        ensures { result_err result ≡ plead_refusal self.now target }
+        ensures answer { result_err result ≡ plead_refusal self.now target }
+        ensures small { OnOk result (target ≤ max_amount) }
     {
         let outstanding = self.outstanding();
         if u64::from(target) >= outstanding {

@@ -1,0 +1,72 @@
+-- Every history keeps the guarantees.
+use Rattle.std.proofs.Common.{◌≡◌, ℕ, zero, suc, ◌+◌, ◌≤◌, [], ◌∷◌, take, refl, ◌∙◌, subst, arith}
+use Rattle.lc_frame.specs.declared.channel.Channel.{Channel}
+use Rattle.lc_frame.specs.Stream.{cost, issued, absolved}
+use Rattle.lc_book.specs.Client.{held}
+use Rattle.lc_book.specs.Server.{outstanding}
+use Rattle.lc_world.specs.declared.event.Side.{Side}
+use Rattle.lc_world.specs.declared.event.Side.TheVariants.{A, B}
+use Rattle.lc_world.specs.State.{State, opening, Line, stream, client, server, client_book, server_book}
+use Rattle.lc_world.specs.Answers.{after}
+use Rattle.lc_world.specs.Histories.{History, after_all, IsLegal, IsHistory}
+use Rattle.lc_world.specs.Guarantee.{state_at, FitsBuffer, AddsUp, IsSomewhere, IsBalanced, EveryHistoryKeepsGuarantees}
+use Rattle.lc_world.proofs.Sound.{Sound, cost-cut, issued-cut, absolved-cut, taken_cost, paid}
+use Rattle.lc_world.proofs.Steps.{IsSound, sound_all, sound_opened, same_capacity}
+use Rattle.lc_world.proofs.Lawful.{lawful_history}
+use Rattle.lc_world.proofs.Order.{accepted_messages, taken_is_taken, takes_in_order}
+use Rattle.lc_world.proofs.LimitsHold.{send_limit_holds, receive_limit_holds}
+
+-- the balances of one channel direction
+fits_buffer : (capacity : ℕ) (c : Channel) (mine theirs : Line) → Sound capacity c mine theirs → FitsBuffer capacity (server_book capacity c theirs mine)
+fits_buffer capacity c mine theirs s =
+    let covered : cost c mine.arrived + absolved c mine.arrived ≤ issued c (stream theirs) = paid capacity c mine theirs s in
+    record { not_overdrawn = covered; taken_of_arrived = taken_cost c mine; fits = omega (arith, s.roomy, taken_cost c mine, covered) }
+
+adds_up : (capacity : ℕ) (c : Channel) (mine theirs : Line) → Sound capacity c mine theirs → AddsUp (client_book c mine theirs)
+adds_up capacity c mine theirs s = record { not_overspent = s.solvent; sum = omega (arith, s.solvent) }
+
+outstanding_is : (capacity : ℕ) (c : Channel) (mine theirs : Line) → Sound capacity c mine theirs → outstanding (server_book capacity c theirs mine) ≡ held (client_book c mine theirs) + issued c theirs.in_flight + cost c mine.in_flight + absolved c mine.in_flight
+outstanding_is capacity c mine theirs s = omega (arith, s.solvent, cost-cut c mine, absolved-cut c mine, issued-cut c theirs)
+
+-- and of a state
+buffers : (w : State) → IsSound w → (s : Side) (c : Channel) → FitsBuffer w.capacity (server w s c)
+buffers w g A c = fits_buffer w.capacity c w.b w.a (g.sums B c)
+buffers w g B c = fits_buffer w.capacity c w.a w.b (g.sums A c)
+
+sums : (w : State) → IsSound w → (s : Side) (c : Channel) → AddsUp (client w s c)
+sums w g A c = adds_up w.capacity c w.a w.b (g.sums A c)
+sums w g B c = adds_up w.capacity c w.b w.a (g.sums B c)
+
+somewhere : (w : State) → IsSound w → (s : Side) (c : Channel) → IsSomewhere w s c
+somewhere w g A c = outstanding_is w.capacity c w.a w.b (g.sums A c)
+somewhere w g B c = outstanding_is w.capacity c w.b w.a (g.sums B c)
+
+is_balanced : (w : State) → IsSound w → IsBalanced w.capacity w
+is_balanced w g = record { buffer = buffers w g; sums = sums w g; in_flight = somewhere w g }
+
+-- the first events of a history are one, and no event changes the capacity
+legal_take : (w : State) (n : ℕ) (history : History) → IsLegal w history → IsLegal w (take n history)
+legal_take w zero history h = tt
+legal_take w (suc n) [] h = tt
+legal_take w (suc n) (p ∷ history) h = (h.0, legal_take (after w p.0 p.1) n history h.1)
+
+capacity_stays : (w : State) (history : History) → (after_all w history).capacity ≡ w.capacity
+capacity_stays w [] = refl
+capacity_stays w (p ∷ history) = capacity_stays (after w p.0 p.1) history ∙ same_capacity w p.0.side p.0.act p.1
+
+balanced_at : (capacity : ℕ) (history : History) → IsHistory capacity history → (n : ℕ) → IsBalanced capacity (state_at capacity history n)
+balanced_at capacity history h n =
+    let w : State = state_at capacity history n in
+    let g : IsSound w = sound_all (opening capacity) (take n history) (legal_take (opening capacity) n history h.legal) (sound_opened capacity) in
+    subst (λ (k : ℕ). IsBalanced k w) (capacity_stays (opening capacity) (take n history)) (is_balanced w g)
+
+pub keeps_guarantees : EveryHistoryKeepsGuarantees
+keeps_guarantees capacity history h = record {
+  in_order = takes_in_order capacity history h;
+  no_violation = lawful_history capacity history h;
+  balanced = balanced_at capacity history h;
+  send_limits_hold = send_limit_holds capacity history h;
+  receive_limits_hold = receive_limit_holds capacity history h;
+  accepted_is = accepted_messages capacity history;
+  taken_is = taken_is_taken capacity history h;
+}

@@ -1,0 +1,15 @@
+pub mod Messages
+pub mod Moves
+pub mod Parties
+pub mod Arrivals
+pub mod Takes
+pub mod Limits
+pub mod Allowed
+pub mod Streams
+pub mod Sound
+pub mod Steps
+pub mod Lawful
+pub mod Order
+pub mod LimitsHold
+pub mod Guarantees
+pub mod Runs

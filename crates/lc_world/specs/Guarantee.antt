@@ -1,0 +1,73 @@
+-- What every history of two peers keeps: the headline. That a client that sends within its guarantees never has a message dropped is LCMUX's promise.
+use Rattle.std.specs.Prelude.{◌≡◌, ℕ, ◌+◌, ◌≤◌, List, ◌∷◌, ◌++◌, length, take, sum, sum_by}
+use Rattle.std.specs.List.{AllByRecursion}
+use Rattle.lc_frame.specs.declared.channel.Channel.{Channel}
+use Rattle.lc_frame.specs.Stream.{messages, cost, issued, absolved}
+use Rattle.lc_book.specs.Client.{Client, held}
+use Rattle.lc_book.specs.Server.{Server, outstanding, buffered}
+use Rattle.lc_world.specs.declared.event.Side.{Side}
+use Rattle.lc_world.specs.declared.event.Act.{Act}
+use Rattle.lc_world.specs.declared.event.Act.TheVariants.{LimitSending, LimitReceiving}
+use Rattle.lc_world.specs.declared.event.Answer.{Answer}
+use Rattle.lc_world.specs.declared.event.Answer.TheVariants.{Accepted, Violated}
+use Rattle.lc_world.specs.State.{State, opening, line, other, client, server, stream, taken_messages}
+use Rattle.lc_world.specs.Histories.{History, after_all, IsHistory, accepted, amounts, taken}
+
+-- the state after a whole history, and after its first n events
+abbrev pub state_of : ℕ → History → State
+state_of capacity history = after_all (opening capacity) history
+
+abbrev pub state_at : ℕ → History → ℕ → State
+state_at capacity history n = state_of capacity (take n history)
+
+abbrev pub IsPrefix : List (List ℕ) → List (List ℕ) → Type 0
+IsPrefix xs ys = (rest : List (List ℕ)) × (xs ++ rest ≡ ys)
+
+-- the frame that arrived was not refused
+abbrev pub IsLawful : Answer → Type 0
+IsLawful (Violated v) = ⊥
+IsLawful answer = Unit {0}
+
+-- no balance of a server is below 0, and its ring holds what is buffered and all that may still come
+pub record FitsBuffer (capacity : ℕ) (b : Server) : Type 0 where
+  pub not_overdrawn : b.arrived + b.absolved ≤ b.issued
+  pub taken_of_arrived : b.taken ≤ b.arrived
+  pub fits : buffered b + outstanding b ≤ capacity
+
+-- no balance of a client is below 0, and no guarantee is lost or made up
+pub record AddsUp (b : Client) : Type 0 where
+  pub not_overspent : b.spent + b.absolved ≤ b.received
+  pub sum : held b + b.spent + b.absolved ≡ b.received
+
+-- what is outstanding is held by the client, or in flight as an issue, a message or an absolving
+abbrev pub IsSomewhere : State → Side → Channel → Type 0
+IsSomewhere w client_side c =
+    let sent = (line w client_side).in_flight in
+    outstanding (server w (other client_side) c) ≡ held (client w client_side c) + issued c (line w (other client_side)).in_flight + cost c sent + absolved c sent
+
+-- at one moment, in every channel direction
+pub record IsBalanced (capacity : ℕ) (w : State) : Type 0 where
+  pub buffer : (s : Side) (c : Channel) → FitsBuffer capacity (server w s c)
+  pub sums : (s : Side) (c : Channel) → AddsUp (client w s c)
+  pub in_flight : (s : Side) (c : Channel) → IsSomewhere w s c
+
+-- the history is cut behind an accepted act of the side
+abbrev pub IsCut : History → Side → Act → History → Type 0
+IsCut history s act later = (earlier : History) × (history ≡ earlier ++ (record { side = s; act = act }, Accepted) ∷ later)
+
+pub record KeepsGuarantees (capacity : ℕ) (history : History) : Type 0 where
+  -- on every channel the messages taken are a prefix of those that its client had accepted
+  pub in_order : (s : Side) (c : Channel) → IsPrefix (taken c (other s) history) (accepted c s history)
+  -- no frame that arrives is refused
+  pub no_violation : AllByRecursion (λ p. IsLawful p.1) history
+  -- after every event all balances hold
+  pub balanced : (n : ℕ) → IsBalanced capacity (state_at capacity history n)
+  -- after an accepted limit, what is sent or issued later on the channel adds up to at most its bound
+  pub send_limits_hold : (s : Side) (c : Channel) (bound : ℕ) (later : History) → IsCut history s (LimitSending c bound) later → sum_by length (accepted c s later) ≤ bound
+  pub receive_limits_hold : (s : Side) (c : Channel) (bound : ℕ) (later : History) → IsCut history s (LimitReceiving c bound) later → sum (amounts c s later) ≤ bound
+  -- the messages accepted in the history are those of the client's stream, and the messages taken are those that its server took
+  pub accepted_is : (s : Side) (c : Channel) → accepted c s history ≡ messages c (stream (line (state_of capacity history) s))
+  pub taken_is : (s : Side) (c : Channel) → taken c (other s) history ≡ taken_messages c (line (state_of capacity history) s)
+
+abbrev pub EveryHistoryKeepsGuarantees : Type 0
+EveryHistoryKeepsGuarantees = (capacity : ℕ) (history : History) → IsHistory capacity history → KeepsGuarantees capacity history

@@ -1,0 +1,65 @@
+-- Histories: events with their answers from a new world, and what was accepted and taken in one.
+use Rattle.std.specs.Prelude.{ℕ, if◌then◌else◌, Bool, true, false, List, [], ◌∷◌, Option, Some, None}
+use Rattle.std.specs.List.{filter_map}
+use Rattle.lc_frame.specs.declared.channel.Channel.{Channel}
+use Rattle.lc_frame.specs.Channel.{is_same}
+use Rattle.lc_book.specs.Server.{IsCapacity}
+use Rattle.lc_world.specs.declared.event.Side.{Side}
+use Rattle.lc_world.specs.declared.event.Side.TheVariants.{A, B}
+use Rattle.lc_world.specs.declared.event.Act.{Act}
+use Rattle.lc_world.specs.declared.event.Act.TheVariants.{Send, Issue, Take}
+use Rattle.lc_world.specs.declared.event.Event.{Event}
+use Rattle.lc_world.specs.declared.event.Answer.{Answer}
+use Rattle.lc_world.specs.declared.event.Answer.TheVariants.{Accepted, Took}
+use Rattle.lc_world.specs.State.{State, opening}
+use Rattle.lc_world.specs.Answers.{IsAnswer, after}
+
+abbrev pub History : Type 0
+History = List (Event × Answer)
+
+-- the state that a history leaves
+abbrev pub after_all : State → History → State
+after_all w [] = w
+after_all w (p ∷ history) = after_all (after w p.0 p.1) history
+
+-- each answer is right in the state that the events before it leave
+abbrev pub IsLegal : State → History → Type 0
+IsLegal w [] = Unit {0}
+IsLegal w (p ∷ history) = IsAnswer w p.0 p.1 × IsLegal (after w p.0 p.1) history
+
+-- a history of two new peers
+pub record IsHistory (capacity : ℕ) (history : History) : Type 0 where
+  pub is_capacity : IsCapacity capacity
+  pub legal : IsLegal (opening capacity) history
+
+abbrev pub is_side : Side → Side → Bool
+is_side A A = true
+is_side A B = false
+is_side B A = false
+is_side B B = true
+
+-- what one act, so answered, has sent, issued or taken on the channel
+abbrev pub sent_body : Channel → Act → Answer → Option (List ℕ)
+sent_body c (Send d body) Accepted = if is_same c d then Some body else None
+sent_body c act answer = None
+
+abbrev pub issued_amount : Channel → Act → Answer → Option ℕ
+issued_amount c (Issue d amount) Accepted = if is_same c d then Some amount else None
+issued_amount c act answer = None
+
+abbrev pub taken_body : Channel → Act → Answer → Option (List ℕ)
+taken_body c (Take d) (Took body) = if is_same c d then Some body else None
+taken_body c act answer = None
+
+-- the same of a whole history, at one side, in order
+abbrev pub at_side : {X : Type 0} → (Act → Answer → Option X) → Side → (Event × Answer) → Option X
+at_side of_act s p = if is_side s p.0.side then of_act p.0.act p.1 else None
+
+abbrev pub accepted : Channel → Side → History → List (List ℕ)
+accepted c s history = filter_map (at_side (sent_body c) s) history
+
+abbrev pub amounts : Channel → Side → History → List ℕ
+amounts c s history = filter_map (at_side (issued_amount c) s) history
+
+abbrev pub taken : Channel → Side → History → List (List ℕ)
+taken c s history = filter_map (at_side (taken_body c) s) history

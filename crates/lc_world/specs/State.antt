@@ -1,0 +1,95 @@
+-- The state of two peers: what each put on its stream, what of it has arrived, what of its messages was taken, and which pleads are kept. Streams that keep order, guarantees and their balances are LCMUX's; that one plead is kept for each channel is this project's own.
+use Rattle.std.specs.Prelude.{ℕ, ◌+◌, List, [], ◌∷◌, ◌++◌, length, take, replicate, slice_index, slice_index_or, slice_set, sum_by, Option, Some, None}
+use Rattle.lc_frame.specs.declared.channel.Channel.{Channel}
+use Rattle.lc_frame.specs.declared.frame.Frame.{Frame}
+use Rattle.lc_frame.specs.declared.frame.Frame.TheVariants.{Plead}
+use Rattle.lc_frame.specs.Channel.{number_of}
+use Rattle.lc_frame.specs.Stream.{messages}
+use Rattle.lc_book.specs.Client.{Client}
+use Rattle.lc_book.specs.Server.{Server}
+use Rattle.lc_book.specs.Sums.{client_of, server_of}
+use Rattle.lc_world.specs.declared.event.Side.{Side}
+use Rattle.lc_world.specs.declared.event.Side.TheVariants.{A, B}
+
+-- the stream that one side writes, and what the other side has done with it: the frames that arrived, those in flight behind them, and by channel number how many messages it took, and the target of the plead that it keeps
+pub record Line : Type 0 where
+  pub arrived : List Frame
+  pub in_flight : List Frame
+  pub taken : List ℕ
+  pub asked : List (Option ℕ)
+
+-- all frames that the side put
+abbrev pub stream : Line → List Frame
+stream l = l.arrived ++ l.in_flight
+
+abbrev pub taken_count : Channel → Line → ℕ
+taken_count c l = slice_index l.taken (number_of c)
+
+abbrev pub kept_plead : Channel → Line → Option ℕ
+kept_plead c l = slice_index_or l.asked (number_of c) None
+
+-- the messages that the other side took
+abbrev pub taken_messages : Channel → Line → List (List ℕ)
+taken_messages c l = take (taken_count c l) (messages c l.arrived)
+
+-- the client's book of a channel, where the first line is the client's and the second the server's
+abbrev pub client_book : Channel → Line → Line → Client
+client_book c mine theirs = client_of c (stream mine) theirs.arrived (kept_plead c theirs)
+
+-- the server's book, where the first line is the server's and the second the client's
+abbrev pub server_book : ℕ → Channel → Line → Line → Server
+server_book capacity c mine theirs = server_of capacity c (stream mine) theirs.arrived (sum_by length (taken_messages c theirs))
+
+-- two peers, all of whose receiving rings have one capacity
+pub record State : Type 0 where
+  pub capacity : ℕ
+  pub a : Line
+  pub b : Line
+
+abbrev pub other : Side → Side
+other A = B
+other B = A
+
+-- the line of the stream that a side writes
+abbrev pub line : State → Side → Line
+line w A = w.a
+line w B = w.b
+
+-- the books of a side as client and as server
+abbrev pub client : State → Side → Channel → Client
+client w s c = client_book c (line w s) (line w (other s))
+
+abbrev pub server : State → Side → Channel → Server
+server w s c = server_book w.capacity c (line w s) (line w (other s))
+
+abbrev pub new_line : Line
+new_line = record { arrived = []; in_flight = []; taken = replicate 7 0; asked = replicate 7 None }
+
+-- nothing has happened
+abbrev pub opening : ℕ → State
+opening capacity = record { capacity = capacity; a = new_line; b = new_line }
+
+-- a frame is put last
+abbrev pub put_on : Line → Frame → Line
+put_on l frame = record l { in_flight = l.in_flight ++ frame ∷ [] }
+
+-- a plead that arrives is kept, in place of an older one
+abbrev pub keep_pleads : Frame → List (Option ℕ) → List (Option ℕ)
+keep_pleads (Plead c target) asked = slice_set asked (number_of c) (Some target)
+keep_pleads f asked = asked
+
+-- the first frame in flight arrives
+abbrev pub arrive_first : Line → List Frame → Line
+arrive_first l [] = l
+arrive_first l (frame ∷ rest) = record l { arrived = l.arrived ++ frame ∷ []; in_flight = rest; asked = keep_pleads frame l.asked }
+
+abbrev pub arrive_on : Line → Line
+arrive_on l = arrive_first l l.in_flight
+
+-- one more message of the channel is taken
+abbrev pub take_on : Channel → Line → Line
+take_on c l = record l { taken = slice_set l.taken (number_of c) (taken_count c l + 1) }
+
+-- the plead that is kept is forgotten
+abbrev pub forget_on : Channel → Line → Line
+forget_on c l = record l { asked = slice_set l.asked (number_of c) None }

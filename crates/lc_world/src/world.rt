@@ -1,0 +1,125 @@
+//! Two peers whose streams keep order.
+ghost use Rattle.std.specs.Prelude.{◌≡◌, ◌↔◌, ◌<◌, ◌⊎◌, IfOk, IsSome, IfSome, length, [], replicate, Err};
+ghost use Rattle.std.specs.List.{zip};
+ghost use Rattle.lc_frame.specs.Kind.{max_amount};
+ghost use Rattle.lc_book.specs.Client.{new_client};
+ghost use Rattle.lc_book.specs.Server.{IsCapacity, new_server};
+ghost use Rattle.lc_world.specs.State.{opening, client, server};
+ghost use Rattle.lc_world.specs.Answers.{IsAnswer, after};
+ghost use Rattle.lc_world.specs.Histories.{IsHistory};
+ghost use Rattle.lc_world.specs.Guarantee.{KeepsGuarantees};
+ghost use Rattle.lc_world.specs.World.{IsNoCapacity, IsNewParty};
+
+use crate::act::act;
+use crate::event::{Answer, Event, NewFault, Side};
+use crate::party::Party;
+use lc_book::{ClientBook, ServerBook};
+use lc_frame::Channel;
+use std::alloc::Global;
+use std::marker::Model;
+
+/// Two peers, all of whose receiving rings have one capacity. Contracts see it as the state of
+/// both streams.
+#[derive(Drop)]
+pub struct World {
+    alloc: Global,
+    a: Party,
+    b: Party,
+}
+
+impl Model for World {
+    ghost use Rattle.lc_world.specs.State.{State};
+    ghost use Rattle.lc_world.specs.Party.{state_between, AreInStep};
+
+    ghost Value = { State };
+
+    ghost view = { λ w. state_between w.a w.b };
+
+    ghost invariant = { λ w. AreInStep w.a w.b };
+}
+
+fn new_party(alloc: Global, capacity: u32) -> Option<Party>
+    ensures valid { IsSome result ↔ IsCapacity capacity }
+    ensures value { IfSome result (IsNewParty capacity) }
+{
+    let server = ServerBook::new(capacity)?;
+    Some(Party {
+        capacity,
+        stream: Vec::new(alloc),
+        arrived: 0,
+        taken: [0; 7],
+        next: [0; 7],
+        clients: [ClientBook::new(); 7],
+        servers: [server; 7],
+    })
+}
+
+impl World {
+    /// Two new peers. `BadCapacity` exactly where the capacity is not 1 to 2^24. It takes no
+    /// memory: each event takes what it needs.
+    pub fn new(alloc: Global, capacity: u32) -> Result<World, NewFault>
+        ensures capacity { (result ≡ Err NewFault.BadCapacity) ↔ IsNoCapacity capacity }
+        ensures value { IfOk result (λ w. w ≡ opening capacity) }
+    {
+        match (new_party(alloc, capacity), new_party(alloc, capacity)) {
+            (Some(a), Some(b)) => Ok(World { alloc, a, b }),
+            _ => Err(NewFault::BadCapacity),
+        }
+    }
+
+    /// Answers an event. Want of memory comes first for every event that can put a frame, and for
+    /// a take of a waiting message; it changes nothing. An arrival takes no memory.
+    pub fn step(&mut self, event: &Event) -> Answer
+        ensures answer { IsAnswer self.old event.now result }
+        ensures state { self.new ≡ after self.old event.now result }
+    {
+        match event.side {
+            Side::A => act(self.alloc, &mut self.a, &mut self.b, &event.act),
+            Side::B => act(self.alloc, &mut self.b, &mut self.a, &event.act),
+        }
+    }
+
+    /// A side's book of a channel as client.
+    pub fn client(&self, side: Side, channel: Channel) -> ClientBook
+        ensures { result ≡ client self.now side channel }
+    {
+        match side {
+            Side::A => self.a.clients[usize::from(channel.number())],
+            Side::B => self.b.clients[usize::from(channel.number())],
+        }
+    }
+
+    /// A side's book of a channel as server.
+    pub fn server(&self, side: Side, channel: Channel) -> ServerBook
+        ensures { result ≡ server self.now side channel }
+    {
+        match side {
+            Side::A => self.a.servers[usize::from(channel.number())],
+            Side::B => self.b.servers[usize::from(channel.number())],
+        }
+    }
+}
+
+/// Answers events in order, from a new world of two peers with receiving rings of `capacity` bytes.
+/// `BadCapacity` exactly where that is not 1 to 2^24, `OutOfMemory` only where the places of the
+/// answers, which are reserved before the first event, are refused.
+pub fn run(alloc: Global, capacity: u32, events: &[Event]) -> Result<Vec<Answer>, NewFault>
+    ensures capacity { (result ≡ Err NewFault.BadCapacity) ↔ IsNoCapacity capacity }
+    ensures count { IfOk result (λ answers. length answers.items ≡ length events.now) }
+    ensures legal { IfOk result (λ answers. IsHistory capacity (zip events.now answers.items)) }
+    ensures keeps { IfOk result (λ answers. KeepsGuarantees capacity (zip events.now answers.items)) }
+{
+    let mut world = World::new(alloc, capacity)?;
+    let Ok(mut answers) = Vec::with_capacity(alloc, events.len()) else {
+        return Err(NewFault::OutOfMemory);
+    };
+    for event in events {
+        let answer = world.step(event);
+        // The place was reserved.
+        match answers.push(answer) {
+            Ok(()) => {}
+            Err(_) => unreachable!(),
+        }
+    }
+    Ok(answers)
+}
