@@ -14,3 +14,6 @@ mod world;
 pub use event::{Act, Answer, Event, NewFault, Side};
 pub use lc_book::{Refusal, Violation};
 pub use world::{World, run};
+
+#[cfg(test)]
+mod tests;
