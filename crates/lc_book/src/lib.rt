@@ -5,6 +5,7 @@
 
 mod client;
 mod fault;
+pub mod laws;
 mod limit;
 mod server;
 
