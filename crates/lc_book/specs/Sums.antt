@@ -65,7 +65,7 @@ abbrev pub asked_after : Frame → Option ℕ → Option ℕ
 asked_after (Plead c target) asked = Some target
 asked_after f asked = asked
 
--- a book of sums is one again after a frame: by the frame's row on its own channel, as it was on every other
+-- a book of sums is one again after a frame: by the frame's own effect on its channel, as it was on every other
 pub record ClientKeepsSums (put arrived : List Frame) (asked : Option ℕ) (f : Frame) : Type 0 where
   pub put_here : client_after_put f (client_of (channel_of f) put arrived asked) ≡ client_of (channel_of f) (put ++ f ∷ []) arrived asked
   pub put_elsewhere : (c : Channel) → is_same c (channel_of f) ≡ false → client_of c put arrived asked ≡ client_of c (put ++ f ∷ []) arrived asked
