@@ -1,1 +1,4 @@
 pub mod SumsKept
+pub mod TakesKept
+pub mod ValidFrames
+pub mod Lanes

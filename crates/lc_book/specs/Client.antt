@@ -1,4 +1,4 @@
--- The client's book of one channel direction, and its row of the table of rules. Guarantees, sending within them and absolving are LCMUX's, also that a server may plead; the order of refusals, what a plead names and what an honour absolves are this project's own.
+-- The client's book of one channel direction, and what each call on it refuses and leaves. Guarantees, sending within them and absolving are LCMUX's, also that a server may plead; the order of refusals, what a plead names and what an honour absolves are this project's own.
 use Rattle.std.specs.Prelude.{ℕ, ◌+◌, ◌-◌, ◌≤◌, ◌==◌, nat_lt, if◌then◌else◌, Option, Some, None, unwrap_or}
 use Rattle.std.specs.Option.{option_and_then, ForSome}
 use Rattle.lc_frame.specs.Kind.{max_body, max_amount, max_total}

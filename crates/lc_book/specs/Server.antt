@@ -1,4 +1,4 @@
--- The server's book of one channel direction, and its row of the table of rules. Guarantees as promises of free buffer space, and pleading for their absolution, are LCMUX's; the order of refusals and the violations are this project's own.
+-- The server's book of one channel direction, and what each call on it refuses and leaves. Guarantees as promises of free buffer space, and pleading for their absolution, are LCMUX's; the order of refusals and the violations are this project's own.
 use Rattle.std.specs.Prelude.{◌≡◌, ℕ, ◌+◌, ◌-◌, ◌≤◌, ◌==◌, nat_lt, nat_le, if◌then◌else◌, Option, Some, None}
 use Rattle.std.specs.Option.{ForSome}
 use Rattle.lc_frame.specs.Kind.{max_amount, max_total}

@@ -1,5 +1,5 @@
 -- The books as sums over the streams of both sides, and what one frame more makes of them. That a book's balances are those of the frames on the streams is what LCMUX means by guarantees issued, used and absolved.
-use Rattle.std.specs.Prelude.{◌≡◌, ℕ, ◌+◌, List, [], ◌∷◌, ◌++◌, length, false, Option, Some, None}
+use Rattle.std.specs.Prelude.{◌≡◌, ℕ, ◌+◌, ◌<◌, ◌≤◌, List, [], ◌∷◌, ◌++◌, length, take, get_or, sum_by, false, Option, Some, None}
 use Rattle.lc_frame.specs.declared.channel.Channel.{Channel}
 use Rattle.lc_frame.specs.declared.frame.Frame.{Frame}
 use Rattle.lc_frame.specs.declared.frame.Frame.TheVariants.{Send, Issue, Absolve, Plead, LimitSending, LimitReceiving}
@@ -8,7 +8,7 @@ use Rattle.lc_frame.specs.Frame.{channel_of, IsValid}
 use Rattle.lc_frame.specs.Stream.{of_lane, messages, cost, issued as issued_on, absolved as absolved_on, send_left as send_left_on, receive_left as receive_left_on}
 use Rattle.lc_book.specs.Limit.{limit_refusal}
 use Rattle.lc_book.specs.Client.{Client, IsClient, spend_refusal, spend, absolve_refusal, absolve, amount_to_absolve, honour, limit_client, add_received, keep_plead, note_receive_limit}
-use Rattle.lc_book.specs.Server.{Server, IsServer, issue_refusal, issue, plead_refusal, limit_server, add_arrived, add_absolved, note_send_limit}
+use Rattle.lc_book.specs.Server.{Server, IsServer, buffered, issue_refusal, issue, plead_refusal, limit_server, note_taken, add_arrived, add_absolved, note_send_limit}
 
 -- the client's book of a channel, by all frames that it put, the frames that arrived at it, and the target of the plead that it keeps
 abbrev pub client_of : Channel → List Frame → List Frame → Option ℕ → Client
@@ -65,7 +65,7 @@ abbrev pub asked_after : Frame → Option ℕ → Option ℕ
 asked_after (Plead c target) asked = Some target
 asked_after f asked = asked
 
--- a book of sums is one again after a frame: by the frame's row on its own channel, as it was on every other
+-- a book of sums is one again after a frame: by the frame's own effect on its channel, as it was on every other
 pub record ClientKeepsSums (put arrived : List Frame) (asked : Option ℕ) (f : Frame) : Type 0 where
   pub put_here : client_after_put f (client_of (channel_of f) put arrived asked) ≡ client_of (channel_of f) (put ++ f ∷ []) arrived asked
   pub put_elsewhere : (c : Channel) → is_same c (channel_of f) ≡ false → client_of c put arrived asked ≡ client_of c (put ++ f ∷ []) arrived asked
@@ -88,6 +88,19 @@ pub record HonourKeepsSums (c : Channel) (put arrived : List Frame) (asked : Opt
 
 abbrev pub EveryHonourKeepsSums : Type 0
 EveryHonourKeepsSums = (c : Channel) (put arrived : List Frame) (asked : Option ℕ) → HonourKeepsSums c put arrived asked
+
+-- the bytes of the first messages on a channel, as many as were taken
+abbrev pub taken_cost : Channel → List Frame → ℕ → ℕ
+taken_cost c arrived count = sum_by length (take count (messages c arrived))
+
+-- the first message that was not taken is buffered, a take of it leaves the book of one message more taken, and frames that arrive later leave those taken as they are
+pub record TakeKeepsSums (capacity : ℕ) (c : Channel) (put arrived : List Frame) (count : ℕ) : Type 0 where
+  pub waits : count < length (messages c arrived) → length (get_or (messages c arrived) count []) ≤ buffered (server_of capacity c put arrived (taken_cost c arrived count))
+  pub takes : count < length (messages c arrived) → note_taken (server_of capacity c put arrived (taken_cost c arrived count)) (length (get_or (messages c arrived) count [])) ≡ server_of capacity c put arrived (taken_cost c arrived (count + 1))
+  pub stays : (f : Frame) → count ≤ length (messages c arrived) → taken_cost c (arrived ++ f ∷ []) count ≡ taken_cost c arrived count
+
+abbrev pub EveryTakeKeepsSums : Type 0
+EveryTakeKeepsSums = (capacity : ℕ) (c : Channel) (put arrived : List Frame) (count : ℕ) → TakeKeepsSums capacity c put arrived count
 
 -- the frame of an event that is accepted is valid
 pub record PutsValidFrames (client : Client) (server : Server) (c : Channel) : Type 0 where

@@ -1,5 +1,5 @@
 //! The client's book: guarantees received, spent and absolved, both limits, and the plead that is kept.
-ghost use Rattle.std.specs.Prelude.{◌≡◌, ◌≤◌, ◌↔◌, if◌then◌else◌, is_ok, IsSome, IfSome, IsTrue, OnOk, ◌<◌};
+ghost use Rattle.std.specs.Prelude.{◌≡◌, ◌+◌, ◌<◌, ◌≤◌, ◌↔◌, if◌then◌else◌, is_ok, IsSome, IfSome, IsTrue, OnOk};
 ghost use Rattle.std.specs.Result.{result_err};
 ghost use Rattle.std.specs.Option.{ForSome};
 ghost use Rattle.lc_frame.specs.Kind.{max_amount, max_total};
@@ -34,14 +34,20 @@ impl Model for ClientBook {
     ghost inverse = { λ b. record { received = b.received; spent = b.spent; absolved = b.absolved; send_left = b.send_left; receive_left = b.receive_left; asked = b.asked } };
 }
 
-/// The fields of a client's book, by name. `None` is no limit, or no plead kept.
+/// The fields of a client's book, by name, in bytes of messages.
 #[derive(Clone, Copy, Debug, PartialEq, Eq)]
 pub struct ClientParts {
+    /// All guarantees that arrived, 0 to 2^62.
     pub received: u64,
+    /// The guarantees that messages used up.
     pub spent: u64,
+    /// The guarantees that were given up.
     pub absolved: u64,
+    /// What may still be sent, 0 to 2^62; `None` without a limit.
     pub send_left: Option<u64>,
+    /// What the server may still issue, 0 to 2^62; `None` without a limit.
     pub receive_left: Option<u64>,
+    /// The target of the plead that is kept, 0 to 2^24; `None` where none is kept.
     pub asked: Option<u32>,
 }
 
@@ -94,15 +100,16 @@ impl ClientBook {
         })
     }
 
-    /// The guarantees held: received, and neither spent nor absolved.
+    /// The guarantees held, 0 to 2^24: received, and neither spent nor absolved.
     pub fn held(&self) -> u64
         ensures value { result ≡ held self.now }
         ensures small { result ≤ max_amount }
+        ensures sum { result + self.now.spent + self.now.absolved ≡ self.now.received }
     {
         self.received - self.spent - self.absolved
     }
 
-    /// All guarantees that arrived.
+    /// All guarantees that arrived, 0 to 2^62.
     pub fn received(&self) -> u64
         ensures { result ≡ self.now.received }
     {
@@ -123,21 +130,21 @@ impl ClientBook {
         self.absolved
     }
 
-    /// What may still be sent, `None` without a limit.
+    /// What may still be sent, 0 to 2^62; `None` without a limit.
     pub fn send_left(&self) -> Option<u64>
         ensures { result ≡ self.now.send_left }
     {
         self.send_left
     }
 
-    /// What the server may still issue, `None` without a limit.
+    /// What the server may still issue, 0 to 2^62; `None` without a limit.
     pub fn receive_left(&self) -> Option<u64>
         ensures { result ≡ self.now.receive_left }
     {
         self.receive_left
     }
 
-    /// The target of the plead that is kept.
+    /// The target of the plead that is kept, 0 to 2^24; `None` where none is kept.
     pub fn asked(&self) -> Option<u32>
         ensures { result ≡ self.now.asked }
     {
@@ -204,7 +211,8 @@ impl ClientBook {
         Some(amount as u32)
     }
 
-    /// At most `bound` bytes are sent from here on. Refused by 7 and 8, in this order.
+    /// At most `bound` bytes are sent from here on; 0 ends the channel. Refused by 7 and 8, in this
+    /// order.
     pub fn limit_sending(&mut self, bound: u64) -> Result<(), Refusal>
         ensures answer { result_err result ≡ limit_refusal self.old.send_left bound }
         ensures after { self.new ≡ (if is_ok result then limit_client self.old bound else self.old) }
@@ -213,7 +221,7 @@ impl ClientBook {
         Ok(())
     }
 
-    /// `n` guarantees arrive. Violations 5, 6 and 8, in this order.
+    /// `n` guarantees arrive. Violations V5, V6 and V8, in this order.
     pub fn issued(&mut self, n: u32) -> Result<(), Violation>
         requires { n ≤ max_amount }
         ensures answer { result_err result ≡ issued_violation self.old n }
@@ -236,7 +244,7 @@ impl ClientBook {
         Ok(())
     }
 
-    /// A plead arrives; it is kept in place of an older one.
+    /// A plead arrives, to hold at most `target`; it is kept in place of an older one.
     pub fn pleaded(&mut self, target: u32)
         requires { target ≤ max_amount }
         ensures { self.new ≡ keep_plead self.old target }
@@ -244,7 +252,7 @@ impl ClientBook {
         self.asked = Some(target);
     }
 
-    /// The server's limit arrives. Violation 7.
+    /// The server's limit arrives: it issues at most `bound` from there on. Violation V7.
     pub fn receiving_limited(&mut self, bound: u64) -> Result<(), Violation>
         requires { bound ≤ max_total }
         ensures answer { result_err result ≡ receive_limit_violation self.old bound }

@@ -4,38 +4,53 @@ ghost use Rattle.lc_book.specs.Fault.{refusal_number, violation_number};
 
 use thiserror::Error;
 
-/// Why an own event was refused; it then changed nothing. A field carries the number that was
-/// compared with, in bytes.
+/// Why an own event was refused; it then changed nothing. `left`, `held`, `room` and `outstanding`
+/// carry the number that was compared with, in bytes. Numbers and order are this project's own.
 #[derive(Clone, Copy, Debug, PartialEq, Eq, Error)]
 pub enum Refusal {
+    /// 1. A message has at least 1 byte.
     #[error("the message is empty")]
     EmptyBody,
+    /// 2. A message has at most 65,535 bytes.
     #[error("the message is longer than 65,535 bytes")]
     BodyTooLong,
+    /// 3. The message is longer than what the client's own limit leaves.
     #[error("the limit on sending leaves {left} bytes")]
     PastSendLimit { left: u64 },
+    /// 4. The message is longer than the guarantees that are held.
     #[error("guarantees for {held} bytes are held")]
     NoGuarantee { held: u64 },
+    /// 5. At least 1 guarantee is issued or absolved.
     #[error("the amount is zero")]
     ZeroAmount,
+    /// 6. More would be absolved than is held.
     #[error("only {held} guarantees are held")]
     NotHeld { held: u64 },
+    /// 7. A limit is at most 2^62.
     #[error("the bound is above 2^62")]
     BoundTooLarge,
+    /// 8. A limit is at most what the one before it leaves.
     #[error("the bound is above the {left} that an earlier limit leaves")]
     LimitRaised { left: u64 },
+    /// 9. More would be issued than what the server's own limit leaves.
     #[error("the limit on receiving leaves {left} bytes")]
     PastReceiveLimit { left: u64 },
+    /// 10. More would be issued than is neither buffered nor promised.
     #[error("the receiving ring has room for {room} bytes")]
     NoRoom { room: u64 },
+    /// 11. A plead names less than what is outstanding.
     #[error("the target is not below the {outstanding} guarantees outstanding")]
     NothingToAsk { outstanding: u64 },
+    /// 12. At most 2^62 guarantees are issued on a channel.
     #[error("the guarantees of one channel would pass 2^62")]
     TotalReached,
+    /// 13. No slot for an outgoing frame is free.
     #[error("the outgoing queue is full")]
     QueueFull,
+    /// 14. A growth of memory was refused.
     #[error("out of memory")]
     OutOfMemory,
+    /// 16. The caller's buffer is shorter than the message; `need` is the message's length.
     #[error("the buffer is too small: {need} bytes would do")]
     BufferTooSmall { need: usize },
 }
@@ -65,23 +80,32 @@ impl Refusal {
     }
 }
 
-/// What is wrong with a frame that arrives from a peer that breaks the rules.
+/// What is wrong with a frame that arrives from a peer that breaks the rules; the book at which it
+/// arrives stays as it was. Numbers and order are this project's own.
 #[derive(Clone, Copy, Debug, PartialEq, Eq, Error)]
 pub enum Violation {
+    /// V1. The message is longer than what is outstanding.
     #[error("a message for which no guarantees are outstanding")]
     NotGuaranteed,
+    /// V2. The message is longer than what the client's limit leaves.
     #[error("a message beyond the limit on sending")]
     SentPastLimit,
+    /// V3. More is absolved than is outstanding.
     #[error("more guarantees absolved than are outstanding")]
     AbsolvedTooMuch,
+    /// V4. The client's limit is above what the one before it leaves.
     #[error("a limit on sending that raises an earlier one")]
     SendLimitRaised,
+    /// V5. More is issued than what the server's limit leaves.
     #[error("guarantees beyond the limit on receiving")]
     IssuedPastLimit,
+    /// V6. More than 2^24 guarantees would be held.
     #[error("more than 2^24 guarantees held")]
     TooManyGuarantees,
+    /// V7. The server's limit is above what the one before it leaves.
     #[error("a limit on receiving that raises an earlier one")]
     ReceiveLimitRaised,
+    /// V8. More than 2^62 guarantees would be received.
     #[error("more than 2^62 guarantees on one channel")]
     TotalPassed,
 }

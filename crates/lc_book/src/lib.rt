@@ -1,12 +1,15 @@
 //! The balances of one channel direction: what its client may send, and what its server may issue.
-//! Each call is one row of a table of rules: it refuses by the first case that holds, in the order
-//! that its contract cites, and then changes nothing.
+//! A call refuses by the first case that holds, in the order that its contract cites, and then
+//! changes nothing.
 #![tactic(auto)]
 
 mod client;
 mod fault;
+pub mod laws;
 mod limit;
 mod server;
+#[cfg(test)]
+mod tests;
 
 pub use client::{ClientBook, ClientParts};
 pub use fault::{Refusal, Violation};

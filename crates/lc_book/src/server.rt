@@ -34,15 +34,22 @@ impl Model for ServerBook {
     ghost inverse = { λ b. record { capacity = b.capacity; issued = b.issued; arrived = b.arrived; taken = b.taken; absolved = b.absolved; send_left = b.send_left; receive_left = b.receive_left } };
 }
 
-/// The fields of a server's book, by name. `None` is no limit.
+/// The fields of a server's book, by name, in bytes of messages.
 #[derive(Clone, Copy, Debug, PartialEq, Eq)]
 pub struct ServerParts {
+    /// The bytes of the receiving ring, 1 to 2^24.
     pub capacity: u32,
+    /// All guarantees that were issued, 0 to 2^62.
     pub issued: u64,
+    /// The bytes of the messages that arrived.
     pub arrived: u64,
+    /// The bytes of the messages that were taken.
     pub taken: u64,
+    /// The guarantees that the client gave up, as far as that arrived.
     pub absolved: u64,
+    /// What the client may still send, 0 to 2^62; `None` without a limit.
     pub send_left: Option<u64>,
+    /// What may still be issued, 0 to 2^62; `None` without a limit.
     pub receive_left: Option<u64>,
 }
 
@@ -140,21 +147,21 @@ impl ServerBook {
         u64::from(self.capacity) - self.outstanding() - self.buffered()
     }
 
-    /// All guarantees that were issued.
+    /// All guarantees that were issued, 0 to 2^62.
     pub fn issued(&self) -> u64
         ensures { result ≡ self.now.issued }
     {
         self.issued
     }
 
-    /// What the client may still send, `None` without a limit.
+    /// What the client may still send, 0 to 2^62; `None` without a limit.
     pub fn send_left(&self) -> Option<u64>
         ensures { result ≡ self.now.send_left }
     {
         self.send_left
     }
 
-    /// What may still be issued, `None` without a limit.
+    /// What may still be issued, 0 to 2^62; `None` without a limit.
     pub fn receive_left(&self) -> Option<u64>
         ensures { result ≡ self.now.receive_left }
     {
@@ -225,7 +232,7 @@ impl ServerBook {
         self.taken += u64::from(len);
     }
 
-    /// A message of `len` bytes arrives. Violations 1 and 2, in this order.
+    /// A message of `len` bytes arrives. Violations V1 and V2, in this order.
     pub fn message(&mut self, len: u32) -> Result<(), Violation>
         requires { len ≤ max_body }
         ensures answer { result_err result ≡ message_violation self.old len }
@@ -245,7 +252,7 @@ impl ServerBook {
         Ok(())
     }
 
-    /// `n` absolved guarantees arrive. Violation 3.
+    /// The news arrives that the client absolved `n` guarantees. Violation V3.
     pub fn was_absolved(&mut self, n: u32) -> Result<(), Violation>
         requires { n ≤ max_amount }
         ensures answer { result_err result ≡ absolve_violation self.old n }
@@ -258,7 +265,7 @@ impl ServerBook {
         Ok(())
     }
 
-    /// The client's limit arrives. Violation 4.
+    /// The client's limit arrives: it sends at most `bound` bytes from there on. Violation V4.
     pub fn sending_limited(&mut self, bound: u64) -> Result<(), Violation>
         requires { bound ≤ max_total }
         ensures answer { result_err result ≡ send_limit_violation self.old bound }

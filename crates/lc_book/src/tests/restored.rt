@@ -1,0 +1,275 @@
+//! Books that are made of their fields: which fields make none, and what is answered near 2^62.
+use crate::{ClientBook, ClientParts, Refusal, ServerBook, ServerParts, Violation};
+use std::test::Fail;
+
+const TWO_24: u32 = 16_777_216;
+
+const TWO_62: u64 = 4_611_686_018_427_387_904;
+
+// A client at each of its bounds.
+const FULL_CLIENT: ClientParts = ClientParts {
+    received: TWO_62,
+    spent: TWO_62 - 16_777_217,
+    absolved: 1,
+    send_left: Some(TWO_62),
+    receive_left: Some(TWO_62),
+    asked: Some(TWO_24),
+};
+
+// A server at each of its bounds.
+const FULL_SERVER: ServerParts = ServerParts {
+    capacity: TWO_24,
+    issued: TWO_62,
+    arrived: TWO_62 - 16_777_216,
+    taken: TWO_62 - 16_777_217,
+    absolved: 1,
+    send_left: Some(TWO_62),
+    receive_left: Some(TWO_62),
+};
+
+// What breaks a rule of a client, and nothing else.
+const BROKEN_CLIENTS: [(&str, ClientParts); 9] = [
+    (
+        "above 2^62 received",
+        ClientParts {
+            received: TWO_62 + 1,
+            spent: TWO_62 - 16_777_216,
+            ..FULL_CLIENT
+        },
+    ),
+    (
+        "more spent than received",
+        ClientParts {
+            received: 4,
+            spent: 5,
+            absolved: 0,
+            ..FULL_CLIENT
+        },
+    ),
+    (
+        "more absolved than received",
+        ClientParts {
+            received: 4,
+            spent: 0,
+            absolved: 5,
+            ..FULL_CLIENT
+        },
+    ),
+    (
+        "more used than received",
+        ClientParts {
+            received: 4,
+            spent: 3,
+            absolved: 2,
+            ..FULL_CLIENT
+        },
+    ),
+    (
+        "a sum that wraps",
+        ClientParts {
+            received: 4,
+            spent: u64::MAX,
+            absolved: 1,
+            ..FULL_CLIENT
+        },
+    ),
+    (
+        "above 2^24 held",
+        ClientParts {
+            absolved: 0,
+            ..FULL_CLIENT
+        },
+    ),
+    (
+        "a limit on sending above 2^62",
+        ClientParts {
+            send_left: Some(TWO_62 + 1),
+            ..FULL_CLIENT
+        },
+    ),
+    (
+        "a limit on receiving above 2^62",
+        ClientParts {
+            receive_left: Some(TWO_62 + 1),
+            ..FULL_CLIENT
+        },
+    ),
+    (
+        "a target above 2^24",
+        ClientParts {
+            asked: Some(TWO_24 + 1),
+            ..FULL_CLIENT
+        },
+    ),
+];
+
+// What breaks a rule of a server, and nothing else.
+const BROKEN_SERVERS: [(&str, ServerParts); 12] = [
+    (
+        "no capacity",
+        ServerParts {
+            capacity: 0,
+            issued: 0,
+            arrived: 0,
+            taken: 0,
+            absolved: 0,
+            ..FULL_SERVER
+        },
+    ),
+    (
+        "a capacity above 2^24",
+        ServerParts {
+            capacity: TWO_24 + 1,
+            ..FULL_SERVER
+        },
+    ),
+    (
+        "above 2^62 issued",
+        ServerParts {
+            issued: TWO_62 + 1,
+            absolved: 2,
+            ..FULL_SERVER
+        },
+    ),
+    (
+        "more arrived than issued",
+        ServerParts {
+            issued: 4,
+            arrived: 5,
+            taken: 5,
+            absolved: 0,
+            ..FULL_SERVER
+        },
+    ),
+    (
+        "more absolved than issued",
+        ServerParts {
+            issued: 4,
+            arrived: 0,
+            taken: 0,
+            absolved: 5,
+            ..FULL_SERVER
+        },
+    ),
+    (
+        "more used than issued",
+        ServerParts {
+            issued: 4,
+            arrived: 3,
+            taken: 3,
+            absolved: 2,
+            ..FULL_SERVER
+        },
+    ),
+    (
+        "a sum that wraps",
+        ServerParts {
+            issued: 4,
+            arrived: u64::MAX,
+            taken: u64::MAX,
+            absolved: 1,
+            ..FULL_SERVER
+        },
+    ),
+    (
+        "more taken than arrived",
+        ServerParts {
+            issued: 4,
+            arrived: 4,
+            taken: 5,
+            absolved: 0,
+            ..FULL_SERVER
+        },
+    ),
+    (
+        "more promised than there is room for",
+        ServerParts {
+            absolved: 0,
+            ..FULL_SERVER
+        },
+    ),
+    (
+        "more buffered than there is room for",
+        ServerParts {
+            taken: TWO_62 - 16_777_218,
+            ..FULL_SERVER
+        },
+    ),
+    (
+        "a limit on sending above 2^62",
+        ServerParts {
+            send_left: Some(TWO_62 + 1),
+            ..FULL_SERVER
+        },
+    ),
+    (
+        "a limit on receiving above 2^62",
+        ServerParts {
+            receive_left: Some(TWO_62 + 1),
+            ..FULL_SERVER
+        },
+    ),
+];
+
+#[test]
+fn a_client_at_its_bounds_is_one(rt: HostRuntime) -> Result<(), Fail> {
+    let client = ClientBook::restore(FULL_CLIENT).ok_or("a client at its bounds")?;
+    assert_eq!(rt; client.held(), u64::from(TWO_24));
+    assert_eq!(rt; client.send_left(), Some(TWO_62));
+    assert_eq!(rt; client.receive_left(), Some(TWO_62));
+    assert_eq!(rt; client.asked(), Some(TWO_24));
+    for (broken, parts) in BROKEN_CLIENTS {
+        assert_eq!(rt; ClientBook::restore(parts), None, "{broken}");
+    }
+    Ok(())
+}
+
+#[test]
+fn a_server_at_its_bounds_is_one(rt: HostRuntime) -> Result<(), Fail> {
+    let server = ServerBook::restore(FULL_SERVER).ok_or("a server at its bounds")?;
+    assert_eq!(rt;
+        (server.outstanding(), server.buffered(), server.room()),
+        (16_777_215, 1, 0)
+    );
+    assert_eq!(rt; server.send_left(), Some(TWO_62));
+    assert_eq!(rt; server.receive_left(), Some(TWO_62));
+    for (broken, parts) in BROKEN_SERVERS {
+        assert_eq!(rt; ServerBook::restore(parts), None, "{broken}");
+    }
+    Ok(())
+}
+
+#[test]
+fn a_server_issues_2_to_the_62_in_all(rt: HostRuntime) -> Result<(), Fail> {
+    let parts = ServerParts {
+        capacity: 8,
+        issued: TWO_62 - 1,
+        arrived: TWO_62 - 1,
+        taken: TWO_62 - 1,
+        absolved: 0,
+        send_left: None,
+        receive_left: None,
+    };
+    let mut server = ServerBook::restore(parts).ok_or("a server near its end")?;
+    assert_eq!(rt; server.issue(9), Err(Refusal::NoRoom { room: 8 }));
+    assert_eq!(rt; server.issue(2), Err(Refusal::TotalReached));
+    assert_eq!(rt; server.issue(1), Ok(()));
+    assert_eq!(rt; server.issue(1), Err(Refusal::TotalReached));
+    Ok(())
+}
+
+#[test]
+fn a_client_receives_2_to_the_62_in_all(rt: HostRuntime) -> Result<(), Fail> {
+    let parts = ClientParts {
+        received: TWO_62 - 1,
+        spent: TWO_62 - 1,
+        absolved: 0,
+        send_left: None,
+        receive_left: None,
+        asked: None,
+    };
+    let mut client = ClientBook::restore(parts).ok_or("a client near its end")?;
+    assert_eq!(rt; client.issued(2), Err(Violation::TotalPassed));
+    assert_eq!(rt; client.issued(1), Ok(()));
+    Ok(())
+}
