@@ -2,6 +2,9 @@ pub mod Channel
 pub mod Kind
 pub mod Frame
 pub mod FrameRef
-pub mod FrameFault
 pub mod Stream
+pub mod FrameFault
 pub mod Encoding
+pub mod Decoded
+pub mod Scan
+pub mod Splits

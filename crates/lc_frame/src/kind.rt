@@ -3,6 +3,7 @@ ghost use Rattle.std.specs.Prelude.{◌≡◌, ◌≤◌, ◌↔◌, IsTrue};
 ghost use Rattle.std.specs.Int.{byte_len};
 ghost use Rattle.lc_frame.specs.Kind.{code_of, width_of, IsInRange, body_len, header_len};
 ghost use Rattle.lc_frame.specs.Encoding.{fault_of};
+ghost use Rattle.lc_frame.specs.Scan.{kind_at, is_in_range};
 
 use crate::frame::{MAX_AMOUNT, MAX_BODY, MAX_TOTAL};
 use crate::frame_fault::FrameFault;
@@ -31,6 +32,22 @@ impl Kind {
             Kind::Plead => 4,
             Kind::LimitSending => 5,
             Kind::LimitReceiving => 6,
+        }
+    }
+
+    /// The kind of a code, `None` where there is none.
+    #[inline]
+    pub(crate) fn from_code(code: u8) -> Option<Kind>
+        ensures { result ≡ kind_at code }
+    {
+        match code {
+            1 => Some(Kind::Send),
+            2 => Some(Kind::Issue),
+            3 => Some(Kind::Absolve),
+            4 => Some(Kind::Plead),
+            5 => Some(Kind::LimitSending),
+            6 => Some(Kind::LimitReceiving),
+            _ => None,
         }
     }
 
@@ -68,7 +85,8 @@ impl Kind {
     /// Whether a frame of this kind may carry the number.
     #[inline]
     pub(crate) fn allows(self, number: u64) -> bool
-        ensures { IsTrue result ↔ IsInRange self number }
+        ensures fact { IsTrue result ↔ IsInRange self number }
+        ensures value { result ≡ is_in_range self number }
     {
         match self {
             Kind::Send => 1 <= number && number <= MAX_BODY as u64,

@@ -5,15 +5,19 @@
 mod body;
 mod buffer_too_small;
 mod channel;
+mod decoded;
 mod encoding;
 mod frame;
 mod frame_fault;
 mod frame_ref;
+mod head;
 mod kind;
+mod scan;
 
 pub use body::Body;
 pub use buffer_too_small::BufferTooSmall;
 pub use channel::Channel;
+pub use decoded::{Decoded, decode};
 pub use encoding::MAX_FRAME;
 pub use frame::{Frame, MAX_AMOUNT, MAX_BODY, MAX_TOTAL};
 pub use frame_fault::FrameFault;
