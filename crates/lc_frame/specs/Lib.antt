@@ -8,3 +8,5 @@ pub mod Encoding
 pub mod Decoded
 pub mod Scan
 pub mod Splits
+pub mod Progress
+pub mod StreamDecoder

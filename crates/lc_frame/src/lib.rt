@@ -12,7 +12,10 @@ mod frame_fault;
 mod frame_ref;
 mod head;
 mod kind;
+pub mod laws;
+mod progress;
 mod scan;
+mod stream_decoder;
 
 pub use body::Body;
 pub use buffer_too_small::BufferTooSmall;
@@ -22,3 +25,4 @@ pub use encoding::MAX_FRAME;
 pub use frame::{Frame, MAX_AMOUNT, MAX_BODY, MAX_TOTAL};
 pub use frame_fault::FrameFault;
 pub use frame_ref::FrameRef;
+pub use stream_decoder::StreamDecoder;
