@@ -129,6 +129,18 @@ module _ (start piece old rest : List ℕ) (taken : ℕ) (held : old ≡ start +
     knows = step.knows;
   }
 
+pub takes_part : (old new piece : List ℕ) (need : ℕ) → NeedsMore old need → length old + length piece < need → new ≡ old ++ piece → Takes old new piece (length piece) (Wants need)
+takes_part old new piece need wanted short e =
+    let all : take (length piece) piece ≡ piece = take_all (length piece) piece (omega arith) in
+    let held : new ≡ old ++ take (length piece) piece = e ∙ ap (λ (x : List ℕ). old ++ x) (sym all) in
+    record {
+      count = omega arith;
+      held = held;
+      shortest = λ k lt. open_below old piece need wanted k (omega arith);
+      stop = λ lt. absurd (omega (arith, lt));
+      knows = still_wants old piece need wanted new (length piece) held (omega (arith, ap length e, length-append old piece));
+    }
+
 -- ---- where nothing was held
 
 pub takes_frame : (old new piece : List ℕ) (head : Head) (used : ℕ) → old ≡ [] → new ≡ old ++ take used piece → FindsFrame head used piece → Takes old new piece used (Whole head)

@@ -1,5 +1,5 @@
 //! How a stream decoder takes bytes, and what it remembers of those that it holds.
-ghost use Rattle.std.specs.Prelude.{◌≡◌, ◌+◌, ◌≤◌, [], ◌++◌, length, vec_capacity};
+ghost use Rattle.std.specs.Prelude.{◌≡◌, ◌+◌, ◌<◌, ◌≤◌, [], ◌++◌, length, vec_capacity};
 ghost use Rattle.lc_frame.specs.Kind.{max_frame};
 ghost use Rattle.lc_frame.specs.Scan.{NeedsMore};
 ghost use Rattle.lc_frame.specs.Progress.{Takes, Advances};
@@ -34,6 +34,18 @@ fn append(buffer: &mut Vec<u8>, bytes: &[u8])
     ensures capacity { vec_capacity buffer.old ≤ vec_capacity buffer.new }
 {
     let _ = buffer.extend_from_slice(bytes);
+}
+
+/// Takes all of a piece that is too short for more to be known.
+#[inline]
+pub(crate) fn take_part(buffer: &mut Vec<u8>, need: usize, piece: &[u8])
+    requires room { max_frame ≤ vec_capacity buffer.old }
+    requires wanted { NeedsMore buffer.old.items need }
+    requires short { length buffer.old.items + length piece.now < need }
+    ensures step { Takes buffer.old.items buffer.new.items piece.now (length piece.now) (Progress.Wants need) }
+    ensures room { max_frame ≤ vec_capacity buffer.new }
+{
+    append(buffer, piece);
 }
 
 // Takes bytes up to the next place where more is known.

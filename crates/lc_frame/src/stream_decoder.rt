@@ -11,7 +11,7 @@ ghost use Rattle.lc_frame.specs.StreamDecoder.{EndsAs};
 use crate::encoding::MAX_FRAME;
 use crate::frame_fault::FrameFault;
 use crate::frame_ref::FrameRef;
-use crate::progress::{Progress, take_in};
+use crate::progress::{Progress, take_in, take_part};
 use std::alloc::{AllocError, Global};
 use std::marker::Model;
 
@@ -60,6 +60,10 @@ impl StreamDecoder {
     {
         match self.progress {
             Progress::Wants(need) => {
+                if piece.len() < need - self.buffer.len() {
+                    take_part(&mut self.buffer, need, piece);
+                    return piece.len();
+                }
                 let step = take_in(&mut self.buffer, need, piece);
                 self.progress = step.progress;
                 step.taken
