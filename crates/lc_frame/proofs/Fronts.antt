@@ -252,9 +252,9 @@ finds_body k c n rest bytes r e =
     elim (cases_lt (length rest) (body_len k n)) [
       | inl few ↦
           subst (λ (s : Scan). Finds s bytes) (sym (short_body k c n rest few)) (
-            needs_more bytes (header_len k + body_len k n) (omega (arith, ap length e, length-append (header k c n) rest, length-header k c n)) (small_of k n r) (λ ys lt.
-            let parted : bytes ++ ys ≡ header k c n ++ (rest ++ ys) = ap (λ (x : List ℕ). x ++ ys) e ∙ append_assoc (header k c n) rest ys in
-            ap scan_of parted ∙ ranged k c n (rest ++ ys) r ∙ short_body k c n (rest ++ ys) (omega (arith, ap length parted, length-append (header k c n) (rest ++ ys), length-header k c n))))
+          needs_more bytes (header_len k + body_len k n) (omega (arith, ap length e, length-append (header k c n) rest, length-header k c n)) (small_of k n r) (λ ys lt.
+          let parted : bytes ++ ys ≡ header k c n ++ (rest ++ ys) = ap (λ (x : List ℕ). x ++ ys) e ∙ append_assoc (header k c n) rest ys in
+          ap scan_of parted ∙ ranged k c n (rest ++ ys) r ∙ short_body k c n (rest ++ ys) (omega (arith, ap length parted, length-append (header k c n) (rest ++ ys), length-header k c n))))
       | inr long ↦ subst (λ (s : Scan). Finds s bytes) (sym (long_body k c n rest long)) (body_found k c n rest bytes r e long)
     ]
 
@@ -299,10 +299,10 @@ finds_number k c rest bytes fits e true t =
     let shown : scan_number k c rest ≡ Needs (header_len k) = rw t refl in
     let few = ltb-true _ _ t in
     subst (λ (s : Scan). Finds s bytes) (sym shown) (
-      needs_more bytes (header_len k) (omega (arith, few, ap length e)) (header_small k) (λ ys lt.
-      let parted : bytes ++ ys ≡ tag_of k c ∷ (rest ++ ys) = ap (λ (x : List ℕ). x ++ ys) e in
-      let still : ltb (length (rest ++ ys)) w ≡ true = lt-ltb _ _ (omega (arith, ap length parted)) in
-      ap scan_of parted ∙ scan_tagged k c (rest ++ ys) ∙ rw still refl))
+    needs_more bytes (header_len k) (omega (arith, few, ap length e)) (header_small k) (λ ys lt.
+    let parted : bytes ++ ys ≡ tag_of k c ∷ (rest ++ ys) = ap (λ (x : List ℕ). x ++ ys) e in
+    let still : ltb (length (rest ++ ys)) w ≡ true = lt-ltb _ _ (omega (arith, ap length parted)) in
+    ap scan_of parted ∙ scan_tagged k c (rest ++ ys) ∙ rw still refl))
 finds_number k c rest bytes fits e false t =
     let w = byte_len (width_of k) in
     let long : w ≤ length rest = ltb-false _ _ t in

@@ -15,7 +15,9 @@ use std::alloc::AllocError;
 
 // A tag and a number of each width.
 const SHORT: usize = 1 + size_of::<u16>();
+
 const WORD: usize = 1 + size_of::<u32>();
+
 const LONG: usize = 1 + size_of::<u64>();
 
 /// The longest frame, in bytes: a Send of `MAX_BODY` bytes.

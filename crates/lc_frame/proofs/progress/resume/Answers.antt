@@ -14,7 +14,7 @@ returns-then-is_empty-clause-step c =
     let left = left_further _ _ _ _ _ at.held at.left _ _ c.split_at.ensures.back in
     let none : length c.split_at.result.1.now ≡ 0 = eqb-true _ _ (sym c.if-is_empty.ensures) in
     subst (λ (p : Progress). Takes c.args.buffer.now.items new c.args.piece.now taken p) c.in-Wants.is (
-      takes_further _ _ _ _ _ at.held at.left _ _ _ at.within at.shortest step (λ lt. absurd (omega (arith, lt, ap length left, length-drop taken c.args.piece.now, none))))
+    takes_further _ _ _ _ _ at.held at.left _ _ _ at.within at.shortest step (λ lt. absurd (omega (arith, lt, ap length left, length-drop taken c.args.piece.now, none))))
 
 pub steps-preserved : goal.steps-preserved
 steps-preserved c =
