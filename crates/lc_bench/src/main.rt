@@ -1,0 +1,54 @@
+//! How fast the codec and the stream decoder are.
+//!
+//! Prints a line `name value unit` for each figure, or with the argument `list` the names alone.
+//! Another argument is what the names of the figures begin with that are taken. The environment
+//! variable BENCH_REPS says how often each figure is taken, of which the middle one is printed. With
+//! BENCH_FIXED=TURNS nothing is timed: each figure runs that many turns, and the line says how many
+//! frames a turn has.
+#![tactic(auto)]
+
+mod figures;
+mod operation;
+mod plan;
+
+use figures::measure;
+use lc_frame::{Body, Channel, Frame, MAX_BODY};
+use operation::Operation;
+use plan::Plan;
+use std::io;
+
+/// The frames that are measured: a name, and the length of the body in bytes; an Issue has none.
+const FRAMES: [(&str, usize); 4] = [
+    ("issue5", 0),
+    ("send16", 16),
+    ("send1k", 1_024),
+    ("send64k", MAX_BODY),
+];
+
+const OPERATIONS: [Operation; 5] = [
+    Operation::EncodeInto,
+    Operation::EncodeToSlice,
+    Operation::Decode,
+    Operation::DecodeOwned,
+    Operation::Stream512,
+];
+
+fn frame_of(rt: &HostRuntime, len: usize) -> io::Result<Frame> {
+    let channel = Channel::DataChannel;
+    if len == 0 {
+        return Ok(Frame::Issue { channel, amount: 5 });
+    }
+    let body = Body::from_vec(vec![in rt.alloc(); 0x5a_u8; len]?);
+    Ok(Frame::Send { channel, body })
+}
+
+fn main(rt: HostRuntime) -> io::Result<()> {
+    let plan = Plan::from_environment(&rt)?;
+    for (name, len) in FRAMES {
+        let frame = frame_of(&rt, len)?;
+        for operation in OPERATIONS {
+            measure(&rt, &plan, operation, name, &frame)?;
+        }
+    }
+    Ok(())
+}

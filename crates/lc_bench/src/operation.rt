@@ -1,0 +1,228 @@
+//! What is measured.
+use lc_frame::{Decoded, Frame, FrameRef, StreamDecoder, decode};
+use std::alloc::{AllocError, Global};
+
+/// The bytes that a walk goes over: few enough for the second cache.
+const WALK: usize = 256 * 1024;
+/// The bytes of each piece that a stream decoder is fed.
+const PIECE: usize = 512;
+
+/// A call that is measured.
+#[derive(Clone, Copy, Debug, PartialEq, Eq)]
+pub enum Operation {
+    EncodeInto,
+    EncodeToSlice,
+    Decode,
+    DecodeOwned,
+    Stream512,
+}
+
+impl Operation {
+    /// The first part of the figure's name.
+    pub fn name(self) -> &'static str {
+        match self {
+            Operation::EncodeInto => "encode_into",
+            Operation::EncodeToSlice => "encode_to_slice",
+            Operation::Decode => "decode",
+            Operation::DecodeOwned => "decode_owned",
+            Operation::Stream512 => "stream512",
+        }
+    }
+}
+
+/// One frame, and as many of it as a walk has, as bytes.
+#[derive(Drop)]
+pub struct Walk<'a> {
+    frame: &'a Frame,
+    count: usize,
+    bytes: Vec<u8>,
+    out: Vec<u8>,
+    slice: Vec<u8>,
+    decoder: StreamDecoder,
+    alloc: Global,
+}
+
+impl<'a> Walk<'a> {
+    /// The walk over a frame; `None` for a frame that has no bytes.
+    pub fn new(alloc: Global, frame: &'a Frame) -> Result<Option<Walk<'a>>, AllocError> {
+        if !frame.is_valid() {
+            return Ok(None);
+        }
+        let count = (WALK / frame.encoded_len().max(1)).max(1);
+        let mut bytes = Vec::new(alloc);
+        for _ in 0..count {
+            frame.encode_into(&mut bytes)?;
+        }
+        Ok(Some(Walk {
+            frame,
+            count,
+            out: Vec::with_capacity(alloc, bytes.len())?,
+            slice: vec![in alloc; 0u8; bytes.len()]?,
+            bytes,
+            decoder: StreamDecoder::new(alloc)?,
+            alloc,
+        }))
+    }
+
+    /// The frames of a turn.
+    pub fn frames(&self) -> usize {
+        self.count
+    }
+
+    /// The bytes of a turn.
+    pub fn bytes(&self) -> usize {
+        self.bytes.len()
+    }
+
+    /// Runs so many turns of an operation. What it reads goes into the sum.
+    pub fn run(
+        &mut self,
+        operation: Operation,
+        turns: u64,
+        sum: &mut u64,
+    ) -> Result<(), AllocError> {
+        match operation {
+            Operation::EncodeInto => encode_into(self.frame, self.count, turns, &mut self.out),
+            Operation::EncodeToSlice => {
+                encode_to_slice(self.frame, self.count, turns, &mut self.slice);
+                Ok(())
+            }
+            Operation::Decode => {
+                decode_turns(&self.bytes, turns, sum);
+                Ok(())
+            }
+            Operation::DecodeOwned => decode_owned_turns(self.alloc, &self.bytes, turns, sum),
+            Operation::Stream512 => {
+                stream_turns(&mut self.decoder, &self.bytes, turns, sum);
+                Ok(())
+            }
+        }
+    }
+}
+
+// A number of the frame: all of its fields have to be read for it.
+#[inline]
+fn weight(frame: FrameRef<'_>) -> u64 {
+    let number = match frame {
+        FrameRef::Send { body, .. } => body.len() as u64,
+        FrameRef::Issue { amount, .. } | FrameRef::Absolve { amount, .. } => u64::from(amount),
+        FrameRef::Plead { target, .. } => u64::from(target),
+        FrameRef::LimitSending { bound, .. } | FrameRef::LimitReceiving { bound, .. } => bound,
+    };
+    number ^ u64::from(frame.channel().number())
+}
+
+#[inline(never)]
+fn encode_into(
+    frame: &Frame,
+    count: usize,
+    turns: u64,
+    out: &mut Vec<u8>,
+) -> Result<(), AllocError> {
+    if !frame.is_valid() {
+        return Ok(());
+    }
+    for _ in 0..turns {
+        out.clear();
+        for _ in 0..count {
+            frame.encode_into(out)?;
+        }
+    }
+    Ok(())
+}
+
+#[inline(never)]
+fn encode_to_slice(frame: &Frame, count: usize, turns: u64, out: &mut [u8]) {
+    if !frame.is_valid() {
+        return;
+    }
+    for _ in 0..turns {
+        let mut at = 0usize;
+        for _ in 0..count {
+            if at > out.len() {
+                break;
+            }
+            let Ok(used) = frame.encode_to_slice(&mut out[at..]) else {
+                break;
+            };
+            at = at.wrapping_add(used);
+        }
+    }
+}
+
+#[inline(never)]
+fn decode_turns(bytes: &[u8], turns: u64, sum: &mut u64) {
+    for _ in 0..turns {
+        decode_all(bytes, sum);
+    }
+}
+
+#[inline]
+fn decode_all(bytes: &[u8], sum: &mut u64) {
+    let mut rest = bytes;
+    for _ in 0..bytes.len() {
+        let Decoded::Whole { frame, used } = decode(rest) else {
+            break;
+        };
+        if rest.len() < used {
+            break;
+        }
+        rest = rest.split_at(used).1;
+        *sum = sum.wrapping_add(weight(frame));
+    }
+}
+
+#[inline(never)]
+fn decode_owned_turns(
+    alloc: Global,
+    bytes: &[u8],
+    turns: u64,
+    sum: &mut u64,
+) -> Result<(), AllocError> {
+    for _ in 0..turns {
+        decode_owned(alloc, bytes, sum)?;
+    }
+    Ok(())
+}
+
+#[inline]
+fn decode_owned(alloc: Global, bytes: &[u8], sum: &mut u64) -> Result<(), AllocError> {
+    let mut rest = bytes;
+    for _ in 0..bytes.len() {
+        let Decoded::Whole { frame, used } = decode(rest) else {
+            break;
+        };
+        if rest.len() < used {
+            break;
+        }
+        let owned = frame.to_frame(alloc)?;
+        rest = rest.split_at(used).1;
+        *sum = sum.wrapping_add(weight(owned.view()));
+    }
+    Ok(())
+}
+
+#[inline(never)]
+fn stream_turns(decoder: &mut StreamDecoder, bytes: &[u8], turns: u64, sum: &mut u64) {
+    for _ in 0..turns {
+        for piece in bytes.chunks(PIECE) {
+            stream(decoder, piece, sum);
+        }
+    }
+}
+
+#[inline]
+fn stream(decoder: &mut StreamDecoder, piece: &[u8], sum: &mut u64) {
+    let mut rest = piece;
+    for _ in 0..piece.len() {
+        if rest.is_empty() {
+            break;
+        }
+        let used = decoder.feed(rest);
+        rest = rest.split_at(used).1;
+        if let Some(frame) = decoder.frame() {
+            *sum = sum.wrapping_add(weight(frame));
+            decoder.clear();
+        }
+    }
+}
