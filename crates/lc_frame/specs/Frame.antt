@@ -1,5 +1,5 @@
--- What one frame says: its kind, its channel, the number that it carries, and its lane. The kinds of frame are those of LCMUX; lanes are this project's own.
-use Rattle.std.specs.Prelude.{ℕ, ◌+◌, length}
+-- What one frame says: its kind, its channel, the number that it carries, its message, and its lane. The kinds of frame are those of LCMUX; lanes are this project's own.
+use Rattle.std.specs.Prelude.{ℕ, ◌+◌, List, [], length}
 use Rattle.lc_frame.specs.declared.channel.Channel.{Channel}
 use Rattle.lc_frame.specs.declared.kind.Kind.{Kind}
 use Rattle.lc_frame.specs.declared.kind.Kind.TheVariants as kinds
@@ -32,6 +32,11 @@ field_of (Absolve c amount) = amount
 field_of (Plead c target) = target
 field_of (LimitSending c bound) = bound
 field_of (LimitReceiving c bound) = bound
+
+-- the bytes of its message
+abbrev pub body_of : Frame → List ℕ
+body_of (Send c body) = body
+body_of f = []
 
 -- a frame is valid where its number is in the range of its kind
 abbrev pub IsValid : Frame → Type 0

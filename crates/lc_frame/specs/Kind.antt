@@ -1,5 +1,6 @@
--- The kinds of frame, and the least and the greatest number that each carries. The kinds are those of LCMUX; the ranges are this project's own.
-use Rattle.std.specs.Prelude.{ℕ, ◌≤◌, ◌^◌}
+-- The table of the kinds of frame: of each the code in its tag, how wide the number behind the tag is, the least and the greatest number, and how many bytes stand behind it. The kinds are those of LCMUX; codes, widths and ranges are this project's own.
+use Rattle.std.specs.Prelude.{ℕ, ◌+◌, ◌≤◌, ◌^◌}
+use Rattle.std.specs.Int.{Width, w16, w32, w64, byte_len}
 use Rattle.lc_frame.specs.declared.kind.Kind.{Kind}
 use Rattle.lc_frame.specs.declared.kind.Kind.TheVariants.{Send, Issue, Absolve, Plead, LimitSending, LimitReceiving}
 
@@ -14,6 +15,22 @@ max_amount = 2 ^ 24
 -- the largest bound of a limit, and the most guarantees of one channel
 abbrev pub max_total : ℕ
 max_total = 2 ^ 62
+
+abbrev pub code_of : Kind → ℕ
+code_of Send = 1
+code_of Issue = 2
+code_of Absolve = 3
+code_of Plead = 4
+code_of LimitSending = 5
+code_of LimitReceiving = 6
+
+abbrev pub width_of : Kind → Width
+width_of Send = w16
+width_of Issue = w32
+width_of Absolve = w32
+width_of Plead = w32
+width_of LimitSending = w64
+width_of LimitReceiving = w64
 
 abbrev pub least_of : Kind → ℕ
 least_of Send = 1
@@ -33,3 +50,16 @@ greatest_of LimitReceiving = max_total
 
 abbrev pub IsInRange : Kind → ℕ → Type 0
 IsInRange kind number = (least_of kind ≤ number) × (number ≤ greatest_of kind)
+
+-- the bytes behind the number: as many as it says in a Send, else none
+abbrev pub body_len : Kind → ℕ → ℕ
+body_len Send number = number
+body_len kind number = 0
+
+-- the tag and the number
+abbrev pub header_len : Kind → ℕ
+header_len kind = 1 + byte_len (width_of kind)
+
+-- the longest frame
+abbrev pub max_frame : ℕ
+max_frame = header_len Send + max_body

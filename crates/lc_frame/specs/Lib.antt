@@ -1,4 +1,12 @@
 pub mod Channel
 pub mod Kind
 pub mod Frame
+pub mod FrameRef
 pub mod Stream
+pub mod FrameFault
+pub mod Encoding
+pub mod Decoded
+pub mod Scan
+pub mod Splits
+pub mod Progress
+pub mod StreamDecoder

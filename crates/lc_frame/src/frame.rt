@@ -1,10 +1,11 @@
 //! A frame of a stream.
 ghost use Rattle.std.specs.Prelude.{◌≡◌, ◌<◌, ◌↔◌, IsTrue};
-ghost use Rattle.lc_frame.specs.Frame.{kind_of, channel_of, field_of, lane_of, IsValid};
+ghost use Rattle.lc_frame.specs.Frame.{channel_of, lane_of, IsValid};
+ghost use Rattle.lc_frame.specs.FrameRef.{frame_of};
 
 use crate::body::Body;
 use crate::channel::Channel;
-use crate::kind::Kind;
+use crate::frame_ref::FrameRef;
 
 /// The longest message, in bytes.
 pub const MAX_BODY: usize = 65_535;
@@ -32,43 +33,45 @@ pub enum Frame {
 }
 
 impl Frame {
-    fn kind(&self) -> Kind
-        ensures { result ≡ kind_of self.now }
+    /// The same frame with its body borrowed.
+    #[inline]
+    pub fn view(&self) -> FrameRef<'_>
+        ensures { frame_of result ≡ self.now }
     {
         match self {
-            Frame::Send { .. } => Kind::Send,
-            Frame::Issue { .. } => Kind::Issue,
-            Frame::Absolve { .. } => Kind::Absolve,
-            Frame::Plead { .. } => Kind::Plead,
-            Frame::LimitSending { .. } => Kind::LimitSending,
-            Frame::LimitReceiving { .. } => Kind::LimitReceiving,
+            Frame::Send { channel, body } => FrameRef::Send {
+                channel: *channel,
+                body: body.as_slice(),
+            },
+            Frame::Issue { channel, amount } => FrameRef::Issue {
+                channel: *channel,
+                amount: *amount,
+            },
+            Frame::Absolve { channel, amount } => FrameRef::Absolve {
+                channel: *channel,
+                amount: *amount,
+            },
+            Frame::Plead { channel, target } => FrameRef::Plead {
+                channel: *channel,
+                target: *target,
+            },
+            Frame::LimitSending { channel, bound } => FrameRef::LimitSending {
+                channel: *channel,
+                bound: *bound,
+            },
+            Frame::LimitReceiving { channel, bound } => FrameRef::LimitReceiving {
+                channel: *channel,
+                bound: *bound,
+            },
         }
     }
 
     /// The channel that the frame concerns.
+    #[inline]
     pub fn channel(&self) -> Channel
         ensures { result ≡ channel_of self.now }
     {
-        match self {
-            Frame::Send { channel, .. }
-            | Frame::Issue { channel, .. }
-            | Frame::Absolve { channel, .. }
-            | Frame::Plead { channel, .. }
-            | Frame::LimitSending { channel, .. }
-            | Frame::LimitReceiving { channel, .. } => *channel,
-        }
-    }
-
-    // The number that the frame carries: a body's length, an amount, a target or a bound.
-    fn field(&self) -> u64
-        ensures { result ≡ field_of self.now }
-    {
-        match self {
-            Frame::Send { body, .. } => body.as_slice().len() as u64,
-            Frame::Issue { amount, .. } | Frame::Absolve { amount, .. } => u64::from(*amount),
-            Frame::Plead { target, .. } => u64::from(*target),
-            Frame::LimitSending { bound, .. } | Frame::LimitReceiving { bound, .. } => *bound,
-        }
+        self.view().channel()
     }
 
     /// The lane of the frame: the channel's number for what a client puts (Send, Absolve,
@@ -77,19 +80,16 @@ impl Frame {
         ensures value { result ≡ lane_of self.now }
         ensures range { result < 14 }
     {
-        let number = self.channel().number();
-        match self.kind() {
-            Kind::Send | Kind::Absolve | Kind::LimitSending => number,
-            Kind::Issue | Kind::Plead | Kind::LimitReceiving => 7 + number,
-        }
+        self.view().lane()
     }
 
     /// Whether the number of the frame is in the range of its kind: a body of 1 to `MAX_BODY`
     /// bytes, an amount of 1 to `MAX_AMOUNT`, a target up to `MAX_AMOUNT`, a bound up to
     /// `MAX_TOTAL`.
+    #[inline]
     pub fn is_valid(&self) -> bool
         ensures { IsTrue result ↔ IsValid self.now }
     {
-        self.kind().allows(self.field())
+        self.view().is_valid()
     }
 }

@@ -1,8 +1,12 @@
-//! The kinds of frame, and the range of each kind's number.
-ghost use Rattle.std.specs.Prelude.{◌↔◌, IsTrue};
-ghost use Rattle.lc_frame.specs.Kind.{IsInRange};
+//! The kinds of frame: the table that the format rests on.
+ghost use Rattle.std.specs.Prelude.{◌≡◌, ◌≤◌, ◌↔◌, IsTrue};
+ghost use Rattle.std.specs.Int.{byte_len};
+ghost use Rattle.lc_frame.specs.Kind.{code_of, width_of, IsInRange, body_len, header_len};
+ghost use Rattle.lc_frame.specs.Encoding.{fault_of};
+ghost use Rattle.lc_frame.specs.Scan.{kind_at, is_in_range};
 
 use crate::frame::{MAX_AMOUNT, MAX_BODY, MAX_TOTAL};
+use crate::frame_fault::FrameFault;
 
 /// What a frame does.
 #[derive(Clone, Copy, Debug, PartialEq, Eq)]
@@ -16,15 +20,90 @@ pub(crate) enum Kind {
 }
 
 impl Kind {
+    /// The code of the kind in a frame's tag.
+    #[inline]
+    pub(crate) fn code(self) -> u8
+        ensures { result ≡ code_of self }
+    {
+        match self {
+            Kind::Send => 1,
+            Kind::Issue => 2,
+            Kind::Absolve => 3,
+            Kind::Plead => 4,
+            Kind::LimitSending => 5,
+            Kind::LimitReceiving => 6,
+        }
+    }
+
+    /// The kind of a code, `None` where there is none.
+    #[inline]
+    pub(crate) fn from_code(code: u8) -> Option<Kind>
+        ensures { result ≡ kind_at code }
+    {
+        match code {
+            1 => Some(Kind::Send),
+            2 => Some(Kind::Issue),
+            3 => Some(Kind::Absolve),
+            4 => Some(Kind::Plead),
+            5 => Some(Kind::LimitSending),
+            6 => Some(Kind::LimitReceiving),
+            _ => None,
+        }
+    }
+
+    /// How many bytes the number behind the tag has.
+    #[inline]
+    pub(crate) fn width(self) -> usize
+        ensures { result ≡ byte_len (width_of self) }
+    {
+        match self {
+            Kind::Send => size_of::<u16>(),
+            Kind::Issue | Kind::Absolve | Kind::Plead => size_of::<u32>(),
+            Kind::LimitSending | Kind::LimitReceiving => size_of::<u64>(),
+        }
+    }
+
+    /// How many bytes the tag and the number have.
+    #[inline]
+    pub(crate) fn header_len(self) -> usize
+        ensures { result ≡ header_len self }
+    {
+        1 + self.width()
+    }
+
+    /// How many bytes stand behind the number.
+    #[inline]
+    pub(crate) fn body_len(self, number: u64) -> usize
+        ensures { result ≡ body_len self number }
+    {
+        match self {
+            Kind::Send => number as usize,
+            _ => 0,
+        }
+    }
+
     /// Whether a frame of this kind may carry the number.
+    #[inline]
     pub(crate) fn allows(self, number: u64) -> bool
-        ensures { IsTrue result ↔ IsInRange self number }
+        ensures fact { IsTrue result ↔ IsInRange self number }
+        ensures value { result ≡ is_in_range self number }
     {
         match self {
             Kind::Send => 1 <= number && number <= MAX_BODY as u64,
             Kind::Issue | Kind::Absolve => 1 <= number && number <= u64::from(MAX_AMOUNT),
             Kind::Plead => number <= u64::from(MAX_AMOUNT),
             Kind::LimitSending | Kind::LimitReceiving => number <= MAX_TOTAL,
+        }
+    }
+
+    /// The fault that a number out of range is.
+    #[inline]
+    pub(crate) fn fault_of(self, number: u64) -> FrameFault
+        ensures { result ≡ fault_of self number }
+    {
+        match self {
+            Kind::Send if number == 0 => FrameFault::ZeroLength,
+            _ => FrameFault::BadNumber,
         }
     }
 }

@@ -1,12 +1,28 @@
-//! The frames of seven logical channels over one ordered byte stream: what a frame says, and what
-//! a list of frames adds up to on one channel.
+//! The frames of seven logical channels over one ordered byte stream: what a frame says, its
+//! bytes, and what a list of frames adds up to on one channel.
 #![tactic(auto)]
 
 mod body;
+mod buffer_too_small;
 mod channel;
+mod decoded;
+mod encoding;
 mod frame;
+mod frame_fault;
+mod frame_ref;
+mod head;
 mod kind;
+pub mod laws;
+mod progress;
+mod scan;
+mod stream_decoder;
 
 pub use body::Body;
+pub use buffer_too_small::BufferTooSmall;
 pub use channel::Channel;
+pub use decoded::{Decoded, decode};
+pub use encoding::MAX_FRAME;
 pub use frame::{Frame, MAX_AMOUNT, MAX_BODY, MAX_TOTAL};
+pub use frame_fault::FrameFault;
+pub use frame_ref::FrameRef;
+pub use stream_decoder::StreamDecoder;

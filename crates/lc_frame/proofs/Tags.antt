@@ -1,0 +1,75 @@
+-- A tag byte is its kind and its channel, and no other.
+use Rattle.std.proofs.Common.{◌≡◌, ℕ, zero, suc, ◌+◌, ◌*◌, ◌/◌, ◌%◌, ◌<◌, ◌≤◌, Option, Some, None, refl, sym, ap, ◌∙◌, arith}
+use Rattle.lc_frame.specs.declared.channel.Channel.{Channel}
+use Rattle.lc_frame.specs.declared.channel.Channel.TheVariants.{ReconciliationChannel, DataChannel, OverlapChannel, CapabilityChannel, AreaOfInterestChannel, PayloadRequestChannel, StaticTokenChannel}
+use Rattle.lc_frame.specs.declared.kind.Kind.{Kind}
+use Rattle.lc_frame.specs.declared.kind.Kind.TheVariants.{Send, Issue, Absolve, Plead, LimitSending, LimitReceiving}
+use Rattle.lc_frame.specs.Channel.{number_of}
+use Rattle.lc_frame.specs.Kind.{code_of}
+use Rattle.lc_frame.specs.Encoding.{tag_of}
+use Rattle.lc_frame.specs.Channel.{channel_at}
+use Rattle.lc_frame.specs.Scan.{kind_at}
+
+number_small : (c : Channel) → number_of c < 16
+number_small ReconciliationChannel = omega arith
+number_small DataChannel = omega arith
+number_small OverlapChannel = omega arith
+number_small CapabilityChannel = omega arith
+number_small AreaOfInterestChannel = omega arith
+number_small PayloadRequestChannel = omega arith
+number_small StaticTokenChannel = omega arith
+
+kind_of_code : (k : Kind) → kind_at (code_of k) ≡ Some k
+kind_of_code Send = refl
+kind_of_code Issue = refl
+kind_of_code Absolve = refl
+kind_of_code Plead = refl
+kind_of_code LimitSending = refl
+kind_of_code LimitReceiving = refl
+
+channel_of_number : (c : Channel) → channel_at (number_of c) ≡ Some c
+channel_of_number ReconciliationChannel = refl
+channel_of_number DataChannel = refl
+channel_of_number OverlapChannel = refl
+channel_of_number CapabilityChannel = refl
+channel_of_number AreaOfInterestChannel = refl
+channel_of_number PayloadRequestChannel = refl
+channel_of_number StaticTokenChannel = refl
+
+pub kind_again : (k : Kind) (c : Channel) → kind_at (tag_of k c / 16) ≡ Some k
+kind_again k c =
+    let small = number_small c in
+    let e : tag_of k c / 16 ≡ code_of k = omega arith in
+    ap kind_at e ∙ kind_of_code k
+
+pub channel_again : (k : Kind) (c : Channel) → channel_at (tag_of k c % 16) ≡ Some c
+channel_again k c =
+    let small = number_small c in
+    let e : tag_of k c % 16 ≡ number_of c = omega arith in
+    ap channel_at e ∙ channel_of_number c
+
+code_from : (n : ℕ) (k : Kind) → kind_at n ≡ Some k → n ≡ code_of k
+code_from zero k e = absurd cc
+code_from (suc zero) k e = let s : Send ≡ k = cc in ap code_of s
+code_from (suc (suc zero)) k e = let s : Issue ≡ k = cc in ap code_of s
+code_from (suc (suc (suc zero))) k e = let s : Absolve ≡ k = cc in ap code_of s
+code_from (suc (suc (suc (suc zero)))) k e = let s : Plead ≡ k = cc in ap code_of s
+code_from (suc (suc (suc (suc (suc zero))))) k e = let s : LimitSending ≡ k = cc in ap code_of s
+code_from (suc (suc (suc (suc (suc (suc zero)))))) k e = let s : LimitReceiving ≡ k = cc in ap code_of s
+code_from (suc (suc (suc (suc (suc (suc (suc n))))))) k e = absurd cc
+
+number_from : (n : ℕ) (c : Channel) → channel_at n ≡ Some c → n ≡ number_of c
+number_from zero c e = let s : ReconciliationChannel ≡ c = cc in ap number_of s
+number_from (suc zero) c e = let s : DataChannel ≡ c = cc in ap number_of s
+number_from (suc (suc zero)) c e = let s : OverlapChannel ≡ c = cc in ap number_of s
+number_from (suc (suc (suc zero))) c e = let s : CapabilityChannel ≡ c = cc in ap number_of s
+number_from (suc (suc (suc (suc zero)))) c e = let s : AreaOfInterestChannel ≡ c = cc in ap number_of s
+number_from (suc (suc (suc (suc (suc zero))))) c e = let s : PayloadRequestChannel ≡ c = cc in ap number_of s
+number_from (suc (suc (suc (suc (suc (suc zero)))))) c e = let s : StaticTokenChannel ≡ c = cc in ap number_of s
+number_from (suc (suc (suc (suc (suc (suc (suc n))))))) c e = absurd cc
+
+pub tag_from : (b : ℕ) (k : Kind) (c : Channel) → kind_at (b / 16) ≡ Some k → channel_at (b % 16) ≡ Some c → b ≡ tag_of k c
+tag_from b k c ek ec =
+    let high = code_from (b / 16) k ek in
+    let low = number_from (b % 16) c ec in
+    omega arith

@@ -1,0 +1,19 @@
+use Rattle.std.proofs.Common.{◌≡◌, ℕ, ◌≤◌, ◌<◌, ◌++◌, length, take, List, subst, ◌+◌, ap, ◌∙◌, arith}
+use Rattle.std.proofs.lemmas.List.{length-append, length-take}
+use Rattle.lc_frame.specs.Scan.{FindsFrame}
+use Rattle.lc_frame.proofs.Pieces.{whole_holds, fills_all, advances}
+use Rattle.lc_frame.proofs.progress.advance.Goals as goal
+
+pub returns-in-Whole-clause-step : goal.returns-in-Whole-clause-step
+returns-in-Whole-clause-step c =
+    let old = c.args.buffer.now.items in
+    let new = c.append.new.buffer.items in
+    let piece = c.args.piece.now in
+    let need = c.args.need in
+    let count = c.min-taken.result in
+    let wanted = c.requires.wanted in
+    let held : new ≡ old ++ take count piece = c.append.ensures.items ∙ ap (λ (x : List ℕ). old ++ x) c.split_at.ensures.front in
+    let below : length old + count ≤ need = omega arith in
+    let enough : length new ≤ need = omega (arith, ap length held, length-append old (take count piece), length-take count piece) in
+    let found : FindsFrame c.in-Whole.head c.in-Whole.used new = subst (λ (x : List ℕ). FindsFrame c.in-Whole.head c.in-Whole.used x) c.deref.ensures.value c.in-Whole.ensures in
+    advances old piece need wanted new count _ held (omega arith) below (omega arith) (whole_holds c.in-Whole.head c.in-Whole.used new new found (fills_all old piece need wanted new count c.in-Whole.head c.in-Whole.used held enough found))

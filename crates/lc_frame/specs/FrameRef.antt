@@ -1,0 +1,13 @@
+-- The frame that a borrowed one shows.
+use Rattle.lc_frame.specs.declared.frame.Frame.{Frame}
+use Rattle.lc_frame.specs.declared.frame.Frame.TheVariants as owned
+use Rattle.lc_frame.specs.declared.frame_ref.FrameRef.{FrameRef}
+use Rattle.lc_frame.specs.declared.frame_ref.FrameRef.TheVariants.{Send, Issue, Absolve, Plead, LimitSending, LimitReceiving}
+
+abbrev pub frame_of : FrameRef → Frame
+frame_of (Send c body) = owned.Send c body.now
+frame_of (Issue c amount) = owned.Issue c amount
+frame_of (Absolve c amount) = owned.Absolve c amount
+frame_of (Plead c target) = owned.Plead c target
+frame_of (LimitSending c bound) = owned.LimitSending c bound
+frame_of (LimitReceiving c bound) = owned.LimitReceiving c bound

@@ -1,0 +1,89 @@
+-- Reading the front of a list of bytes from left to right: the way that src/scan.rt goes, and what it finds.
+use Rattle.std.specs.Prelude.{◌≡◌, ℕ, zero, suc, Bool, ◌+◌, ◌/◌, ◌%◌, ◌≤◌, ◌<◌, ◌++◌, List, [], ◌∷◌, length, take, drop, Option, Some, None, nat_lt, nat_le, ◌&&◌, if◌then◌else◌}
+use Rattle.std.specs.Int.{byte_len, from_be_bytes}
+use Rattle.lc_frame.specs.declared.channel.Channel.{Channel}
+use Rattle.lc_frame.specs.declared.kind.Kind.{Kind}
+use Rattle.lc_frame.specs.declared.kind.Kind.TheVariants.{Send, Issue, Absolve, Plead, LimitSending, LimitReceiving}
+use Rattle.lc_frame.specs.declared.frame.Frame.{Frame}
+use Rattle.lc_frame.specs.declared.frame.Frame.TheVariants as frames
+use Rattle.lc_frame.specs.declared.frame_fault.FrameFault.{FrameFault}
+use Rattle.lc_frame.specs.declared.frame_fault.FrameFault.TheVariants.{BadTag}
+use Rattle.lc_frame.specs.declared.head.Head.{Head}
+use Rattle.lc_frame.specs.declared.scan.Scan.{Scan}
+use Rattle.lc_frame.specs.declared.scan.Scan.TheVariants.{Whole, Fault, Needs}
+use Rattle.lc_frame.specs.Channel.{channel_at}
+use Rattle.lc_frame.specs.Kind.{width_of, least_of, greatest_of, IsInRange, body_len, header_len, max_frame}
+use Rattle.lc_frame.specs.Encoding.{fault_of, encoding}
+use Rattle.lc_frame.specs.Decoded.{IsOpen, OnlyFrame, OnlyFault}
+
+abbrev pub kind_at : ℕ → Option Kind
+kind_at (suc zero) = Some Send
+kind_at (suc (suc zero)) = Some Issue
+kind_at (suc (suc (suc zero))) = Some Absolve
+kind_at (suc (suc (suc (suc zero)))) = Some Plead
+kind_at (suc (suc (suc (suc (suc zero))))) = Some LimitSending
+kind_at (suc (suc (suc (suc (suc (suc zero)))))) = Some LimitReceiving
+kind_at _ = None
+
+abbrev pub is_in_range : Kind → ℕ → Bool
+is_in_range kind number = nat_le (least_of kind) number && nat_le number (greatest_of kind)
+
+-- the frame of a kind, a channel, a number and the bytes behind them
+abbrev pub frame_with : Kind → Channel → ℕ → List ℕ → Frame
+frame_with Send c number body = frames.Send c body
+frame_with Issue c number body = frames.Issue c number
+frame_with Absolve c number body = frames.Absolve c number
+frame_with Plead c number body = frames.Plead c number
+frame_with LimitSending c number body = frames.LimitSending c number
+frame_with LimitReceiving c number body = frames.LimitReceiving c number
+
+-- the frame of these bytes, by its head
+abbrev pub frame_in : Head → List ℕ → Frame
+frame_in head text = frame_with head.kind head.channel head.number (drop (header_len head.kind) text)
+
+-- behind a number in range
+unfoldable pub scan_body : Kind → Channel → ℕ → List ℕ → Scan
+scan_body kind c number rest =
+    let len = body_len kind number in
+    if nat_lt (length rest) len then Needs (header_len kind + len)
+    else Whole (record { kind = kind; channel = c; number = number }) (header_len kind + len)
+
+-- behind a tag
+unfoldable pub scan_number : Kind → Channel → List ℕ → Scan
+scan_number kind c bytes =
+    let width = byte_len (width_of kind) in
+    let number = from_be_bytes (width_of kind) (take width bytes) in
+    if nat_lt (length bytes) width then Needs (header_len kind)
+    else if is_in_range kind number then scan_body kind c number (drop width bytes)
+    else Fault (fault_of kind number)
+
+unfoldable pub scan_tag : Option Kind → Option Channel → List ℕ → Scan
+scan_tag None c rest = Fault BadTag
+scan_tag (Some kind) None rest = Fault BadTag
+scan_tag (Some kind) (Some c) rest = scan_number kind c rest
+
+unfoldable pub scan_of : List ℕ → Scan
+scan_of [] = Needs 1
+scan_of (first ∷ rest) = scan_tag (kind_at (first / 16)) (channel_at (first % 16)) rest
+
+-- the frame with this head stands at the front, in the first so many bytes
+pub record FindsFrame (head : Head) (used : ℕ) (bytes : List ℕ) : Type 0 where
+  pub only : OnlyFrame (frame_in head (take used bytes)) bytes
+  pub used_is : used ≡ length (encoding (frame_in head (take used bytes)))
+  pub in_range : IsInRange head.kind head.number
+  pub within : used ≤ length bytes
+  pub small : used ≤ max_frame
+  pub begins : header_len head.kind ≤ used
+
+-- nothing stands at the front, nor does before there are so many bytes
+pub record NeedsMore (bytes : List ℕ) (need : ℕ) : Type 0 where
+  pub short : length bytes < need
+  pub small : need ≤ max_frame
+  pub more : (ys : List ℕ) → length (bytes ++ ys) < need → IsOpen (bytes ++ ys)
+  pub now_open : IsOpen bytes
+
+-- what a scan found of the bytes
+abbrev pub Finds : Scan → List ℕ → Type 0
+Finds (Whole head used) bytes = FindsFrame head used bytes
+Finds (Fault fault) bytes = OnlyFault fault bytes
+Finds (Needs need) bytes = NeedsMore bytes need

@@ -1,0 +1,121 @@
+//! A frame that borrows its body.
+ghost use Rattle.std.specs.Prelude.{◌≡◌, ◌<◌, ◌↔◌, IsTrue, IfOk};
+ghost use Rattle.lc_frame.specs.Frame.{kind_of, channel_of, field_of, body_of, lane_of, IsValid};
+ghost use Rattle.lc_frame.specs.FrameRef.{frame_of};
+
+use crate::body::Body;
+use crate::channel::Channel;
+use crate::frame::Frame;
+use crate::kind::Kind;
+use std::alloc::{AllocError, Global};
+
+/// A frame with a borrowed body. Numbers count bytes of messages.
+#[derive(Clone, Copy, Debug)]
+pub enum FrameRef<'a> {
+    /// A message of the client.
+    Send { channel: Channel, body: &'a [u8] },
+    /// The server promises room for so many bytes more.
+    Issue { channel: Channel, amount: u32 },
+    /// The client gives up so many guarantees.
+    Absolve { channel: Channel, amount: u32 },
+    /// The server asks the client to absolve until it holds at most the target.
+    Plead { channel: Channel, target: u32 },
+    /// The client sends at most the bound after this frame.
+    LimitSending { channel: Channel, bound: u64 },
+    /// The server issues at most the bound after this frame.
+    LimitReceiving { channel: Channel, bound: u64 },
+}
+
+impl<'a> FrameRef<'a> {
+    /// The same frame with a copy of the body. The error is want of memory.
+    pub fn to_frame(&self, alloc: Global) -> Result<Frame, AllocError>
+        ensures { IfOk result (λ f. f ≡ frame_of self.now) }
+    {
+        Ok(match *self {
+            FrameRef::Send { channel, body } => Frame::Send {
+                channel,
+                body: Body::from_vec(Vec::from_slice(alloc, body)?),
+            },
+            FrameRef::Issue { channel, amount } => Frame::Issue { channel, amount },
+            FrameRef::Absolve { channel, amount } => Frame::Absolve { channel, amount },
+            FrameRef::Plead { channel, target } => Frame::Plead { channel, target },
+            FrameRef::LimitSending { channel, bound } => Frame::LimitSending { channel, bound },
+            FrameRef::LimitReceiving { channel, bound } => Frame::LimitReceiving { channel, bound },
+        })
+    }
+
+    /// The channel that the frame concerns.
+    #[inline]
+    pub fn channel(&self) -> Channel
+        ensures { result ≡ channel_of (frame_of self.now) }
+    {
+        match *self {
+            FrameRef::Send { channel, .. }
+            | FrameRef::Issue { channel, .. }
+            | FrameRef::Absolve { channel, .. }
+            | FrameRef::Plead { channel, .. }
+            | FrameRef::LimitSending { channel, .. }
+            | FrameRef::LimitReceiving { channel, .. } => channel,
+        }
+    }
+
+    /// The lane of the frame: the channel's number for what a client puts (Send, Absolve,
+    /// LimitSending), 7 more for what a server puts.
+    pub fn lane(&self) -> u8
+        ensures value { result ≡ lane_of (frame_of self.now) }
+        ensures range { result < 14 }
+    {
+        let number = self.channel().number();
+        match self.kind() {
+            Kind::Send | Kind::Absolve | Kind::LimitSending => number,
+            Kind::Issue | Kind::Plead | Kind::LimitReceiving => 7 + number,
+        }
+    }
+
+    /// Whether the number of the frame is in the range of its kind: a body of 1 to `MAX_BODY`
+    /// bytes, an amount of 1 to `MAX_AMOUNT`, a target up to `MAX_AMOUNT`, a bound up to
+    /// `MAX_TOTAL`.
+    #[inline]
+    pub fn is_valid(&self) -> bool
+        ensures { IsTrue result ↔ IsValid (frame_of self.now) }
+    {
+        self.kind().allows(self.field())
+    }
+
+    #[inline]
+    pub(crate) fn kind(&self) -> Kind
+        ensures { result ≡ kind_of (frame_of self.now) }
+    {
+        match *self {
+            FrameRef::Send { .. } => Kind::Send,
+            FrameRef::Issue { .. } => Kind::Issue,
+            FrameRef::Absolve { .. } => Kind::Absolve,
+            FrameRef::Plead { .. } => Kind::Plead,
+            FrameRef::LimitSending { .. } => Kind::LimitSending,
+            FrameRef::LimitReceiving { .. } => Kind::LimitReceiving,
+        }
+    }
+
+    // The number that the frame carries: a body's length, an amount, a target or a bound.
+    #[inline]
+    fn field(&self) -> u64
+        ensures { result ≡ field_of (frame_of self.now) }
+    {
+        match *self {
+            FrameRef::Send { body, .. } => body.len() as u64,
+            FrameRef::Issue { amount, .. } | FrameRef::Absolve { amount, .. } => u64::from(amount),
+            FrameRef::Plead { target, .. } => u64::from(target),
+            FrameRef::LimitSending { bound, .. } | FrameRef::LimitReceiving { bound, .. } => bound,
+        }
+    }
+
+    #[inline]
+    pub(crate) fn body(&self) -> &'a [u8]
+        ensures { result.now ≡ body_of (frame_of self.now) }
+    {
+        match *self {
+            FrameRef::Send { body, .. } => body,
+            _ => &[],
+        }
+    }
+}

@@ -1,0 +1,132 @@
+//! How a stream decoder takes bytes, and what it remembers of those that it holds.
+ghost use Rattle.std.specs.Prelude.{◌≡◌, ◌+◌, ◌≤◌, [], ◌++◌, length, vec_capacity};
+ghost use Rattle.lc_frame.specs.Kind.{max_frame};
+ghost use Rattle.lc_frame.specs.Scan.{NeedsMore};
+ghost use Rattle.lc_frame.specs.Progress.{Takes, Advances};
+
+use crate::frame_fault::FrameFault;
+use crate::head::Head;
+use crate::scan::{Scan, scan_front};
+
+/// What the last scan said of the bytes held.
+#[derive(Clone, Copy, Debug)]
+pub(crate) enum Progress {
+    /// Part of a frame, or nothing: how many bytes there have to be before more is known.
+    Wants(usize),
+    /// The bytes of the frame with this head.
+    Whole(Head),
+    /// No frame, however the bytes go on.
+    Fault(FrameFault),
+}
+
+/// How many bytes were taken, and what is known then.
+#[derive(Clone, Copy, Debug)]
+pub(crate) struct Step {
+    pub(crate) taken: usize,
+    pub(crate) progress: Progress,
+}
+
+// Appends bytes for which there is room.
+#[inline]
+fn append(buffer: &mut Vec<u8>, bytes: &[u8])
+    requires { length buffer.old.items + length bytes.now ≤ vec_capacity buffer.old }
+    ensures items { buffer.new.items ≡ buffer.old.items ++ bytes.now }
+    ensures capacity { vec_capacity buffer.old ≤ vec_capacity buffer.new }
+{
+    let _ = buffer.extend_from_slice(bytes);
+}
+
+// Takes bytes up to the next place where more is known.
+#[inline]
+fn advance(buffer: &mut Vec<u8>, need: usize, piece: &[u8]) -> Step
+    requires room { max_frame ≤ vec_capacity buffer.old }
+    requires wanted { NeedsMore buffer.old.items need }
+    ensures step { Advances buffer.old.items buffer.new.items piece.now result.taken result.progress }
+    ensures room { max_frame ≤ vec_capacity buffer.new }
+{
+    let taken = (need - buffer.len()).min(piece.len());
+    append(buffer, piece.split_at(taken).0);
+    if buffer.len() < need {
+        return Step {
+            taken,
+            progress: Progress::Wants(need),
+        };
+    }
+    let progress = match scan_front(buffer) {
+        Scan::Whole { head, .. } => Progress::Whole(head),
+        Scan::Fault(fault) => Progress::Fault(fault),
+        Scan::Needs(more) => Progress::Wants(more),
+    };
+    Step { taken, progress }
+}
+
+// Takes bytes where part of a frame may be held.
+fn resume(buffer: &mut Vec<u8>, wanted: usize, piece: &[u8]) -> Step
+    requires room { max_frame ≤ vec_capacity buffer.old }
+    requires wanted { NeedsMore buffer.old.items wanted }
+    ensures step { Takes buffer.old.items buffer.new.items piece.now result.taken result.progress }
+    ensures room { max_frame ≤ vec_capacity buffer.new }
+{
+    let mut need = wanted;
+    let mut taken = 0;
+    let mut rest = piece;
+    'steps: loop {
+        let step = advance(buffer, need, rest);
+        taken += step.taken;
+        rest = rest.split_at(step.taken).1;
+        let progress = step.progress;
+        match progress {
+            Progress::Wants(more) => {
+                if rest.is_empty() {
+                    return Step { taken, progress };
+                }
+                need = more;
+            }
+            Progress::Whole(_) => return Step { taken, progress },
+            Progress::Fault(_) => return Step { taken, progress },
+        }
+    }
+}
+
+// Takes bytes where none are held: of a frame that lies whole in the piece all at once.
+#[inline]
+fn begin(buffer: &mut Vec<u8>, need: usize, piece: &[u8]) -> Step
+    requires room { max_frame ≤ vec_capacity buffer.old }
+    requires wanted { NeedsMore buffer.old.items need }
+    requires empty { buffer.old.items ≡ [] }
+    ensures step { Takes buffer.old.items buffer.new.items piece.now result.taken result.progress }
+    ensures room { max_frame ≤ vec_capacity buffer.new }
+{
+    match scan_front(piece) {
+        Scan::Whole { head, used } => {
+            append(buffer, piece.split_at(used).0);
+            Step {
+                taken: used,
+                progress: Progress::Whole(head),
+            }
+        }
+        Scan::Needs(more) => {
+            append(buffer, piece);
+            Step {
+                taken: piece.len(),
+                progress: Progress::Wants(more),
+            }
+        }
+        Scan::Fault(_) => resume(buffer, need, piece),
+    }
+}
+
+/// Takes the shortest front of the piece after which a frame or a fault stands, or all of it.
+#[inline]
+pub(crate) fn take_in(buffer: &mut Vec<u8>, need: usize, piece: &[u8]) -> Step
+    requires room { max_frame ≤ vec_capacity buffer.old }
+    requires wanted { NeedsMore buffer.old.items need }
+    ensures step { Takes buffer.old.items buffer.new.items piece.now result.taken result.progress }
+    ensures room { max_frame ≤ vec_capacity buffer.new }
+{
+    if buffer.is_empty() {
+        begin(buffer, need, piece)
+    } else {
+        resume(buffer, need, piece)
+    }
+}

@@ -1,0 +1,103 @@
+//! Reading the front of some bytes, from left to right.
+ghost use Rattle.std.specs.Prelude.{◌≡◌, length};
+ghost use Rattle.std.specs.Int.{byte_len, from_be_bytes};
+ghost use Rattle.lc_frame.specs.Kind.{width_of, IsInRange};
+ghost use Rattle.lc_frame.specs.Scan.{scan_of, scan_number, scan_body, Finds};
+
+use crate::channel::Channel;
+use crate::frame_fault::FrameFault;
+use crate::head::Head;
+use crate::kind::Kind;
+
+/// What the front of some bytes is known to be.
+#[derive(Clone, Copy, Debug)]
+pub(crate) enum Scan {
+    /// A whole frame, by its head, and how many bytes it has.
+    Whole { head: Head, used: usize },
+    /// No frame, however the bytes go on.
+    Fault(FrameFault),
+    /// As yet neither: how many bytes there have to be before more is known.
+    Needs(usize),
+}
+
+// The number of a kind that the bytes are.
+#[inline]
+fn number_at(kind: Kind, bytes: &[u8]) -> u64
+    requires { length bytes.now ≡ byte_len (width_of kind) }
+    ensures { result ≡ from_be_bytes (width_of kind) bytes.now }
+{
+    match kind {
+        Kind::Send => u64::from(u16::from_be_bytes([bytes[0], bytes[1]])),
+        Kind::Issue | Kind::Absolve | Kind::Plead => {
+            u64::from(u32::from_be_bytes([bytes[0], bytes[1], bytes[2], bytes[3]]))
+        }
+        Kind::LimitSending | Kind::LimitReceiving => u64::from_be_bytes([
+            bytes[0], bytes[1], bytes[2], bytes[3], bytes[4], bytes[5], bytes[6], bytes[7],
+        ]),
+    }
+}
+
+// Behind a number in range.
+#[inline]
+#[tactic(auto, unfolding(crate::specs::Scan::scan_body))]
+fn scan_body(kind: Kind, channel: Channel, number: u64, rest: &[u8]) -> Scan
+    requires { IsInRange kind number }
+    ensures { result ≡ scan_body kind channel number rest.now }
+{
+    let len = kind.body_len(number);
+    let used = kind.header_len() + len;
+    if rest.len() < len {
+        return Scan::Needs(used);
+    }
+    let head = Head {
+        kind,
+        channel,
+        number,
+    };
+    Scan::Whole { head, used }
+}
+
+// Behind a tag.
+#[inline]
+#[tactic(auto, unfolding(crate::specs::Scan::scan_number))]
+fn scan_number(kind: Kind, channel: Channel, bytes: &[u8]) -> Scan
+    ensures { result ≡ scan_number kind channel bytes.now }
+{
+    let width = kind.width();
+    if bytes.len() < width {
+        return Scan::Needs(kind.header_len());
+    }
+    let (front, rest) = bytes.split_at(width);
+    let number = number_at(kind, front);
+    if !kind.allows(number) {
+        return Scan::Fault(kind.fault_of(number));
+    }
+    scan_body(kind, channel, number, rest)
+}
+
+#[inline]
+#[tactic(auto, unfolding(crate::specs::Scan::scan_of, crate::specs::Scan::scan_tag))]
+fn scan_tag(bytes: &[u8]) -> Scan
+    ensures { result ≡ scan_of bytes.now }
+{
+    match bytes {
+        [] => Scan::Needs(1),
+        [first, rest @ ..] => {
+            match (
+                Kind::from_code(*first / 16),
+                Channel::from_number(*first % 16),
+            ) {
+                (Some(kind), Some(channel)) => scan_number(kind, channel, rest),
+                _ => Scan::Fault(FrameFault::BadTag),
+            }
+        }
+    }
+}
+
+/// What stands at the front of the bytes.
+#[inline]
+pub(crate) fn scan_front(bytes: &[u8]) -> Scan
+    ensures { Finds result bytes.now }
+{
+    scan_tag(bytes)
+}
