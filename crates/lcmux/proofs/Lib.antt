@@ -1,2 +1,3 @@
 mod Decimal
+mod Open
 mod Written

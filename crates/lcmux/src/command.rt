@@ -11,6 +11,8 @@ use std::rt::Env;
 pub enum Command {
     /// Replay a script, with receiving rings of so many bytes.
     Replay { capacity: u32 },
+    /// Print the frames of a stream.
+    Frames,
 }
 
 impl Command {
@@ -30,6 +32,7 @@ impl Command {
             [_, name, capacity] if name.as_str() == "replay" => Some(Command::Replay {
                 capacity: parse_capacity(capacity.as_str())?,
             }),
+            [_, name] if name.as_str() == "frames" => Some(Command::Frames),
             _ => None,
         }
     }

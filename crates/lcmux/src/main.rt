@@ -5,11 +5,14 @@
 mod answer;
 mod command;
 mod fault;
+mod frames;
 mod input;
 mod number;
 mod output;
 mod replay;
 mod script;
+#[cfg(test)]
+mod tests;
 
 use command::Command;
 use std::process::ExitCode;
@@ -20,6 +23,7 @@ fn main(rt: HostRuntime) -> ExitCode {
         Ok(Command::Replay { capacity }) => {
             replay::replay(rt.alloc(), capacity, &mut rt.stdin(), &mut out, &mut err)
         }
+        Ok(Command::Frames) => frames::frames(rt.alloc(), &mut rt.stdin(), &mut out, &mut err),
         Err(fault) => fault.report(&mut err),
     };
     ExitCode::from(status)

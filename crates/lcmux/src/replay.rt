@@ -1,4 +1,7 @@
 //! `lcmux replay`: a script of events between two peers, and the answer to each.
+ghost use Rattle.std.specs.Prelude.{◌≡◌, ◌<◌, ◌⊎◌, Err, IfErr};
+ghost use Rattle.lcmux.specs.Fault.{status_of};
+
 use crate::answer::write_answer;
 use crate::fault::{Fault, Status};
 use crate::input::read_all;
@@ -18,7 +21,10 @@ pub fn replay<R: Read, W: Write, E: Write>(
     input: &mut R,
     out: &mut W,
     err: &mut E,
-) -> u8 {
+) -> u8
+    ensures bad_input_prints_nothing { result ≡ 2 → out.new ≡ out.old }
+    ensures capacity { (capacity ≡ 0) ⊎ (MAX_AMOUNT < capacity) → (result ≡ 2) × (input.new ≡ input.old) }
+{
     match try_replay(alloc, capacity, input, out) {
         Ok(()) => Status::Done.code(),
         Err(fault) => fault.report(err),
@@ -30,7 +36,10 @@ fn try_replay<R: Read, W: Write>(
     capacity: u32,
     input: &mut R,
     out: &mut W,
-) -> Result<(), Fault> {
+) -> Result<(), Fault>
+    ensures bad { IfErr result (λ fault. status_of fault ≡ Status.Bad → out.new ≡ out.old) }
+    ensures capacity { (capacity ≡ 0) ⊎ (MAX_AMOUNT < capacity) → (result ≡ Err Fault.Usage) × (input.new ≡ input.old) }
+{
     if capacity == 0 || capacity > MAX_AMOUNT {
         return Err(Fault::Usage);
     }
@@ -49,7 +58,9 @@ fn read_events<R: Read>(alloc: Global, input: &mut R) -> Result<Vec<Event>, Faul
     parse_script(alloc, script.as_slice())
 }
 
-fn print_answers<W: Write>(alloc: Global, answers: &[Answer], out: &mut W) -> Result<(), Fault> {
+fn print_answers<W: Write>(alloc: Global, answers: &[Answer], out: &mut W) -> Result<(), Fault>
+    ensures { IfErr result (λ fault. status_of fault ≡ Status.Failed) }
+{
     let mut buffered = BufWriter::new(alloc, out).map_err(|_| Fault::OutOfMemory)?;
     let written = write_answers(answers, &mut buffered);
     // A writer that is dropped would try once more to write what a failed write left.
