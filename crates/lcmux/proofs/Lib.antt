@@ -1,0 +1,3 @@
+mod Decimal
+mod Open
+mod Written

@@ -1,0 +1,28 @@
+//! Writing bytes as text.
+ghost use Rattle.std.specs.Prelude.{OnOk};
+ghost use Rattle.std.specs.Io.KnownBytes.{Appends};
+ghost use Rattle.hex.specs.Hex.{encode_lower};
+
+use std::io;
+use std::io::Write;
+
+// The bytes that are turned into text at a time.
+const PIECE: usize = 2048;
+
+/// Writes the bytes in lower case hexadecimal. Takes no memory.
+pub fn write_hex<W: Write>(bytes: &[u8], out: &mut W) -> io::Result<()>
+    ensures { OnOk result (Appends (W.contents out.old) (W.contents out.new) (encode_lower bytes.now)) }
+{
+    let mut digits = [0u8; 2 * PIECE];
+    let mut rest = bytes;
+    while !rest.is_empty() {
+        let (piece, others) = rest.split_at(rest.len().min(PIECE));
+        let text = &mut digits[..2 * piece.len()];
+        let Ok(()) = hex::encode_to_slice(piece, text) else {
+            unreachable!()
+        };
+        out.write_all(text)?;
+        rest = others;
+    }
+    Ok(())
+}
