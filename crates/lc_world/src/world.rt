@@ -1,5 +1,5 @@
 //! Two peers whose streams keep order.
-ghost use Rattle.std.specs.Prelude.{◌≡◌, ◌↔◌, ◌<◌, ◌⊎◌, IfOk, IsSome, IfSome, length, [], replicate, Err};
+ghost use Rattle.std.specs.Prelude.{◌≡◌, ◌↔◌, ◌<◌, ◌⊎◌, IfOk, IsOk, IsSome, IfSome, length, [], replicate, Err};
 ghost use Rattle.std.specs.List.{zip};
 ghost use Rattle.lc_frame.specs.Kind.{max_amount};
 ghost use Rattle.lc_book.specs.Client.{new_client};
@@ -59,6 +59,7 @@ impl World {
     /// memory: each event takes what it needs.
     pub fn new(alloc: Global, capacity: u32) -> Result<World, NewFault>
         ensures capacity { (result ≡ Err NewFault.BadCapacity) ↔ IsNoCapacity capacity }
+        ensures made { IsOk result ↔ IsCapacity capacity }
         ensures value { IfOk result (λ w. w ≡ opening capacity) }
     {
         match (new_party(alloc, capacity), new_party(alloc, capacity)) {
