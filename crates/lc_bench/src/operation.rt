@@ -160,6 +160,7 @@ fn decode_turns(bytes: &[u8], turns: u64, sum: &mut u64) {
 #[inline]
 fn decode_all(bytes: &[u8], sum: &mut u64) {
     let mut rest = bytes;
+    let mut read = *sum;
     for _ in 0..bytes.len() {
         let Decoded::Whole { frame, used } = decode(rest) else {
             break;
@@ -168,8 +169,9 @@ fn decode_all(bytes: &[u8], sum: &mut u64) {
             break;
         }
         rest = rest.split_at(used).1;
-        *sum = sum.wrapping_add(weight(frame));
+        read = read.wrapping_add(weight(frame));
     }
+    *sum = read;
 }
 
 #[inline(never)]
