@@ -1,6 +1,6 @@
 -- What a scan of a list of bytes answers, and what stands at its front: each follows from the other.
-use Rattle.std.proofs.Common.{◌≡◌, ℕ, zero, suc, ◌+◌, ◌-◌, ◌*◌, ◌^◌, ◌/◌, ◌%◌, ◌<◌, ◌≤◌, Bool, true, false, cond, ltb, List, [], ◌∷◌, ◌++◌, length, get_or, take, drop, Option, Some, None, refl, sym, ap, ap₂, subst, ◌∙◌, append_assoc, arith, inl, inr, ◌⊎◌, All}
-use Rattle.std.specs.Int.{Width, byte_len, from_be_bytes, to_be_bytes}
+use Rattle.std.proofs.Common.{◌≡◌, ℕ, zero, suc, ◌+◌, ◌^◌, ◌/◌, ◌%◌, ◌<◌, ◌≤◌, Bool, true, false, cond, ltb, List, [], ◌∷◌, ◌++◌, length, take, drop, Option, Some, None, refl, sym, ap, ap₂, subst, ◌∙◌, append_assoc, arith, inl, inr, All}
+use Rattle.std.specs.Int.{byte_len, from_be_bytes, to_be_bytes}
 use Rattle.std.proofs.lemmas.Bool.{cases_lt, ltb-false, ltb-true, le-ltb, lt-ltb, false_from_ne_true, true≢false}
 use Rattle.std.proofs.lemmas.Bool.Decides.{nat_tests}
 use Rattle.std.proofs.lemmas.List.{take_at, drop_at, take-append-drop, length-append, length-take, length-take-le, append-nil, nil_from_length, get_or_past}
@@ -15,13 +15,13 @@ use Rattle.lc_frame.specs.declared.frame_fault.FrameFault.TheVariants.{BadTag, Z
 use Rattle.lc_frame.specs.declared.head.Head.{Head}
 use Rattle.lc_frame.specs.declared.scan.Scan.{Scan}
 use Rattle.lc_frame.specs.declared.scan.Scan.TheVariants.{Whole, Fault, Needs}
-use Rattle.lc_frame.specs.Channel.{number_of, channel_at}
-use Rattle.lc_frame.specs.Kind.{code_of, width_of, least_of, greatest_of, IsInRange, body_len, header_len, max_frame}
+use Rattle.lc_frame.specs.Channel.{channel_at}
+use Rattle.lc_frame.specs.Kind.{width_of, IsInRange, body_len, header_len, max_frame}
 use Rattle.lc_frame.specs.Frame.{kind_of, channel_of, field_of, body_of, IsValid}
 use Rattle.lc_frame.specs.Encoding.{tag_of, header, encoding, fault_of, FrameStands, NoTagStands, NumberStands, FaultStands}
 use Rattle.lc_frame.specs.Decoded.{IsOpen, OnlyFrame, OnlyFault, StandsAlone}
 use Rattle.lc_frame.specs.Scan.{kind_at, is_in_range, frame_with, frame_in, scan_body, scan_number, scan_tag, scan_of, FindsFrame, NeedsMore, Finds}
-use Rattle.lc_frame.proofs.Bytes.{IsBytes, IsBytes-take, IsBytes-drop, IsBytes-rest, IsWide, wide_of}
+use Rattle.lc_frame.proofs.Bytes.{IsBytes, IsBytes-take, IsBytes-rest, wide_of}
 use Rattle.lc_frame.proofs.Tags.{kind_again, channel_again, tag_from}
 
 -- ---- headers

@@ -1,14 +1,13 @@
 -- A list of bytes that grows piece by piece, and what is known of it.
-use Rattle.std.proofs.Common.{◌≡◌, ℕ, zero, suc, ◌+◌, ◌-◌, ◌<◌, ◌≤◌, List, [], ◌∷◌, ◌++◌, length, take, drop, refl, sym, ap, subst, ◌∙◌, append_assoc, arith, inl, inr, ◌⊎◌}
+use Rattle.std.proofs.Common.{◌≡◌, ℕ, ◌+◌, ◌-◌, ◌<◌, ◌≤◌, List, [], ◌++◌, length, take, drop, refl, sym, ap, subst, ◌∙◌, append_assoc, arith, inl, inr}
 use Rattle.std.proofs.lemmas.Bool.{cases_lt}
-use Rattle.std.proofs.lemmas.List.{take-append-le, length-append, length-take, length-drop, append-nil, take_at, take_all, take-append-drop, drop-drop, take-take, nil_from_length}
+use Rattle.std.proofs.lemmas.List.{take-append-le, length-append, length-take, length-drop, append-nil, take_at, take_all, take-append-drop, drop-drop}
 use Rattle.std.proofs.Math.Seq.{take-add, take-append-add}
 use Rattle.lc_frame.specs.declared.frame.Frame.{Frame}
 use Rattle.lc_frame.specs.declared.frame_fault.FrameFault.{FrameFault}
 use Rattle.lc_frame.specs.declared.head.Head.{Head}
 use Rattle.lc_frame.specs.declared.progress.Progress.{Progress}
 use Rattle.lc_frame.specs.declared.progress.Progress.TheVariants.{Wants, Whole, Fault}
-use Rattle.lc_frame.specs.Kind.{max_frame}
 use Rattle.lc_frame.specs.Frame.{IsValid}
 use Rattle.lc_frame.specs.Encoding.{encoding, FrameStands, FaultStands}
 use Rattle.lc_frame.specs.Decoded.{IsOpen, IsKnown, OnlyFrame, OnlyFault}

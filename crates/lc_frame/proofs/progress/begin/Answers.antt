@@ -1,4 +1,4 @@
-use Rattle.std.proofs.Common.{◌≡◌, ◌++◌, List, ℕ, ap, ◌∙◌}
+use Rattle.std.proofs.Common.{◌++◌, List, ℕ, ap, ◌∙◌}
 use Rattle.lc_frame.proofs.Pieces.{takes_frame, takes_all}
 use Rattle.lc_frame.proofs.progress.begin.Goals as goal
 

@@ -1,4 +1,4 @@
-use Rattle.std.proofs.Common.{◌≡◌, ◌+◌, ℕ, sym, length, List, ap, subst, length-drop, arith}
+use Rattle.std.proofs.Common.{◌≡◌, ◌+◌, sym, length, ap, subst, length-drop, arith}
 use Rattle.std.proofs.lemmas.Bool.{eqb-true}
 use Rattle.lc_frame.specs.declared.progress.Progress.{Progress}
 use Rattle.lc_frame.specs.Progress.{Holds, Takes}
