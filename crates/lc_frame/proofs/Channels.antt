@@ -25,7 +25,7 @@ number_below AreaOfInterestChannel = omega arith
 number_below PayloadRequestChannel = omega arith
 number_below StaticTokenChannel = omega arith
 
-some_same : (c d : Channel) → Some c ≡ Some d → c ≡ d
+pub some_same : (c d : Channel) → Some c ≡ Some d → c ≡ d
 some_same c d e = cc
 
 pub same_from_number : (c d : Channel) → number_of c ≡ number_of d → c ≡ d

@@ -3,6 +3,7 @@ use Rattle.std.proofs.Common.{◌≡◌, ℕ, ◌+◌, false, List, [], ◌∷�
 use Rattle.std.specs.Prelude.{◌-◌, sum, sum_by}
 use Rattle.std.specs.List.{filter_map, cons_option}
 use Rattle.std.specs.Option.{option_map, option_or}
+use Rattle.std.proofs.lemmas.List.{append-nil}
 use Rattle.std.proofs.lemmas.List.Sums.{sum_by-append}
 use Rattle.std.proofs.lemmas.List.Elements.{filter-append, filter_map-append}
 use Rattle.lc_frame.specs.declared.channel.Channel.{Channel}
@@ -55,11 +56,7 @@ absolved-one f = ap (λ frames. sum (filter_map absolve_of frames)) (on-here f)
 -- one frame more on another channel
 module _ (c : Channel) (frames : List Frame) (f : Frame) (apart : is_same c (channel_of f) ≡ false) where
   pub on-other : on c (frames ++ f ∷ []) ≡ on c frames
-  on-other = on-append c frames (f ∷ []) ∙ (ap (λ ys. on c frames ++ ys) (on-elsewhere c f apart) ∙ append_nil (on c frames))
-    where
-      append_nil : (xs : List Frame) → xs ++ [] ≡ xs
-      append_nil [] = refl
-      append_nil (x ∷ xs) = ap (λ ys. x ∷ ys) (append_nil xs)
+  on-other = on-append c frames (f ∷ []) ∙ (ap (λ ys. on c frames ++ ys) (on-elsewhere c f apart) ∙ append-nil (on c frames))
 
   pub messages-other : messages c (frames ++ f ∷ []) ≡ messages c frames
   messages-other = ap (filter_map message_of) on-other

@@ -9,15 +9,7 @@ use Rattle.lc_frame.specs.Kind.{code_of}
 use Rattle.lc_frame.specs.Encoding.{tag_of}
 use Rattle.lc_frame.specs.Channel.{channel_at}
 use Rattle.lc_frame.specs.Scan.{kind_at}
-
-number_small : (c : Channel) → number_of c < 16
-number_small ReconciliationChannel = omega arith
-number_small DataChannel = omega arith
-number_small OverlapChannel = omega arith
-number_small CapabilityChannel = omega arith
-number_small AreaOfInterestChannel = omega arith
-number_small PayloadRequestChannel = omega arith
-number_small StaticTokenChannel = omega arith
+use Rattle.lc_frame.proofs.Channels.{channel_at-number_of, number_below}
 
 kind_of_code : (k : Kind) → kind_at (code_of k) ≡ Some k
 kind_of_code Send = refl
@@ -27,26 +19,17 @@ kind_of_code Plead = refl
 kind_of_code LimitSending = refl
 kind_of_code LimitReceiving = refl
 
-channel_of_number : (c : Channel) → channel_at (number_of c) ≡ Some c
-channel_of_number ReconciliationChannel = refl
-channel_of_number DataChannel = refl
-channel_of_number OverlapChannel = refl
-channel_of_number CapabilityChannel = refl
-channel_of_number AreaOfInterestChannel = refl
-channel_of_number PayloadRequestChannel = refl
-channel_of_number StaticTokenChannel = refl
-
 pub kind_again : (k : Kind) (c : Channel) → kind_at (tag_of k c / 16) ≡ Some k
 kind_again k c =
-    let small = number_small c in
+    let small = number_below c in
     let e : tag_of k c / 16 ≡ code_of k = omega arith in
     ap kind_at e ∙ kind_of_code k
 
 pub channel_again : (k : Kind) (c : Channel) → channel_at (tag_of k c % 16) ≡ Some c
 channel_again k c =
-    let small = number_small c in
+    let small = number_below c in
     let e : tag_of k c % 16 ≡ number_of c = omega arith in
-    ap channel_at e ∙ channel_of_number c
+    ap channel_at e ∙ channel_at-number_of c
 
 code_from : (n : ℕ) (k : Kind) → kind_at n ≡ Some k → n ≡ code_of k
 code_from zero k e = absurd cc

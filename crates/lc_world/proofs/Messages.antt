@@ -1,8 +1,8 @@
 -- The messages of a channel on a stream, one frame after another.
-use Rattle.std.proofs.Common.{◌≡◌, ℕ, zero, suc, ◌+◌, ◌<◌, ◌≤◌, true, false, cond, List, [], ◌∷◌, ◌++◌, length, get_or, take, Option, Some, None, refl, sym, ap, ◌∙◌, arith}
+use Rattle.std.proofs.Common.{◌≡◌, ℕ, zero, suc, ◌+◌, ◌<◌, ◌≤◌, true, false, cond, List, [], ◌∷◌, ◌++◌, length, get_or, take, drop, Option, Some, None, refl, sym, ap, ◌∙◌, arith}
 use Rattle.std.specs.Prelude.{IsSome}
 use Rattle.std.specs.List.{filter_map, cons_option}
-use Rattle.std.proofs.lemmas.List.{take_more, append-nil}
+use Rattle.std.proofs.lemmas.List.{append-nil, drop_more, length-drop, take_more}
 use Rattle.std.proofs.lemmas.Option.{slice_get-get_or}
 use Rattle.lc_frame.specs.declared.channel.Channel.{Channel}
 use Rattle.lc_frame.specs.declared.frame.Frame.{Frame}
@@ -58,3 +58,12 @@ length-messages c (f ∷ rest) = rw (messages-cons c f rest) (one_more (message_
     one_more : (o : Option (List ℕ)) (ms : List (List ℕ)) (n : ℕ) → length ms ≤ n → length (cons_option o ms) ≤ suc n
     one_more None ms n le = omega arith
     one_more (Some m) ms n le = omega arith
+
+-- the first message that waits is the next of those taken
+pub first_waiting : (ms : List (List ℕ)) (t : ℕ) (body : List ℕ) (rest : List (List ℕ)) → drop t ms ≡ body ∷ rest → take (t + 1) ms ≡ take t ms ++ body ∷ []
+first_waiting ms t body rest e =
+    let lt : t < length ms = omega (arith, length-drop t ms, ap length e) in
+    let more : take (t + 1) ms ≡ take t ms ++ get_or ms t [] ∷ [] = take_more ms t [] lt in
+    let here : drop t ms ≡ get_or ms t [] ∷ drop (t + 1) ms = drop_more ms t [] lt in
+    let same : get_or ms t [] ≡ body = cc in
+    rw (← same) more

@@ -9,7 +9,7 @@ use Rattle.lc_frame.specs.declared.frame.Frame.TheVariants as frame
 use Rattle.lc_frame.specs.Channel.{number_of, is_same}
 use Rattle.lc_frame.specs.Frame.{channel_of}
 use Rattle.lc_frame.specs.Stream.{messages}
-use Rattle.lc_frame.proofs.Channels.{cases_same, number_below}
+use Rattle.lc_frame.proofs.Channels.{cases_same, number_below, some_same}
 use Rattle.lc_book.specs.Client.{Client, amount_to_absolve, honour}
 use Rattle.lc_book.specs.Server.{Server}
 use Rattle.lc_book.specs.Sums.{client_of, server_of, client_after_put, server_after_put, client_after_arrival, server_after_arrival, asked_after}
@@ -108,9 +108,6 @@ absolved_due (Some n) amount h = elim h [ inl e ↦ cc | inr p ↦ let e = p.1 i
 nothing_due : (o : Option ℕ) → (NothingToAbsolve ≡ honoured o) ⊎ (Unit {0} × (NothingToAbsolve ≡ Refused OutOfMemory)) → o ≡ None
 nothing_due None h = refl
 nothing_due (Some n) h = elim h [ inl e ↦ cc | inr p ↦ let e = p.1 in cc ]
-
-some_same : (c d : Channel) → Some c ≡ Some d → c ≡ d
-some_same c d e = cc
 
 module _ (k : ℕ) (mine theirs : Line) where
   abbrev OwnMoves : Act → Answer → Channel → Type 0

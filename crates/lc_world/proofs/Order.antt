@@ -21,6 +21,7 @@ use Rattle.lc_world.specs.Histories.{History, after_all, IsLegal, IsHistory, at_
 use Rattle.lc_world.specs.Guarantee.{state_of, IsPrefix}
 use Rattle.lc_world.proofs.Allowed.{told}
 use Rattle.lc_world.proofs.Streams.{puts, stream-all, accepted_are}
+use Rattle.lc_world.proofs.Messages.{first_waiting}
 use Rattle.lc_world.proofs.Sound.{Sound, taken-push, count-here, count-elsewhere}
 use Rattle.lc_world.proofs.Steps.{IsSound, took_waiting, took_more, sound_step, sound_opened}
 
@@ -45,17 +46,11 @@ taken-arrive : (c : Channel) (l : Line) → taken_count c l ≤ length (messages
 taken-arrive c l le = taken-comes c l.arrived l.in_flight l.taken l.asked le
 
 -- a take adds the first message that waits
-first_waiting : (ms : List (List ℕ)) (t : ℕ) (body : List ℕ) (rest : List (List ℕ)) → t < length ms → drop t ms ≡ body ∷ rest → take (t + 1) ms ≡ take t ms ++ body ∷ []
-first_waiting ms t body rest lt e =
-    let here : drop t ms ≡ get_or ms t [] ∷ drop (t + 1) ms = drop_more ms t [] lt in
-    let same : get_or ms t [] ≡ body = cc in
-    take_more ms t [] lt ∙ ap (λ (m : List ℕ). take t ms ++ m ∷ []) same
-
 taken_one : (left : Option ℕ) (d : Channel) (l : Line) (body : List ℕ) → number_of d < length l.taken → Took body ≡ take_answer left (waiting d l) → taken_messages d (take_on d l) ≡ taken_messages d l ++ body ∷ []
 taken_one left d l body places e =
     let w = took_waiting left (waiting d l) body e in
     ap (λ (t : ℕ). take t (messages d l.arrived)) (count-here d l places)
-    ∙ first_waiting (messages d l.arrived) (taken_count d l) body w.0 (took_more left d l body e) w.1
+    ∙ first_waiting (messages d l.arrived) (taken_count d l) body w.0 w.1
 
 -- the taken messages, before others
 abbrev Adds : Channel → Line → Line → Option (List ℕ) → Type 0

@@ -10,7 +10,7 @@ use Rattle.lc_frame.specs.declared.frame.Frame.TheVariants as frame
 use Rattle.lc_frame.specs.Channel.{number_of}
 use Rattle.lc_frame.specs.Frame.{IsValid}
 use Rattle.lc_frame.specs.Stream.{messages}
-use Rattle.lc_frame.proofs.Channels.{number_below}
+use Rattle.lc_frame.proofs.Channels.{number_below, some_same}
 use Rattle.lc_book.specs.Client.{Client}
 use Rattle.lc_book.specs.Server.{Server}
 use Rattle.lc_world.specs.declared.party.Party.{Party}
@@ -41,9 +41,6 @@ client_read me peer d n e h en = ap (λ (i : ℕ). get_or me.clients i e) en ∙
 
 pub server_read : (me peer : Party) (d : Channel) (n : ℕ) (e : Server) → Keeps me peer → n ≡ number_of d → get_or me.servers n e ≡ server_book me.capacity d (line_of me peer) (line_of peer me)
 server_read me peer d n e h en = ap (λ (i : ℕ). get_or me.servers i e) en ∙ h.books.servers_are d e
-
-some_same : (c d : Channel) → Some c ≡ Some d → c ≡ d
-some_same c d e = cc
 
 -- a frame put last, if there is one
 line_with : (n : ℕ) (frames : List Frame) (taken : List ℕ) (asked : List (Option ℕ)) (o : Option Frame) → n ≤ length frames → line_at n (with_last frames o) taken asked ≡ put_any (line_at n frames taken asked) o

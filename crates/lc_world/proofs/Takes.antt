@@ -26,7 +26,8 @@ use Rattle.lc_world.specs.State.{Line, stream, client_book, server_book, taken_c
 use Rattle.lc_world.specs.Answers.{waiting, none_waiting, take_answer, MayWantMemory, theirs_after}
 use Rattle.lc_world.specs.Waiting.{message_on, IsSilent, IsNextMessage}
 use Rattle.lc_world.specs.Party.{line_of, TookUpTo, StandsInPlace, AreInStep, Acts}
-use Rattle.lc_world.proofs.Messages.{messages-cons, messages-push, length-messages}
+use Rattle.lc_world.proofs.Messages.{messages-cons, messages-push, length-messages, first_waiting}
+use Rattle.lc_world.proofs.Sound.{count-here, count-elsewhere}
 use Rattle.lc_world.proofs.Moves.{Moves, books_moved, books_stayed}
 use Rattle.lc_world.proofs.Parties.{keeps, server_read}
 
@@ -75,22 +76,6 @@ module _ (c : Channel) (frames : List Frame) (arrived taken next : ℕ) (t : Too
   pub took_none : IsSilent c frames next arrived → TookUpTo c frames arrived taken arrived
   took_none silent = record { within = omega arith; count = ap length silent ∙ t.count }
 
--- one message more is taken on the channel, by the definitions
-count_here : (d : Channel) (l : Line) → number_of d < length l.taken → taken_count d (take_on d l) ≡ taken_count d l + 1
-count_here d l places = get_or-set_same l.taken (number_of d) (taken_count d l + 1) 0 places
-
-count_elsewhere : (c d : Channel) (l : Line) → is_same c d ≡ false → taken_count c (take_on d l) ≡ taken_count c l
-count_elsewhere c d l apart = get_or-set_other l.taken (number_of d) (number_of c) (taken_count d l + 1) 0 (grind (arith, nat_tests, apart))
-
--- the first message that waits is the next of those taken
-first_waiting : (ms : List (List ℕ)) (t : ℕ) (body : List ℕ) (rest : List (List ℕ)) → drop t ms ≡ body ∷ rest → take (t + 1) ms ≡ take t ms ++ body ∷ []
-first_waiting ms t body rest e =
-    let lt : t < length ms = omega (arith, length-drop t ms, ap length e) in
-    let more : take (t + 1) ms ≡ take t ms ++ get_or ms t [] ∷ [] = take_more ms t [] lt in
-    let here : drop t ms ≡ get_or ms t [] ∷ drop (t + 1) ms = drop_more ms t [] lt in
-    let same : get_or ms t [] ≡ body = cc in
-    rw (← same) more
-
 -- a message that waits is part of what is buffered
 pub fits_buffered : (k : ℕ) (d : Channel) (mine theirs : Line) (body : List ℕ) (rest : List (List ℕ)) → waiting d theirs ≡ body ∷ rest → length body ≤ buffered (server_book k d mine theirs)
 fits_buffered k d mine theirs body rest e =
@@ -99,7 +84,7 @@ fits_buffered k d mine theirs body rest e =
 
 took_server : (k : ℕ) (d : Channel) (mine theirs : Line) (body : List ℕ) (rest : List (List ℕ)) → number_of d < length theirs.taken → waiting d theirs ≡ body ∷ rest → note_taken (server_book k d mine theirs) (length body) ≡ server_book k d mine (take_on d theirs)
 took_server k d mine theirs body rest places e =
-    let more : taken_messages d (take_on d theirs) ≡ taken_messages d theirs ++ body ∷ [] = ap (λ (n : ℕ). take n (messages d theirs.arrived)) (count_here d theirs places) ∙ first_waiting (messages d theirs.arrived) (taken_count d theirs) body rest e in
+    let more : taken_messages d (take_on d theirs) ≡ taken_messages d theirs ++ body ∷ [] = ap (λ (n : ℕ). take n (messages d theirs.arrived)) (count-here d theirs places) ∙ first_waiting (messages d theirs.arrived) (taken_count d theirs) body rest e in
     server_is _ _ refl refl refl (sym (ap (sum_by length) more ∙ sum_by_push length (taken_messages d theirs) body)) refl refl refl
 
 took_moves : (k : ℕ) (d : Channel) (mine theirs : Line) (body : List ℕ) (rest : List (List ℕ)) → number_of d < length theirs.taken → waiting d theirs ≡ body ∷ rest → Moves k mine theirs mine (take_on d theirs) d (client_book d mine theirs) (note_taken (server_book k d mine theirs) (length body))
@@ -108,7 +93,7 @@ took_moves k d mine theirs body rest places e =
       client_here = refl;
       client_elsewhere = λ c apart. refl;
       server_here = took_server k d mine theirs body rest places e;
-      server_elsewhere = λ c apart. ap (λ (n : ℕ). server_of k c (stream mine) theirs.arrived (sum_by length (take n (messages c theirs.arrived)))) (sym (count_elsewhere c d theirs apart));
+      server_elsewhere = λ c apart. ap (λ (n : ℕ). server_of k c (stream mine) theirs.arrived (sum_by length (take n (messages c theirs.arrived)))) (sym (count-elsewhere c d theirs apart));
     }
 
 -- what the test for an ended channel says of the answer
