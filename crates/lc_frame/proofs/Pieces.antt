@@ -182,6 +182,11 @@ module _ (progress : Progress) (inside : List ℕ) (held : Held) (knows : Holds 
       let wanted : NeedsMore inside n = subst (λ (p : Progress). Holds p inside) e knows in
       wanted.now_open.no_frame f (subst (λ (h : Held). FrameStands f h.bytes) (sym view_is) s)
 
+  pub wants_unknown : (n : ℕ) → progress ≡ Wants n → IsKnown held.bytes → ⊥
+  wants_unknown n e known =
+      let wanted : NeedsMore inside n = subst (λ (p : Progress). Holds p inside) e knows in
+      elim (subst (λ (h : Held). IsKnown h.bytes) (sym view_is) known) [ inl p ↦ wanted.now_open.no_frame p.0 p.1 | inr p ↦ wanted.now_open.no_fault p.0 p.1 ]
+
   pub whole_stands : (head : Head) → progress ≡ Whole head → FrameStands (frame_in head inside) held.bytes
   whole_stands head e =
       let whole : HoldsFrame head inside = subst (λ (p : Progress). Holds p inside) e knows in

@@ -57,6 +57,7 @@ impl StreamDecoder {
         ensures held { self.new.bytes ≡ self.old.bytes ++ take result piece.now }
         ensures shortest { (k : ℕ) → k < result → IsOpen (self.old.bytes ++ take k piece.now) }
         ensures stop { result < length piece.now → IsKnown self.new.bytes }
+        ensures stands { IsKnown self.old.bytes → result ≡ 0 }
     {
         match self.progress {
             Progress::Wants(need) => {

@@ -77,7 +77,7 @@ arrive_answer capacity mine theirs (f ∷ rest) = arrival (violation (client_boo
 abbrev pub waiting : Channel → Line → List (List ℕ)
 waiting c l = drop (taken_count c l) (messages c l.arrived)
 
--- where no message waits, the channel has ended or it has not, by what is left of the client's limit
+-- where no message waits, the channel has ended or it has not, by what is left of the client's limit as far as it has arrived
 abbrev pub none_waiting : Option ℕ → Answer
 none_waiting (Some zero) = Ended
 none_waiting left = Empty

@@ -1,4 +1,4 @@
--- Histories: events with their answers from a new world, and what was accepted and taken in one.
+-- Histories: events with their answers from a new world, and what was accepted, issued and taken in one. A history is this project's own way to say what LCMUX's streams promise over time.
 use Rattle.std.specs.Prelude.{ℕ, if◌then◌else◌, Bool, true, false, List, [], ◌∷◌, Option, Some, None}
 use Rattle.std.specs.List.{filter_map}
 use Rattle.lc_frame.specs.declared.channel.Channel.{Channel}
