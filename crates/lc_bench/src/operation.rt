@@ -1,5 +1,7 @@
 //! What is measured.
-use lc_frame::{Decoded, Frame, FrameRef, StreamDecoder, decode};
+ghost use Rattle.lc_frame.specs.Frame.{IsValid};
+
+use lc_frame::{Channel, Decoded, Frame, FrameRef, StreamDecoder, decode};
 use std::alloc::{AllocError, Global};
 
 /// The bytes that a walk goes over: few enough for the second cache.
@@ -82,13 +84,23 @@ impl<'a> Walk<'a> {
         sum: &mut u64,
     ) -> Result<(), AllocError> {
         match operation {
-            Operation::EncodeInto => encode_into(self.frame, self.count, turns, &mut self.out),
+            Operation::EncodeInto => encode_into_turns(
+                self.frame,
+                self.count,
+                turns,
+                &mut self.out,
+            ),
             Operation::EncodeToSlice => {
-                encode_to_slice(self.frame, self.count, turns, &mut self.slice);
+                encode_to_slice_turns(self.frame, self.count, turns, &mut self.slice);
                 Ok(())
             }
             Operation::Decode => {
-                decode_turns(&self.bytes, turns, sum);
+                let mut last = FrameRef::Issue {
+                    channel: Channel::DataChannel,
+                    amount: 1,
+                };
+                decode_turns(&self.bytes, turns, &mut last);
+                *sum = sum.wrapping_add(weight(last));
                 Ok(())
             }
             Operation::DecodeOwned => decode_owned_turns(self.alloc, &self.bytes, turns, sum),
@@ -113,7 +125,7 @@ fn weight(frame: FrameRef<'_>) -> u64 {
 }
 
 #[inline(never)]
-fn encode_into(
+fn encode_into_turns(
     frame: &Frame,
     count: usize,
     turns: u64,
@@ -124,54 +136,62 @@ fn encode_into(
     }
     for _ in 0..turns {
         out.clear();
-        for _ in 0..count {
-            frame.encode_into(out)?;
-        }
+        encode_into(frame, count, out)?;
+    }
+    Ok(())
+}
+
+#[inline]
+fn encode_into(frame: &Frame, count: usize, out: &mut Vec<u8>) -> Result<(), AllocError>
+    requires { IsValid frame.now }
+{
+    for _ in 0..count {
+        frame.encode_into(out)?;
     }
     Ok(())
 }
 
 #[inline(never)]
-fn encode_to_slice(frame: &Frame, count: usize, turns: u64, out: &mut [u8]) {
+fn encode_to_slice_turns(frame: &Frame, count: usize, turns: u64, out: &mut [u8]) {
     if !frame.is_valid() {
         return;
     }
     for _ in 0..turns {
-        let mut at = 0usize;
-        for _ in 0..count {
-            if at > out.len() {
-                break;
-            }
-            let Ok(used) = frame.encode_to_slice(&mut out[at..]) else {
-                break;
-            };
-            at = at.wrapping_add(used);
-        }
-    }
-}
-
-#[inline(never)]
-fn decode_turns(bytes: &[u8], turns: u64, sum: &mut u64) {
-    for _ in 0..turns {
-        decode_all(bytes, sum);
+        encode_to_slice(frame, count, out);
     }
 }
 
 #[inline]
-fn decode_all(bytes: &[u8], sum: &mut u64) {
-    let mut rest = bytes;
-    let mut read = *sum;
-    for _ in 0..bytes.len() {
-        let Decoded::Whole { frame, used } = decode(rest) else {
-            break;
-        };
-        if rest.len() < used {
+fn encode_to_slice(frame: &Frame, count: usize, out: &mut [u8])
+    requires { IsValid frame.now }
+{
+    let mut at = 0usize;
+    for _ in 0..count {
+        if at > out.len() {
             break;
         }
-        rest = rest.split_at(used).1;
-        read = read.wrapping_add(weight(frame));
+        let Ok(used) = frame.encode_to_slice(&mut out[at..]) else {
+            break;
+        };
+        at = at.wrapping_add(used);
     }
-    *sum = read;
+}
+
+// Each frame is written to where the last one stood, so that all of its fields are made.
+#[inline(never)]
+fn decode_turns<'a>(bytes: &'a [u8], turns: u64, last: &mut FrameRef<'a>) {
+    for _ in 0..turns {
+        decode_all(bytes, last);
+    }
+}
+
+#[inline]
+fn decode_all<'a>(bytes: &'a [u8], last: &mut FrameRef<'a>) {
+    let mut rest = bytes;
+    while let Decoded::Whole { frame, used } = decode(rest) {
+        rest = rest.split_at(used).1;
+        *last = frame;
+    }
 }
 
 #[inline(never)]
@@ -190,13 +210,7 @@ fn decode_owned_turns(
 #[inline]
 fn decode_owned(alloc: Global, bytes: &[u8], sum: &mut u64) -> Result<(), AllocError> {
     let mut rest = bytes;
-    for _ in 0..bytes.len() {
-        let Decoded::Whole { frame, used } = decode(rest) else {
-            break;
-        };
-        if rest.len() < used {
-            break;
-        }
+    while let Decoded::Whole { frame, used } = decode(rest) {
         let owned = frame.to_frame(alloc)?;
         rest = rest.split_at(used).1;
         *sum = sum.wrapping_add(weight(owned.view()));

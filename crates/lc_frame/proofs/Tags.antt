@@ -1,5 +1,5 @@
 -- A tag byte is its kind and its channel, and no other.
-use Rattle.std.proofs.Common.{◌≡◌, ℕ, zero, suc, ◌/◌, ◌%◌, ◌<◌, Some, refl, ap, ◌∙◌, arith}
+use Rattle.std.proofs.Common.{◌≡◌, ℕ, zero, suc, ◌/◌, ◌%◌, Some, refl, ap, ◌∙◌, arith}
 use Rattle.lc_frame.specs.declared.channel.Channel.{Channel}
 use Rattle.lc_frame.specs.declared.channel.Channel.TheVariants.{ReconciliationChannel, DataChannel, OverlapChannel, CapabilityChannel, AreaOfInterestChannel, PayloadRequestChannel, StaticTokenChannel}
 use Rattle.lc_frame.specs.declared.kind.Kind.{Kind}

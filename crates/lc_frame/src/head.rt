@@ -11,9 +11,9 @@ use crate::kind::Kind;
 /// The tag and the number of a frame.
 #[derive(Clone, Copy, Debug)]
 pub(crate) struct Head {
+    pub(crate) number: u64,
     pub(crate) kind: Kind,
     pub(crate) channel: Channel,
-    pub(crate) number: u64,
 }
 
 impl Head {

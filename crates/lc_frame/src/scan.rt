@@ -75,6 +75,19 @@ fn scan_number(kind: Kind, channel: Channel, bytes: &[u8]) -> Scan
     scan_body(kind, channel, number, rest)
 }
 
+// As `scan_number`. The arms are alike, so that each width has code of its own, in which it is a
+// constant.
+#[inline]
+fn scan_kind(kind: Kind, channel: Channel, bytes: &[u8]) -> Scan
+    ensures { result ≡ scan_number kind channel bytes.now }
+{
+    match kind {
+        Kind::Send => scan_number(kind, channel, bytes),
+        Kind::Issue | Kind::Absolve | Kind::Plead => scan_number(kind, channel, bytes),
+        Kind::LimitSending | Kind::LimitReceiving => scan_number(kind, channel, bytes),
+    }
+}
+
 #[inline]
 #[tactic(auto, unfolding(crate::specs::Scan::scan_of, crate::specs::Scan::scan_tag))]
 fn scan_tag(bytes: &[u8]) -> Scan
@@ -87,7 +100,7 @@ fn scan_tag(bytes: &[u8]) -> Scan
                 Kind::from_code(*first / 16),
                 Channel::from_number(*first % 16),
             ) {
-                (Some(kind), Some(channel)) => scan_number(kind, channel, rest),
+                (Some(kind), Some(channel)) => scan_kind(kind, channel, rest),
                 _ => Scan::Fault(FrameFault::BadTag),
             }
         }
