@@ -45,7 +45,7 @@ pub struct Walk<'a> {
 }
 
 impl<'a> Walk<'a> {
-    /// The walk over a frame; `None` for a frame that has no bytes.
+    /// The walk over a frame; `None` for a frame that is not valid.
     pub fn new(alloc: Global, frame: &'a Frame) -> Result<Option<Walk<'a>>, AllocError> {
         if !frame.is_valid() {
             return Ok(None);
@@ -112,7 +112,7 @@ impl<'a> Walk<'a> {
     }
 }
 
-// A number of the frame: all of its fields have to be read for it.
+// A number that the channel and the field of the frame have to be read for.
 #[inline]
 fn weight(frame: FrameRef<'_>) -> u64 {
     let number = match frame {
@@ -221,14 +221,19 @@ fn decode_owned(alloc: Global, bytes: &[u8], sum: &mut u64) -> Result<(), AllocE
 #[inline(never)]
 fn stream_turns(decoder: &mut StreamDecoder, bytes: &[u8], turns: u64, sum: &mut u64) {
     for _ in 0..turns {
-        for piece in bytes.chunks(PIECE) {
-            stream(decoder, piece, sum);
-        }
+        stream(decoder, bytes, sum);
     }
 }
 
 #[inline]
-fn stream(decoder: &mut StreamDecoder, piece: &[u8], sum: &mut u64) {
+fn stream(decoder: &mut StreamDecoder, bytes: &[u8], sum: &mut u64) {
+    for piece in bytes.chunks(PIECE) {
+        feed_piece(decoder, piece, sum);
+    }
+}
+
+#[inline]
+fn feed_piece(decoder: &mut StreamDecoder, piece: &[u8], sum: &mut u64) {
     let mut rest = piece;
     for _ in 0..piece.len() {
         if rest.is_empty() {

@@ -34,7 +34,7 @@ impl Plan {
             Err(_) => None,
         };
         let reps = match env::var(rt, "BENCH_REPS") {
-            Ok(text) => text.parse::<usize>().unwrap_or(REPS),
+            Ok(text) => text.parse::<usize>().unwrap_or(REPS).max(1),
             Err(_) => REPS,
         };
         Ok(Plan {

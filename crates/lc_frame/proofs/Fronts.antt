@@ -16,11 +16,11 @@ use Rattle.lc_frame.specs.declared.head.Head.{Head}
 use Rattle.lc_frame.specs.declared.scan.Scan.{Scan}
 use Rattle.lc_frame.specs.declared.scan.Scan.TheVariants.{Whole, Fault, Needs}
 use Rattle.lc_frame.specs.Channel.{channel_at}
-use Rattle.lc_frame.specs.Kind.{width_of, IsInRange, body_len, header_len, max_frame}
+use Rattle.lc_frame.specs.Kind.{kind_at, width_of, IsInRange, is_in_range, fault_of, body_len, header_len, max_frame}
 use Rattle.lc_frame.specs.Frame.{kind_of, channel_of, field_of, body_of, IsValid}
-use Rattle.lc_frame.specs.Encoding.{tag_of, header, encoding, fault_of, FrameStands, NoTagStands, NumberStands, FaultStands}
+use Rattle.lc_frame.specs.Encoding.{tag_of, header, encoding, FrameStands, NoTagStands, NumberStands, FaultStands}
 use Rattle.lc_frame.specs.Decoded.{IsOpen, OnlyFrame, OnlyFault, StandsAlone}
-use Rattle.lc_frame.specs.Scan.{kind_at, is_in_range, frame_with, frame_in, scan_body, scan_number, scan_tag, scan_of, FindsFrame, NeedsMore, Finds}
+use Rattle.lc_frame.specs.Scan.{frame_with, frame_in, scan_body, scan_number, scan_tag, scan_of, FindsFrame, NeedsMore, Finds}
 use Rattle.lc_frame.proofs.Bytes.{IsBytes, IsBytes-take, IsBytes-rest, wide_of}
 use Rattle.lc_frame.proofs.Tags.{kind_again, channel_again, tag_from}
 

@@ -5,10 +5,9 @@ use Rattle.lc_frame.specs.declared.channel.Channel.TheVariants.{ReconciliationCh
 use Rattle.lc_frame.specs.declared.kind.Kind.{Kind}
 use Rattle.lc_frame.specs.declared.kind.Kind.TheVariants.{Send, Issue, Absolve, Plead, LimitSending, LimitReceiving}
 use Rattle.lc_frame.specs.Channel.{number_of}
-use Rattle.lc_frame.specs.Kind.{code_of}
+use Rattle.lc_frame.specs.Kind.{code_of, kind_at}
 use Rattle.lc_frame.specs.Encoding.{tag_of}
 use Rattle.lc_frame.specs.Channel.{channel_at}
-use Rattle.lc_frame.specs.Scan.{kind_at}
 use Rattle.lc_frame.proofs.Channels.{channel_at-number_of, number_below}
 
 kind_of_code : (k : Kind) → kind_at (code_of k) ≡ Some k

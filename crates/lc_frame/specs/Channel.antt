@@ -3,6 +3,7 @@ use Rattle.std.specs.Prelude.{ℕ, zero, suc, Bool, ◌==◌, Option, Some, None
 use Rattle.lc_frame.specs.declared.channel.Channel.{Channel}
 use Rattle.lc_frame.specs.declared.channel.Channel.TheVariants.{ReconciliationChannel, DataChannel, OverlapChannel, CapabilityChannel, AreaOfInterestChannel, PayloadRequestChannel, StaticTokenChannel}
 
+-- a channel's number
 abbrev pub number_of : Channel → ℕ
 number_of ReconciliationChannel = 0
 number_of DataChannel = 1
@@ -12,6 +13,7 @@ number_of AreaOfInterestChannel = 4
 number_of PayloadRequestChannel = 5
 number_of StaticTokenChannel = 6
 
+-- the channel of a number, where there is one
 abbrev pub channel_at : ℕ → Option Channel
 channel_at zero = Some ReconciliationChannel
 channel_at (suc zero) = Some DataChannel
@@ -22,5 +24,6 @@ channel_at (suc (suc (suc (suc (suc zero))))) = Some PayloadRequestChannel
 channel_at (suc (suc (suc (suc (suc (suc zero)))))) = Some StaticTokenChannel
 channel_at (suc (suc (suc (suc (suc (suc (suc n))))))) = None
 
+-- a test whether two channels are one
 abbrev pub is_same : Channel → Channel → Bool
 is_same c d = number_of c == number_of d

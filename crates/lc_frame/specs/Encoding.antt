@@ -1,16 +1,16 @@
 -- The bytes of a frame, and which frame or fault stands at the front of a list of bytes. The frames are those of LCMUX; their bytes and the faults are this project's own.
-use Rattle.std.specs.Prelude.{◌≡◌, ℕ, zero, ◌+◌, ◌*◌, ◌^◌, ◌<◌, List, ◌∷◌, ◌++◌}
+use Rattle.std.specs.Prelude.{◌≡◌, ℕ, ◌+◌, ◌*◌, ◌^◌, ◌<◌, List, ◌∷◌, ◌++◌}
 use Rattle.std.specs.Int.{byte_len, to_be_bytes}
 use Rattle.lc_frame.specs.declared.channel.Channel.{Channel}
 use Rattle.lc_frame.specs.declared.kind.Kind.{Kind}
-use Rattle.lc_frame.specs.declared.kind.Kind.TheVariants as kinds
 use Rattle.lc_frame.specs.declared.frame.Frame.{Frame}
 use Rattle.lc_frame.specs.declared.frame_fault.FrameFault.{FrameFault}
 use Rattle.lc_frame.specs.declared.frame_fault.FrameFault.TheVariants.{BadTag, ZeroLength, BadNumber, Truncated}
 use Rattle.lc_frame.specs.Channel.{number_of}
-use Rattle.lc_frame.specs.Kind.{code_of, width_of, IsInRange}
+use Rattle.lc_frame.specs.Kind.{code_of, width_of, IsInRange, fault_of}
 use Rattle.lc_frame.specs.Frame.{kind_of, channel_of, field_of, body_of, IsValid}
 
+-- the first byte of a frame
 abbrev pub tag_of : Kind → Channel → ℕ
 tag_of kind c = 16 * code_of kind + number_of c
 
@@ -34,11 +34,6 @@ pub record NoTagStands (bytes : List ℕ) : Type 0 where
   pub rest : List ℕ
   pub is : bytes ≡ first ∷ rest
   pub no_tag : (kind : Kind) (c : Channel) → ¬ (first ≡ tag_of kind c)
-
--- the fault that a number out of range is
-abbrev pub fault_of : Kind → ℕ → FrameFault
-fault_of kinds.Send zero = ZeroLength
-fault_of kind number = BadNumber
 
 -- behind a tag stands a whole number that is out of range
 pub record NumberStands (fault : FrameFault) (bytes : List ℕ) : Type 0 where

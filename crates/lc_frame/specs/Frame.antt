@@ -8,6 +8,7 @@ use Rattle.lc_frame.specs.declared.frame.Frame.TheVariants.{Send, Issue, Absolve
 use Rattle.lc_frame.specs.Channel.{number_of}
 use Rattle.lc_frame.specs.Kind.{IsInRange}
 
+-- what a frame does
 abbrev pub kind_of : Frame → Kind
 kind_of (Send c body) = kinds.Send
 kind_of (Issue c amount) = kinds.Issue
@@ -16,6 +17,7 @@ kind_of (Plead c target) = kinds.Plead
 kind_of (LimitSending c bound) = kinds.LimitSending
 kind_of (LimitReceiving c bound) = kinds.LimitReceiving
 
+-- the channel that it concerns
 abbrev pub channel_of : Frame → Channel
 channel_of (Send c body) = c
 channel_of (Issue c amount) = c

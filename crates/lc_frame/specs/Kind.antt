@@ -1,8 +1,10 @@
 -- The table of the kinds of frame: of each the code in its tag, how wide the number behind the tag is, the least and the greatest number, and how many bytes stand behind it. The kinds are those of LCMUX; codes, widths and ranges are this project's own.
-use Rattle.std.specs.Prelude.{ℕ, ◌+◌, ◌≤◌, ◌^◌}
+use Rattle.std.specs.Prelude.{ℕ, zero, suc, Bool, ◌+◌, ◌≤◌, ◌^◌, ◌&&◌, nat_le, Option, Some, None}
 use Rattle.std.specs.Int.{Width, w16, w32, w64, byte_len}
 use Rattle.lc_frame.specs.declared.kind.Kind.{Kind}
 use Rattle.lc_frame.specs.declared.kind.Kind.TheVariants.{Send, Issue, Absolve, Plead, LimitSending, LimitReceiving}
+use Rattle.lc_frame.specs.declared.frame_fault.FrameFault.{FrameFault}
+use Rattle.lc_frame.specs.declared.frame_fault.FrameFault.TheVariants.{ZeroLength, BadNumber}
 
 -- the longest message
 abbrev pub max_body : ℕ
@@ -16,6 +18,7 @@ max_amount = 2 ^ 24
 abbrev pub max_total : ℕ
 max_total = 2 ^ 62
 
+-- the code in the tag
 abbrev pub code_of : Kind → ℕ
 code_of Send = 1
 code_of Issue = 2
@@ -24,6 +27,17 @@ code_of Plead = 4
 code_of LimitSending = 5
 code_of LimitReceiving = 6
 
+-- the kind of a code, where there is one
+abbrev pub kind_at : ℕ → Option Kind
+kind_at (suc zero) = Some Send
+kind_at (suc (suc zero)) = Some Issue
+kind_at (suc (suc (suc zero))) = Some Absolve
+kind_at (suc (suc (suc (suc zero)))) = Some Plead
+kind_at (suc (suc (suc (suc (suc zero))))) = Some LimitSending
+kind_at (suc (suc (suc (suc (suc (suc zero)))))) = Some LimitReceiving
+kind_at _ = None
+
+-- the width of the number behind the tag
 abbrev pub width_of : Kind → Width
 width_of Send = w16
 width_of Issue = w32
@@ -32,6 +46,7 @@ width_of Plead = w32
 width_of LimitSending = w64
 width_of LimitReceiving = w64
 
+-- the least number
 abbrev pub least_of : Kind → ℕ
 least_of Send = 1
 least_of Issue = 1
@@ -40,6 +55,7 @@ least_of Plead = 0
 least_of LimitSending = 0
 least_of LimitReceiving = 0
 
+-- the greatest number
 abbrev pub greatest_of : Kind → ℕ
 greatest_of Send = max_body
 greatest_of Issue = max_amount
@@ -48,8 +64,18 @@ greatest_of Plead = max_amount
 greatest_of LimitSending = max_total
 greatest_of LimitReceiving = max_total
 
+-- a frame of this kind may carry the number
 abbrev pub IsInRange : Kind → ℕ → Type 0
 IsInRange kind number = (least_of kind ≤ number) × (number ≤ greatest_of kind)
+
+-- the same as a test
+abbrev pub is_in_range : Kind → ℕ → Bool
+is_in_range kind number = nat_le (least_of kind) number && nat_le number (greatest_of kind)
+
+-- the fault that a number out of range is
+abbrev pub fault_of : Kind → ℕ → FrameFault
+fault_of Send zero = ZeroLength
+fault_of kind number = BadNumber
 
 -- the bytes behind the number: as many as it says in a Send, else none
 abbrev pub body_len : Kind → ℕ → ℕ

@@ -1,4 +1,4 @@
--- What a stream decoder remembers of the bytes that it holds, for src/progress.rt.
+-- What a stream decoder remembers of the bytes that it holds, for src/progress.rt. A device of the proofs: what a decoder takes and shows is said without it.
 use Rattle.std.specs.Prelude.{◌≡◌, ℕ, ◌<◌, ◌≤◌, ◌++◌, List, length, take}
 use Rattle.lc_frame.specs.declared.head.Head.{Head}
 use Rattle.lc_frame.specs.declared.progress.Progress.{Progress}
@@ -15,6 +15,7 @@ pub record HoldsFrame (head : Head) (bytes : List ℕ) : Type 0 where
   pub in_range : IsInRange head.kind head.number
   pub begins : header_len head.kind ≤ length bytes
 
+-- what is remembered is true of the bytes
 abbrev pub Holds : Progress → List ℕ → Type 0
 Holds (Wants need) bytes = NeedsMore bytes need
 Holds (Whole head) bytes = HoldsFrame head bytes

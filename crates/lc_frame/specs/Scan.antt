@@ -1,5 +1,5 @@
--- Reading the front of a list of bytes from left to right: the way that src/scan.rt goes, and what it finds.
-use Rattle.std.specs.Prelude.{◌≡◌, ℕ, zero, suc, Bool, ◌+◌, ◌/◌, ◌%◌, ◌≤◌, ◌<◌, ◌++◌, List, [], ◌∷◌, length, take, drop, Option, Some, None, nat_lt, nat_le, ◌&&◌, if◌then◌else◌}
+-- Reading the front of a list of bytes from left to right: the way that src/scan.rt goes, and what it finds. A device of the proofs: what decoding means is in Decoded.antt, without it.
+use Rattle.std.specs.Prelude.{◌≡◌, ℕ, ◌+◌, ◌/◌, ◌%◌, ◌≤◌, ◌<◌, ◌++◌, List, [], ◌∷◌, length, take, drop, Option, Some, None, nat_lt, if◌then◌else◌}
 use Rattle.std.specs.Int.{byte_len, from_be_bytes}
 use Rattle.lc_frame.specs.declared.channel.Channel.{Channel}
 use Rattle.lc_frame.specs.declared.kind.Kind.{Kind}
@@ -11,21 +11,9 @@ use Rattle.lc_frame.specs.declared.head.Head.{Head}
 use Rattle.lc_frame.specs.declared.scan.Scan.{Scan}
 use Rattle.lc_frame.specs.declared.scan.Scan.TheVariants.{Whole, Fault, Needs}
 use Rattle.lc_frame.specs.Channel.{channel_at}
-use Rattle.lc_frame.specs.Kind.{width_of, least_of, greatest_of, IsInRange, body_len, header_len, max_frame}
-use Rattle.lc_frame.specs.Encoding.{fault_of, encoding}
+use Rattle.lc_frame.specs.Kind.{width_of, kind_at, IsInRange, is_in_range, fault_of, body_len, header_len, max_frame}
+use Rattle.lc_frame.specs.Encoding.{encoding}
 use Rattle.lc_frame.specs.Decoded.{IsOpen, OnlyFrame, OnlyFault}
-
-abbrev pub kind_at : ℕ → Option Kind
-kind_at (suc zero) = Some Send
-kind_at (suc (suc zero)) = Some Issue
-kind_at (suc (suc (suc zero))) = Some Absolve
-kind_at (suc (suc (suc (suc zero)))) = Some Plead
-kind_at (suc (suc (suc (suc (suc zero))))) = Some LimitSending
-kind_at (suc (suc (suc (suc (suc (suc zero)))))) = Some LimitReceiving
-kind_at _ = None
-
-abbrev pub is_in_range : Kind → ℕ → Bool
-is_in_range kind number = nat_le (least_of kind) number && nat_le number (greatest_of kind)
 
 -- the frame of a kind, a channel, a number and the bytes behind them
 abbrev pub frame_with : Kind → Channel → ℕ → List ℕ → Frame

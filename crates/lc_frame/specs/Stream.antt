@@ -4,7 +4,7 @@ use Rattle.std.specs.List.{filter_map}
 use Rattle.std.specs.Option.{option_map, option_or}
 use Rattle.lc_frame.specs.declared.channel.Channel.{Channel}
 use Rattle.lc_frame.specs.declared.frame.Frame.{Frame}
-use Rattle.lc_frame.specs.declared.frame.Frame.TheVariants.{Send, Issue, Absolve, Plead, LimitSending, LimitReceiving}
+use Rattle.lc_frame.specs.declared.frame.Frame.TheVariants.{Send, Issue, Absolve, LimitSending, LimitReceiving}
 use Rattle.lc_frame.specs.Channel.{is_same}
 use Rattle.lc_frame.specs.Frame.{channel_of, lane_of}
 
@@ -28,10 +28,6 @@ issue_of f = None
 abbrev pub absolve_of : Frame → Option ℕ
 absolve_of (Absolve c amount) = Some amount
 absolve_of f = None
-
-abbrev pub plead_of : Frame → Option ℕ
-plead_of (Plead c target) = Some target
-plead_of f = None
 
 abbrev pub send_bound_of : Frame → Option ℕ
 send_bound_of (LimitSending c bound) = Some bound

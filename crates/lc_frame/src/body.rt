@@ -25,6 +25,13 @@ impl Body {
         Body { bytes }
     }
 
+    /// The bytes, with no copy.
+    pub fn into_vec(self) -> Vec<u8>
+        ensures { result.items ≡ self }
+    {
+        self.bytes
+    }
+
     /// The bytes, in order.
     pub fn as_slice(&self) -> &[u8]
         ensures { result.now ≡ self.now }

@@ -1,8 +1,9 @@
 //! The seven logical channels.
-ghost use Rattle.std.specs.Prelude.{◌≡◌, ◌<◌};
+ghost use Rattle.std.specs.Prelude.{◌≡◌, ◌≤◌, ◌<◌, Some, IfSome, IfNone};
 ghost use Rattle.lc_frame.specs.Channel.{number_of, channel_at};
 
-/// A logical channel. Each runs in both directions, independently.
+/// A logical channel. Each runs in both directions, independently. Its number is its place in this
+/// list, from 0.
 #[derive(Clone, Copy, Debug, PartialEq, Eq)]
 pub enum Channel {
     ReconciliationChannel,
@@ -19,13 +20,16 @@ impl Channel {
     pub fn number(self) -> u8
         ensures value { result ≡ number_of self }
         ensures range { result < 7 }
+        ensures inverse { channel_at result ≡ Some self }
     {
         self as u8
     }
 
     /// The channel of a number, `None` above 6.
     pub fn from_number(number: u8) -> Option<Channel>
-        ensures { result ≡ channel_at number }
+        ensures value { result ≡ channel_at number }
+        ensures inverse { IfSome result (λ c. number_of c ≡ number) }
+        ensures none { IfNone result (7 ≤ number) }
     {
         match number {
             0 => Some(Channel::ReconciliationChannel),

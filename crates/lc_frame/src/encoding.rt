@@ -74,8 +74,8 @@ impl FrameRef<'_> {
         self.kind().header_len() + self.body().len()
     }
 
-    /// Appends the frame's bytes. On an error, which is want of memory, the vector holds what it
-    /// held.
+    /// Appends the bytes of a valid frame. On an error, which is want of memory, the vector holds
+    /// what it held.
     #[inline]
     pub fn encode_into(&self, out: &mut Vec<u8>) -> Result<(), AllocError>
         requires { IsValid (frame_of self.now) }
@@ -85,7 +85,6 @@ impl FrameRef<'_> {
         // It succeeds wherever the capacity has room, and the capacity never shrinks.
         ensures room { vec_len out.old + length (encoding (frame_of self.now)) ≤ vec_capacity out.old → IsOk result }
         ensures capacity { vec_capacity out.old ≤ vec_capacity out.new }
-        ensures longest { length (encoding (frame_of self.now)) ≤ max_frame }
     {
         let channel = self.channel();
         let tag = tag(self.kind(), channel);
@@ -105,13 +104,17 @@ impl FrameRef<'_> {
         }
     }
 
-    /// Writes the frame's bytes at the front of a slice, and answers how many they are. On an
-    /// error, which is a slice that is too short for them, the slice is unchanged.
+    /// Writes the bytes of a valid frame at the front of a slice, and answers how many they are. On
+    /// an error, which is a slice that is too short for them, the slice is unchanged.
     #[inline]
     pub fn encode_to_slice(&self, out: &mut [u8]) -> Result<usize, BufferTooSmall>
         requires { IsValid (frame_of self.now) }
-        ensures ok { IfOk result (λ n. (n ≡ length (encoding (frame_of self.now))) × (out.new ≡ encoding (frame_of self.now) ++ drop n out.old)) }
-        ensures err { IfErr result (λ e. (e.need ≡ length (encoding (frame_of self.now))) × (length out.old < e.need) × (out.new ≡ out.old)) }
+        ensures count { IfOk result (λ n. n ≡ length (encoding (frame_of self.now))) }
+        ensures within { IfOk result (λ n. n ≤ length out.old) }
+        ensures written { IfOk result (λ n. out.new ≡ encoding (frame_of self.now) ++ drop n out.old) }
+        ensures need { IfErr result (λ e. e.need ≡ length (encoding (frame_of self.now))) }
+        ensures short { IfErr result (λ e. length out.old < e.need) }
+        ensures same { OnErr result (out.new ≡ out.old) }
     {
         let need = self.encoded_len();
         if out.len() < need {
@@ -146,8 +149,8 @@ impl Frame {
         self.view().encoded_len()
     }
 
-    /// Appends the frame's bytes. On an error, which is want of memory, the vector holds what it
-    /// held.
+    /// Appends the bytes of a valid frame. On an error, which is want of memory, the vector holds
+    /// what it held.
     #[inline]
     pub fn encode_into(&self, out: &mut Vec<u8>) -> Result<(), AllocError>
         requires { IsValid self.now }
@@ -157,18 +160,21 @@ impl Frame {
         // It succeeds wherever the capacity has room, and the capacity never shrinks.
         ensures room { vec_len out.old + length (encoding self.now) ≤ vec_capacity out.old → IsOk result }
         ensures capacity { vec_capacity out.old ≤ vec_capacity out.new }
-        ensures longest { length (encoding self.now) ≤ max_frame }
     {
         self.view().encode_into(out)
     }
 
-    /// Writes the frame's bytes at the front of a slice, and answers how many they are. On an
-    /// error, which is a slice that is too short for them, the slice is unchanged.
+    /// Writes the bytes of a valid frame at the front of a slice, and answers how many they are. On
+    /// an error, which is a slice that is too short for them, the slice is unchanged.
     #[inline]
     pub fn encode_to_slice(&self, out: &mut [u8]) -> Result<usize, BufferTooSmall>
         requires { IsValid self.now }
-        ensures ok { IfOk result (λ n. (n ≡ length (encoding self.now)) × (out.new ≡ encoding self.now ++ drop n out.old)) }
-        ensures err { IfErr result (λ e. (e.need ≡ length (encoding self.now)) × (length out.old < e.need) × (out.new ≡ out.old)) }
+        ensures count { IfOk result (λ n. n ≡ length (encoding self.now)) }
+        ensures within { IfOk result (λ n. n ≤ length out.old) }
+        ensures written { IfOk result (λ n. out.new ≡ encoding self.now ++ drop n out.old) }
+        ensures need { IfErr result (λ e. e.need ≡ length (encoding self.now)) }
+        ensures short { IfErr result (λ e. length out.old < e.need) }
+        ensures same { OnErr result (out.new ≡ out.old) }
     {
         self.view().encode_to_slice(out)
     }

@@ -10,7 +10,7 @@ use crate::kind::Kind;
 use std::alloc::{AllocError, Global};
 
 /// A frame with a borrowed body. Numbers count bytes of messages.
-#[derive(Clone, Copy, Debug)]
+#[derive(Clone, Copy, Debug, PartialEq, Eq)]
 pub enum FrameRef<'a> {
     /// A message of the client.
     Send { channel: Channel, body: &'a [u8] },

@@ -1,9 +1,7 @@
 //! The kinds of frame: the table that the format rests on.
 ghost use Rattle.std.specs.Prelude.{◌≡◌, ◌≤◌, ◌↔◌, IsTrue};
 ghost use Rattle.std.specs.Int.{byte_len};
-ghost use Rattle.lc_frame.specs.Kind.{code_of, width_of, IsInRange, body_len, header_len};
-ghost use Rattle.lc_frame.specs.Encoding.{fault_of};
-ghost use Rattle.lc_frame.specs.Scan.{kind_at, is_in_range};
+ghost use Rattle.lc_frame.specs.Kind.{code_of, kind_at, width_of, IsInRange, is_in_range, fault_of, body_len, header_len};
 
 use crate::frame::{MAX_AMOUNT, MAX_BODY, MAX_TOTAL};
 use crate::frame_fault::FrameFault;

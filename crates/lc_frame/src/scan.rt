@@ -75,8 +75,7 @@ fn scan_number(kind: Kind, channel: Channel, bytes: &[u8]) -> Scan
     scan_body(kind, channel, number, rest)
 }
 
-// As `scan_number`. The arms are alike, so that each width has code of its own, in which it is a
-// constant.
+// As `scan_number`. One arm for each width: what is inlined there has it as a constant.
 #[inline]
 fn scan_kind(kind: Kind, channel: Channel, bytes: &[u8]) -> Scan
     ensures { result ≡ scan_number kind channel bytes.now }

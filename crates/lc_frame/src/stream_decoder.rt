@@ -92,6 +92,7 @@ impl StreamDecoder {
     pub fn clear(&mut self)
         ensures whole { (f : Frame) → FrameStands f self.old.bytes → self.new.bytes ≡ [] }
         ensures other { ((f : Frame) → ¬ FrameStands f self.old.bytes) → self.new ≡ self.old }
+        ensures fault { (e : FrameFault) → FaultStands e self.old.bytes → self.new ≡ self.old }
     {
         match self.progress {
             Progress::Wants(_) => {}

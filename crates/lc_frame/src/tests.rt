@@ -87,26 +87,6 @@ fn limits() -> [(FrameRef<'static>, &'static [u8]); 5] {
     ]
 }
 
-// Whether two frames say the same.
-fn is_same(a: FrameRef<'_>, b: FrameRef<'_>) -> bool {
-    if a.channel() != b.channel() {
-        return false;
-    }
-    match (a, b) {
-        (FrameRef::Send { body: x, .. }, FrameRef::Send { body: y, .. }) => x == y,
-        (FrameRef::Issue { amount: x, .. }, FrameRef::Issue { amount: y, .. }) => x == y,
-        (FrameRef::Absolve { amount: x, .. }, FrameRef::Absolve { amount: y, .. }) => x == y,
-        (FrameRef::Plead { target: x, .. }, FrameRef::Plead { target: y, .. }) => x == y,
-        (FrameRef::LimitSending { bound: x, .. }, FrameRef::LimitSending { bound: y, .. }) => {
-            x == y
-        }
-        (FrameRef::LimitReceiving { bound: x, .. }, FrameRef::LimitReceiving { bound: y, .. }) => {
-            x == y
-        }
-        _ => false,
-    }
-}
-
 fn encodes(rt: &impl Abort, alloc: Global, frame: FrameRef<'_>, bytes: &[u8]) -> Result<(), Fail> {
     assert!(rt; frame.is_valid());
     assert_eq!(rt; frame.encoded_len(), bytes.len());
@@ -114,7 +94,8 @@ fn encodes(rt: &impl Abort, alloc: Global, frame: FrameRef<'_>, bytes: &[u8]) ->
     frame.encode_into(&mut out)?;
     assert_eq!(rt; out.as_slice(), bytes);
     let mut slice = [0xAA_u8; 16];
-    assert!(rt; frame.encode_to_slice(&mut slice).is_ok());
+    let used = frame.encode_to_slice(&mut slice).ok();
+    assert_eq!(rt; used, Some(bytes.len()));
     assert!(rt; slice.starts_with(bytes), "{bytes:?}");
     Ok(())
 }
@@ -126,7 +107,8 @@ fn owned_encodes(rt: &impl Abort, alloc: Global, frame: &Frame, bytes: &[u8]) ->
     frame.encode_into(&mut out)?;
     assert_eq!(rt; out.as_slice(), bytes);
     let mut slice = [0xAA_u8; 16];
-    assert!(rt; frame.encode_to_slice(&mut slice).is_ok());
+    let used = frame.encode_to_slice(&mut slice).ok();
+    assert_eq!(rt; used, Some(bytes.len()));
     assert!(rt; slice.starts_with(bytes), "{bytes:?}");
     Ok(())
 }
@@ -134,7 +116,7 @@ fn owned_encodes(rt: &impl Abort, alloc: Global, frame: &Frame, bytes: &[u8]) ->
 fn decodes(rt: &impl Abort, frame: FrameRef<'_>, bytes: &[u8]) {
     match decode(bytes) {
         Decoded::Whole { frame: read, used } => {
-            assert!(rt; is_same(read, frame), "{bytes:?}");
+            assert!(rt; read == frame, "{bytes:?}");
             assert_eq!(rt; used, bytes.len());
         }
         Decoded::More | Decoded::Fault(_) => assert!(rt; false, "{bytes:?}"),
@@ -145,7 +127,7 @@ fn works(rt: &impl Abort, alloc: Global, frame: FrameRef<'_>, bytes: &[u8]) -> R
     encodes(rt, alloc, frame, bytes)?;
     decodes(rt, frame, bytes);
     let owned = frame.to_frame(alloc)?;
-    assert!(rt; is_same(owned.view(), frame), "{bytes:?}");
+    assert!(rt; owned.view() == frame, "{bytes:?}");
     owned_encodes(rt, alloc, &owned, bytes)
 }
 
@@ -253,6 +235,7 @@ fn channels_and_lanes(rt: HostRuntime) {
 fn a_body_keeps_its_bytes(rt: HostRuntime) -> Result<(), Fail> {
     let body = Body::from_vec(vec![in rt.alloc(); 1_u8, 2, 3]?);
     assert_eq!(rt; body.as_slice(), [1, 2, 3].as_slice());
+    assert_eq!(rt; body.into_vec().as_slice(), [1, 2, 3].as_slice());
     Ok(())
 }
 
