@@ -123,9 +123,50 @@ fn decodes(rt: &impl Abort, frame: FrameRef<'_>, bytes: &[u8]) {
     }
 }
 
+// A decoder that took two pieces whole.
+fn fed(
+    rt: &impl Abort,
+    alloc: Global,
+    (first, second): (&[u8], &[u8]),
+) -> Result<StreamDecoder, Fail> {
+    let mut decoder = StreamDecoder::new(alloc)?;
+    assert_eq!(rt; decoder.feed(first), first.len());
+    assert_eq!(rt; decoder.feed(second), second.len());
+    Ok(decoder)
+}
+
+fn is_found_in_two_pieces(
+    rt: &impl Abort,
+    alloc: Global,
+    frame: FrameRef<'_>,
+    bytes: &[u8],
+) -> Result<(), Fail> {
+    for cut in 0..=bytes.len() {
+        let decoder = fed(rt, alloc, bytes.split_at(cut))?;
+        assert!(rt; decoder.frame() == Some(frame), "{bytes:?} cut at {cut}");
+        assert_eq!(rt; end_number(&decoder), 0);
+    }
+    Ok(())
+}
+
+fn is_fault_in_two_pieces(
+    rt: &impl Abort,
+    alloc: Global,
+    bytes: &[u8],
+    number: u8,
+) -> Result<(), Fail> {
+    for cut in 0..=bytes.len() {
+        let decoder = fed(rt, alloc, bytes.split_at(cut))?;
+        assert_eq!(rt; fault_number(&decoder), number, "{bytes:?} cut at {cut}");
+        assert_eq!(rt; end_number(&decoder), number);
+    }
+    Ok(())
+}
+
 fn works(rt: &impl Abort, alloc: Global, frame: FrameRef<'_>, bytes: &[u8]) -> Result<(), Fail> {
     encodes(rt, alloc, frame, bytes)?;
     decodes(rt, frame, bytes);
+    is_found_in_two_pieces(rt, alloc, frame, bytes)?;
     let owned = frame.to_frame(alloc)?;
     assert!(rt; owned.view() == frame, "{bytes:?}");
     owned_encodes(rt, alloc, &owned, bytes)
@@ -267,6 +308,7 @@ fn faults(rt: HostRuntime) -> Result<(), Fail> {
         decoder.clear();
         assert_eq!(rt; decoder.feed(THREE), 0);
         assert_eq!(rt; fault_number(&decoder), number);
+        is_fault_in_two_pieces(&rt, rt.alloc(), bytes, number)?;
     }
     Ok(())
 }
