@@ -42,17 +42,13 @@ fn frame_of(rt: &HostRuntime, len: usize) -> io::Result<Frame> {
     Ok(Frame::Send { channel, body })
 }
 
-fn measure_all(rt: &HostRuntime, plan: &Plan, name: &str, frame: &Frame) -> io::Result<()> {
-    for operation in OPERATIONS {
-        measure(rt, plan, operation, name, frame)?;
-    }
-    Ok(())
-}
-
 fn main(rt: HostRuntime) -> io::Result<()> {
     let plan = Plan::from_environment(&rt)?;
     for (name, len) in FRAMES {
-        measure_all(&rt, &plan, name, &frame_of(&rt, len)?)?;
+        let frame = frame_of(&rt, len)?;
+        for operation in OPERATIONS {
+            measure(&rt, &plan, operation, name, &frame)?;
+        }
     }
     Ok(())
 }
