@@ -1,8 +1,11 @@
 //! Reading the front of some bytes, from left to right.
-ghost use Rattle.std.specs.Prelude.{◌≡◌, length};
+ghost use Rattle.std.specs.Prelude.{◌≡◌, ◌/◌, ◌%◌, length, IfSome, IfNone};
 ghost use Rattle.std.specs.Int.{byte_len, from_be_bytes};
-ghost use Rattle.lc_frame.specs.Kind.{width_of, IsInRange};
-ghost use Rattle.lc_frame.specs.Scan.{scan_of, scan_number, scan_body, Finds};
+ghost use Rattle.lc_frame.specs.Kind.{kind_at, width_of, IsInRange};
+ghost use Rattle.lc_frame.specs.Channel.{channel_at};
+ghost use Rattle.lc_frame.specs.declared.kind.Kind.TheVariants.{Send};
+ghost use Rattle.lc_frame.specs.Encoding.{tag_of};
+ghost use Rattle.lc_frame.specs.Scan.{scan_of, scan_tag, scan_number, scan_body, Finds};
 
 use crate::channel::Channel;
 use crate::frame_fault::FrameFault;
@@ -75,34 +78,45 @@ fn scan_number(kind: Kind, channel: Channel, bytes: &[u8]) -> Scan
     scan_body(kind, channel, number, rest)
 }
 
-// As `scan_number`. One arm for each width: what is inlined there has it as a constant.
+// The channel of a Send with this tag.
 #[inline]
-fn scan_kind(kind: Kind, channel: Channel, bytes: &[u8]) -> Scan
-    ensures { result ≡ scan_number kind channel bytes.now }
+fn send_channel(tag: u8) -> Option<Channel>
+    ensures some { IfSome result (λ c. tag ≡ tag_of Send c) }
+    ensures none { IfNone result ((c : Channel) → ¬ tag ≡ tag_of Send c) }
 {
-    match kind {
-        Kind::Send => scan_number(kind, channel, bytes),
-        Kind::Issue | Kind::Absolve | Kind::Plead => scan_number(kind, channel, bytes),
-        Kind::LimitSending | Kind::LimitReceiving => scan_number(kind, channel, bytes),
+    Channel::from_number(tag.wrapping_sub(16 * Kind::Send.code()))
+}
+
+// Behind the tag of no Send. One arm for each width: what is inlined there has it as a constant.
+#[inline]
+#[tactic(auto, unfolding(crate::specs::Scan::scan_tag))]
+fn scan_other(tag: u8, rest: &[u8]) -> Scan
+    requires { (c : Channel) → ¬ tag ≡ tag_of Send c }
+    ensures { result ≡ scan_tag (kind_at (tag / 16)) (channel_at (tag % 16)) rest.now }
+{
+    match (Kind::from_code(tag / 16), Channel::from_number(tag % 16)) {
+        (Some(kind @ (Kind::Issue | Kind::Absolve | Kind::Plead)), Some(channel)) => {
+            scan_number(kind, channel, rest)
+        }
+        (Some(kind @ (Kind::LimitSending | Kind::LimitReceiving)), Some(channel)) => {
+            scan_number(kind, channel, rest)
+        }
+        _ => Scan::Fault(FrameFault::BadTag),
     }
 }
 
+// A Send is tried first: one comparison tells its kind and its channel.
 #[inline]
 #[tactic(auto, unfolding(crate::specs::Scan::scan_of, crate::specs::Scan::scan_tag))]
-fn scan_tag(bytes: &[u8]) -> Scan
+fn scan_bytes(bytes: &[u8]) -> Scan
     ensures { result ≡ scan_of bytes.now }
 {
     match bytes {
         [] => Scan::Needs(1),
-        [first, rest @ ..] => {
-            match (
-                Kind::from_code(*first / 16),
-                Channel::from_number(*first % 16),
-            ) {
-                (Some(kind), Some(channel)) => scan_kind(kind, channel, rest),
-                _ => Scan::Fault(FrameFault::BadTag),
-            }
-        }
+        [tag, rest @ ..] => match send_channel(*tag) {
+            Some(channel) => scan_number(Kind::Send, channel, rest),
+            None => scan_other(*tag, rest),
+        },
     }
 }
 
@@ -111,5 +125,5 @@ fn scan_tag(bytes: &[u8]) -> Scan
 pub(crate) fn scan_front(bytes: &[u8]) -> Scan
     ensures { Finds result bytes.now }
 {
-    scan_tag(bytes)
+    scan_bytes(bytes)
 }
