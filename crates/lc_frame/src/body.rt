@@ -1,5 +1,8 @@
 //! The bytes of a message.
-ghost use Rattle.std.specs.Prelude.{◌≡◌};
+ghost use Rattle.std.specs.Prelude.{◌≡◌, ◌==◌};
+ghost use Rattle.std.proofs.Common.{rules};
+ghost use Rattle.std.specs.Cmp.Lexicographic.{pointwise};
+ghost use Rattle.std.specs.Cmp.Rules.{comparing};
 
 use std::marker::Model;
 
@@ -38,4 +41,18 @@ impl Body {
     {
         self.bytes.as_slice()
     }
+}
+
+impl PartialEq for Body {
+    ghost eq = { pointwise ◌==◌ };
+
+    ghost laws = { Prim.search (comparing, rules) };
+
+    fn eq(&self, other: &Body) -> bool {
+        self.as_slice() == other.as_slice()
+    }
+}
+
+impl Eq for Body {
+    ghost laws = { Prim.search (comparing, rules) };
 }

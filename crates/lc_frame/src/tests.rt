@@ -280,6 +280,24 @@ fn a_body_keeps_its_bytes(rt: HostRuntime) -> Result<(), Fail> {
     Ok(())
 }
 
+#[test]
+fn bodies_are_equal_by_their_bytes(rt: HostRuntime) -> Result<(), Fail> {
+    let body = Body::from_vec(vec![in rt.alloc(); 1_u8, 2, 3]?);
+    let same = Body::from_vec(vec![in rt.alloc(); 1_u8, 2, 3]?);
+    let other = Body::from_vec(vec![in rt.alloc(); 1_u8, 2, 4]?);
+    assert!(rt; body != other);
+    assert!(rt; body == same);
+    let channel = DATA;
+    let frame = Frame::Send { channel, body };
+    let again = Frame::Send {
+        channel,
+        body: same,
+    };
+    assert!(rt; frame == again);
+    assert!(rt; frame != Frame::Issue { channel, amount: 3 });
+    Ok(())
+}
+
 // What begins no frame, and the number of its fault.
 const FAULTS: [(&[u8], u8); 9] = [
     (b"\x11\x00\x00", 2),

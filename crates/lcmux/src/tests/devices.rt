@@ -12,10 +12,12 @@ pub struct ShortReader<'a> {
 }
 
 impl<'a> ShortReader<'a> {
+    /// A reader that never fails.
     pub fn new(bytes: &'a [u8], most: usize) -> ShortReader<'a> {
         ShortReader::failing(bytes, most, u32::MAX)
     }
 
+    /// A reader that fails at one read.
     pub fn failing(bytes: &'a [u8], most: usize, fails_at: u32) -> ShortReader<'a> {
         ShortReader {
             rest: bytes,
@@ -64,6 +66,7 @@ pub struct ShortWriter {
 }
 
 impl ShortWriter {
+    /// A writer behind what is written already, that fails at one write.
     pub fn failing(written: Vec<u8>, most: usize, fails_at: u32) -> ShortWriter {
         ShortWriter {
             written,
