@@ -6,8 +6,9 @@ ghost use Rattle.hex.specs.Hex.{encode_lower};
 use std::io;
 use std::io::Write;
 
-// The bytes that are turned into text at a time.
-const PIECE: usize = 2048;
+// The bytes that are turned into text at a time: few, since room for their digits is made, and
+// cleared, for each message.
+const PIECE: usize = 256;
 
 /// Writes the bytes in lower case hexadecimal. Takes no memory.
 pub fn write_hex<W: Write>(bytes: &[u8], out: &mut W) -> io::Result<()>
