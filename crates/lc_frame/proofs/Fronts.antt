@@ -100,10 +100,10 @@ body_len_of (Plead c n) = refl
 body_len_of (LimitSending c n) = refl
 body_len_of (LimitReceiving c n) = refl
 
-length-encoding : (f : Frame) → length (encoding f) ≡ header_len (kind_of f) + length (body_of f)
+pub length-encoding : (f : Frame) → length (encoding f) ≡ header_len (kind_of f) + length (body_of f)
 length-encoding f = omega (arith, length-append (header (kind_of f) (channel_of f) (field_of f)) (body_of f), length-header (kind_of f) (channel_of f) (field_of f))
 
-stands_whole : (f : Frame) (bytes : List ℕ) → FrameStands f bytes → scan_of bytes ≡ Whole (head_of f) (length (encoding f))
+pub stands_whole : (f : Frame) (bytes : List ℕ) → FrameStands f bytes → scan_of bytes ≡ Whole (head_of f) (length (encoding f))
 stands_whole f bytes s =
     let k = kind_of f in
     let c = channel_of f in
@@ -121,7 +121,7 @@ with_again (Plead c n) = refl
 with_again (LimitSending c n) = refl
 with_again (LimitReceiving c n) = refl
 
-frame_again : (f : Frame) (bytes : List ℕ) → FrameStands f bytes → frame_in (head_of f) (take (length (encoding f)) bytes) ≡ f
+pub frame_again : (f : Frame) (bytes : List ℕ) → FrameStands f bytes → frame_in (head_of f) (take (length (encoding f)) bytes) ≡ f
 frame_again f bytes s =
     let k = kind_of f in
     let c = channel_of f in
@@ -362,7 +362,7 @@ alone bytes (Whole head used) found long = inl (frame_in head (take used bytes),
 alone bytes (Fault e) found long = inr (e, found)
 alone bytes (Needs n) found long = absurd (omega (arith, found.short, found.small))
 
-bytes_from : (bytes : List ℕ) → All (λ b. b < 256) bytes → IsBytes bytes
+pub bytes_from : (bytes : List ℕ) → All (λ b. b < 256) bytes → IsBytes bytes
 bytes_from bytes all i =
     elim (cases_lt i (length bytes)) [
       | inl lt ↦ all i 0 lt

@@ -11,7 +11,7 @@ use Rattle.lc_frame.specs.declared.frame.Frame.{Frame}
 use Rattle.lc_frame.specs.declared.frame.Frame.TheVariants.{Send, Issue, Absolve, Plead, LimitSending, LimitReceiving}
 use Rattle.lc_frame.specs.Channel.{is_same}
 use Rattle.lc_frame.specs.Frame.{channel_of}
-use Rattle.lc_frame.specs.Stream.{on, message_of, issue_of, absolve_of, send_bound_of, receive_bound_of, messages, cost, issued, absolved, last_limit, send_left, receive_left}
+use Rattle.lc_frame.specs.Stream.{on, message_of, issue_of, absolve_of, target_of, send_bound_of, receive_bound_of, messages, cost, issued, absolved, pleads, last_limit, send_left, receive_left}
 use Rattle.lc_frame.proofs.Channels.{same_is_same}
 
 -- lists that are put together
@@ -29,6 +29,9 @@ sum-append xs ys = sum_by-append (λ n. n) xs ys
 
 pub issued-append : (c : Channel) (xs ys : List Frame) → issued c (xs ++ ys) ≡ issued c xs + issued c ys
 issued-append c xs ys = rw (on-append c xs ys, filter_map-append issue_of (on c xs) (on c ys)) (sum-append (filter_map issue_of (on c xs)) (filter_map issue_of (on c ys)))
+
+pub pleads-append : (c : Channel) (xs ys : List Frame) → pleads c (xs ++ ys) ≡ pleads c xs ++ pleads c ys
+pleads-append c xs ys = rw (on-append c xs ys) (filter_map-append target_of (on c xs) (on c ys))
 
 pub absolved-append : (c : Channel) (xs ys : List Frame) → absolved c (xs ++ ys) ≡ absolved c xs + absolved c ys
 absolved-append c xs ys = rw (on-append c xs ys, filter_map-append absolve_of (on c xs) (on c ys)) (sum-append (filter_map absolve_of (on c xs)) (filter_map absolve_of (on c ys)))

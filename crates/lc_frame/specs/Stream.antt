@@ -4,7 +4,7 @@ use Rattle.std.specs.List.{filter_map}
 use Rattle.std.specs.Option.{option_map, option_or}
 use Rattle.lc_frame.specs.declared.channel.Channel.{Channel}
 use Rattle.lc_frame.specs.declared.frame.Frame.{Frame}
-use Rattle.lc_frame.specs.declared.frame.Frame.TheVariants.{Send, Issue, Absolve, LimitSending, LimitReceiving}
+use Rattle.lc_frame.specs.declared.frame.Frame.TheVariants.{Send, Issue, Absolve, Plead, LimitSending, LimitReceiving}
 use Rattle.lc_frame.specs.Channel.{is_same}
 use Rattle.lc_frame.specs.Frame.{channel_of, lane_of}
 
@@ -29,6 +29,10 @@ abbrev pub absolve_of : Frame → Option ℕ
 absolve_of (Absolve c amount) = Some amount
 absolve_of f = None
 
+abbrev pub target_of : Frame → Option ℕ
+target_of (Plead c target) = Some target
+target_of f = None
+
 abbrev pub send_bound_of : Frame → Option ℕ
 send_bound_of (LimitSending c bound) = Some bound
 send_bound_of f = None
@@ -52,6 +56,10 @@ issued c frames = sum (filter_map issue_of (on c frames))
 -- the guarantees absolved on a channel
 abbrev pub absolved : Channel → List Frame → ℕ
 absolved c frames = sum (filter_map absolve_of (on c frames))
+
+-- the targets of the pleads on a channel, in order
+abbrev pub pleads : Channel → List Frame → List ℕ
+pleads c frames = filter_map target_of (on c frames)
 
 -- the bound of the last limit in a list, and the frames after it
 abbrev pub last_limit : (Frame → Option ℕ) → List Frame → Option (ℕ × List Frame)

@@ -4,6 +4,7 @@ ghost use Rattle.std.proofs.Common.{rules};
 ghost use Rattle.std.specs.Cmp.Lexicographic.{pointwise};
 ghost use Rattle.std.specs.Cmp.Rules.{comparing};
 
+use std::alloc::AllocError;
 use std::marker::Model;
 
 /// The bytes of a message, which contracts see as their list.
@@ -40,6 +41,16 @@ impl Body {
         ensures { result.now ≡ self.now }
     {
         self.bytes.as_slice()
+    }
+}
+
+impl Clone for Body {
+    ghost is_clone = { λ body copy. copy ≡ body };
+
+    fn clone(&self) -> Result<Body, AllocError> {
+        Ok(Body {
+            bytes: self.bytes.clone()?,
+        })
     }
 }
 

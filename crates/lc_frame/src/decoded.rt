@@ -6,7 +6,7 @@ use crate::frame_ref::FrameRef;
 use crate::scan::{Scan, scan_front};
 
 /// What stands at the front of some bytes.
-#[derive(Clone, Copy, Debug)]
+#[derive(Clone, Copy, Debug, PartialEq, Eq)]
 pub enum Decoded<'a> {
     /// A valid frame, and how many bytes it has.
     Whole { frame: FrameRef<'a>, used: usize },

@@ -23,6 +23,8 @@ const LONG: usize = 1 + size_of::<u64>();
 /// The longest frame, in bytes: a Send of `MAX_BODY` bytes.
 pub const MAX_FRAME: usize = SHORT + MAX_BODY;
 
+const _: () = prove!(MAX_FRAME == 65_538);
+
 #[inline]
 fn tag(kind: Kind, channel: Channel) -> u8
     ensures { result ≡ tag_of kind channel }

@@ -16,7 +16,7 @@ pub const MAX_AMOUNT: u32 = 16_777_216;
 pub const MAX_TOTAL: u64 = 4_611_686_018_427_387_904;
 
 /// A frame that owns its body. Numbers count bytes of messages.
-#[derive(Debug, PartialEq, Eq, Drop)]
+#[derive(Clone, Debug, PartialEq, Eq, Drop)]
 pub enum Frame {
     /// A message of the client.
     Send { channel: Channel, body: Body },

@@ -1,5 +1,6 @@
 //! A frame that borrows its body.
-ghost use Rattle.std.specs.Prelude.{◌≡◌, ◌<◌, ◌↔◌, IsTrue, IfOk};
+ghost use Rattle.std.specs.Prelude.{◌≡◌, ◌<◌, ◌↔◌, IsTrue, IfOk, OnErr};
+ghost use Rattle.lc_frame.specs.declared.kind.Kind.TheVariants as kinds;
 ghost use Rattle.lc_frame.specs.Frame.{kind_of, channel_of, field_of, body_of, lane_of, IsValid};
 ghost use Rattle.lc_frame.specs.FrameRef.{frame_of};
 
@@ -27,9 +28,11 @@ pub enum FrameRef<'a> {
 }
 
 impl<'a> FrameRef<'a> {
-    /// The same frame with a copy of the body. The error is want of memory.
+    /// The same frame with a copy of the body. The error is want of memory, and only a Send takes
+    /// any.
     pub fn to_frame(&self, alloc: Global) -> Result<Frame, AllocError>
-        ensures { IfOk result (λ f. f ≡ frame_of self.now) }
+        ensures value { IfOk result (λ f. f ≡ frame_of self.now) }
+        ensures err { OnErr result (kind_of (frame_of self.now) ≡ kinds.Send) }
     {
         Ok(match *self {
             FrameRef::Send { channel, body } => Frame::Send {

@@ -26,6 +26,3 @@ pub use frame::{Frame, MAX_AMOUNT, MAX_BODY, MAX_TOTAL};
 pub use frame_fault::FrameFault;
 pub use frame_ref::FrameRef;
 pub use stream_decoder::StreamDecoder;
-
-#[cfg(test)]
-mod tests;

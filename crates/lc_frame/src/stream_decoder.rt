@@ -1,5 +1,5 @@
 //! Finding the frames of a stream that comes in pieces.
-ghost use Rattle.std.specs.Prelude.{◌≡◌, ◌<◌, ◌≤◌, ◌++◌, ℕ, [], length, take, IfOk, IfSome, IfNone};
+ghost use Rattle.std.specs.Prelude.{◌≡◌, ◌<◌, ◌≤◌, ◌++◌, ℕ, [], length, take, All, IfOk, IfSome, IfNone};
 ghost use Rattle.lc_frame.specs.declared.frame.Frame.{Frame};
 ghost use Rattle.lc_frame.specs.declared.frame_fault.FrameFault.{FrameFault};
 ghost use Rattle.lc_frame.specs.Frame.{IsValid};
@@ -17,7 +17,7 @@ use std::marker::Model;
 
 /// Finds the frames of a stream that comes in pieces. Contracts see it as the bytes that it took
 /// since its last whole frame was cleared.
-#[derive(Drop)]
+#[derive(Debug, Drop)]
 pub struct StreamDecoder {
     buffer: Vec<u8>,
     progress: Progress,
@@ -72,6 +72,16 @@ impl StreamDecoder {
             Progress::Whole(_) => 0,
             Progress::Fault(_) => 0,
         }
+    }
+
+    /// How many bytes are held: those that were taken since the last whole frame was cleared.
+    #[inline]
+    pub fn held(&self) -> usize
+        ensures value { result ≡ length self.now.bytes }
+        ensures bytes { All (λ b. b < 256) self.now.bytes }
+    {
+        let held = self.buffer.as_slice();
+        held.len()
     }
 
     /// The whole frame, `None` where there is none.
