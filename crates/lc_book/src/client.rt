@@ -7,7 +7,7 @@ ghost use Rattle.lc_book.specs.Limit.{limit_refusal};
 ghost use Rattle.lc_book.specs.Client.{IsClient, client_of_parts, new_client, held, spend_refusal, spend, absolve_refusal, absolve, amount_to_absolve, honour, limit_client, issued_violation, add_received, keep_plead, receive_limit_violation, note_receive_limit};
 
 use crate::fault::{Refusal, Violation};
-use crate::limit::{is_bound, limited};
+use crate::limit::{is_bound, limited, take_from};
 use lc_frame::{MAX_AMOUNT, MAX_BODY, MAX_TOTAL};
 use std::marker::Model;
 
@@ -35,7 +35,7 @@ impl Model for ClientBook {
 }
 
 /// The fields of a client's book, by name, in bytes of messages.
-#[derive(Clone, Copy, Debug, PartialEq, Eq)]
+#[derive(Clone, Copy, Debug, Default, PartialEq, Eq)]
 pub struct ClientParts {
     /// All guarantees that arrived, 0 to 2^62.
     pub received: u64,
@@ -105,48 +105,57 @@ impl ClientBook {
         ensures value { result ≡ held self.now }
         ensures small { result ≤ max_amount }
         ensures sum { result + self.now.spent + self.now.absolved ≡ self.now.received }
+        ensures kept { IsClient self.now }
     {
         self.received - self.spent - self.absolved
     }
 
     /// All guarantees that arrived, 0 to 2^62.
     pub fn received(&self) -> u64
-        ensures { result ≡ self.now.received }
+        ensures value { result ≡ self.now.received }
+        ensures small { result ≤ max_total }
     {
         self.received
     }
 
-    /// The guarantees that messages used up.
+    /// The guarantees that messages used up, 0 to 2^62.
     pub fn spent(&self) -> u64
-        ensures { result ≡ self.now.spent }
+        ensures value { result ≡ self.now.spent }
+        ensures within { result + self.now.absolved ≤ self.now.received }
+        ensures small { result ≤ max_total }
     {
         self.spent
     }
 
-    /// The guarantees that were given up.
+    /// The guarantees that were given up, 0 to 2^62.
     pub fn absolved(&self) -> u64
-        ensures { result ≡ self.now.absolved }
+        ensures value { result ≡ self.now.absolved }
+        ensures within { self.now.spent + result ≤ self.now.received }
+        ensures small { result ≤ max_total }
     {
         self.absolved
     }
 
     /// What may still be sent, 0 to 2^62; `None` without a limit.
     pub fn send_left(&self) -> Option<u64>
-        ensures { result ≡ self.now.send_left }
+        ensures value { result ≡ self.now.send_left }
+        ensures small { IfSome result (λ left. left ≤ max_total) }
     {
         self.send_left
     }
 
     /// What the server may still issue, 0 to 2^62; `None` without a limit.
     pub fn receive_left(&self) -> Option<u64>
-        ensures { result ≡ self.now.receive_left }
+        ensures value { result ≡ self.now.receive_left }
+        ensures small { IfSome result (λ left. left ≤ max_total) }
     {
         self.receive_left
     }
 
     /// The target of the plead that is kept, 0 to 2^24; `None` where none is kept.
     pub fn asked(&self) -> Option<u32>
-        ensures { result ≡ self.now.asked }
+        ensures value { result ≡ self.now.asked }
+        ensures small { IfSome result (λ target. target ≤ max_amount) }
     {
         self.asked
     }
@@ -163,10 +172,9 @@ impl ClientBook {
             return Err(Refusal::BodyTooLong);
         }
         let cost = u64::from(len);
-        let send_left = match self.send_left {
-            Some(left) if cost > left => return Err(Refusal::PastSendLimit { left }),
-            Some(left) => Some(left - cost),
-            None => None,
+        let send_left = match take_from(self.send_left, cost) {
+            Ok(left) => left,
+            Err(left) => return Err(Refusal::PastSendLimit { left }),
         };
         let held = self.held();
         if cost > held {
@@ -228,10 +236,9 @@ impl ClientBook {
         ensures after { self.new ≡ (if is_ok result then add_received self.old n else self.old) }
     {
         let amount = u64::from(n);
-        let receive_left = match self.receive_left {
-            Some(left) if amount > left => return Err(Violation::IssuedPastLimit),
-            Some(left) => Some(left - amount),
-            None => None,
+        let receive_left = match take_from(self.receive_left, amount) {
+            Ok(left) => left,
+            Err(_) => return Err(Violation::IssuedPastLimit),
         };
         if self.held() + amount > u64::from(MAX_AMOUNT) {
             return Err(Violation::TooManyGuarantees);
@@ -265,6 +272,14 @@ impl ClientBook {
         }
         self.receive_left = Some(bound);
         Ok(())
+    }
+}
+
+impl Default for ClientBook {
+    ghost is_default = { λ b. b ≡ new_client };
+
+    fn default() -> ClientBook {
+        ClientBook::new()
     }
 }
 

@@ -51,7 +51,7 @@ pub enum Refusal {
     #[error("out of memory")]
     OutOfMemory,
     /// 16. The caller's buffer is shorter than the message; `need` is the message's length.
-    #[error("the buffer is too small: {need} bytes would do")]
+    #[error("the buffer is too small: {need} bytes are needed")]
     BufferTooSmall { need: usize },
 }
 
@@ -85,7 +85,7 @@ impl Refusal {
 #[derive(Clone, Copy, Debug, PartialEq, Eq, Error)]
 pub enum Violation {
     /// V1. The message is longer than what is outstanding.
-    #[error("a message for which no guarantees are outstanding")]
+    #[error("a message longer than the guarantees outstanding")]
     NotGuaranteed,
     /// V2. The message is longer than what the client's limit leaves.
     #[error("a message beyond the limit on sending")]

@@ -8,8 +8,6 @@ mod fault;
 pub mod laws;
 mod limit;
 mod server;
-#[cfg(test)]
-mod tests;
 
 pub use client::{ClientBook, ClientParts};
 pub use fault::{Refusal, Violation};

@@ -1,9 +1,9 @@
 //! What is left of a limit, on sending or on receiving.
-ghost use Rattle.std.specs.Prelude.{◌≡◌, ◌≤◌, ◌↔◌, IfOk, IsTrue};
+ghost use Rattle.std.specs.Prelude.{◌≡◌, ◌≤◌, ◌↔◌, if◌then◌else◌, Ok, Err, IfOk, IsTrue};
 ghost use Rattle.std.specs.Option.{ForSome};
 ghost use Rattle.std.specs.Result.{result_err};
 ghost use Rattle.lc_frame.specs.Kind.{max_total};
-ghost use Rattle.lc_book.specs.Limit.{limit_refusal};
+ghost use Rattle.lc_book.specs.Limit.{is_past, less, left_of, limit_refusal};
 
 use crate::fault::Refusal;
 use lc_frame::MAX_TOTAL;
@@ -20,6 +20,17 @@ pub(crate) fn limited(left: Option<u64>, bound: u64) -> Result<u64, Refusal>
     match left {
         Some(left) if bound > left => Err(Refusal::LimitRaised { left }),
         _ => Ok(bound),
+    }
+}
+
+// What is left of a limit after `n` bytes, as an error what was left where `n` is past it.
+pub(crate) fn take_from(left: Option<u64>, n: u64) -> Result<Option<u64>, u64>
+    ensures { result ≡ (if is_past left n then Err (left_of left) else Ok (less left n)) }
+{
+    match left {
+        Some(left) if n > left => Err(left),
+        Some(left) => Ok(Some(left - n)),
+        None => Ok(None),
     }
 }
 

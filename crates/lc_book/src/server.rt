@@ -6,7 +6,7 @@ ghost use Rattle.lc_book.specs.Limit.{limit_refusal};
 ghost use Rattle.lc_book.specs.Server.{IsCapacity, IsServer, server_of_parts, new_server, outstanding, buffered, room, IsEnded, issue_refusal, issue, plead_refusal, limit_server, note_taken, message_violation, add_arrived, absolve_violation, add_absolved, send_limit_violation, note_send_limit};
 
 use crate::fault::{Refusal, Violation};
-use crate::limit::{is_bound, limited};
+use crate::limit::{is_bound, limited, take_from};
 use lc_frame::{MAX_AMOUNT, MAX_TOTAL};
 use std::marker::Model;
 
@@ -122,7 +122,8 @@ impl ServerBook {
         self.capacity
     }
 
-    /// The guarantees that were issued, and neither used up by a message that arrived nor absolved.
+    /// The guarantees that were issued, and neither used up by a message that arrived nor absolved,
+    /// 0 to 2^24.
     pub fn outstanding(&self) -> u64
         ensures value { result ≡ outstanding self.now }
         ensures small { result ≤ max_amount }
@@ -131,39 +132,45 @@ impl ServerBook {
         self.issued - self.arrived - self.absolved
     }
 
-    /// The bytes that arrived and were not taken.
+    /// The bytes that arrived and were not taken, 0 to 2^24.
     pub fn buffered(&self) -> u64
         ensures value { result ≡ buffered self.now }
+        ensures small { result ≤ max_amount }
         ensures fits { result + outstanding self.now ≤ self.now.capacity }
     {
         self.arrived - self.taken
     }
 
-    /// The bytes of the ring that are neither buffered nor promised.
+    /// The bytes of the ring that are neither buffered nor promised, 0 to 2^24.
     pub fn room(&self) -> u64
         ensures value { result ≡ room self.now }
+        ensures small { result ≤ max_amount }
         ensures sum { result + outstanding self.now + buffered self.now ≡ self.now.capacity }
+        ensures kept { IsServer self.now }
     {
         u64::from(self.capacity) - self.outstanding() - self.buffered()
     }
 
     /// All guarantees that were issued, 0 to 2^62.
     pub fn issued(&self) -> u64
-        ensures { result ≡ self.now.issued }
+        ensures value { result ≡ self.now.issued }
+        ensures small { result ≤ max_total }
     {
         self.issued
     }
 
     /// What the client may still send, 0 to 2^62; `None` without a limit.
     pub fn send_left(&self) -> Option<u64>
-        ensures { result ≡ self.now.send_left }
+        ensures value { result ≡ self.now.send_left }
+        ensures small { IfSome result (λ left. left ≤ max_total) }
     {
         self.send_left
     }
 
     /// What may still be issued, 0 to 2^62; `None` without a limit.
     pub fn receive_left(&self) -> Option<u64>
-        ensures { result ≡ self.now.receive_left }
+        ensures value { result ≡ self.now.receive_left }
+        ensures small { IfSome result (λ left. left ≤ max_total) }
     {
         self.receive_left
     }
@@ -185,10 +192,9 @@ impl ServerBook {
             return Err(Refusal::ZeroAmount);
         }
         let amount = u64::from(n);
-        let receive_left = match self.receive_left {
-            Some(left) if amount > left => return Err(Refusal::PastReceiveLimit { left }),
-            Some(left) => Some(left - amount),
-            None => None,
+        let receive_left = match take_from(self.receive_left, amount) {
+            Ok(left) => left,
+            Err(left) => return Err(Refusal::PastReceiveLimit { left }),
         };
         let room = self.room();
         if amount > room {
@@ -242,10 +248,9 @@ impl ServerBook {
         if cost > self.outstanding() {
             return Err(Violation::NotGuaranteed);
         }
-        let send_left = match self.send_left {
-            Some(left) if cost > left => return Err(Violation::SentPastLimit),
-            Some(left) => Some(left - cost),
-            None => None,
+        let send_left = match take_from(self.send_left, cost) {
+            Ok(left) => left,
+            Err(_) => return Err(Violation::SentPastLimit),
         };
         self.arrived += cost;
         self.send_left = send_left;
