@@ -1,0 +1,20 @@
+use Rattle.std.proofs.Common.{sym, ap, ◌∙◌, arith}
+use Rattle.lc_ring.specs.Ring.{Ring, bytes, free, push}
+use Rattle.lc_ring.proofs.Cuts.{bytes-cut, bytes-push, push_is_kept, shown-push}
+use Rattle.lc_ring.proofs.ring.RecvRing.push.Goals as goal
+
+pub invariant_of-self : goal.invariant_of-self
+invariant_of-self c =
+    let room = c.free-free.ensures.value ∙ sym (ap free c.self.view_is) in
+    push_is_kept c.self.inside.lengths c.push_back.new.self c.self.inside.bytes c.fill_from_slice.new.self c.args.message.now c.fill_from_slice.result c.self.invariant c.requires.at_least c.requires.at_most
+    (omega (arith, room, bytes-cut c.self.inside.lengths.items c.self.inside.bytes.items c.self.invariant.is_cut, c.if-message-free.false)) c.fill_from_slice.ensures.count c.fill_from_slice.ensures.items c.push_back.ensures.items
+
+pub returns-clause-after : goal.returns-clause-after
+returns-clause-after c =
+    let room = c.free-free.ensures.value ∙ sym (ap free c.self.view_is) in
+    shown-push c.self.inside.lengths c.push_back.new.self c.self.inside.bytes c.fill_from_slice.new.self c.args.message.now c.fill_from_slice.result c.self.invariant c.requires.at_least c.requires.at_most
+    (omega (arith, room, bytes-cut c.self.inside.lengths.items c.self.inside.bytes.items c.self.invariant.is_cut, c.if-message-free.false)) c.fill_from_slice.ensures.count c.fill_from_slice.ensures.items c.push_back.ensures.items
+    ∙ ap (λ (r : Ring). push r c.args.message.now) c.self.view_is
+
+pub returns-clause-grows : goal.returns-clause-grows
+returns-clause-grows c = ap bytes (returns-clause-after c) ∙ bytes-push c.args.self.now c.args.message.now

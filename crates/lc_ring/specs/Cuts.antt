@@ -1,0 +1,22 @@
+-- Messages as their bytes in a row and their lengths, for src/ring.rt. A device of the proofs: what a ring is and does is said without it.
+use Rattle.std.specs.Prelude.{◌≡◌, ℕ, ◌≤◌, List, [], ◌∷◌, length, take, drop}
+use Rattle.circular_buffer.specs.Buffer.{Buffer}
+use Rattle.lc_frame.specs.Kind.{max_body, max_amount}
+
+-- the bytes, cut by the lengths
+abbrev pub cut : List ℕ → List ℕ → List (List ℕ)
+cut [] bytes = []
+cut (n ∷ ns) bytes = take n bytes ∷ cut ns (drop n bytes)
+
+-- the lengths cut all of the bytes into messages
+abbrev pub IsCut : List ℕ → List ℕ → Type 0
+IsCut [] bytes = bytes ≡ []
+IsCut (n ∷ ns) bytes = (1 ≤ n) × (n ≤ max_body) × (n ≤ length bytes) × IsCut ns (drop n bytes)
+
+-- both rings of bytes and of lengths have one capacity, and the lengths cut the bytes
+pub record IsKept (lengths bytes : Buffer ℕ) : Type 0 where
+  pub is_cut : IsCut lengths.items bytes.items
+  pub fits : length bytes.items ≤ bytes.capacity
+  pub same : lengths.capacity ≡ bytes.capacity
+  pub at_least : 1 ≤ bytes.capacity
+  pub at_most : bytes.capacity ≤ max_amount

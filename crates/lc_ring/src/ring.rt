@@ -1,0 +1,198 @@
+//! A bounded list of messages.
+ghost use Rattle.std.specs.Prelude.{◌≡◌, ◌+◌, ◌≤◌, ◌<◌, ◌↔◌, ◌⊎◌, ◌++◌, length, Err, IfOk, IfSome, OnOk, is_ok, if◌then◌else◌};
+ghost use Rattle.std.specs.Option.{option_map};
+ghost use Rattle.std.specs.Result.{result_err};
+ghost use Rattle.lc_frame.specs.Kind.{max_body, max_amount};
+ghost use Rattle.lc_ring.specs.Ring.{IsNoCapacity, new_ring, IsLength, IsRing, bytes, free, push_refusal, push, front, pop, take_answer, with_front};
+
+use circular_buffer::HeapCircularBuffer;
+use lc_frame::{BufferTooSmall, MAX_AMOUNT};
+use std::alloc::{AllocError, Global};
+use std::marker::Model;
+use thiserror::Error;
+
+/// The message is longer than the room that is left.
+#[derive(Clone, Copy, Debug, PartialEq, Eq, Error)]
+#[error("the ring has room for {free} bytes")]
+pub struct Full {
+    /// The bytes that are free.
+    pub free: usize,
+}
+
+/// Why there is no ring.
+#[derive(Clone, Copy, Debug, PartialEq, Eq, Error)]
+pub enum NewFault {
+    /// A ring has 1 to 2^24 bytes.
+    #[error("the capacity is not 1 to 2^24")]
+    BadCapacity,
+    /// The memory of the ring was refused.
+    #[error("out of memory")]
+    OutOfMemory,
+}
+
+/// The messages that came and were not taken yet, in order, in a ring of bytes. A message has 1 to
+/// `MAX_BODY` bytes, a ring has room for 1 to `MAX_AMOUNT`. Contracts see the list of the messages
+/// and the capacity.
+#[derive(Drop)]
+pub struct RecvRing {
+    bytes: HeapCircularBuffer<u8>,
+    lengths: HeapCircularBuffer<u32>,
+}
+
+impl Model for RecvRing {
+    ghost use Rattle.std.specs.Prelude.{◌≡◌, ◌≤◌};
+    ghost use Rattle.lc_frame.specs.Kind.{max_amount};
+    ghost use Rattle.lc_ring.specs.Ring.{Ring};
+    ghost use Rattle.lc_ring.specs.Cuts.{cut, IsCut, IsKept};
+
+    ghost Value = { Ring };
+
+    ghost view = { λ ring. record { messages = cut ring.lengths.items ring.bytes.items; capacity = ring.bytes.capacity } };
+
+    ghost invariant = { λ ring. IsKept ring.lengths ring.bytes };
+}
+
+// A ring of so many places for bytes, and as many for lengths, so that it holds as many messages of
+// one byte.
+fn with_room(alloc: Global, capacity: usize) -> Result<RecvRing, AllocError>
+    requires { (1 ≤ capacity) × (capacity ≤ max_amount) }
+    ensures value { IfOk result (λ ring. ring ≡ new_ring capacity) }
+{
+    Ok(RecvRing {
+        bytes: HeapCircularBuffer::with_capacity(alloc, capacity)?,
+        lengths: HeapCircularBuffer::with_capacity(alloc, capacity)?,
+    })
+}
+
+impl RecvRing {
+    /// An empty ring with room for so many bytes. `BadCapacity` exactly where that is not 1 to
+    /// 2^24, which is found before any memory is taken. All the memory of the ring is taken here,
+    /// and none of it is touched.
+    pub fn new(alloc: Global, capacity: u32) -> Result<RecvRing, NewFault>
+        ensures capacity { (result ≡ Err NewFault.BadCapacity) ↔ IsNoCapacity capacity }
+        ensures value { IfOk result (λ ring. ring ≡ new_ring capacity) }
+        ensures kept { IfOk result IsRing }
+    {
+        if capacity == 0 || capacity > MAX_AMOUNT {
+            return Err(NewFault::BadCapacity);
+        }
+        match with_room(alloc, capacity as usize) {
+            Ok(ring) => Ok(ring),
+            Err(_) => Err(NewFault::OutOfMemory),
+        }
+    }
+
+    /// The bytes that there is room for, 1 to 2^24.
+    #[inline]
+    pub fn capacity(&self) -> usize
+        ensures value { result ≡ self.now.capacity }
+        ensures kept { IsRing self.now }
+    {
+        self.bytes.capacity()
+    }
+
+    /// The bytes of the messages that wait.
+    #[inline]
+    pub fn bytes(&self) -> usize
+        ensures value { result ≡ bytes self.now }
+        ensures kept { IsRing self.now }
+    {
+        self.bytes.len()
+    }
+
+    /// The bytes of the room that is left.
+    #[inline]
+    pub fn free(&self) -> usize
+        ensures value { result ≡ free self.now }
+        ensures kept { IsRing self.now }
+    {
+        self.capacity() - self.bytes()
+    }
+
+    /// The length of the first message, `None` where none waits.
+    #[inline]
+    pub fn front_len(&self) -> Option<usize>
+        ensures value { result ≡ option_map length (front self.now) }
+        ensures range { IfSome result IsLength }
+        ensures within { IfSome result (λ len. len ≤ bytes self.now) }
+    {
+        match self.lengths.front() {
+            Some(len) => Some(*len as usize),
+            None => None,
+        }
+    }
+
+    /// The first message, `None` where none waits. It is the two slices, one after the other; the
+    /// second is empty unless the message goes round the end of the ring's memory.
+    #[inline]
+    pub fn front(&self) -> Option<(&[u8], &[u8])>
+        ensures { option_map (λ parts. parts.0.now ++ parts.1.now) result ≡ front self.now }
+    {
+        let len = self.front_len()?;
+        let (near, far) = self.bytes.as_slices();
+        if len <= near.len() {
+            let (message, _) = near.split_at(len);
+            return Some((message, &[]));
+        }
+        let (rest, _) = far.split_at(len - near.len());
+        Some((near, rest))
+    }
+
+    /// Takes a message in as the last, exactly where it is no longer than what is free.
+    #[inline]
+    pub fn push(&mut self, message: &[u8]) -> Result<(), Full>
+        requires at_least { 1 ≤ length message.now }
+        requires at_most { length message.now ≤ max_body }
+        ensures answer { result_err result ≡ push_refusal self.old (length message.now) }
+        ensures after { self.new ≡ (if is_ok result then push self.old message.now else self.old) }
+        ensures grows { OnOk result (bytes self.new ≡ bytes self.old + length message.now) }
+    {
+        let free = self.free();
+        if message.len() > free {
+            return Err(Full { free });
+        }
+        self.bytes.fill_from_slice(message);
+        self.lengths.push_back(message.len() as u32);
+        Ok(())
+    }
+
+    /// Drops the first message and answers its length, `None` where none waits.
+    #[inline]
+    pub fn pop(&mut self) -> Option<usize>
+        ensures answer { result ≡ option_map length (front self.old) }
+        ensures after { self.new ≡ pop self.old }
+        ensures range { IfSome result IsLength }
+        ensures shrinks { IfSome result (λ len. bytes self.new + len ≡ bytes self.old) }
+    {
+        let len = self.lengths.pop_front()? as usize;
+        self.bytes.truncate_front(self.bytes.len() - len);
+        Some(len)
+    }
+
+    /// Takes the first message into the front of the buffer and answers its length, `None` where
+    /// none waits. On an error, which is a buffer that is shorter than the message, ring and buffer
+    /// stay as they are.
+    #[inline]
+    pub fn take_into(&mut self, buffer: &mut [u8]) -> Result<Option<usize>, BufferTooSmall>
+        ensures answer { result ≡ take_answer (front self.old) (length buffer.old) }
+        ensures after { self.new ≡ (if is_ok result then pop self.old else self.old) }
+        ensures buffer { buffer.new ≡ (if is_ok result then with_front (front self.old) buffer.old else buffer.old) }
+        ensures range { IfOk result (λ taken. IfSome taken IsLength) }
+        ensures shrinks { IfOk result (λ taken. IfSome taken (λ len. bytes self.new + len ≡ bytes self.old)) }
+    {
+        let Some((near, far)) = self.front() else {
+            return Ok(None);
+        };
+        let need = near.len() + far.len();
+        if buffer.len() < need {
+            return Err(BufferTooSmall { need });
+        }
+        let (first, rest) = buffer.split_at_mut(near.len());
+        first.copy_from_slice(near);
+        if !far.is_empty() {
+            let (second, _) = rest.split_at_mut(far.len());
+            second.copy_from_slice(far);
+        }
+        Ok(self.pop())
+    }
+}

@@ -1,0 +1,5 @@
+//! Tests of `lc_ring`.
+#![tactic(auto)]
+
+#[cfg(test)]
+mod rings;
