@@ -1,0 +1,7 @@
+pub mod Seven
+pub mod Feeds
+pub mod Deliveries
+pub mod Bounded
+pub mod Stops
+pub mod Channels
+pub mod StreamsKept

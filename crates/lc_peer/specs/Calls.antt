@@ -1,0 +1,79 @@
+-- What the own calls of a peer answer and leave. A call is named by the frame that it would put; an honour has words of its own. Who may send, issue and absolve what is LCMUX's; the order of refusals is this project's own.
+use Rattle.std.specs.Prelude.{◌≡◌, ℕ, ◌⊎◌, nat_lt, if◌then◌else◌, List, [], ◌∷◌, ◌++◌, length, drop, slice_get, Option, Some, None}
+use Rattle.std.specs.Option.{option_or}
+use Rattle.lc_frame.specs.declared.channel.Channel.{Channel}
+use Rattle.lc_frame.specs.declared.frame.Frame.{Frame}
+use Rattle.lc_frame.specs.declared.frame.Frame.TheVariants.{Send, Issue, Absolve, Plead, LimitSending, LimitReceiving}
+use Rattle.lc_frame.specs.Frame.{channel_of}
+use Rattle.lc_book.specs.declared.fault.Refusal.{Refusal}
+use Rattle.lc_book.specs.declared.fault.Refusal.TheVariants.{QueueFull, OutOfMemory}
+use Rattle.lc_book.specs.Limit.{limit_refusal}
+use Rattle.lc_book.specs.Client.{Client, spend_refusal, absolve_refusal, amount_to_absolve, honour}
+use Rattle.lc_book.specs.Server.{Server, issue_refusal, plead_refusal}
+use Rattle.lc_book.specs.Sums.{client_after_put, server_after_put}
+use Rattle.lc_peer.specs.declared.channel_state.ChannelState.{ChannelState}
+use Rattle.lc_peer.specs.Inbox.{take_first}
+use Rattle.lc_peer.specs.Peer.{PeerState, channel, client, inbox, server, set_channel}
+
+-- the first refusal of the books of a channel
+abbrev pub book_refusal : Client → Server → Frame → Option Refusal
+book_refusal client server (Send c body) = spend_refusal client (length body)
+book_refusal client server (Issue c amount) = issue_refusal server amount
+book_refusal client server (Absolve c amount) = absolve_refusal client amount
+book_refusal client server (Plead c target) = plead_refusal server target
+book_refusal client server (LimitSending c bound) = limit_refusal client.send_left bound
+book_refusal client server (LimitReceiving c bound) = limit_refusal server.receive_left bound
+
+abbrev pub refusal_by_books : PeerState → Frame → Option Refusal
+refusal_by_books p f = book_refusal (client p (channel_of f)) (server p (channel_of f)) f
+
+-- no frame more can wait
+abbrev pub queue_refusal : PeerState → Option Refusal
+queue_refusal p = if nat_lt (length p.waiting) p.slots then None else Some QueueFull
+
+-- what an own call answers: the books come first
+abbrev pub refusal : PeerState → Frame → Option Refusal
+refusal p f = option_or (refusal_by_books p f) (queue_refusal p)
+
+-- a send alone may also want memory, where its book has no refusal
+abbrev pub IsSendAnswer : PeerState → Frame → Option Refusal → Type 0
+IsSendAnswer p f answer = (answer ≡ refusal p f) ⊎ ((refusal_by_books p f ≡ None) × (answer ≡ Some OutOfMemory))
+
+-- what an own frame leaves of its channel
+abbrev pub channel_after_put : Frame → ChannelState → ChannelState
+channel_after_put f s = record { client = client_after_put f s.client; inbox = record s.inbox { book = server_after_put f s.inbox.book } }
+
+-- a frame is put: its channel goes on, and it waits as the last
+abbrev pub put : PeerState → Frame → PeerState
+put p f = record (set_channel p (channel_of f) (channel_after_put f (channel p (channel_of f)))) { waiting = p.waiting ++ f ∷ [] }
+
+-- what an honour on the channel would absolve
+abbrev pub due : PeerState → Channel → Option ℕ
+due p c = amount_to_absolve (client p c)
+
+-- an honour is refused only where it would put a frame, and then keeps the plead
+abbrev pub honour_refusal : PeerState → Option ℕ → Option Refusal
+honour_refusal p None = None
+honour_refusal p (Some amount) = queue_refusal p
+
+abbrev pub absolvings : Channel → Option ℕ → List Frame
+absolvings c None = []
+absolvings c (Some amount) = Absolve c amount ∷ []
+
+abbrev pub channel_after_honour : ChannelState → ChannelState
+channel_after_honour s = record s { client = honour s.client }
+
+-- an honour forgets the plead, and puts the absolving of what it absolves, if anything
+abbrev pub put_honour : PeerState → Channel → PeerState
+put_honour p c = record (set_channel p c (channel_after_honour (channel p c))) { waiting = p.waiting ++ absolvings c (due p c) }
+
+-- a take on the channel
+abbrev pub take_on : PeerState → Channel → PeerState
+take_on p c = set_channel p c (record (channel p c) { inbox = take_first (inbox p c) })
+
+-- the frame that goes out next, where one waits, and the peer without it
+abbrev pub next : PeerState → Option Frame
+next p = slice_get p.waiting 0
+
+abbrev pub without_next : PeerState → PeerState
+without_next p = record p { waiting = drop 1 p.waiting }

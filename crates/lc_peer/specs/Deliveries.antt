@@ -1,0 +1,48 @@
+-- What bytes that are delivered to a peer in pieces bring to it, and where a delivery stops. That a stream may be cut at any byte is this project's own to say.
+use Rattle.std.specs.Prelude.{◌≡◌, ℕ, ◌<◌, ◌≤◌, List, [], ◌++◌, length, take, slice_get, Option, Some, None}
+use Rattle.std.specs.List.{flat_map}
+use Rattle.lc_frame.specs.declared.frame.Frame.{Frame}
+use Rattle.lc_frame.specs.declared.frame_fault.FrameFault.{FrameFault}
+use Rattle.lc_frame.specs.Encoding.{encoding, FaultStands}
+use Rattle.lc_frame.specs.Decoded.{IsOpen}
+use Rattle.lc_frame.specs.Splits.{frames_of, rest_of}
+use Rattle.lc_book.specs.declared.fault.Violation.{Violation}
+use Rattle.lc_peer.specs.declared.delivery.Delivery.{Delivery}
+use Rattle.lc_peer.specs.declared.delivery.Stop.{Stop}
+use Rattle.lc_peer.specs.declared.delivery.Stop.TheVariants.{Fault, Violated}
+use Rattle.lc_peer.specs.Peer.{PeerState}
+use Rattle.lc_peer.specs.Arrivals.{Arrival, arrivals}
+
+-- nothing stopped it: the whole piece was taken, no frame violated, and what follows the frames, which may be part of one, is held
+pub record TookAll (a : Arrival) (bytes piece held : List ℕ) (taken : ℕ) : Type 0 where
+  pub lawful : a.violation ≡ None
+  pub all : taken ≡ length piece
+  pub rest : held ≡ rest_of bytes
+  pub undecided : IsOpen held
+
+-- the frame behind those that arrived violates the rules; it is held, and nothing behind it was taken
+pub record MetViolation (violation : Violation) (a : Arrival) (bytes held : List ℕ) : Type 0 where
+  pub violates : a.violation ≡ Some violation
+  pub frame : Frame
+  pub next : slice_get (frames_of bytes) a.count ≡ Some frame
+  pub whole : held ≡ encoding frame
+
+-- behind the frames, which all arrived, stands a fault; as few bytes were taken as it takes to know it, and they are held
+pub record MetFault (fault : FrameFault) (a : Arrival) (bytes held : List ℕ) (taken : ℕ) : Type 0 where
+  pub lawful : a.violation ≡ None
+  pub stands : FaultStands fault (rest_of bytes)
+  pub known : FaultStands fault held
+  pub shortest : 0 < taken → (k : ℕ) → k < length held → IsOpen (take k held)
+
+abbrev pub StopsBy : Option Stop → Arrival → List ℕ → List ℕ → List ℕ → ℕ → Type 0
+StopsBy None a bytes piece held taken = TookAll a bytes piece held taken
+StopsBy (Some (Violated violation)) a bytes piece held taken = MetViolation violation a bytes held
+StopsBy (Some (Fault fault)) a bytes piece held taken = MetFault fault a bytes held taken
+
+-- a piece is delivered to a peer behind bytes that are held: the frames of both together arrive, in order, up to the first fault or violation; what was taken is the bytes of those that arrived, and what is held then
+pub record Delivers (p : PeerState) (held piece : List ℕ) (p' : PeerState) (held' : List ℕ) (d : Delivery) : Type 0 where
+  pub peer : p' ≡ (arrivals p (frames_of (held ++ piece))).peer
+  pub frames : d.frames ≡ (arrivals p (frames_of (held ++ piece))).count
+  pub within : d.taken ≤ length piece
+  pub bytes : held ++ take d.taken piece ≡ flat_map encoding (take d.frames (frames_of (held ++ piece))) ++ held'
+  pub stop : StopsBy d.stop (arrivals p (frames_of (held ++ piece))) (held ++ piece) piece held' d.taken

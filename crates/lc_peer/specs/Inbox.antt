@@ -1,0 +1,56 @@
+-- The receiving end of one channel: its server's book, the messages that wait to be taken, and what a take answers and leaves. That a server buffers what its guarantees promised is LCMUX's; what a take answers is this project's own.
+use Rattle.std.specs.Prelude.{◌≡◌, ℕ, zero, length, nat_lt, if◌then◌else◌, Option, Some, None}
+use Rattle.std.specs.Option.{option_map}
+use Rattle.lc_book.specs.declared.fault.Refusal.{Refusal}
+use Rattle.lc_book.specs.declared.fault.Refusal.TheVariants.{BufferTooSmall}
+use Rattle.lc_book.specs.Server.{Server, IsServer, new_server, buffered, note_taken}
+use Rattle.lc_ring.specs.Ring.{Ring, IsRing, new_ring, bytes, front, pop}
+use Rattle.lc_peer.specs.declared.inbox.Take.{Take}
+use Rattle.lc_peer.specs.declared.inbox.Take.TheVariants.{Took, Empty, Ended}
+
+pub record InboxState : Type 0 where
+  pub book : Server
+  pub ring : Ring
+
+abbrev pub new_inbox : ℕ → InboxState
+new_inbox capacity = record { book = new_server capacity; ring = new_ring capacity }
+
+-- a ring of a book: it has room for as many bytes, and its messages have those that are buffered
+pub record IsRingOf (book : Server) (ring : Ring) : Type 0 where
+  pub capacity : ring.capacity ≡ book.capacity
+  pub bytes : bytes ring ≡ buffered book
+
+-- what every inbox keeps
+pub record IsInbox (i : InboxState) : Type 0 where
+  pub book : IsServer i.book
+  pub ring : IsRing i.ring
+  pub agrees : IsRingOf i.book i.ring
+
+-- where no message waits, the channel has ended or it has not, by what is left of the client's limit
+abbrev pub none_waiting : Option ℕ → Take
+none_waiting (Some zero) = Ended
+none_waiting left = Empty
+
+-- what a take answers, by the length of the first message
+abbrev pub taken : Server → Option ℕ → Take
+taken book None = none_waiting book.send_left
+taken book (Some len) = Took len
+
+abbrev pub take_answer : InboxState → Take
+take_answer i = taken i.book (option_map length (front i.ring))
+
+-- the first message is out of the ring, and counted as taken; where none waits nothing changes
+abbrev pub note_front : Server → Option ℕ → Server
+note_front book None = book
+note_front book (Some len) = note_taken book len
+
+abbrev pub take_first : InboxState → InboxState
+take_first i = record { book = note_front i.book (option_map length (front i.ring)); ring = pop i.ring }
+
+-- why a message is not taken into a buffer of so many bytes: it is longer
+abbrev pub too_long : Option ℕ → ℕ → Option Refusal
+too_long None room = None
+too_long (Some len) room = if nat_lt room len then Some (BufferTooSmall len) else None
+
+abbrev pub take_refusal : InboxState → ℕ → Option Refusal
+take_refusal i room = too_long (option_map length (front i.ring)) room

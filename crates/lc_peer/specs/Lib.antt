@@ -1,0 +1,9 @@
+pub mod Inbox
+pub mod Peer
+pub mod PeerFields
+pub mod Calls
+pub mod Arrivals
+pub mod Config
+pub mod Streams
+pub mod Deliveries
+pub mod Steps

@@ -1,0 +1,54 @@
+-- One side of a session as a value: the state of each channel in both directions, and the frames that wait to go out. Channels that run in both directions are LCMUX's; the list of frames and its bound are this project's own.
+use Rattle.std.specs.Prelude.{ℕ, ◌≤◌, List, length, slice_index_or, slice_set}
+use Rattle.std.specs.List.{AllByRecursion}
+use Rattle.lc_frame.specs.declared.channel.Channel.{Channel}
+use Rattle.lc_frame.specs.declared.frame.Frame.{Frame}
+use Rattle.lc_frame.specs.Channel.{number_of}
+use Rattle.lc_frame.specs.Frame.{IsValid}
+use Rattle.lc_book.specs.Client.{Client, IsClient, new_client}
+use Rattle.lc_book.specs.Server.{Server}
+use Rattle.lc_peer.specs.declared.channel_state.ChannelState.{ChannelState}
+use Rattle.lc_peer.specs.Inbox.{InboxState, IsInbox, new_inbox}
+
+-- the channels by their numbers, the frames that wait to go out, the first first, and how many there may be
+pub record PeerState : Type 0 where
+  pub channels : List ChannelState
+  pub waiting : List Frame
+  pub slots : ℕ
+
+-- a channel on which nothing has happened
+abbrev pub new_channel : ℕ → ChannelState
+new_channel capacity = record { client = new_client; inbox = new_inbox capacity }
+
+-- the state of a channel, by its number. Every peer has all seven places; past the last one a channel without a ring would be read
+abbrev pub channel : PeerState → Channel → ChannelState
+channel p c = slice_index_or p.channels (number_of c) (new_channel 0)
+
+abbrev pub client : PeerState → Channel → Client
+client p c = (channel p c).client
+
+abbrev pub inbox : PeerState → Channel → InboxState
+inbox p c = (channel p c).inbox
+
+abbrev pub server : PeerState → Channel → Server
+server p c = (inbox p c).book
+
+-- one channel is in another state, every other as it was
+abbrev pub set_channel : PeerState → Channel → ChannelState → PeerState
+set_channel p c s = record p { channels = slice_set p.channels (number_of c) s }
+
+-- what every channel of a peer keeps
+pub record IsChannel (s : ChannelState) : Type 0 where
+  pub client : IsClient s.client
+  pub inbox : IsInbox s.inbox
+
+-- how many frames may wait
+abbrev pub max_slots : ℕ
+max_slots = 65536
+
+-- what the waiting frames of every peer keep
+pub record AreWaiting (slots : ℕ) (frames : List Frame) : Type 0 where
+  pub at_least : 1 ≤ slots
+  pub at_most : slots ≤ max_slots
+  pub fit : length frames ≤ slots
+  pub each : AllByRecursion IsValid frames

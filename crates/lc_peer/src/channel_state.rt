@@ -1,0 +1,70 @@
+//! The state of one channel at a peer, in both directions.
+ghost use Rattle.std.specs.Prelude.{◌≡◌, if◌then◌else◌, is_ok, map, length, IfOk};
+ghost use Rattle.std.specs.Result.{result_err};
+ghost use Rattle.lc_frame.specs.FrameRef.{frame_of};
+ghost use Rattle.lc_frame.specs.Frame.{IsValid};
+ghost use Rattle.lc_peer.specs.Peer.{new_channel};
+ghost use Rattle.lc_peer.specs.Arrivals.{violation, channel_after_arrival};
+
+use crate::inbox::Inbox;
+use lc_book::{ClientBook, Violation};
+use lc_frame::FrameRef;
+use lc_ring::NewFault;
+use std::alloc::Global;
+
+#[derive(Drop)]
+pub(crate) struct ChannelState {
+    pub client: ClientBook,
+    pub inbox: Inbox,
+}
+
+/// A channel on which nothing has happened.
+pub(crate) fn new_channel(alloc: Global, capacity: u32) -> Result<ChannelState, NewFault>
+    ensures { IfOk result (λ state. state ≡ new_channel capacity) }
+{
+    Ok(ChannelState {
+        client: ClientBook::new(),
+        inbox: Inbox::new(alloc, capacity)?,
+    })
+}
+
+impl ChannelState {
+    /// A frame arrives on the channel.
+    #[inline]
+    pub(crate) fn arrive(&mut self, frame: FrameRef<'_>) -> Result<(), Violation>
+        requires { IsValid (frame_of frame) }
+        ensures answer { result_err result ≡ violation self.old.client self.old.inbox.book (frame_of frame.entry) }
+        ensures after { self.new ≡ (if is_ok result then channel_after_arrival (frame_of frame.entry) self.old else self.old) }
+    {
+        match frame {
+            FrameRef::Send { body, .. } => self.inbox.message(body),
+            FrameRef::Issue { amount, .. } => self.client.issued(amount),
+            FrameRef::Absolve { amount, .. } => self.inbox.was_absolved(amount),
+            FrameRef::Plead { target, .. } => {
+                self.client.pleaded(target);
+                Ok(())
+            }
+            FrameRef::LimitSending { bound, .. } => self.inbox.sending_limited(bound),
+            FrameRef::LimitReceiving { bound, .. } => self.client.receiving_limited(bound),
+        }
+    }
+}
+
+/// Seven such channels.
+pub(crate) fn new_channels(
+    alloc: Global,
+    capacities: [u32; 7],
+) -> Result<[ChannelState; 7], NewFault>
+    requires { length capacities ≡ 7 }
+    ensures { IfOk result (λ states. states ≡ map new_channel capacities) }
+{
+    Ok([
+        new_channel(alloc, capacities[0])?,
+        new_channel(alloc, capacities[1])?,
+        new_channel(alloc, capacities[2])?,
+        new_channel(alloc, capacities[3])?,
+        new_channel(alloc, capacities[4])?,
+        new_channel(alloc, capacities[5])?,
+        new_channel(alloc, capacities[6])?,
+    ])
+}

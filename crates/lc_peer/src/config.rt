@@ -1,0 +1,62 @@
+//! What a peer is made of.
+ghost use Rattle.std.specs.Prelude.{◌≡◌, ◌≤◌, ◌↔◌, IsTrue};
+ghost use Rattle.lc_peer.specs.Config.{first_bad, config_fault};
+ghost use Rattle.std.specs.Result.{result_err};
+
+use lc_frame::{Channel, MAX_AMOUNT};
+use thiserror::Error;
+
+/// The most frames that may wait to go out.
+pub const MAX_SLOTS: u32 = 65_536;
+
+/// The bounds of a peer.
+#[derive(Clone, Copy, Debug, PartialEq, Eq)]
+pub struct Config {
+    /// The bytes of each channel's receiving ring, 1 to 2^24, by the channel's number.
+    pub capacities: [u32; 7],
+    /// How many frames may wait to go out, 1 to 65,536.
+    pub slots: u32,
+}
+
+/// Why there is no peer.
+#[derive(Clone, Copy, Debug, PartialEq, Eq, Error)]
+pub enum PeerFault {
+    /// The ring of this channel, and of none of a lower number, would not have 1 to 2^24 bytes.
+    #[error("the capacity of {channel:?} is not 1 to 2^24")]
+    BadCapacity { channel: Channel },
+    /// Not 1 to 65,536 frames might wait.
+    #[error("the slots are not 1 to 65,536")]
+    BadSlots,
+    /// The memory of the rings or of the list of frames was refused.
+    #[error("out of memory")]
+    OutOfMemory,
+}
+
+// The first channel whose ring may not have its capacity.
+fn first_bad(capacities: &[u32; 7]) -> Option<Channel>
+    ensures { result ≡ first_bad capacities.now }
+{
+    let mut number = 0;
+    for capacity in capacities {
+        if *capacity == 0 || *capacity > MAX_AMOUNT {
+            return Channel::from_number(number);
+        }
+        number += 1;
+    }
+    None
+}
+
+impl Config {
+    /// What is wrong: the first channel whose ring may not have its capacity, then the slots.
+    pub(crate) fn judge(&self) -> Result<(), PeerFault>
+        ensures { result_err result ≡ config_fault self.now }
+    {
+        if let Some(channel) = first_bad(&self.capacities) {
+            return Err(PeerFault::BadCapacity { channel });
+        }
+        if self.slots == 0 || self.slots > MAX_SLOTS {
+            return Err(PeerFault::BadSlots);
+        }
+        Ok(())
+    }
+}

@@ -1,0 +1,123 @@
+//! The bytes of a stream, delivered to a peer in pieces.
+ghost use Rattle.std.specs.Prelude.{◌≡◌, []};
+ghost use Rattle.lc_peer.specs.Deliveries.{Delivers};
+ghost use Rattle.lc_peer.specs.Steps.{Steps};
+
+use crate::peer::Peer;
+use lc_book::Violation;
+use lc_frame::{Decoded, FrameFault, StreamDecoder, decode};
+
+/// Why a delivery stopped.
+#[derive(Clone, Copy, Debug, PartialEq, Eq)]
+pub enum Stop {
+    /// The bytes behind the frames that arrived are no frame, however they go on.
+    Fault(FrameFault),
+    /// The frame behind those that arrived breaks the rules.
+    Violated(Violation),
+}
+
+/// What a delivery did.
+#[derive(Clone, Copy, Debug, PartialEq, Eq)]
+pub struct Delivery {
+    /// How many bytes of the piece were taken: all of them unless it stopped.
+    pub taken: usize,
+    /// How many frames arrived.
+    pub frames: u64,
+    /// Why it stopped, `None` where it went on to the end of the piece.
+    pub stop: Option<Stop>,
+}
+
+// What was done with what stands at the front, and how many bytes were taken for it.
+#[derive(Clone, Copy)]
+pub(crate) enum Step {
+    Arrived(usize),
+    Open(usize),
+    Stopped(Stop, usize),
+}
+
+// Where nothing is held: a frame that lies whole in the piece arrives from there.
+fn step_in_piece(peer: &mut Peer, decoder: &mut StreamDecoder, piece: &[u8]) -> Step
+    requires { decoder.old.bytes ≡ [] }
+    ensures { Steps result peer.old decoder.old.bytes piece.now peer.new decoder.new.bytes }
+{
+    match decode(piece) {
+        Decoded::Whole { frame, used } => match peer.arrive(frame) {
+            Ok(()) => Step::Arrived(used),
+            Err(violation) => Step::Stopped(Stop::Violated(violation), decoder.feed(piece)),
+        },
+        Decoded::More => Step::Open(decoder.feed(piece)),
+        Decoded::Fault(fault) => Step::Stopped(Stop::Fault(fault), decoder.feed(piece)),
+    }
+}
+
+// Where part of a frame is held, or a whole one: it is completed there.
+fn step_in_decoder(peer: &mut Peer, decoder: &mut StreamDecoder, piece: &[u8]) -> Step
+    ensures { Steps result peer.old decoder.old.bytes piece.now peer.new decoder.new.bytes }
+{
+    let taken = decoder.feed(piece);
+    match decoder.frame() {
+        Some(frame) => match peer.arrive(frame) {
+            Ok(()) => {
+                decoder.clear();
+                Step::Arrived(taken)
+            }
+            Err(violation) => Step::Stopped(Stop::Violated(violation), taken),
+        },
+        None => match decoder.fault() {
+            Some(fault) => Step::Stopped(Stop::Fault(fault), taken),
+            None => Step::Open(taken),
+        },
+    }
+}
+
+// One step: what stands at the front of what is held and of the piece is dealt with.
+fn go_on(peer: &mut Peer, decoder: &mut StreamDecoder, piece: &[u8]) -> Step
+    ensures { Steps result peer.old decoder.old.bytes piece.now peer.new decoder.new.bytes }
+{
+    if decoder.held() == 0 {
+        step_in_piece(peer, decoder, piece)
+    } else {
+        step_in_decoder(peer, decoder, piece)
+    }
+}
+
+impl Peer {
+    /// Bytes of the stream arrive, which may be cut anywhere: the frames of those that the decoder
+    /// holds and of the piece, in order, up to the first fault or violation. It takes no memory,
+    /// and a frame that lies whole in the piece is not copied on its way to the ring.
+    ///
+    /// After a fault every further call answers it and takes nothing. After a violation the frame
+    /// stands in the decoder, and a further call judges it anew, by the books of that moment: so
+    /// who holds the peer ends the session there. Bytes of the piece behind those that were taken
+    /// are the caller's. An empty piece is lawful: a frame that stands in the decoder arrives.
+    pub fn deliver(&mut self, decoder: &mut StreamDecoder, piece: &[u8]) -> Delivery
+        ensures { Delivers self.old decoder.old.bytes piece.now self.new decoder.new.bytes result }
+    {
+        let _held = decoder.held();
+        let mut taken = 0;
+        let mut frames = 0;
+        'frames: loop {
+            let rest = piece.split_at(taken).1;
+            match go_on(self, decoder, rest) {
+                Step::Arrived(count) => {
+                    taken += count;
+                    frames += 1;
+                }
+                Step::Open(count) => {
+                    return Delivery {
+                        taken: taken + count,
+                        frames,
+                        stop: None,
+                    };
+                }
+                Step::Stopped(stop, count) => {
+                    return Delivery {
+                        taken: taken + count,
+                        frames,
+                        stop: Some(stop),
+                    };
+                }
+            }
+        }
+    }
+}

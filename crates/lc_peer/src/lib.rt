@@ -1,0 +1,17 @@
+//! One side of a session as one value: everything that it may do and everything that may come to
+//! it, with no thread, no reader and no writer.
+#![tactic(auto)]
+
+mod channel_state;
+mod config;
+mod delivery;
+mod inbox;
+pub mod laws;
+mod peer;
+
+pub use config::{Config, MAX_SLOTS, PeerFault};
+pub use delivery::{Delivery, Stop};
+pub use inbox::{Inbox, Take};
+pub use lc_book::{Refusal, Violation};
+pub use lc_ring::NewFault;
+pub use peer::Peer;

@@ -1,0 +1,300 @@
+//! One side of a session.
+ghost use Rattle.std.specs.Prelude.{◌≡◌, ◌≤◌, ◌<◌, ◌↔◌, ◌++◌, [], ◌∷◌, length, if◌then◌else◌, is_ok, nat_lt, IfOk, IsSome, IfSome, slice_get, Some, None};
+ghost use Rattle.circular_buffer.specs.Buffer.{buffer};
+ghost use Rattle.lc_book.specs.declared.fault.Refusal.TheVariants.{QueueFull};
+ghost use Rattle.std.specs.Option.{option_map};
+ghost use Rattle.std.specs.Result.{result_err};
+ghost use Rattle.lc_frame.specs.declared.frame.Frame.TheVariants.{Send, Issue, Absolve, Plead, LimitSending, LimitReceiving};
+ghost use Rattle.lc_frame.specs.FrameRef.{frame_of};
+ghost use Rattle.lc_frame.specs.Frame.{channel_of, IsValid};
+ghost use Rattle.lc_book.specs.Client.{IsClient};
+ghost use Rattle.lc_book.specs.Sums.{client_after_put, server_after_put};
+ghost use Rattle.lc_ring.specs.Ring.{front, with_front};
+ghost use Rattle.lc_peer.specs.Inbox.{IsInbox, take_answer, take_refusal};
+ghost use Rattle.lc_peer.specs.Peer.{client, inbox, server, max_slots, AreWaiting};
+ghost use Rattle.lc_peer.specs.Calls.{refusal, queue_refusal, IsSendAnswer, put, due, honour_refusal, put_honour, take_on, next, without_next};
+ghost use Rattle.lc_peer.specs.Arrivals.{arrivals};
+ghost use Rattle.lc_peer.specs.Config.{IsNewAnswer, new_peer};
+
+use crate::channel_state::{ChannelState, new_channels};
+use crate::config::{Config, PeerFault};
+use crate::inbox::Take;
+use circular_buffer::HeapCircularBuffer;
+use lc_book::{ClientBook, Refusal, ServerBook, Violation};
+use lc_frame::{Body, Channel, Frame, FrameRef};
+use std::alloc::Global;
+use std::marker::Model;
+
+/// One side of a session as one value.
+#[derive(Drop)]
+pub struct Peer {
+    alloc: Global,
+    channels: [ChannelState; 7],
+    waiting: HeapCircularBuffer<Frame>,
+}
+
+impl Model for Peer {
+    ghost use Rattle.std.specs.Prelude.{◌≡◌, length};
+    ghost use Rattle.lc_peer.specs.Peer.{PeerState, AreWaiting};
+    ghost use Rattle.lc_peer.specs.PeerFields.{IsKept};
+
+    ghost Value = { PeerState };
+
+    ghost view = { λ peer. record { channels = peer.channels; waiting = peer.waiting.items; slots = peer.waiting.capacity } };
+
+    ghost invariant = { λ peer. IsKept peer.channels peer.waiting };
+}
+
+// Puts a frame last, where it may wait.
+fn enqueue(waiting: &mut HeapCircularBuffer<Frame>, frame: Frame) -> Result<(), Refusal>
+    ensures answer { result_err result ≡ (if nat_lt (length waiting.old.items) waiting.old.capacity then None else Some QueueFull) }
+    ensures after { waiting.new ≡ (if is_ok result then buffer (waiting.old.items ++ frame ∷ []) waiting.old.capacity else waiting.old) }
+{
+    match waiting.try_push_back(frame) {
+        Ok(()) => Ok(()),
+        Err(_) => Err(Refusal::QueueFull),
+    }
+}
+
+impl Peer {
+    /// A peer on which nothing has happened. Faults come in this order: the first channel whose
+    /// ring would not have 1 to 2^24 bytes, slots outside 1 to 65,536, want of memory. The first two are found
+    /// before any memory is taken.
+    pub fn new(alloc: Global, config: Config) -> Result<Peer, PeerFault>
+        ensures answer { IsNewAnswer config (result_err result) }
+        ensures value { IfOk result (λ peer. peer ≡ new_peer config) }
+    {
+        config.judge()?;
+        let Ok(channels) = new_channels(alloc, config.capacities) else {
+            return Err(PeerFault::OutOfMemory);
+        };
+        let Ok(waiting) = HeapCircularBuffer::with_capacity(alloc, config.slots as usize) else {
+            return Err(PeerFault::OutOfMemory);
+        };
+        Ok(Peer {
+            alloc,
+            channels,
+            waiting,
+        })
+    }
+
+    /// A message of 1 to `MAX_BODY` bytes is sent. Refused by 1, 2, 3 and 4, by 14 where the copy of the body
+    /// gets no memory, and by 13, in this order.
+    pub fn send(&mut self, channel: Channel, body: &[u8]) -> Result<(), Refusal>
+        ensures answer { IsSendAnswer self.old (Send channel body.now) (result_err result) }
+        ensures after { self.new ≡ (if is_ok result then put self.old (Send channel body.now) else self.old) }
+    {
+        let Ok(len) = u32::try_from(body.len()) else {
+            return Err(Refusal::BodyTooLong);
+        };
+        let mut book = self.client(channel);
+        book.spend(len)?;
+        let Ok(bytes) = Vec::from_slice(self.alloc, body) else {
+            return Err(Refusal::OutOfMemory);
+        };
+        let body = Body::from_vec(bytes);
+        self.put(Frame::Send { channel, body }, book, self.server(channel))
+    }
+
+    /// `n` guarantees are given up. Refused by 5, 6 and 13, in this order.
+    pub fn absolve(&mut self, channel: Channel, n: u32) -> Result<(), Refusal>
+        ensures answer { result_err result ≡ refusal self.old (Absolve channel n) }
+        ensures after { self.new ≡ (if is_ok result then put self.old (Absolve channel n) else self.old) }
+    {
+        let mut book = self.client(channel);
+        book.absolve(n)?;
+        self.put(
+            Frame::Absolve { channel, amount: n },
+            book,
+            self.server(channel),
+        )
+    }
+
+    /// The plead that is kept is honoured.
+    pub fn honour(&mut self, channel: Channel) -> Result<Option<u32>, Refusal>
+        ensures answer { result_err result ≡ honour_refusal self.old (due self.old channel) }
+        ensures amount { IfOk result (λ amount. amount ≡ due self.old channel) }
+        ensures after { self.new ≡ (if is_ok result then put_honour self.old channel else self.old) }
+    {
+        let mut book = self.client(channel);
+        let due = book.honour();
+        match due {
+            Some(amount) => enqueue(&mut self.waiting, Frame::Absolve { channel, amount })?,
+            None => {}
+        }
+        self.channels[usize::from(channel.number())].client = book;
+        Ok(due)
+    }
+
+    /// At most `bound` bytes are sent from here on; 0 ends the channel. Refused by 7, 8 and 13, in
+    /// this order.
+    pub fn limit_sending(&mut self, channel: Channel, bound: u64) -> Result<(), Refusal>
+        ensures answer { result_err result ≡ refusal self.old (LimitSending channel bound) }
+        ensures after { self.new ≡ (if is_ok result then put self.old (LimitSending channel bound) else self.old) }
+    {
+        let mut book = self.client(channel);
+        book.limit_sending(bound)?;
+        self.put(
+            Frame::LimitSending { channel, bound },
+            book,
+            self.server(channel),
+        )
+    }
+
+    /// `n` guarantees are issued. Refused by 5, 9, 10, 12 and 13, in this order.
+    pub fn issue(&mut self, channel: Channel, n: u32) -> Result<(), Refusal>
+        ensures answer { result_err result ≡ refusal self.old (Issue channel n) }
+        ensures after { self.new ≡ (if is_ok result then put self.old (Issue channel n) else self.old) }
+    {
+        let mut book = self.server(channel);
+        book.issue(n)?;
+        self.put(
+            Frame::Issue { channel, amount: n },
+            self.client(channel),
+            book,
+        )
+    }
+
+    /// The client is asked to absolve until it holds at most `target`. Refused by 11 and 13, in
+    /// this order.
+    pub fn plead(&mut self, channel: Channel, target: u32) -> Result<(), Refusal>
+        ensures answer { result_err result ≡ refusal self.old (Plead channel target) }
+        ensures after { self.new ≡ (if is_ok result then put self.old (Plead channel target) else self.old) }
+    {
+        let book = self.server(channel);
+        book.plead(target)?;
+        self.put(Frame::Plead { channel, target }, self.client(channel), book)
+    }
+
+    /// At most `bound` guarantees are issued from here on. Refused by 7, 8 and 13, in this order.
+    pub fn limit_receiving(&mut self, channel: Channel, bound: u64) -> Result<(), Refusal>
+        ensures answer { result_err result ≡ refusal self.old (LimitReceiving channel bound) }
+        ensures after { self.new ≡ (if is_ok result then put self.old (LimitReceiving channel bound) else self.old) }
+    {
+        let mut book = self.server(channel);
+        book.limit_receiving(bound)?;
+        self.put(
+            Frame::LimitReceiving { channel, bound },
+            self.client(channel),
+            book,
+        )
+    }
+
+    // Puts a frame that its channel's books accepted, with the books that it leaves, where it may
+    // wait.
+    fn put(
+        &mut self,
+        frame: Frame,
+        sending: ClientBook,
+        receiving: ServerBook,
+    ) -> Result<(), Refusal>
+        requires valid { IsValid frame }
+        requires client { sending ≡ client_after_put frame (client self.old (channel_of frame)) }
+        requires server { receiving ≡ server_after_put frame (server self.old (channel_of frame)) }
+        ensures answer { result_err result ≡ queue_refusal self.old }
+        ensures after { self.new ≡ (if is_ok result then put self.old frame else self.old) }
+    {
+        let at = usize::from(frame.channel().number());
+        enqueue(&mut self.waiting, frame)?;
+        let state = &mut self.channels[at];
+        state.client = sending;
+        state.inbox.adopt(receiving);
+        Ok(())
+    }
+
+    /// A frame arrives, which has to be valid.
+    #[inline]
+    pub fn arrive(&mut self, frame: FrameRef<'_>) -> Result<(), Violation>
+        requires { IsValid (frame_of frame) }
+        ensures answer { result_err result ≡ (arrivals self.old (frame_of frame.entry ∷ [])).violation }
+        ensures after { self.new ≡ (arrivals self.old (frame_of frame.entry ∷ [])).peer }
+    {
+        let at = usize::from(frame.channel().number());
+        self.channels[at].arrive(frame)
+    }
+
+    /// Takes the first message into the front of the buffer.
+    #[inline]
+    pub fn take_into(&mut self, channel: Channel, buffer: &mut [u8]) -> Result<Take, Refusal>
+        ensures answer { result_err result ≡ take_refusal (inbox self.old channel) (length buffer.old) }
+        ensures value { IfOk result (λ take. take ≡ take_answer (inbox self.old channel)) }
+        ensures after { self.new ≡ (if is_ok result then take_on self.old channel else self.old) }
+        ensures buffer { buffer.new ≡ (if is_ok result then with_front (front (inbox self.old channel).ring) buffer.old else buffer.old) }
+    {
+        let at = usize::from(channel.number());
+        self.channels[at].inbox.take_into(buffer)
+    }
+
+    /// The first message that waits on the channel.
+    #[inline]
+    pub fn front(&self, channel: Channel) -> Option<(&[u8], &[u8])>
+        ensures { option_map (λ parts. parts.0.now ++ parts.1.now) result ≡ front (inbox self.now channel).ring }
+    {
+        self.channels[usize::from(channel.number())].inbox.front()
+    }
+
+    /// Takes the first message and drops it.
+    #[inline]
+    pub fn pop(&mut self, channel: Channel) -> Take
+        ensures answer { result ≡ take_answer (inbox self.old channel) }
+        ensures after { self.new ≡ take_on self.old channel }
+    {
+        let at = usize::from(channel.number());
+        self.channels[at].inbox.pop()
+    }
+
+    /// The next frame to go out.
+    #[inline]
+    pub fn next_out(&mut self) -> Option<Frame>
+        ensures value { result ≡ next self.old }
+        ensures after { self.new ≡ without_next self.old }
+        ensures valid { IfSome result IsValid }
+    {
+        self.waiting.pop_front()
+    }
+
+    /// How many frames wait.
+    #[inline]
+    pub fn waiting(&self) -> usize
+        ensures value { result ≡ length self.now.waiting }
+        ensures slots { result ≤ self.now.slots }
+        ensures small { result ≤ max_slots }
+        ensures kept { AreWaiting self.now.slots self.now.waiting }
+    {
+        self.waiting.len()
+    }
+
+    /// The frame at a place of those that wait.
+    #[inline]
+    pub fn waiting_frame(&self, place: usize) -> Option<FrameRef<'_>>
+        ensures value { option_map frame_of result ≡ slice_get self.now.waiting place }
+        ensures within { IsSome result ↔ (place < length self.now.waiting) }
+        ensures valid { IfSome result (λ frame. IsValid (frame_of frame)) }
+    {
+        match self.waiting.get(place) {
+            Some(frame) => Some(frame.view()),
+            None => None,
+        }
+    }
+
+    /// The book of a channel as client.
+    #[inline]
+    pub fn client(&self, channel: Channel) -> ClientBook
+        ensures value { result ≡ client self.now channel }
+        ensures kept { IsClient result }
+    {
+        let book = self.channels[usize::from(channel.number())].client;
+        // A reader tells what every book keeps.
+        let _held = book.held();
+        book
+    }
+
+    /// The book of a channel as server.
+    #[inline]
+    pub fn server(&self, channel: Channel) -> ServerBook
+        ensures value { result ≡ server self.now channel }
+        ensures kept { IsInbox (inbox self.now channel) }
+    {
+        self.channels[usize::from(channel.number())].inbox.book()
+    }
+}

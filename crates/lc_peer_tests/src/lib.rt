@@ -1,0 +1,5 @@
+//! Tests of `lc_peer`.
+#![tactic(auto)]
+
+#[cfg(test)]
+mod peers;
