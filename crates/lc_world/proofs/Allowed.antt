@@ -17,7 +17,8 @@ use Rattle.lc_world.specs.declared.event.Answer.{Answer}
 use Rattle.lc_world.specs.declared.event.Answer.TheVariants.{Accepted, Absolved, Refused}
 use Rattle.lc_world.specs.State.{Line, stream, client_book, server_book}
 use Rattle.lc_world.specs.Answers.{judged, honoured, frame_put, IsAnswerOf}
-use Rattle.lc_world.proofs.Limits.{FitsAfter, not_above}
+use Rattle.lc_world.specs.Sound.{FitsAfter}
+use Rattle.lc_world.proofs.Limits.{not_above}
 
 -- the frame may be put, by the books of its channel at the side that puts it
 abbrev pub IsAllowed : Client → Server → Frame → Type 0

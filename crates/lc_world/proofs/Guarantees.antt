@@ -10,10 +10,12 @@ use Rattle.lc_world.specs.State.{State, opening, Line, stream, client, server, c
 use Rattle.lc_world.specs.Answers.{after}
 use Rattle.lc_world.specs.Histories.{History, after_all, IsLegal, IsHistory}
 use Rattle.lc_world.specs.Guarantee.{state_at, FitsBuffer, AddsUp, IsSomewhere, IsBalanced, EveryHistoryKeepsGuarantees}
-use Rattle.lc_world.proofs.Sound.{Sound, cost-cut, issued-cut, absolved-cut, taken_cost, paid}
-use Rattle.lc_world.proofs.Steps.{IsSound, sound_all, sound_opened, same_capacity}
+use Rattle.lc_world.specs.Sound.{Sound, IsSound}
+use Rattle.lc_world.proofs.Sound.{cost-cut, issued-cut, absolved-cut, taken_cost, paid}
+use Rattle.lc_world.proofs.Steps.{sound_all, sound_opened, same_capacity}
 use Rattle.lc_world.proofs.Lawful.{lawful_history}
 use Rattle.lc_world.proofs.Order.{accepted_messages, taken_is_taken, takes_in_order}
+use Rattle.lc_world.proofs.Pleads.{keeps_last_plead}
 use Rattle.lc_world.proofs.LimitsHold.{send_limit_holds, receive_limit_holds}
 
 -- the balances of one channel direction
@@ -69,4 +71,5 @@ keeps_guarantees capacity history h = record {
   receive_limits_hold = receive_limit_holds capacity history h;
   accepted_is = accepted_messages capacity history;
   taken_is = taken_is_taken capacity history h;
+  plead_is = keeps_last_plead capacity history;
 }

@@ -1,6 +1,7 @@
 -- No frame that arrives is refused.
-use Rattle.std.proofs.Common.{◌≡◌, ℕ, zero, suc, ◌+◌, ◌≤◌, Bool, false, List, [], ◌∷◌, length, Option, Some, None, refl, sym, ap, ◌∙◌, subst, inl, inr, arith}
-use Rattle.std.specs.Prelude.{◌⊎◌, nat_lt, if◌then◌else◌}
+use Rattle.std.proofs.Common.{◌≡◌, ℕ, zero, suc, ◌+◌, ◌≤◌, Bool, true, false, List, [], ◌∷◌, length, Option, Some, None, refl, sym, ap, ◌∙◌, subst, inl, inr, arith}
+use Rattle.std.specs.Prelude.{◌⊎◌, ◌-◌, nat_lt, if◌then◌else◌}
+use Rattle.std.specs.Option.{option_or}
 use Rattle.std.specs.List.{AllByRecursion}
 use Rattle.std.proofs.lemmas.Bool.Decides.{nat_tests}
 use Rattle.lc_frame.specs.declared.channel.Channel.{Channel}
@@ -16,19 +17,22 @@ use Rattle.lc_book.specs.declared.fault.Violation.{Violation}
 use Rattle.lc_book.specs.Limit.{is_past}
 use Rattle.lc_book.specs.Client.{Client, held, issued_violation}
 use Rattle.lc_book.specs.Server.{Server, outstanding, message_violation}
+use Rattle.lc_peer.specs.Arrivals.{violation}
 use Rattle.lc_world.specs.declared.event.Side.{Side}
 use Rattle.lc_world.specs.declared.event.Side.TheVariants.{A, B}
 use Rattle.lc_world.specs.declared.event.Act.{Act}
-use Rattle.lc_world.specs.declared.event.Act.TheVariants.{Send, Issue, Plead, Absolve, Honour, LimitSending, LimitReceiving, Arrive, Take}
+use Rattle.lc_world.specs.declared.event.Act.TheVariants.{Send, Issue, Plead, Absolve, Honour, LimitSending, LimitReceiving, Arrive, Deliver, Take}
 use Rattle.lc_world.specs.declared.event.Answer.{Answer}
 use Rattle.lc_world.specs.declared.event.Answer.TheVariants.{Refused}
-use Rattle.lc_world.specs.State.{State, opening, Line, stream, client_book, server_book}
-use Rattle.lc_world.specs.Answers.{judged, honoured, violation, arrival, arrive_answer, none_waiting, take_answer, waiting, answer_of, IsAnswer, after, refusal}
+use Rattle.lc_world.specs.State.{State, opening, Line, stream, client_book, server_book, size, arrive_first, arrive_on}
+use Rattle.lc_world.specs.Answers.{judged, honoured, arrival, arrive_answer, delivery_violation, delivery, deliver_answer, none_waiting, take_answer, waiting, answer_of, IsAnswer, after, refusal}
 use Rattle.lc_world.specs.Histories.{History, IsLegal, IsHistory}
 use Rattle.lc_world.specs.Guarantee.{IsLawful}
-use Rattle.lc_world.proofs.Limits.{FitsAfter, AllFit, all_fit_rest}
-use Rattle.lc_world.proofs.Sound.{Sound, cost-cut, issued-cut, absolved-cut, taken_cost}
-use Rattle.lc_world.proofs.Steps.{IsSound, sound_step, sound_opened, same_capacity}
+use Rattle.lc_world.specs.Sound.{FitsAfter, AllFit, Sound, IsSound}
+use Rattle.lc_world.proofs.Limits.{all_fit_rest}
+use Rattle.lc_world.proofs.Sound.{cost-cut, issued-cut, absolved-cut, taken_cost, sound_comes, sound_gets}
+use Rattle.lc_world.proofs.Streams.{stream-arrive}
+use Rattle.lc_world.proofs.Steps.{sound_step, sound_opened, same_capacity}
 
 -- a sum over a stream, by the first frame in flight
 module _ (c : Channel) (l : Line) (f : Frame) (rest : List Frame) (e : l.in_flight ≡ f ∷ rest) where
@@ -92,31 +96,75 @@ lawful_take : (left : Option ℕ) (bodies : List (List ℕ)) → IsLawful (take_
 lawful_take left [] = lawful_none_waiting left
 lawful_take left (body ∷ bodies) = tt
 
--- the first frame in flight breaks no rule where it arrives, at the side whose line is the first
-module _ (capacity : ℕ) (small : capacity ≤ max_amount) (mine theirs : Line) (as_client : (c : Channel) → Sound capacity c mine theirs) (as_server : (c : Channel) → Sound capacity c theirs mine) where
-  no_violation : (f : Frame) (rest : List Frame) → theirs.in_flight ≡ f ∷ rest → FitsAfter theirs.arrived f → violation (client_book (channel_of f) mine theirs) (server_book capacity (channel_of f) mine theirs) f ≡ None
-  no_violation (frame.Send c body) rest e fits = message_passes (server_book capacity c mine theirs) (length body) (message_is_covered capacity c theirs mine body rest e (as_server c)) fits
-  no_violation (frame.Issue c n) rest e fits = issue_passes (client_book c mine theirs) n fits (issue_is_small capacity c mine theirs n rest small e (as_client c)) (issue_is_in_total capacity c mine theirs n rest e (as_client c))
-  no_violation (frame.Absolve c n) rest e fits = let b : Server = server_book capacity c mine theirs in not_this (nat_lt (outstanding b) n) _ _ (not_below (outstanding b) n (absolving_is_covered capacity c theirs mine n rest e (as_server c))) refl
-  no_violation (frame.Plead c n) rest e fits = refl
-  no_violation (frame.LimitSending c bound) rest e fits = not_this (is_past (server_book capacity c mine theirs).send_left bound) _ _ fits refl
-  no_violation (frame.LimitReceiving c bound) rest e fits = not_this (is_past (client_book c mine theirs).receive_left bound) _ _ fits refl
+-- what is sound of two lines where the frames of the second arrive at the side whose line is the first
+pub record SoundTo (capacity : ℕ) (mine theirs : Line) : Type 0 where
+  pub as_client : (c : Channel) → Sound capacity c mine theirs
+  pub as_server : (c : Channel) → Sound capacity c theirs mine
+  pub fits : AllFit [] (stream theirs)
 
-  arrives_lawfully : (in_flight : List Frame) → theirs.in_flight ≡ in_flight → AllFit theirs.arrived in_flight → IsLawful (arrive_answer capacity mine theirs in_flight)
-  arrives_lawfully [] e fits = tt
-  arrives_lawfully (f ∷ rest) e fits = subst (λ (v : Option Violation). IsLawful (arrival v)) (sym (no_violation f rest e fits.0)) tt
+pub arrives_soundly : (capacity : ℕ) (mine theirs : Line) → SoundTo capacity mine theirs → SoundTo capacity mine (arrive_on theirs)
+arrives_soundly capacity mine theirs s = record {
+  as_client = λ c. sound_gets capacity c mine theirs (s.as_client c);
+  as_server = λ c. sound_comes capacity c theirs mine (s.as_server c);
+  fits = subst (λ (fs : List Frame). AllFit [] fs) (sym (stream-arrive theirs)) s.fits;
+}
+
+-- the first frame in flight breaks no rule where it arrives
+module _ (capacity : ℕ) (small : capacity ≤ max_amount) (mine theirs : Line) (s : SoundTo capacity mine theirs) where
+  next_fits : (f : Frame) (rest : List Frame) → theirs.in_flight ≡ f ∷ rest → FitsAfter theirs.arrived f
+  next_fits f rest e = (subst (λ (fs : List Frame). AllFit theirs.arrived fs) e (all_fit_rest [] theirs.arrived theirs.in_flight s.fits)).0
+
+  passes : (f : Frame) (rest : List Frame) → theirs.in_flight ≡ f ∷ rest → FitsAfter theirs.arrived f → violation (client_book (channel_of f) mine theirs) (server_book capacity (channel_of f) mine theirs) f ≡ None
+  passes (frame.Send c body) rest e fits = message_passes (server_book capacity c mine theirs) (length body) (message_is_covered capacity c theirs mine body rest e (s.as_server c)) fits
+  passes (frame.Issue c n) rest e fits = issue_passes (client_book c mine theirs) n fits (issue_is_small capacity c mine theirs n rest small e (s.as_client c)) (issue_is_in_total capacity c mine theirs n rest e (s.as_client c))
+  passes (frame.Absolve c n) rest e fits = let b : Server = server_book capacity c mine theirs in not_this (nat_lt (outstanding b) n) _ _ (not_below (outstanding b) n (absolving_is_covered capacity c theirs mine n rest e (s.as_server c))) refl
+  passes (frame.Plead c n) rest e fits = refl
+  passes (frame.LimitSending c bound) rest e fits = not_this (is_past (server_book capacity c mine theirs).send_left bound) _ _ fits refl
+  passes (frame.LimitReceiving c bound) rest e fits = not_this (is_past (client_book c mine theirs).receive_left bound) _ _ fits refl
+
+  pub no_violation : (f : Frame) (rest : List Frame) → theirs.in_flight ≡ f ∷ rest → violation (client_book (channel_of f) mine theirs) (server_book capacity (channel_of f) mine theirs) f ≡ None
+  no_violation f rest e = passes f rest e (next_fits f rest e)
+
+lawful_delivery : (o : Option Violation) (bytes frames : ℕ) → o ≡ None → IsLawful (delivery o bytes frames)
+lawful_delivery None bytes frames e = tt
+lawful_delivery (Some v) bytes frames e = absurd (let none = e in cc)
+
+-- and no other frame of those that are delivered does
+neither : (a b : Option Violation) → a ≡ None → b ≡ None → option_or a b ≡ None
+neither a b e h = ap (λ (o : Option Violation). option_or o b) e ∙ h
+
+module _ (capacity : ℕ) (small : capacity ≤ max_amount) (mine : Line) where
+  pub all_pass : (frames : List Frame) (n : ℕ) (theirs : Line) → theirs.in_flight ≡ frames → SoundTo capacity mine theirs → delivery_violation capacity mine frames n theirs ≡ None
+  all_pass [] n theirs e s = refl
+  all_pass (f ∷ rest) n theirs e s =
+      let next : Line = arrive_first theirs (f ∷ rest) in
+      let sound : SoundTo capacity mine next = subst (λ (fs : List Frame). SoundTo capacity mine (arrive_first theirs fs)) e (arrives_soundly capacity mine theirs s) in
+      elim (nat_lt n (size f)) as (λ b. (if b then None else option_or (violation (client_book (channel_of f) mine theirs) (server_book capacity (channel_of f) mine theirs) f) (delivery_violation capacity mine rest (n - size f) next)) ≡ None) [
+        | true ↦ refl
+        | false ↦ neither _ _ (no_violation capacity small mine theirs s f rest e) (all_pass rest (n - size f) next refl sound)
+      ]
+
+module _ (capacity : ℕ) (small : capacity ≤ max_amount) (mine theirs : Line) (s : SoundTo capacity mine theirs) where
+  arrives_lawfully : (in_flight : List Frame) → theirs.in_flight ≡ in_flight → IsLawful (arrive_answer capacity mine theirs in_flight)
+  arrives_lawfully [] e = tt
+  arrives_lawfully (f ∷ rest) e = subst (λ (v : Option Violation). IsLawful (arrival v)) (sym (no_violation capacity small mine theirs s f rest e)) tt
+
+  delivers_lawfully : (count : ℕ) (in_flight : List Frame) → theirs.in_flight ≡ in_flight → IsLawful (deliver_answer capacity mine theirs count in_flight)
+  delivers_lawfully count [] e = tt
+  delivers_lawfully count (f ∷ rest) e = lawful_delivery _ _ _ (all_pass capacity small mine (f ∷ rest) (theirs.begun + count) theirs e s)
 
   -- the right answer is lawful
-  lawful_answer : (act : Act) → AllFit [] (stream theirs) → IsLawful (answer_of capacity mine theirs act)
-  lawful_answer (Send c body) fits = lawful_judged (refusal (client_book c mine theirs) (server_book capacity c mine theirs) (Send c body))
-  lawful_answer (Issue c n) fits = lawful_judged (refusal (client_book c mine theirs) (server_book capacity c mine theirs) (Issue c n))
-  lawful_answer (Plead c n) fits = lawful_judged (refusal (client_book c mine theirs) (server_book capacity c mine theirs) (Plead c n))
-  lawful_answer (Absolve c n) fits = lawful_judged (refusal (client_book c mine theirs) (server_book capacity c mine theirs) (Absolve c n))
-  lawful_answer (Honour c) fits = lawful_honoured _
-  lawful_answer (LimitSending c n) fits = lawful_judged (refusal (client_book c mine theirs) (server_book capacity c mine theirs) (LimitSending c n))
-  lawful_answer (LimitReceiving c n) fits = lawful_judged (refusal (client_book c mine theirs) (server_book capacity c mine theirs) (LimitReceiving c n))
-  lawful_answer Arrive fits = arrives_lawfully theirs.in_flight refl (all_fit_rest [] theirs.arrived theirs.in_flight fits)
-  lawful_answer (Take c) fits = lawful_take _ (waiting c theirs)
+  lawful_answer : (act : Act) → IsLawful (answer_of capacity mine theirs act)
+  lawful_answer (Send c body) = lawful_judged (refusal (client_book c mine theirs) (server_book capacity c mine theirs) (Send c body))
+  lawful_answer (Issue c n) = lawful_judged (refusal (client_book c mine theirs) (server_book capacity c mine theirs) (Issue c n))
+  lawful_answer (Plead c n) = lawful_judged (refusal (client_book c mine theirs) (server_book capacity c mine theirs) (Plead c n))
+  lawful_answer (Absolve c n) = lawful_judged (refusal (client_book c mine theirs) (server_book capacity c mine theirs) (Absolve c n))
+  lawful_answer (Honour c) = lawful_honoured _
+  lawful_answer (LimitSending c n) = lawful_judged (refusal (client_book c mine theirs) (server_book capacity c mine theirs) (LimitSending c n))
+  lawful_answer (LimitReceiving c n) = lawful_judged (refusal (client_book c mine theirs) (server_book capacity c mine theirs) (LimitReceiving c n))
+  lawful_answer Arrive = arrives_lawfully theirs.in_flight refl
+  lawful_answer (Deliver count) = delivers_lawfully count theirs.in_flight refl
+  lawful_answer (Take c) = lawful_take _ (waiting c theirs)
 
 -- and want of memory too
 lawful_unless : (right a : Answer) (M : Type 0) → (a ≡ right) ⊎ (M × (a ≡ Refused OutOfMemory)) → IsLawful right → IsLawful a
@@ -126,9 +174,15 @@ lawful_unless right a M h lawful =
       | inr p ↦ subst (λ (x : Answer). IsLawful x) (sym p.1) tt
     ]
 
+pub sound_to_a : (w : State) → IsSound w → SoundTo w.capacity w.a w.b
+sound_to_a w g = record { as_client = g.sums A; as_server = g.sums B; fits = g.limits B }
+
+pub sound_to_b : (w : State) → IsSound w → SoundTo w.capacity w.b w.a
+sound_to_b w g = record { as_client = g.sums B; as_server = g.sums A; fits = g.limits A }
+
 lawful_step : (w : State) (side : Side) (act : Act) (a : Answer) → w.capacity ≤ max_amount → IsSound w → IsAnswer w (record { side = side; act = act }) a → IsLawful a
-lawful_step w A act a small g h = lawful_unless (answer_of w.capacity w.a w.b act) a _ h (lawful_answer w.capacity small w.a w.b (g.sums A) (g.sums B) act (g.limits B))
-lawful_step w B act a small g h = lawful_unless (answer_of w.capacity w.b w.a act) a _ h (lawful_answer w.capacity small w.b w.a (g.sums B) (g.sums A) act (g.limits A))
+lawful_step w A act a small g h = lawful_unless (answer_of w.capacity w.a w.b act) a _ h (lawful_answer w.capacity small w.a w.b (sound_to_a w g) act)
+lawful_step w B act a small g h = lawful_unless (answer_of w.capacity w.b w.a act) a _ h (lawful_answer w.capacity small w.b w.a (sound_to_b w g) act)
 
 lawful_all : (w : State) (history : History) → w.capacity ≤ max_amount → IsSound w → IsLegal w history → AllByRecursion (λ p. IsLawful p.1) history
 lawful_all w [] small g h = tt

@@ -1,8 +1,5 @@
 pub mod Messages
-pub mod Moves
-pub mod Parties
-pub mod Arrivals
-pub mod Takes
+pub mod Delivers
 pub mod Limits
 pub mod Allowed
 pub mod Streams
@@ -11,5 +8,15 @@ pub mod Steps
 pub mod Lawful
 pub mod Order
 pub mod LimitsHold
+pub mod Pleads
 pub mod Guarantees
+pub mod Bytes
+pub mod Parts
+pub mod Ends
+pub mod Calls
+pub mod Answered
+pub mod Brings
+pub mod Deliveries
+pub mod Takes
+pub mod New
 pub mod Runs

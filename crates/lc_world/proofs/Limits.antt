@@ -14,19 +14,7 @@ use Rattle.lc_frame.specs.Stream.{message_of, issue_of, cost, issued, send_left,
 use Rattle.lc_frame.proofs.Channels.{cases_same}
 use Rattle.lc_frame.proofs.Measures.{on-elsewhere, cost-append, issued-append, cost-one, issued-one, send_left-push, receive_left-push, send_left-other, receive_left-other}
 use Rattle.lc_book.specs.Limit.{is_past}
-
--- a frame fits what is left after those before it
-abbrev pub FitsAfter : List Frame → Frame → Type 0
-FitsAfter before (Send c body) = is_past (send_left c before) (length body) ≡ false
-FitsAfter before (Issue c amount) = is_past (receive_left c before) amount ≡ false
-FitsAfter before (LimitSending c bound) = is_past (send_left c before) bound ≡ false
-FitsAfter before (LimitReceiving c bound) = is_past (receive_left c before) bound ≡ false
-FitsAfter before f = Unit {0}
-
--- each frame of a list does, the first list being before it
-abbrev pub AllFit : List Frame → List Frame → Type 0
-AllFit before [] = Unit {0}
-AllFit before (f ∷ rest) = FitsAfter before f × AllFit (before ++ f ∷ []) rest
+use Rattle.lc_world.specs.Sound.{FitsAfter, AllFit}
 
 -- the back of a list that fits
 pub all_fit_rest : (before xs ys : List Frame) → AllFit before (xs ++ ys) → AllFit (before ++ xs) ys

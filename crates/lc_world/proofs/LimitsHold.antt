@@ -16,7 +16,8 @@ use Rattle.lc_world.specs.State.{opening}
 use Rattle.lc_world.specs.Answers.{frame_put}
 use Rattle.lc_world.specs.Histories.{History, IsHistory, is_side, at_side, accepted, amounts}
 use Rattle.lc_world.specs.Guarantee.{IsCut}
-use Rattle.lc_world.proofs.Limits.{AllFit, all_fit_rest, cost_within, issued_within}
+use Rattle.lc_world.specs.Sound.{AllFit}
+use Rattle.lc_world.proofs.Limits.{all_fit_rest, cost_within, issued_within}
 use Rattle.lc_world.proofs.Streams.{puts, accepted_are, amounts_are}
 use Rattle.lc_world.proofs.Steps.{sound_all, sound_opened}
 use Rattle.lc_world.proofs.Order.{stream-history}

@@ -1,8 +1,8 @@
 -- The messages that a history takes are the front of those that it accepts.
-use Rattle.std.proofs.Common.{◌≡◌, ℕ, zero, suc, ◌+◌, ◌<◌, ◌≤◌, Bool, List, [], ◌∷◌, ◌++◌, length, get_or, take, drop, Option, Some, None, refl, sym, ap, subst, ◌∙◌, inl, inr}
+use Rattle.std.proofs.Common.{◌≡◌, ℕ, zero, suc, ◌<◌, ◌≤◌, Bool, List, [], ◌∷◌, ◌++◌, length, get_or, take, Option, Some, None, refl, sym, ap, subst, ◌∙◌, inl, inr}
 use Rattle.std.specs.Prelude.{if◌then◌else◌}
 use Rattle.std.specs.List.{cons_option}
-use Rattle.std.proofs.lemmas.List.{append_assoc, append-nil, take-append-drop, take_more, drop_more}
+use Rattle.std.proofs.lemmas.List.{append_assoc, append-nil, take-append-drop}
 use Rattle.lc_frame.specs.declared.channel.Channel.{Channel}
 use Rattle.lc_frame.specs.declared.frame.Frame.{Frame}
 use Rattle.lc_frame.specs.Channel.{number_of, is_same}
@@ -12,18 +12,20 @@ use Rattle.lc_frame.proofs.Measures.{messages-append}
 use Rattle.lc_world.specs.declared.event.Side.{Side}
 use Rattle.lc_world.specs.declared.event.Side.TheVariants.{A, B}
 use Rattle.lc_world.specs.declared.event.Act.{Act}
-use Rattle.lc_world.specs.declared.event.Act.TheVariants.{Honour, Arrive, Take}
+use Rattle.lc_world.specs.declared.event.Act.TheVariants.{Honour, Arrive, Deliver, Take}
 use Rattle.lc_world.specs.declared.event.Answer.{Answer}
-use Rattle.lc_world.specs.declared.event.Answer.TheVariants.{Absolved, NothingToAbsolve, Arrived, Took}
-use Rattle.lc_world.specs.State.{State, opening, Line, line, other, stream, taken_count, taken_messages, arrive_on, take_on}
+use Rattle.lc_world.specs.declared.event.Answer.TheVariants.{Absolved, NothingToAbsolve, Arrived, Delivered, Took}
+use Rattle.lc_world.specs.State.{State, opening, Line, line, other, stream, taken_count, taken_messages, arrive_on, deliver_on, take_on}
 use Rattle.lc_world.specs.Answers.{put_any, frame_put, take_answer, waiting, IsAnswerOf, IsAnswer, theirs_after, state_after, after}
 use Rattle.lc_world.specs.Histories.{History, after_all, IsLegal, IsHistory, at_side, taken_body, accepted, taken}
 use Rattle.lc_world.specs.Guarantee.{state_of, IsPrefix}
+use Rattle.lc_world.specs.Sound.{Sound, IsSound}
 use Rattle.lc_world.proofs.Allowed.{told}
 use Rattle.lc_world.proofs.Streams.{puts, stream-all, accepted_are}
 use Rattle.lc_world.proofs.Messages.{first_waiting}
-use Rattle.lc_world.proofs.Sound.{Sound, taken-push, count-here, count-elsewhere}
-use Rattle.lc_world.proofs.Steps.{IsSound, took_waiting, took_more, sound_step, sound_opened}
+use Rattle.lc_world.proofs.Delivers.{deliver_keeps}
+use Rattle.lc_world.proofs.Sound.{taken-push, count-here, count-elsewhere, sound_comes}
+use Rattle.lc_world.proofs.Steps.{took_waiting, sound_step, sound_opened}
 
 -- the stream of one side after a history is what the history put there
 pub stream-history : (capacity : ℕ) (history : History) (s : Side) → stream (line (state_of capacity history) s) ≡ puts s history
@@ -38,12 +40,24 @@ taken-put : (c : Channel) (l : Line) (o : Option Frame) → taken_messages c (pu
 taken-put c l None = refl
 taken-put c l (Some f) = refl
 
-taken-comes : (c : Channel) (arrived in_flight : List Frame) (taken : List ℕ) (asked : List (Option ℕ)) → get_or taken (number_of c) 0 ≤ length (messages c arrived) → taken_messages c (arrive_on (record { arrived = arrived; in_flight = in_flight; taken = taken; asked = asked })) ≡ take (get_or taken (number_of c) 0) (messages c arrived)
-taken-comes c arrived [] taken asked le = refl
-taken-comes c arrived (f ∷ rest) taken asked le = taken-push c arrived f (get_or taken (number_of c) 0) le
+taken-comes : (c : Channel) (arrived in_flight : List Frame) (begun : ℕ) (taken : List ℕ) (asked : List (Option ℕ)) → get_or taken (number_of c) 0 ≤ length (messages c arrived) → taken_messages c (arrive_on (record { arrived = arrived; in_flight = in_flight; begun = begun; taken = taken; asked = asked })) ≡ take (get_or taken (number_of c) 0) (messages c arrived)
+taken-comes c arrived [] begun taken asked le = refl
+taken-comes c arrived (f ∷ rest) begun taken asked le = taken-push c arrived f (get_or taken (number_of c) 0) le
 
 taken-arrive : (c : Channel) (l : Line) → taken_count c l ≤ length (messages c l.arrived) → taken_messages c (arrive_on l) ≡ taken_messages c l
-taken-arrive c l le = taken-comes c l.arrived l.in_flight l.taken l.asked le
+taken-arrive c l le = taken-comes c l.arrived l.in_flight l.begun l.taken l.asked le
+
+-- and so do all that a delivery brings
+record LeavesTaken (capacity : ℕ) (c : Channel) (mine l new : Line) : Type 0 where
+  sound : Sound capacity c new mine
+  same : taken_messages c new ≡ taken_messages c l
+
+taken-deliver : (capacity : ℕ) (c : Channel) (count : ℕ) (mine l : Line) → Sound capacity c l mine → taken_messages c (deliver_on count l) ≡ taken_messages c l
+taken-deliver capacity c count mine l s =
+    (deliver_keeps (LeavesTaken capacity c mine l) (record {
+      begins = λ x n h. record { sound = record { solvent = h.sound.solvent; roomy = h.sound.roomy; total = h.sound.total; taken = h.sound.taken; places = h.sound.places }; same = h.same };
+      arrives = λ x h. record { sound = sound_comes capacity c x mine h.sound; same = taken-arrive c x h.sound.taken ∙ h.same };
+    }) count l (record { sound = s; same = refl })).same
 
 -- a take adds the first message that waits
 taken_one : (left : Option ℕ) (d : Channel) (l : Line) (body : List ℕ) → number_of d < length l.taken → Took body ≡ take_answer left (waiting d l) → taken_messages d (take_on d l) ≡ taken_messages d l ++ body ∷ []
@@ -72,6 +86,7 @@ take_adds left c d l body places e =
 -- what an event takes of the other side's messages
 theirs_adds : (capacity : ℕ) (mine l : Line) (act : Act) (a : Answer) (c : Channel) → IsAnswerOf capacity mine l act a → ((d : Channel) → Sound capacity d l mine) → Adds c l (theirs_after mine l act a) (taken_body c act a)
 theirs_adds capacity mine l Arrive Arrived c h g = adds_none c l (arrive_on l) (taken-arrive c l (g c).taken)
+theirs_adds capacity mine l (Deliver count) (Delivered bytes frames) c h g = adds_none c l (deliver_on count l) (taken-deliver capacity c count mine l (g c))
 theirs_adds capacity mine l (Take d) (Took body) c h g = take_adds _ c d l body (g d).places (told _ _ _ h (λ e. cc))
 theirs_adds capacity mine l (Honour d) (Absolved n) c h g = λ ys. refl
 theirs_adds capacity mine l (Honour d) NothingToAbsolve c h g = λ ys. refl

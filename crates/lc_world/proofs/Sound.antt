@@ -17,19 +17,13 @@ use Rattle.lc_frame.proofs.Channels.{cases_same, number_below}
 use Rattle.lc_frame.proofs.Measures.{on-elsewhere, messages-append, cost-append, issued-append, absolved-append, cost-one, issued-one, absolved-one}
 use Rattle.lc_book.specs.Client.{Client, held}
 use Rattle.lc_book.specs.Server.{Server, room}
-use Rattle.lc_world.specs.State.{Line, new_line, stream, taken_count, taken_messages, client_book, server_book, put_on, arrive_on, take_on, forget_on}
+use Rattle.lc_world.specs.State.{Line, new_line, stream, taken_count, taken_messages, client_book, server_book, put_on, arrive_on, deliver_on, take_on, forget_on}
 use Rattle.lc_world.specs.Answers.{waiting, put_any}
+use Rattle.lc_world.specs.Sound.{Sound}
+use Rattle.lc_world.proofs.Delivers.{deliver_keeps}
 use Rattle.lc_world.proofs.Limits.{no_cost_elsewhere, none_issued_elsewhere}
 use Rattle.lc_world.proofs.Allowed.{IsAllowed, MayPut, MayPutAny}
 use Rattle.lc_world.proofs.Streams.{stream-put}
-
--- the first line is the client's: what it used is at most what came, and what the server issued is at most what fits its ring
-pub record Sound (capacity : ℕ) (c : Channel) (mine theirs : Line) : Type 0 where
-  pub solvent : cost c (stream mine) + absolved c (stream mine) ≤ issued c theirs.arrived
-  pub roomy : issued c (stream theirs) ≤ capacity + sum_by length (taken_messages c mine) + absolved c mine.arrived
-  pub total : issued c (stream theirs) ≤ max_total
-  pub taken : taken_count c mine ≤ length (messages c mine.arrived)
-  pub places : number_of c < length mine.taken
 
 -- the sums over a stream, by what arrived and what is in flight
 pub cost-cut : (c : Channel) (l : Line) → cost c (stream l) ≡ cost c l.arrived + cost c l.in_flight
@@ -141,9 +135,9 @@ sound_server_puts capacity c mine theirs (Some f) may s =
 pub taken-push : (c : Channel) (arrived : List Frame) (f : Frame) (t : ℕ) → t ≤ length (messages c arrived) → take t (messages c (arrived ++ f ∷ [])) ≡ take t (messages c arrived)
 taken-push c arrived f t le = ap (take t) (messages-append c arrived (f ∷ [])) ∙ take-append-le t (messages c arrived) (messages c (f ∷ [])) le
 
-comes : (capacity : ℕ) (c : Channel) (arrived in_flight : List Frame) (taken : List ℕ) (asked : List (Option ℕ)) (theirs : Line) → Sound capacity c (record { arrived = arrived; in_flight = in_flight; taken = taken; asked = asked }) theirs → Sound capacity c (arrive_on (record { arrived = arrived; in_flight = in_flight; taken = taken; asked = asked })) theirs
-comes capacity c arrived [] taken asked theirs s = s
-comes capacity c arrived (f ∷ rest) taken asked theirs s =
+comes : (capacity : ℕ) (c : Channel) (arrived in_flight : List Frame) (begun : ℕ) (taken : List ℕ) (asked : List (Option ℕ)) (theirs : Line) → Sound capacity c (record { arrived = arrived; in_flight = in_flight; begun = begun; taken = taken; asked = asked }) theirs → Sound capacity c (arrive_on (record { arrived = arrived; in_flight = in_flight; begun = begun; taken = taken; asked = asked })) theirs
+comes capacity c arrived [] begun taken asked theirs s = s
+comes capacity c arrived (f ∷ rest) begun taken asked theirs s =
     let same : (arrived ++ f ∷ []) ++ rest ≡ arrived ++ f ∷ rest = append_assoc arrived (f ∷ []) rest in
     record {
       solvent = subst (λ (fs : List Frame). cost c fs + absolved c fs ≤ issued c theirs.arrived) (sym same) s.solvent;
@@ -154,12 +148,12 @@ comes capacity c arrived (f ∷ rest) taken asked theirs s =
     }
 
 pub sound_comes : (capacity : ℕ) (c : Channel) (mine theirs : Line) → Sound capacity c mine theirs → Sound capacity c (arrive_on mine) theirs
-sound_comes capacity c mine theirs s = comes capacity c mine.arrived mine.in_flight mine.taken mine.asked theirs s
+sound_comes capacity c mine theirs s = comes capacity c mine.arrived mine.in_flight mine.begun mine.taken mine.asked theirs s
 
 -- an arrival at the client
-gets : (capacity : ℕ) (c : Channel) (mine : Line) (arrived in_flight : List Frame) (taken : List ℕ) (asked : List (Option ℕ)) → Sound capacity c mine (record { arrived = arrived; in_flight = in_flight; taken = taken; asked = asked }) → Sound capacity c mine (arrive_on (record { arrived = arrived; in_flight = in_flight; taken = taken; asked = asked }))
-gets capacity c mine arrived [] taken asked s = s
-gets capacity c mine arrived (f ∷ rest) taken asked s =
+gets : (capacity : ℕ) (c : Channel) (mine : Line) (arrived in_flight : List Frame) (begun : ℕ) (taken : List ℕ) (asked : List (Option ℕ)) → Sound capacity c mine (record { arrived = arrived; in_flight = in_flight; begun = begun; taken = taken; asked = asked }) → Sound capacity c mine (arrive_on (record { arrived = arrived; in_flight = in_flight; begun = begun; taken = taken; asked = asked }))
+gets capacity c mine arrived [] begun taken asked s = s
+gets capacity c mine arrived (f ∷ rest) begun taken asked s =
     let same : issued c ((arrived ++ f ∷ []) ++ rest) ≡ issued c (arrived ++ f ∷ rest) = ap (issued c) (append_assoc arrived (f ∷ []) rest) in
     record {
       solvent = omega (arith, s.solvent, issued-append c arrived (f ∷ []));
@@ -170,7 +164,22 @@ gets capacity c mine arrived (f ∷ rest) taken asked s =
     }
 
 pub sound_gets : (capacity : ℕ) (c : Channel) (mine theirs : Line) → Sound capacity c mine theirs → Sound capacity c mine (arrive_on theirs)
-sound_gets capacity c mine theirs s = gets capacity c mine theirs.arrived theirs.in_flight theirs.taken theirs.asked s
+sound_gets capacity c mine theirs s = gets capacity c mine theirs.arrived theirs.in_flight theirs.begun theirs.taken theirs.asked s
+
+-- bytes that have begun to come change nothing, so what an arrival keeps a delivery keeps
+pub sound_delivers : (capacity : ℕ) (c : Channel) (count : ℕ) (mine theirs : Line) → Sound capacity c mine theirs → Sound capacity c (deliver_on count mine) theirs
+sound_delivers capacity c count mine theirs s =
+    deliver_keeps (λ (l : Line). Sound capacity c l theirs) (record {
+      begins = λ l n h. record { solvent = h.solvent; roomy = h.roomy; total = h.total; taken = h.taken; places = h.places };
+      arrives = λ l h. sound_comes capacity c l theirs h;
+    }) count mine s
+
+pub sound_delivers_theirs : (capacity : ℕ) (c : Channel) (count : ℕ) (mine theirs : Line) → Sound capacity c mine theirs → Sound capacity c mine (deliver_on count theirs)
+sound_delivers_theirs capacity c count mine theirs s =
+    deliver_keeps (λ (l : Line). Sound capacity c mine l) (record {
+      begins = λ l n h. record { solvent = h.solvent; roomy = h.roomy; total = h.total; taken = h.taken; places = h.places };
+      arrives = λ l h. sound_gets capacity c mine l h;
+    }) count theirs s
 
 -- a message that waits is not taken yet
 pub waits : (c : Channel) (l : Line) (body : List ℕ) (rest : List (List ℕ)) → waiting c l ≡ body ∷ rest → taken_count c l < length (messages c l.arrived)

@@ -6,21 +6,17 @@ use Rattle.lc_frame.specs.Stream.{messages}
 use Rattle.lc_world.specs.declared.event.Side.{Side}
 use Rattle.lc_world.specs.declared.event.Side.TheVariants.{A, B}
 use Rattle.lc_world.specs.declared.event.Act.{Act}
-use Rattle.lc_world.specs.declared.event.Act.TheVariants.{Honour, Arrive, Take}
+use Rattle.lc_world.specs.declared.event.Act.TheVariants.{Honour, Arrive, Deliver, Take}
 use Rattle.lc_world.specs.declared.event.Answer.{Answer}
-use Rattle.lc_world.specs.declared.event.Answer.TheVariants.{Absolved, NothingToAbsolve, Arrived, Took}
+use Rattle.lc_world.specs.declared.event.Answer.TheVariants.{Absolved, NothingToAbsolve, Arrived, Delivered, Took}
 use Rattle.lc_world.specs.State.{State, opening, Line, line, other, stream, taken_count}
 use Rattle.lc_world.specs.Answers.{frame_put, put_any, none_waiting, take_answer, waiting, IsAnswerOf, IsAnswer, mine_after, theirs_after, state_after, after}
 use Rattle.lc_world.specs.Histories.{History, after_all, IsLegal}
-use Rattle.lc_world.proofs.Limits.{AllFit, all_fit_push}
+use Rattle.lc_world.specs.Sound.{AllFit, Sound, IsSound}
+use Rattle.lc_world.proofs.Limits.{all_fit_push}
 use Rattle.lc_world.proofs.Allowed.{MayPutAny, told, put_is_allowed, allowed_fits}
 use Rattle.lc_world.proofs.Streams.{stream-put, stream-theirs}
-use Rattle.lc_world.proofs.Sound.{Sound, sound_client_puts, sound_server_puts, sound_comes, sound_gets, sound_takes, sound_takes_theirs, sound_forgets, sound_forgets_theirs, sound_opening, waits}
-
--- each channel direction of the state is sound, and each stream within its limits
-pub record IsSound (w : State) : Type 0 where
-  pub sums : (s : Side) (c : Channel) → Sound w.capacity c (line w s) (line w (other s))
-  pub limits : (s : Side) → AllFit [] (stream (line w s))
+use Rattle.lc_world.proofs.Sound.{sound_client_puts, sound_server_puts, sound_comes, sound_gets, sound_delivers, sound_delivers_theirs, sound_takes, sound_takes_theirs, sound_forgets, sound_forgets_theirs, sound_opening, waits}
 
 -- a message that was taken was the first that waited
 not_took : (left : Option ℕ) (body : List ℕ) → Took body ≡ none_waiting left → ⊥
@@ -38,6 +34,7 @@ took_more left c l body e = let w = took_waiting left (waiting c l) body e in wa
 -- what an event at the client does with the server's line
 client_moves : (capacity : ℕ) (c : Channel) (mine new theirs : Line) (act : Act) (a : Answer) → Sound capacity c new theirs → Sound capacity c new (theirs_after mine theirs act a)
 client_moves capacity c mine new theirs Arrive Arrived s = sound_gets capacity c new theirs s
+client_moves capacity c mine new theirs (Deliver count) (Delivered bytes frames) s = sound_delivers_theirs capacity c count new theirs s
 client_moves capacity c mine new theirs (Take d) (Took body) s = sound_takes_theirs capacity c d new theirs s
 client_moves capacity c mine new theirs (Honour d) (Absolved n) s = sound_forgets_theirs capacity c d new theirs s
 client_moves capacity c mine new theirs (Honour d) NothingToAbsolve s = sound_forgets_theirs capacity c d new theirs s
@@ -50,6 +47,7 @@ client_step capacity c mine theirs act a h s =
 -- and one at the server with the client's
 server_moves : (capacity : ℕ) (c : Channel) (mine theirs new : Line) (act : Act) (a : Answer) → IsAnswerOf capacity theirs mine act a → Sound capacity c mine new → Sound capacity c (theirs_after theirs mine act a) new
 server_moves capacity c mine theirs new Arrive Arrived h s = sound_comes capacity c mine new s
+server_moves capacity c mine theirs new (Deliver count) (Delivered bytes frames) h s = sound_delivers capacity c count mine new s
 server_moves capacity c mine theirs new (Take d) (Took body) h s = sound_takes capacity c d mine new (took_more _ d mine body (told _ _ _ h (λ e. cc))) s
 server_moves capacity c mine theirs new (Honour d) (Absolved n) h s = sound_forgets capacity c d mine new s
 server_moves capacity c mine theirs new (Honour d) NothingToAbsolve h s = sound_forgets capacity c d mine new s

@@ -11,11 +11,12 @@ use Rattle.lc_frame.specs.Stream.{on, message_of, issue_of, messages}
 use Rattle.lc_world.specs.declared.event.Side.{Side}
 use Rattle.lc_world.specs.declared.event.Side.TheVariants.{A, B}
 use Rattle.lc_world.specs.declared.event.Act.{Act}
-use Rattle.lc_world.specs.declared.event.Act.TheVariants.{Send, Issue, Plead, Absolve, Honour, LimitSending, LimitReceiving, Arrive, Take}
+use Rattle.lc_world.specs.declared.event.Act.TheVariants.{Send, Issue, Plead, Absolve, Honour, LimitSending, LimitReceiving, Arrive, Deliver, Take}
 use Rattle.lc_world.specs.declared.event.Answer.{Answer}
-use Rattle.lc_world.specs.declared.event.Answer.TheVariants.{Accepted, Absolved, NothingToAbsolve, Arrived, Took}
-use Rattle.lc_world.specs.State.{State, Line, line, stream, put_on, arrive_on}
+use Rattle.lc_world.specs.declared.event.Answer.TheVariants.{Accepted, Absolved, NothingToAbsolve, Arrived, Delivered, Took}
+use Rattle.lc_world.specs.State.{State, Line, line, stream, put_on, arrive_on, deliver_on}
 use Rattle.lc_world.specs.Answers.{frame_put, put_any, theirs_after, state_after, after}
+use Rattle.lc_world.proofs.Delivers.{deliver_keeps}
 use Rattle.lc_world.specs.Histories.{History, after_all, is_side, at_side, sent_body, issued_amount, accepted, amounts}
 
 -- a frame that is put is the stream's last
@@ -27,16 +28,20 @@ stream-put_any l None = sym (append-nil (stream l))
 stream-put_any l (Some f) = stream-put l f
 
 -- an arrival moves the cut of a stream
-stream-arrive_first : (arrived in_flight : List Frame) (taken : List ℕ) (asked : List (Option ℕ)) → stream (arrive_on (record { arrived = arrived; in_flight = in_flight; taken = taken; asked = asked })) ≡ arrived ++ in_flight
-stream-arrive_first arrived [] taken asked = refl
-stream-arrive_first arrived (f ∷ rest) taken asked = append_assoc arrived (f ∷ []) rest
+stream-arrive_first : (arrived in_flight : List Frame) (begun : ℕ) (taken : List ℕ) (asked : List (Option ℕ)) → stream (arrive_on (record { arrived = arrived; in_flight = in_flight; begun = begun; taken = taken; asked = asked })) ≡ arrived ++ in_flight
+stream-arrive_first arrived [] begun taken asked = refl
+stream-arrive_first arrived (f ∷ rest) begun taken asked = append_assoc arrived (f ∷ []) rest
 
 pub stream-arrive : (l : Line) → stream (arrive_on l) ≡ stream l
-stream-arrive l = stream-arrive_first l.arrived l.in_flight l.taken l.asked
+stream-arrive l = stream-arrive_first l.arrived l.in_flight l.begun l.taken l.asked
+
+pub stream-deliver : (count : ℕ) (l : Line) → stream (deliver_on count l) ≡ stream l
+stream-deliver count l = deliver_keeps (λ (x : Line). stream x ≡ stream l) (record { begins = λ x n e. e; arrives = λ x e. stream-arrive x ∙ e }) count l refl
 
 -- an event leaves the other side's stream as it was
 pub stream-theirs : (mine theirs : Line) (act : Act) (a : Answer) → stream (theirs_after mine theirs act a) ≡ stream theirs
 stream-theirs mine theirs Arrive Arrived = stream-arrive theirs
+stream-theirs mine theirs (Deliver count) (Delivered bytes frames) = stream-deliver count theirs
 stream-theirs mine theirs (Take c) (Took body) = refl
 stream-theirs mine theirs (Honour c) (Absolved amount) = refl
 stream-theirs mine theirs (Honour c) NothingToAbsolve = refl

@@ -1,34 +1,41 @@
 -- Which answer to an event is right, and what the event leaves. Who may send, issue and absolve what is LCMUX's; the order of refusals, the answers and their names are this project's own.
-use Rattle.std.specs.Prelude.{◌≡◌, ℕ, zero, ◌⊎◌, List, [], ◌∷◌, length, drop, Option, Some, None}
+use Rattle.std.specs.Prelude.{◌≡◌, ℕ, zero, ◌+◌, ◌-◌, min, nat_lt, if◌then◌else◌, ◌⊎◌, List, [], ◌∷◌, length, drop, Option, Some, None}
+use Rattle.std.specs.List.{flat_map}
+use Rattle.std.specs.Option.{option_or}
 use Rattle.lc_frame.specs.declared.channel.Channel.{Channel}
 use Rattle.lc_frame.specs.declared.frame.Frame.{Frame}
 use Rattle.lc_frame.specs.declared.frame.Frame.TheVariants as frame
 use Rattle.lc_frame.specs.Frame.{channel_of}
+use Rattle.lc_frame.specs.Encoding.{encoding}
 use Rattle.lc_frame.specs.Stream.{messages}
 use Rattle.lc_book.specs.declared.fault.Refusal.{Refusal}
 use Rattle.lc_book.specs.declared.fault.Refusal.TheVariants.{OutOfMemory}
 use Rattle.lc_book.specs.declared.fault.Violation.{Violation}
-use Rattle.lc_book.specs.Limit.{limit_refusal}
-use Rattle.lc_book.specs.Client.{Client, spend_refusal, absolve_refusal, amount_to_absolve, issued_violation, receive_limit_violation}
-use Rattle.lc_book.specs.Server.{Server, issue_refusal, plead_refusal, message_violation, absolve_violation, send_limit_violation}
+use Rattle.lc_book.specs.Client.{Client, amount_to_absolve}
+use Rattle.lc_book.specs.Server.{Server}
+use Rattle.lc_peer.specs.Calls.{book_refusal}
+use Rattle.lc_peer.specs.Arrivals.{violation}
 use Rattle.lc_world.specs.declared.event.Side.{Side}
 use Rattle.lc_world.specs.declared.event.Side.TheVariants.{A, B}
 use Rattle.lc_world.specs.declared.event.Act.{Act}
-use Rattle.lc_world.specs.declared.event.Act.TheVariants.{Send, Issue, Plead, Absolve, Honour, LimitSending, LimitReceiving, Arrive, Take}
+use Rattle.lc_world.specs.declared.event.Act.TheVariants.{Send, Issue, Plead, Absolve, Honour, LimitSending, LimitReceiving, Arrive, Deliver, Take}
 use Rattle.lc_world.specs.declared.event.Event.{Event}
 use Rattle.lc_world.specs.declared.event.Answer.{Answer}
-use Rattle.lc_world.specs.declared.event.Answer.TheVariants.{Accepted, Absolved, NothingToAbsolve, Arrived, NothingInFlight, Violated, Took, Empty, Ended, Refused}
-use Rattle.lc_world.specs.State.{State, Line, line, other, client_book, server_book, taken_count, put_on, arrive_on, take_on, forget_on}
+use Rattle.lc_world.specs.declared.event.Answer.TheVariants.{Accepted, Absolved, NothingToAbsolve, Arrived, Delivered, NothingInFlight, Violated, Took, Empty, Ended, Refused}
+use Rattle.lc_world.specs.State.{State, Line, line, other, client_book, server_book, taken_count, put_on, arrive_first, arrive_on, size, deliver_on, take_on, forget_on}
 
--- the first refusal of an own event, by the side's books of its channel; an honour, an arrival and a take have none
+-- the first refusal of an own event, by the side's books of its channel: that of the frame that it would put; an honour, an arrival, a delivery and a take have none
 abbrev pub refusal : Client → Server → Act → Option Refusal
-refusal client server (Send c body) = spend_refusal client (length body)
-refusal client server (Issue c amount) = issue_refusal server amount
-refusal client server (Plead c target) = plead_refusal server target
-refusal client server (Absolve c amount) = absolve_refusal client amount
-refusal client server (LimitSending c bound) = limit_refusal client.send_left bound
-refusal client server (LimitReceiving c bound) = limit_refusal server.receive_left bound
-refusal client server act = None
+refusal client server (Send c body) = book_refusal client server (frame.Send c body)
+refusal client server (Issue c amount) = book_refusal client server (frame.Issue c amount)
+refusal client server (Plead c target) = book_refusal client server (frame.Plead c target)
+refusal client server (Absolve c amount) = book_refusal client server (frame.Absolve c amount)
+refusal client server (LimitSending c bound) = book_refusal client server (frame.LimitSending c bound)
+refusal client server (LimitReceiving c bound) = book_refusal client server (frame.LimitReceiving c bound)
+refusal client server (Honour c) = None
+refusal client server Arrive = None
+refusal client server (Deliver count) = None
+refusal client server (Take c) = None
 
 abbrev pub judged : Option Refusal → Answer
 judged None = Accepted
@@ -42,7 +49,15 @@ honoured (Some amount) = Absolved amount
 -- the answer to an own event, by the side's books of its channel
 abbrev pub own_answer : Client → Server → Act → Answer
 own_answer client server (Honour c) = honoured (amount_to_absolve client)
-own_answer client server act = judged (refusal client server act)
+own_answer client server (Send c body) = judged (refusal client server (Send c body))
+own_answer client server (Issue c amount) = judged (refusal client server (Issue c amount))
+own_answer client server (Plead c target) = judged (refusal client server (Plead c target))
+own_answer client server (Absolve c amount) = judged (refusal client server (Absolve c amount))
+own_answer client server (LimitSending c bound) = judged (refusal client server (LimitSending c bound))
+own_answer client server (LimitReceiving c bound) = judged (refusal client server (LimitReceiving c bound))
+own_answer client server Arrive = judged (refusal client server Arrive)
+own_answer client server (Deliver count) = judged (refusal client server (Deliver count))
+own_answer client server (Take c) = judged (refusal client server (Take c))
 
 -- the frame that an answered event puts last on its side's stream
 abbrev pub frame_put : Act → Answer → Option Frame
@@ -53,16 +68,16 @@ frame_put (Absolve c amount) Accepted = Some (frame.Absolve c amount)
 frame_put (Honour c) (Absolved amount) = Some (frame.Absolve c amount)
 frame_put (LimitSending c bound) Accepted = Some (frame.LimitSending c bound)
 frame_put (LimitReceiving c bound) Accepted = Some (frame.LimitReceiving c bound)
-frame_put act answer = None
-
--- the violation of a frame, by the books of its channel at the side where it arrives
-abbrev pub violation : Client → Server → Frame → Option Violation
-violation client server (frame.Send c body) = message_violation server (length body)
-violation client server (frame.Issue c amount) = issued_violation client amount
-violation client server (frame.Absolve c amount) = absolve_violation server amount
-violation client server (frame.Plead c target) = None
-violation client server (frame.LimitSending c bound) = send_limit_violation server bound
-violation client server (frame.LimitReceiving c bound) = receive_limit_violation client bound
+frame_put (Send c body) answer = None
+frame_put (Issue c amount) answer = None
+frame_put (Plead c target) answer = None
+frame_put (Absolve c amount) answer = None
+frame_put (Honour c) answer = None
+frame_put (LimitSending c bound) answer = None
+frame_put (LimitReceiving c bound) answer = None
+frame_put Arrive answer = None
+frame_put (Deliver count) answer = None
+frame_put (Take c) answer = None
 
 abbrev pub arrival : Option Violation → Answer
 arrival None = Arrived
@@ -72,6 +87,26 @@ arrival (Some v) = Violated v
 abbrev pub arrive_answer : ℕ → Line → Line → List Frame → Answer
 arrive_answer capacity mine theirs [] = NothingInFlight
 arrive_answer capacity mine theirs (f ∷ rest) = arrival (violation (client_book (channel_of f) mine theirs) (server_book capacity (channel_of f) mine theirs) f)
+
+-- the bytes in flight
+abbrev pub bytes_in_flight : Line → ℕ
+bytes_in_flight l = length (flat_map encoding l.in_flight) - l.begun
+
+-- so many bytes of the frames in flight have been delivered: the violation of the first whole one that has any, by the books after those before it
+abbrev pub delivery_violation : ℕ → Line → List Frame → ℕ → Line → Option Violation
+delivery_violation capacity mine [] n theirs = None
+delivery_violation capacity mine (f ∷ rest) n theirs =
+    if nat_lt n (size f) then None
+    else option_or (violation (client_book (channel_of f) mine theirs) (server_book capacity (channel_of f) mine theirs) f) (delivery_violation capacity mine rest (n - size f) (arrive_first theirs (f ∷ rest)))
+
+abbrev pub delivery : Option Violation → ℕ → ℕ → Answer
+delivery None bytes frames = Delivered bytes frames
+delivery (Some v) bytes frames = Violated v
+
+-- the delivery of so many of the bytes in flight, at the side whose line is the first: how many they were, and how many frames arrived
+abbrev pub deliver_answer : ℕ → Line → Line → ℕ → List Frame → Answer
+deliver_answer capacity mine theirs count [] = NothingInFlight
+deliver_answer capacity mine theirs count (f ∷ rest) = delivery (delivery_violation capacity mine (f ∷ rest) (theirs.begun + count) theirs) (min count (bytes_in_flight theirs)) (length (deliver_on count theirs).arrived - length theirs.arrived)
 
 -- the messages that arrived and were not taken
 abbrev pub waiting : Channel → Line → List (List ℕ)
@@ -96,14 +131,22 @@ answer_of capacity mine theirs (Honour c) = own_answer (client_book c mine their
 answer_of capacity mine theirs (LimitSending c bound) = own_answer (client_book c mine theirs) (server_book capacity c mine theirs) (LimitSending c bound)
 answer_of capacity mine theirs (LimitReceiving c bound) = own_answer (client_book c mine theirs) (server_book capacity c mine theirs) (LimitReceiving c bound)
 answer_of capacity mine theirs Arrive = arrive_answer capacity mine theirs theirs.in_flight
+answer_of capacity mine theirs (Deliver count) = deliver_answer capacity mine theirs count theirs.in_flight
 answer_of capacity mine theirs (Take c) = take_answer (server_book capacity c mine theirs).send_left (waiting c theirs)
 
 -- what may want memory: an event that can put a frame, and a take of a waiting message
 abbrev pub MayWantMemory : Act → Answer → Type 0
+MayWantMemory (Send c body) answer = Unit {0}
+MayWantMemory (Issue c amount) answer = Unit {0}
+MayWantMemory (Plead c target) answer = Unit {0}
+MayWantMemory (Absolve c amount) answer = Unit {0}
+MayWantMemory (Honour c) answer = Unit {0}
+MayWantMemory (LimitSending c bound) answer = Unit {0}
+MayWantMemory (LimitReceiving c bound) answer = Unit {0}
 MayWantMemory Arrive answer = ⊥
+MayWantMemory (Deliver count) answer = ⊥
 MayWantMemory (Take c) (Took body) = Unit {0}
 MayWantMemory (Take c) answer = ⊥
-MayWantMemory act answer = Unit {0}
 
 -- an answer is this one, or want of memory where there may be one
 abbrev pub IsUnlessMemory : Act → Answer → Answer → Type 0
@@ -126,10 +169,20 @@ mine_after mine theirs act answer = put_any mine (frame_put act answer)
 
 abbrev pub theirs_after : Line → Line → Act → Answer → Line
 theirs_after mine theirs Arrive Arrived = arrive_on theirs
+theirs_after mine theirs (Deliver count) (Delivered bytes frames) = deliver_on count theirs
 theirs_after mine theirs (Take c) (Took body) = take_on c theirs
 theirs_after mine theirs (Honour c) (Absolved amount) = forget_on c theirs
 theirs_after mine theirs (Honour c) NothingToAbsolve = forget_on c theirs
-theirs_after mine theirs act answer = theirs
+theirs_after mine theirs (Send c body) answer = theirs
+theirs_after mine theirs (Issue c amount) answer = theirs
+theirs_after mine theirs (Plead c target) answer = theirs
+theirs_after mine theirs (Absolve c amount) answer = theirs
+theirs_after mine theirs (Honour c) answer = theirs
+theirs_after mine theirs (LimitSending c bound) answer = theirs
+theirs_after mine theirs (LimitReceiving c bound) answer = theirs
+theirs_after mine theirs Arrive answer = theirs
+theirs_after mine theirs (Deliver count) answer = theirs
+theirs_after mine theirs (Take c) answer = theirs
 
 abbrev pub state_after : State → Side → Act → Answer → State
 state_after w A act answer = record { capacity = w.capacity; a = mine_after w.a w.b act answer; b = theirs_after w.a w.b act answer }

@@ -1,17 +1,18 @@
 -- What every history of two peers keeps: the headline. That a client that sends within its guarantees never has a message dropped is LCMUX's promise.
-use Rattle.std.specs.Prelude.{◌≡◌, ℕ, ◌+◌, ◌≤◌, List, ◌∷◌, ◌++◌, length, take, sum, sum_by}
-use Rattle.std.specs.List.{AllByRecursion}
+use Rattle.std.specs.Prelude.{◌≡◌, ℕ, ◌+◌, ◌≤◌, List, [], ◌∷◌, ◌++◌, length, take, drop, sum, sum_by, Option, None}
+use Rattle.std.specs.List.{AllByRecursion, last_or}
 use Rattle.lc_frame.specs.declared.channel.Channel.{Channel}
-use Rattle.lc_frame.specs.Stream.{messages, cost, issued, absolved}
+use Rattle.lc_frame.specs.declared.frame.Frame.{Frame}
+use Rattle.lc_frame.specs.Stream.{messages, cost, issued, absolved, pleads}
 use Rattle.lc_book.specs.Client.{Client, held}
 use Rattle.lc_book.specs.Server.{Server, outstanding, buffered}
 use Rattle.lc_world.specs.declared.event.Side.{Side}
 use Rattle.lc_world.specs.declared.event.Act.{Act}
-use Rattle.lc_world.specs.declared.event.Act.TheVariants.{LimitSending, LimitReceiving}
+use Rattle.lc_world.specs.declared.event.Act.TheVariants.{Honour, LimitSending, LimitReceiving}
 use Rattle.lc_world.specs.declared.event.Answer.{Answer}
-use Rattle.lc_world.specs.declared.event.Answer.TheVariants.{Accepted, Violated}
-use Rattle.lc_world.specs.State.{State, opening, line, other, client, server, stream, taken_messages}
-use Rattle.lc_world.specs.Histories.{History, after_all, IsHistory, accepted, amounts, taken}
+use Rattle.lc_world.specs.declared.event.Answer.TheVariants.{Accepted, Absolved, NothingToAbsolve, Violated}
+use Rattle.lc_world.specs.State.{State, opening, line, other, client, server, stream, kept_plead, taken_messages}
+use Rattle.lc_world.specs.Histories.{History, after_all, IsHistory, accepted, amounts, taken, honours}
 
 -- the state after a whole history, and after its first n events
 abbrev pub state_of : ℕ → History → State
@@ -27,6 +28,12 @@ IsPrefix xs ys = (rest : List (List ℕ)) × (xs ++ rest ≡ ys)
 abbrev pub IsLawful : Answer → Type 0
 IsLawful (Violated v) = ⊥
 IsLawful answer = Unit {0}
+
+-- the honour was answered, whether it absolved or not
+abbrev pub IsHonoured : Answer → Type 0
+IsHonoured (Absolved amount) = Unit {0}
+IsHonoured NothingToAbsolve = Unit {0}
+IsHonoured answer = ⊥
 
 -- no balance of a server is below 0, and its ring holds what is buffered and all that may still come
 pub record FitsBuffer (capacity : ℕ) (b : Server) : Type 0 where
@@ -55,6 +62,27 @@ pub record IsBalanced (capacity : ℕ) (w : State) : Type 0 where
 abbrev pub IsCut : History → Side → Act → History → Type 0
 IsCut history s act later = (earlier : History) × (history ≡ earlier ++ (record { side = s; act = act }, Accepted) ∷ later)
 
+-- the frames that have arrived at the side
+abbrev pub heard : Side → State → List Frame
+heard s w = (line w (other s)).arrived
+
+-- the plead that the side keeps on the channel as client
+abbrev pub plead_kept : Side → Channel → State → Option ℕ
+plead_kept s c w = kept_plead c (line w (other s))
+
+-- the target of the last plead on the channel in the list
+abbrev pub last_plead : Channel → List Frame → Option ℕ
+last_plead c frames = last_or None (pleads c frames)
+
+-- the history is cut behind an honour of the side on the channel that was answered
+abbrev pub IsCutAtHonour : History → Side → Channel → History → History → Type 0
+IsCutAtHonour history s c earlier later = (answer : Answer) × IsHonoured answer × (history ≡ earlier ++ (record { side = s; act = Honour c }, answer) ∷ later)
+
+-- the plead that is kept is the last that arrived since the last honour that was answered, or since the beginning where there was none
+pub record KeepsLastPlead (capacity : ℕ) (history : History) (s : Side) (c : Channel) : Type 0 where
+  pub never_honoured : honours c s history ≡ [] → plead_kept s c (state_of capacity history) ≡ last_plead c (heard s (state_of capacity history))
+  pub since_honour : (earlier later : History) → IsCutAtHonour history s c earlier later → honours c s later ≡ [] → plead_kept s c (state_of capacity history) ≡ last_plead c (drop (length (heard s (state_of capacity earlier))) (heard s (state_of capacity history)))
+
 pub record KeepsGuarantees (capacity : ℕ) (history : History) : Type 0 where
   -- on every channel the messages taken are a prefix of those that its client had accepted
   pub in_order : (s : Side) (c : Channel) → IsPrefix (taken c (other s) history) (accepted c s history)
@@ -68,6 +96,8 @@ pub record KeepsGuarantees (capacity : ℕ) (history : History) : Type 0 where
   -- the messages accepted in the history are those of the client's stream, and the messages taken are those that its server took
   pub accepted_is : (s : Side) (c : Channel) → accepted c s history ≡ messages c (stream (line (state_of capacity history) s))
   pub taken_is : (s : Side) (c : Channel) → taken c (other s) history ≡ taken_messages c (line (state_of capacity history) s)
+  -- the plead that is kept is the last that arrived since the last honour that was answered
+  pub plead_is : (s : Side) (c : Channel) → KeepsLastPlead capacity history s c
 
 abbrev pub EveryHistoryKeepsGuarantees : Type 0
 EveryHistoryKeepsGuarantees = (capacity : ℕ) (history : History) → IsHistory capacity history → KeepsGuarantees capacity history

@@ -7,10 +7,10 @@ use Rattle.lc_book.specs.Server.{IsCapacity}
 use Rattle.lc_world.specs.declared.event.Side.{Side}
 use Rattle.lc_world.specs.declared.event.Side.TheVariants.{A, B}
 use Rattle.lc_world.specs.declared.event.Act.{Act}
-use Rattle.lc_world.specs.declared.event.Act.TheVariants.{Send, Issue, Take}
+use Rattle.lc_world.specs.declared.event.Act.TheVariants.{Send, Issue, Plead, Absolve, Honour, LimitSending, LimitReceiving, Arrive, Deliver, Take}
 use Rattle.lc_world.specs.declared.event.Event.{Event}
 use Rattle.lc_world.specs.declared.event.Answer.{Answer}
-use Rattle.lc_world.specs.declared.event.Answer.TheVariants.{Accepted, Took}
+use Rattle.lc_world.specs.declared.event.Answer.TheVariants.{Accepted, Absolved, NothingToAbsolve, Took}
 use Rattle.lc_world.specs.State.{State, opening}
 use Rattle.lc_world.specs.Answers.{IsAnswer, after}
 
@@ -38,18 +38,60 @@ is_side A B = false
 is_side B A = false
 is_side B B = true
 
--- what one act, so answered, has sent, issued or taken on the channel
+-- what one act, so answered, has sent, issued, taken or absolved by an honour on the channel
 abbrev pub sent_body : Channel → Act → Answer → Option (List ℕ)
 sent_body c (Send d body) Accepted = if is_same c d then Some body else None
-sent_body c act answer = None
+sent_body c (Send d body) answer = None
+sent_body c (Issue d amount) answer = None
+sent_body c (Plead d target) answer = None
+sent_body c (Absolve d amount) answer = None
+sent_body c (Honour d) answer = None
+sent_body c (LimitSending d bound) answer = None
+sent_body c (LimitReceiving d bound) answer = None
+sent_body c Arrive answer = None
+sent_body c (Deliver count) answer = None
+sent_body c (Take d) answer = None
 
 abbrev pub issued_amount : Channel → Act → Answer → Option ℕ
 issued_amount c (Issue d amount) Accepted = if is_same c d then Some amount else None
-issued_amount c act answer = None
+issued_amount c (Send d body) answer = None
+issued_amount c (Issue d amount) answer = None
+issued_amount c (Plead d target) answer = None
+issued_amount c (Absolve d amount) answer = None
+issued_amount c (Honour d) answer = None
+issued_amount c (LimitSending d bound) answer = None
+issued_amount c (LimitReceiving d bound) answer = None
+issued_amount c Arrive answer = None
+issued_amount c (Deliver count) answer = None
+issued_amount c (Take d) answer = None
 
 abbrev pub taken_body : Channel → Act → Answer → Option (List ℕ)
 taken_body c (Take d) (Took body) = if is_same c d then Some body else None
-taken_body c act answer = None
+taken_body c (Send d body) answer = None
+taken_body c (Issue d amount) answer = None
+taken_body c (Plead d target) answer = None
+taken_body c (Absolve d amount) answer = None
+taken_body c (Honour d) answer = None
+taken_body c (LimitSending d bound) answer = None
+taken_body c (LimitReceiving d bound) answer = None
+taken_body c Arrive answer = None
+taken_body c (Deliver count) answer = None
+taken_body c (Take d) answer = None
+
+-- an honour that was answered, by what it absolved
+abbrev pub honoured_amount : Channel → Act → Answer → Option ℕ
+honoured_amount c (Honour d) (Absolved amount) = if is_same c d then Some amount else None
+honoured_amount c (Honour d) NothingToAbsolve = if is_same c d then Some 0 else None
+honoured_amount c (Send d body) answer = None
+honoured_amount c (Issue d amount) answer = None
+honoured_amount c (Plead d target) answer = None
+honoured_amount c (Absolve d amount) answer = None
+honoured_amount c (Honour d) answer = None
+honoured_amount c (LimitSending d bound) answer = None
+honoured_amount c (LimitReceiving d bound) answer = None
+honoured_amount c Arrive answer = None
+honoured_amount c (Deliver count) answer = None
+honoured_amount c (Take d) answer = None
 
 -- the same of a whole history, at one side, in order
 abbrev pub at_side : {X : Type 0} → (Act → Answer → Option X) → Side → (Event × Answer) → Option X
@@ -63,3 +105,7 @@ amounts c s history = filter_map (at_side (issued_amount c) s) history
 
 abbrev pub taken : Channel → Side → History → List (List ℕ)
 taken c s history = filter_map (at_side (taken_body c) s) history
+
+-- the honours on the channel that were answered
+abbrev pub honours : Channel → Side → History → List ℕ
+honours c s history = filter_map (at_side (honoured_amount c) s) history

@@ -2,7 +2,7 @@ pub mod State
 pub mod Answers
 pub mod Histories
 pub mod Guarantee
-pub mod Own
-pub mod Waiting
-pub mod Party
-pub mod World
+pub mod Delivery
+pub mod Sound
+pub mod Endpoint
+pub mod Calls

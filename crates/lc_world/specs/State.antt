@@ -1,9 +1,10 @@
 -- The state of two peers: what each put on its stream, what of it has arrived, what of its messages was taken, and which pleads are kept. Streams that keep order, guarantees and their balances are LCMUX's; that one plead is kept for each channel is this project's own.
-use Rattle.std.specs.Prelude.{ℕ, ◌+◌, List, [], ◌∷◌, ◌++◌, length, take, replicate, slice_index, slice_index_or, slice_set, sum_by, Option, Some, None}
+use Rattle.std.specs.Prelude.{ℕ, ◌+◌, ◌-◌, nat_lt, if◌then◌else◌, List, [], ◌∷◌, ◌++◌, length, take, replicate, slice_index, slice_index_or, slice_set, sum_by, Option, Some, None}
 use Rattle.lc_frame.specs.declared.channel.Channel.{Channel}
 use Rattle.lc_frame.specs.declared.frame.Frame.{Frame}
 use Rattle.lc_frame.specs.declared.frame.Frame.TheVariants.{Plead}
 use Rattle.lc_frame.specs.Channel.{number_of}
+use Rattle.lc_frame.specs.Encoding.{encoding}
 use Rattle.lc_frame.specs.Stream.{messages}
 use Rattle.lc_book.specs.Client.{Client}
 use Rattle.lc_book.specs.Server.{Server}
@@ -11,10 +12,11 @@ use Rattle.lc_book.specs.Sums.{client_of, server_of}
 use Rattle.lc_world.specs.declared.event.Side.{Side}
 use Rattle.lc_world.specs.declared.event.Side.TheVariants.{A, B}
 
--- the stream that one side writes, and what the other side has done with it: the frames that arrived, those in flight behind them, and by channel number how many messages it took, and the target of the plead that it keeps
+-- the stream that one side writes, and what the other side has done with it: the frames that arrived, those in flight behind them, how many bytes of the first of these were delivered, and by channel number how many messages it took, and the target of the plead that it keeps
 pub record Line : Type 0 where
   pub arrived : List Frame
   pub in_flight : List Frame
+  pub begun : ℕ
   pub taken : List ℕ
   pub asked : List (Option ℕ)
 
@@ -63,7 +65,7 @@ abbrev pub server : State → Side → Channel → Server
 server w s c = server_book w.capacity c (line w s) (line w (other s))
 
 abbrev pub new_line : Line
-new_line = record { arrived = []; in_flight = []; taken = replicate 7 0; asked = replicate 7 None }
+new_line = record { arrived = []; in_flight = []; begun = 0; taken = replicate 7 0; asked = replicate 7 None }
 
 -- nothing has happened
 abbrev pub opening : ℕ → State
@@ -81,10 +83,23 @@ keep_pleads f asked = asked
 -- the first frame in flight arrives
 abbrev pub arrive_first : Line → List Frame → Line
 arrive_first l [] = l
-arrive_first l (frame ∷ rest) = record l { arrived = l.arrived ++ frame ∷ []; in_flight = rest; asked = keep_pleads frame l.asked }
+arrive_first l (frame ∷ rest) = record l { arrived = l.arrived ++ frame ∷ []; in_flight = rest; begun = 0; asked = keep_pleads frame l.asked }
 
 abbrev pub arrive_on : Line → Line
 arrive_on l = arrive_first l l.in_flight
+
+-- how many bytes a frame has
+abbrev pub size : Frame → ℕ
+size f = length (encoding f)
+
+-- so many bytes of the frames in flight have been delivered: each frame whose last byte is among them arrives, and the rest of them are of the next
+abbrev pub deliver_over : List Frame → ℕ → Line → Line
+deliver_over [] n l = l
+deliver_over (f ∷ rest) n l = if nat_lt n (size f) then record l { begun = n } else deliver_over rest (n - size f) (arrive_first l (f ∷ rest))
+
+-- so many bytes more are delivered, or as many as are in flight
+abbrev pub deliver_on : ℕ → Line → Line
+deliver_on count l = deliver_over l.in_flight (l.begun + count) l
 
 -- one more message of the channel is taken
 abbrev pub take_on : Channel → Line → Line

@@ -1,91 +1,207 @@
-//! An event at one of two parties.
-ghost use Rattle.std.specs.Prelude.{◌≡◌, Some};
-ghost use Rattle.lc_world.specs.Own.{own_channel};
-ghost use Rattle.lc_world.specs.declared.event.Act.TheVariants.{Arrive, Take};
-ghost use Rattle.lc_world.specs.Party.{AreInStep, Acts};
+//! An event at one of two ends.
+ghost use Rattle.std.specs.Prelude.{◌≡◌, ◌+◌, ◌≤◌, ◌<◌, length, IfOk, IsSome, IfSome, OnErr, OnOk, Some, None};
+ghost use Rattle.std.specs.Result.{result_err};
+ghost use Rattle.lc_frame.specs.Frame.{IsValid};
+ghost use Rattle.lc_ring.specs.Ring.{front};
+ghost use Rattle.lc_peer.specs.Peer.{inbox};
+ghost use Rattle.lc_peer.specs.Calls.{queue_refusal};
+ghost use Rattle.lc_world.specs.declared.event.Answer.{Answer};
+ghost use Rattle.lc_world.specs.declared.event.Act.TheVariants as acts;
+ghost use Rattle.lc_world.specs.State.{size};
+ghost use Rattle.lc_world.specs.Answers.{judged, frame_put};
+ghost use Rattle.lc_world.specs.Calls.{own_channel, honour_answer, Called};
+ghost use Rattle.lc_world.specs.Endpoint.{AreInStep, Acts, Brings};
 
-use crate::arrival;
+use crate::endpoint::{Endpoint, go_out};
 use crate::event::{Act, Answer};
-use crate::own::{self, Judged};
-use crate::party::{Party, put};
-use crate::waiting::{message, next_message};
 use lc_book::Refusal;
-use lc_frame::Channel;
-use std::alloc::Global;
+use lc_frame::{Body, Channel, Decoded, FrameRef, MAX_AMOUNT, MAX_FRAME, decode};
+use lc_peer::{Peer, Take};
+use std::alloc::{AllocError, Global};
 
-// An own event: its place on the stream is taken before anything is judged.
-fn own_event(alloc: Global, me: &mut Party, peer: &mut Party, channel: Channel, act: &Act) -> Answer
-    requires own { own_channel act.now ≡ Some channel }
-    requires in_step { AreInStep me.old peer.old }
-    ensures { Acts me.old peer.old me.new peer.new act.now result }
+// How many bytes the frame of an own event has at most.
+fn room(act: &Act) -> usize
+    requires { IsSome (own_channel act.now) }
+    ensures { (answer : Answer) → IfSome (frame_put act.now answer) (λ f. IsValid f → size f ≤ result) }
 {
-    if me.stream.reserve(1).is_err() {
+    match act {
+        Act::Send { channel, body } => {
+            let frame = FrameRef::Send {
+                channel: *channel,
+                body: body.as_slice(),
+            };
+            frame.encoded_len().min(MAX_FRAME)
+        }
+        Act::Issue { channel, amount } => {
+            let (channel, amount) = (*channel, *amount);
+            FrameRef::Issue { channel, amount }.encoded_len()
+        }
+        Act::Plead { channel, target } => {
+            let (channel, target) = (*channel, *target);
+            FrameRef::Plead { channel, target }.encoded_len()
+        }
+        Act::Absolve { channel, amount } => {
+            let (channel, amount) = (*channel, *amount);
+            FrameRef::Absolve { channel, amount }.encoded_len()
+        }
+        Act::Honour { channel } => {
+            let (channel, amount) = (*channel, MAX_AMOUNT);
+            FrameRef::Absolve { channel, amount }.encoded_len()
+        }
+        Act::LimitSending { channel, bound } => {
+            let (channel, bound) = (*channel, *bound);
+            FrameRef::LimitSending { channel, bound }.encoded_len()
+        }
+        Act::LimitReceiving { channel, bound } => {
+            let (channel, bound) = (*channel, *bound);
+            FrameRef::LimitReceiving { channel, bound }.encoded_len()
+        }
+        Act::Arrive | Act::Deliver { .. } | Act::Take { .. } => unreachable!(),
+    }
+}
+
+fn judged(judgement: Result<(), Refusal>) -> Answer
+    ensures { result ≡ judged (result_err judgement) }
+{
+    match judgement {
+        Ok(()) => Answer::Accepted,
+        Err(refusal) => Answer::Refused(refusal),
+    }
+}
+
+fn honoured(judgement: Result<Option<u32>, Refusal>) -> Answer
+    ensures { result ≡ honour_answer judgement }
+{
+    match judgement {
+        Ok(Some(amount)) => Answer::Absolved(amount),
+        Ok(None) => Answer::NothingToAbsolve,
+        Err(refusal) => Answer::Refused(refusal),
+    }
+}
+
+// An own event is a call of the peer, which has a free slot.
+fn call(peer: &mut Peer, channel: Channel, act: &Act) -> Answer
+    requires own { own_channel act.now ≡ Some channel }
+    requires free { queue_refusal peer.old ≡ None }
+    ensures { Called peer.old peer.new channel act.now result }
+{
+    match act {
+        Act::Send { body, .. } => judged(peer.send(channel, body.as_slice())),
+        Act::Issue { amount, .. } => judged(peer.issue(channel, *amount)),
+        Act::Plead { target, .. } => judged(peer.plead(channel, *target)),
+        Act::Absolve { amount, .. } => judged(peer.absolve(channel, *amount)),
+        Act::Honour { .. } => honoured(peer.honour(channel)),
+        Act::LimitSending { bound, .. } => judged(peer.limit_sending(channel, *bound)),
+        Act::LimitReceiving { bound, .. } => judged(peer.limit_receiving(channel, *bound)),
+        Act::Arrive | Act::Deliver { .. } | Act::Take { .. } => unreachable!(),
+    }
+}
+
+// An own event: the room of its frame on the stream is taken before anything is judged.
+fn own_event(me: &mut Endpoint, peer: &Endpoint, channel: Channel, act: &Act) -> Answer
+    requires own { own_channel act.now ≡ Some channel }
+    requires in_step { AreInStep me.old peer.now }
+    ensures { Acts me.old peer.now me.new peer.now act.now result }
+{
+    if me.stream.reserve(room(act)).is_err() {
         return Answer::Refused(Refusal::OutOfMemory);
     }
-    let at = usize::from(channel.number());
-    let mut client = me.clients[at];
-    let mut server = me.servers[at];
-    let Judged { answer, frame } = own::judge(alloc, &mut client, &mut server, act);
-    put(&mut me.stream, frame);
-    me.clients[at] = client;
-    me.servers[at] = server;
+    let answer = call(&mut me.peer, channel, act);
+    go_out(&mut me.peer, &mut me.stream);
     answer
 }
 
-// The first frame of the other party's stream that has not arrived arrives.
-fn arrive(me: &mut Party, peer: &mut Party) -> Answer
-    requires { AreInStep me.old peer.old }
-    ensures { Acts me.old peer.old me.new peer.new Arrive result }
+// So many of the bytes in flight are delivered; it answers how many frames arrive.
+fn bring(me: &mut Endpoint, peer: &mut Endpoint, count: usize) -> u64
+    requires in_step { AreInStep me.old peer.old }
+    requires within { peer.old.delivered + count ≤ length peer.old.stream.items }
+    ensures { Brings me.old peer.old me.new peer.new count result }
 {
-    if peer.arrived >= peer.stream.len() {
+    let end = peer.delivered + count;
+    let piece = &peer.stream[peer.delivered..end];
+    let delivery = me.peer.deliver(&mut me.decoder, piece);
+    match delivery.stop {
+        None => {}
+        // No frame that two peers put violates, and what they put is no fault.
+        Some(_) => unreachable!(),
+    }
+    peer.delivered = end;
+    delivery.frames
+}
+
+// So many of the bytes in flight, or all of them.
+fn deliver(me: &mut Endpoint, peer: &mut Endpoint, count: u32) -> Answer
+    requires { AreInStep me.old peer.old }
+    ensures { Acts me.old peer.old me.new peer.new (acts.Deliver count) result }
+{
+    if peer.delivered >= peer.stream.len() {
         return Answer::NothingInFlight;
     }
-    let frame = &peer.stream[peer.arrived];
-    let at = usize::from(frame.channel().number());
-    let mut client = me.clients[at];
-    let mut server = me.servers[at];
-    match arrival::judge(frame, &mut client, &mut server) {
-        Ok(()) => {
-            me.clients[at] = client;
-            me.servers[at] = server;
-            peer.arrived += 1;
+    let len = (count as usize).min(peer.stream.len() - peer.delivered);
+    let frames = bring(me, peer, len);
+    Answer::Delivered {
+        bytes: len as u64,
+        frames,
+    }
+}
+
+// The bytes that are missing of the first frame in flight.
+fn arrive(me: &mut Endpoint, peer: &mut Endpoint) -> Answer
+    requires { AreInStep me.old peer.old }
+    ensures { Acts me.old peer.old me.new peer.new acts.Arrive result }
+{
+    if peer.delivered >= peer.stream.len() {
+        return Answer::NothingInFlight;
+    }
+    let held = me.decoder.held();
+    match decode(&peer.stream[peer.delivered - held..]) {
+        Decoded::Whole { used, .. } => {
+            bring(me, peer, used - held);
             Answer::Arrived
         }
-        Err(violation) => Answer::Violated(violation),
+        Decoded::More => unreachable!(),
+        Decoded::Fault(_) => unreachable!(),
+    }
+}
+
+// A copy of the first message that waits.
+fn waiting(alloc: Global, peer: &Peer, channel: Channel) -> Result<Option<Body>, AllocError>
+    ensures value { IfOk result (λ body. body ≡ front (inbox peer.now channel).ring) }
+    ensures err { OnErr result (IsSome (front (inbox peer.now channel).ring)) }
+{
+    match peer.front(channel) {
+        Some((first, rest)) => {
+            let mut bytes = Vec::with_capacity(alloc, first.len() + rest.len())?;
+            bytes.extend_from_slice(first)?;
+            bytes.extend_from_slice(rest)?;
+            Ok(Some(Body::from_vec(bytes)))
+        }
+        None => Ok(None),
     }
 }
 
 // The first message that waits on the channel is taken.
-fn take(alloc: Global, me: &mut Party, peer: &mut Party, channel: Channel) -> Answer
-    requires { AreInStep me.old peer.old }
-    ensures { Acts me.old peer.old me.new peer.new (Take channel) result }
+fn take(alloc: Global, me: &mut Endpoint, peer: &Endpoint, channel: Channel) -> Answer
+    requires { AreInStep me.old peer.now }
+    ensures { Acts me.old peer.now me.new peer.now (acts.Take channel) result }
 {
-    let at = usize::from(channel.number());
-    let mut book = me.servers[at];
-    match next_message(&peer.stream, channel, peer.next[at], peer.arrived) {
-        None => {
-            peer.next[at] = peer.arrived;
-            if book.is_ended() {
-                Answer::Ended
-            } else {
-                Answer::Empty
-            }
-        }
-        Some(place) => match message(alloc, &peer.stream[place], channel) {
-            Ok(body) => {
-                book.note_taken(body.as_slice().len() as u32);
-                me.servers[at] = book;
-                peer.next[at] = place + 1;
-                peer.taken[at] += 1;
-                Answer::Took(body)
-            }
-            Err(_) => Answer::Refused(Refusal::OutOfMemory),
+    let body = match waiting(alloc, &me.peer, channel) {
+        Ok(body) => body,
+        Err(_) => return Answer::Refused(Refusal::OutOfMemory),
+    };
+    let take = me.peer.pop(channel);
+    match body {
+        Some(body) => Answer::Took(body),
+        None => match take {
+            Take::Took(_) => unreachable!(),
+            Take::Empty => Answer::Empty,
+            Take::Ended => Answer::Ended,
         },
     }
 }
 
-/// An event at the first party.
-pub(crate) fn act(alloc: Global, me: &mut Party, peer: &mut Party, act: &Act) -> Answer
+/// An event at the first end.
+pub(crate) fn act(alloc: Global, me: &mut Endpoint, peer: &mut Endpoint, act: &Act) -> Answer
     requires { AreInStep me.old peer.old }
     ensures { Acts me.old peer.old me.new peer.new act.now result }
 {
@@ -96,8 +212,9 @@ pub(crate) fn act(alloc: Global, me: &mut Party, peer: &mut Party, act: &Act) ->
         | Act::Absolve { channel, .. }
         | Act::Honour { channel }
         | Act::LimitSending { channel, .. }
-        | Act::LimitReceiving { channel, .. } => own_event(alloc, me, peer, *channel, act),
+        | Act::LimitReceiving { channel, .. } => own_event(me, peer, *channel, act),
         Act::Arrive => arrive(me, peer),
+        Act::Deliver { count } => deliver(me, peer, *count),
         Act::Take { channel } => take(alloc, me, peer, *channel),
     }
 }

@@ -1,7 +1,6 @@
 //! What may happen between two peers, and what is answered.
 use lc_book::{Refusal, Violation};
 use lc_frame::{Body, Channel};
-use thiserror::Error;
 
 /// One of the two peers.
 #[derive(Clone, Copy, Debug, PartialEq, Eq)]
@@ -11,7 +10,7 @@ pub enum Side {
 }
 
 /// What happens at a side. Numbers count bytes of messages.
-#[derive(Debug, Drop)]
+#[derive(Clone, Debug, PartialEq, Eq, Drop)]
 pub enum Act {
     /// The client sends a message.
     Send { channel: Channel, body: Body },
@@ -29,19 +28,22 @@ pub enum Act {
     LimitReceiving { channel: Channel, bound: u64 },
     /// The first frame of the other side's stream that has not arrived arrives.
     Arrive,
+    /// So many bytes more of the other side's stream are delivered, or as many as are in flight,
+    /// and each frame whose last byte is among them arrives.
+    Deliver { count: u32 },
     /// The server takes the first message that waits.
     Take { channel: Channel },
 }
 
 /// An act at a side.
-#[derive(Debug, Drop)]
+#[derive(Clone, Debug, PartialEq, Eq, Drop)]
 pub struct Event {
     pub side: Side,
     pub act: Act,
 }
 
 /// What is answered.
-#[derive(Debug, Drop)]
+#[derive(Clone, Debug, PartialEq, Eq, Drop)]
 pub enum Answer {
     /// An own event was accepted, and its frame put last on the side's stream.
     Accepted,
@@ -51,9 +53,11 @@ pub enum Answer {
     NothingToAbsolve,
     /// A frame arrived.
     Arrived,
-    /// No frame is in flight.
+    /// So many bytes were delivered, and so many frames arrived.
+    Delivered { bytes: u64, frames: u64 },
+    /// Nothing is in flight.
     NothingInFlight,
-    /// The frame breaks the rules; it did not arrive.
+    /// A frame breaks the rules; nothing arrived.
     Violated(Violation),
     /// The message that was taken.
     Took(Body),
@@ -63,13 +67,4 @@ pub enum Answer {
     Ended,
     /// An own event, or a take for want of memory, was refused and changed nothing.
     Refused(Refusal),
-}
-
-/// Why there is no world.
-#[derive(Clone, Copy, Debug, PartialEq, Eq, Error)]
-pub enum NewFault {
-    #[error("the capacity is not 1 to 2^24")]
-    BadCapacity,
-    #[error("out of memory")]
-    OutOfMemory,
 }

@@ -3,17 +3,12 @@
 #![tactic(auto)]
 
 mod act;
-mod arrival;
+mod endpoint;
 mod event;
 pub mod laws;
-mod own;
-mod party;
-mod waiting;
 mod world;
 
-pub use event::{Act, Answer, Event, NewFault, Side};
+pub use event::{Act, Answer, Event, Side};
 pub use lc_book::{Refusal, Violation};
+pub use lc_ring::NewFault;
 pub use world::{World, run};
-
-#[cfg(test)]
-mod tests;

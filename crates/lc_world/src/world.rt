@@ -1,20 +1,19 @@
 //! Two peers whose streams keep order.
-ghost use Rattle.std.specs.Prelude.{◌≡◌, ◌↔◌, ◌<◌, ◌⊎◌, IfOk, IsOk, IsSome, IfSome, length, [], replicate, Err};
+ghost use Rattle.std.specs.Prelude.{◌≡◌, ◌↔◌, IfOk, IsOk, IsSome, IfSome, length, [], replicate, Err};
 ghost use Rattle.std.specs.List.{zip};
-ghost use Rattle.lc_frame.specs.Kind.{max_amount};
-ghost use Rattle.lc_book.specs.Client.{new_client};
-ghost use Rattle.lc_book.specs.Server.{IsCapacity, new_server};
+ghost use Rattle.lc_book.specs.Server.{IsCapacity};
+ghost use Rattle.lc_ring.specs.Ring.{IsNoCapacity};
 ghost use Rattle.lc_world.specs.State.{opening, client, server};
 ghost use Rattle.lc_world.specs.Answers.{IsAnswer, after};
 ghost use Rattle.lc_world.specs.Histories.{IsHistory};
 ghost use Rattle.lc_world.specs.Guarantee.{KeepsGuarantees};
-ghost use Rattle.lc_world.specs.World.{IsNoCapacity, IsNewParty};
 
 use crate::act::act;
-use crate::event::{Answer, Event, NewFault, Side};
-use crate::party::Party;
+use crate::endpoint::Endpoint;
+use crate::event::{Answer, Event, Side};
 use lc_book::{ClientBook, ServerBook};
 use lc_frame::Channel;
+use lc_ring::NewFault;
 use std::alloc::Global;
 use std::marker::Model;
 
@@ -23,13 +22,13 @@ use std::marker::Model;
 #[derive(Drop)]
 pub struct World {
     alloc: Global,
-    a: Party,
-    b: Party,
+    a: Endpoint,
+    b: Endpoint,
 }
 
 impl Model for World {
     ghost use Rattle.lc_world.specs.State.{State};
-    ghost use Rattle.lc_world.specs.Party.{state_between, AreInStep};
+    ghost use Rattle.lc_world.specs.Endpoint.{state_between, AreInStep};
 
     ghost Value = { State };
 
@@ -38,38 +37,22 @@ impl Model for World {
     ghost invariant = { λ w. AreInStep w.a w.b };
 }
 
-fn new_party(alloc: Global, capacity: u32) -> Option<Party>
-    ensures valid { IsSome result ↔ IsCapacity capacity }
-    ensures value { IfSome result (IsNewParty capacity) }
-{
-    let server = ServerBook::new(capacity)?;
-    Some(Party {
-        capacity,
-        stream: Vec::new(alloc),
-        arrived: 0,
-        taken: [0; 7],
-        next: [0; 7],
-        clients: [ClientBook::new(); 7],
-        servers: [server; 7],
-    })
-}
-
 impl World {
-    /// Two new peers. `BadCapacity` exactly where the capacity is not 1 to 2^24. It takes no
-    /// memory: each event takes what it needs.
+    /// Two new peers. `BadCapacity` exactly where the capacity is not 1 to 2^24, which is found
+    /// before any memory is taken. The memory of the rings and of what comes in pieces is taken
+    /// here.
     pub fn new(alloc: Global, capacity: u32) -> Result<World, NewFault>
         ensures capacity { (result ≡ Err NewFault.BadCapacity) ↔ IsNoCapacity capacity }
-        ensures made { IsOk result ↔ IsCapacity capacity }
+        ensures made { IsOk result → IsCapacity capacity }
         ensures value { IfOk result (λ w. w ≡ opening capacity) }
     {
-        match (new_party(alloc, capacity), new_party(alloc, capacity)) {
-            (Some(a), Some(b)) => Ok(World { alloc, a, b }),
-            _ => Err(NewFault::BadCapacity),
-        }
+        let a = Endpoint::new(alloc, capacity)?;
+        let b = Endpoint::new(alloc, capacity)?;
+        Ok(World { alloc, a, b })
     }
 
     /// Answers an event. Want of memory comes first for every event that can put a frame, and for
-    /// a take of a waiting message; it changes nothing. An arrival takes no memory.
+    /// a take of a waiting message; it changes nothing. An arrival and a delivery take no memory.
     pub fn step(&mut self, event: &Event) -> Answer
         ensures answer { IsAnswer self.old event.now result }
         ensures state { self.new ≡ after self.old event.now result }
@@ -85,8 +68,8 @@ impl World {
         ensures { result ≡ client self.now side channel }
     {
         match side {
-            Side::A => self.a.clients[usize::from(channel.number())],
-            Side::B => self.b.clients[usize::from(channel.number())],
+            Side::A => self.a.peer.client(channel),
+            Side::B => self.b.peer.client(channel),
         }
     }
 
@@ -95,15 +78,15 @@ impl World {
         ensures { result ≡ server self.now side channel }
     {
         match side {
-            Side::A => self.a.servers[usize::from(channel.number())],
-            Side::B => self.b.servers[usize::from(channel.number())],
+            Side::A => self.a.peer.server(channel),
+            Side::B => self.b.peer.server(channel),
         }
     }
 }
 
 /// Answers events in order, from a new world of two peers with receiving rings of `capacity` bytes.
-/// `BadCapacity` exactly where that is not 1 to 2^24, `OutOfMemory` only where the places of the
-/// answers, which are reserved before the first event, are refused.
+/// `BadCapacity` exactly where that is not 1 to 2^24, `OutOfMemory` only where the memory of the
+/// world or the places of the answers, which are reserved before the first event, are refused.
 pub fn run(alloc: Global, capacity: u32, events: &[Event]) -> Result<Vec<Answer>, NewFault>
     ensures capacity { (result ≡ Err NewFault.BadCapacity) ↔ IsNoCapacity capacity }
     ensures count { IfOk result (λ answers. length answers.items ≡ length events.now) }

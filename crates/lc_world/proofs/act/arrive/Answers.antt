@@ -1,11 +1,22 @@
-use Rattle.std.proofs.Common.{ap, ◌∙◌, refl, arith}
-use Rattle.lc_frame.specs.Channel.{number_of}
-use Rattle.lc_world.proofs.Arrivals.{arrive_acts}
+use Rattle.std.proofs.Common.{◌-◌, arith}
+use Rattle.lc_frame.specs.FrameRef.{frame_of}
+use Rattle.lc_world.proofs.Deliveries.{tail_is, arrive_none, first_is_known, first_is_no_fault, held_within, missing_within, arrive_acts}
 use Rattle.lc_world.proofs.act.arrive.Goals as goal
 
-pub returns-in-Ok : goal.returns-in-Ok
-returns-in-Ok c =
-    arrive_acts c.args.me.now c.args.peer.now c.requires c.index-frame.result.now c.index-me-at.result c.index-me-at-2.result _ _ c.from-at.result c.judge.new.client c.judge.new.server
-    (omega arith) c.index-frame.ensures (c.from-at.ensures ∙ (c.number.ensures.value ∙ ap number_of c.channel.ensures))
-    c.in-Ok.ensures.answer c.in-Ok.ensures.client c.in-Ok.ensures.server
-    (record { my_capacity = refl; my_frames = refl; my_arrived = refl; my_taken = refl; my_next = refl; my_clients = refl; my_servers = refl; capacity = refl; frames = refl; arrived = refl; taken = refl; next = refl; clients = refl; servers = refl })
+pub returns-then-peer-len : goal.returns-then-peer-len
+returns-then-peer-len c = arrive_none c.args.me.now c.args.peer.now c.requires (omega (arith, c.if-peer-len.true, c.len.ensures, c.args.peer.now.stream.ok.0))
+
+pub overflow_sub-used : goal.overflow_sub-used
+overflow_sub-used c = held_within c.args.me.now c.args.peer.now c.requires (omega (arith, c.if-peer-len.false, c.len.ensures, c.args.peer.now.stream.ok.0)) c.held-held.result c.held-held.ensures.value _ (tail_is c.deref.result.now c.args.peer.now.stream.items (c.args.peer.now.delivered - c.held-held.result) c.deref.ensures.value) (frame_of c.in-Whole.frame) c.in-Whole.used c.in-Whole.ensures.0 c.in-Whole.ensures.1
+
+pub bring-requires-clause-within : goal.bring-requires-clause-within
+bring-requires-clause-within c = missing_within c.args.me.now c.args.peer.now c.requires (omega (arith, c.if-peer-len.false, c.len.ensures, c.args.peer.now.stream.ok.0)) c.held-held.result c.held-held.ensures.value _ (tail_is c.deref.result.now c.args.peer.now.stream.items (c.args.peer.now.delivered - c.held-held.result) c.deref.ensures.value) (frame_of c.in-Whole.frame) c.in-Whole.used c.in-Whole.ensures.0 c.in-Whole.ensures.1
+
+pub unreachable-requires : goal.unreachable-requires
+unreachable-requires c = first_is_known c.args.me.now c.args.peer.now c.requires (omega (arith, c.if-peer-len.false, c.len.ensures, c.args.peer.now.stream.ok.0)) c.held-held.result c.held-held.ensures.value _ (tail_is c.deref.result.now c.args.peer.now.stream.items (c.args.peer.now.delivered - c.held-held.result) c.deref.ensures.value) c.in-More.ensures
+
+pub unreachable-requires-in-Fault : goal.unreachable-requires-in-Fault
+unreachable-requires-in-Fault c = first_is_no_fault c.args.me.now c.args.peer.now c.requires (omega (arith, c.if-peer-len.false, c.len.ensures, c.args.peer.now.stream.ok.0)) c.held-held.result c.held-held.ensures.value _ (tail_is c.deref.result.now c.args.peer.now.stream.items (c.args.peer.now.delivered - c.held-held.result) c.deref.ensures.value) c.in-Fault.field-0 c.in-Fault.ensures
+
+pub returns : goal.returns
+returns c = arrive_acts c.args.me.now c.args.peer.now c.requires (omega (arith, c.if-peer-len.false, c.len.ensures, c.args.peer.now.stream.ok.0)) c.held-held.result c.held-held.ensures.value _ (tail_is c.deref.result.now c.args.peer.now.stream.items (c.args.peer.now.delivered - c.held-held.result) c.deref.ensures.value) (frame_of c.in-Whole.frame) c.in-Whole.used c.in-Whole.ensures.0 c.in-Whole.ensures.1 c.bring.new.me c.bring.new.peer c.bring.result c.bring.ensures

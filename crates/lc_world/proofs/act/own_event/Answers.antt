@@ -1,24 +1,15 @@
-use Rattle.std.proofs.Common.{ap, ◌∙◌, refl, subst}
-use Rattle.std.specs.Prelude.{List, Option, IfSome}
-use Rattle.lc_frame.specs.declared.frame.Frame.{Frame}
-use Rattle.lc_frame.specs.Frame.{IsValid}
-use Rattle.lc_world.specs.Own.{with_last}
-use Rattle.lc_world.proofs.Parties.{own_acts}
+use Rattle.std.proofs.Common.{rules, refl}
+use Rattle.lc_world.proofs.Calls.{slot_is_free, own_returns, own_room, own_refused}
 use Rattle.lc_world.proofs.act.own_event.Goals as goal
 
+pub call-answer-requires-clause-free : goal.call-answer-requires-clause-free
+call-answer-requires-clause-free c = slot_is_free c.args.me.now c.args.peer.now c.requires.in_step
+
+pub returns-then-is_err : goal.returns-then-is_err
+returns-then-is_err c = own_refused c.args.me.now c.args.peer.now c.requires.in_step _ c.args.act.now c.args.channel c.requires.own refl c.reserve.ensures.items refl refl
+
+pub go_out-requires : goal.go_out-requires
+go_out-requires c = own_room c.args.me.now c.args.peer.now c.requires.in_step c.args.me.now c.args.act.now c.call-answer.result c.args.channel c.requires.own c.call-answer.new.peer c.call-answer.ensures _ c.room.result _ c.room.ensures (search rules)
+
 pub returns : goal.returns
-returns c =
-    let judged = c.judge-answer.ensures in
-    own_acts c.args.me.now c.args.peer.now c.requires.in_step c.args.act.now c.judge-answer.result.answer c.args.channel c.index-me-at.result c.index-me-at-2.result
-    _ c.from-at.result c.judge-answer.new.client c.judge-answer.new.server c.requires.own (c.from-at.ensures ∙ c.number.ensures.value)
-    judged.answer judged.client judged.server
-    (subst (λ (o : Option Frame). IfSome o IsValid) judged.frame judged.valid)
-    (record {
-      capacity = refl;
-      arrived = refl;
-      taken = refl;
-      next = refl;
-      clients = refl;
-      servers = refl;
-      frames = c.put.ensures ∙ (ap (λ (xs : List Frame). with_last xs c.judge-answer.result.frame) c.reserve.ensures.items ∙ ap (λ (o : Option Frame). with_last c.args.me.now.stream.items o) judged.frame);
-    })
+returns c = own_returns c.args.me.now c.args.peer.now c.requires.in_step _ c.args.act.now c.call-answer.result c.args.channel c.requires.own c.call-answer.new.peer c.call-answer.ensures c.reserve.new.self.items c.go_out.ensures.peer c.go_out.ensures.stream c.reserve.ensures.items c.go_out.ensures.valid c.go_out.ensures.bytes refl refl

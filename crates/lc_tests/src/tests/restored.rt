@@ -1,0 +1,253 @@
+//! Books that are made of their fields, and which fields make none.
+use super::same;
+use lc_book::{ClientBook, ClientParts, ServerBook, ServerParts};
+use std::test::Fail;
+
+const TWO_24: u32 = 16_777_216;
+
+const TWO_62: u64 = 4_611_686_018_427_387_904;
+
+// A client at each of its bounds.
+const FULL_CLIENT: ClientParts = ClientParts {
+    received: TWO_62,
+    spent: TWO_62 - 16_777_217,
+    absolved: 1,
+    send_left: Some(TWO_62),
+    receive_left: Some(TWO_62),
+    asked: Some(TWO_24),
+};
+
+// A server at each of its bounds.
+const FULL_SERVER: ServerParts = ServerParts {
+    capacity: TWO_24,
+    issued: TWO_62,
+    arrived: TWO_62 - 16_777_216,
+    taken: TWO_62 - 16_777_217,
+    absolved: 1,
+    send_left: Some(TWO_62),
+    receive_left: Some(TWO_62),
+};
+
+// What breaks a rule of a client, and nothing else.
+const BROKEN_CLIENTS: [(&str, ClientParts); 9] = [
+    (
+        "above 2^62 received",
+        ClientParts {
+            received: TWO_62 + 1,
+            spent: TWO_62 - 16_777_216,
+            ..FULL_CLIENT
+        },
+    ),
+    (
+        "more spent than received",
+        ClientParts {
+            received: 4,
+            spent: 5,
+            absolved: 0,
+            ..FULL_CLIENT
+        },
+    ),
+    (
+        "more absolved than received",
+        ClientParts {
+            received: 4,
+            spent: 0,
+            absolved: 5,
+            ..FULL_CLIENT
+        },
+    ),
+    (
+        "more used than received",
+        ClientParts {
+            received: 4,
+            spent: 3,
+            absolved: 2,
+            ..FULL_CLIENT
+        },
+    ),
+    (
+        "a sum that wraps",
+        ClientParts {
+            received: 4,
+            spent: u64::MAX,
+            absolved: 1,
+            ..FULL_CLIENT
+        },
+    ),
+    (
+        "above 2^24 held",
+        ClientParts {
+            absolved: 0,
+            ..FULL_CLIENT
+        },
+    ),
+    (
+        "a limit on sending above 2^62",
+        ClientParts {
+            send_left: Some(TWO_62 + 1),
+            ..FULL_CLIENT
+        },
+    ),
+    (
+        "a limit on receiving above 2^62",
+        ClientParts {
+            receive_left: Some(TWO_62 + 1),
+            ..FULL_CLIENT
+        },
+    ),
+    (
+        "a target above 2^24",
+        ClientParts {
+            asked: Some(TWO_24 + 1),
+            ..FULL_CLIENT
+        },
+    ),
+];
+
+// What breaks a rule of a server, and nothing else.
+const BROKEN_SERVERS: [(&str, ServerParts); 12] = [
+    (
+        "no capacity",
+        ServerParts {
+            capacity: 0,
+            issued: 0,
+            arrived: 0,
+            taken: 0,
+            absolved: 0,
+            ..FULL_SERVER
+        },
+    ),
+    (
+        "a capacity above 2^24",
+        ServerParts {
+            capacity: TWO_24 + 1,
+            ..FULL_SERVER
+        },
+    ),
+    (
+        "above 2^62 issued",
+        ServerParts {
+            issued: TWO_62 + 1,
+            absolved: 2,
+            ..FULL_SERVER
+        },
+    ),
+    (
+        "more arrived than issued",
+        ServerParts {
+            issued: 4,
+            arrived: 5,
+            taken: 5,
+            absolved: 0,
+            ..FULL_SERVER
+        },
+    ),
+    (
+        "more absolved than issued",
+        ServerParts {
+            issued: 4,
+            arrived: 0,
+            taken: 0,
+            absolved: 5,
+            ..FULL_SERVER
+        },
+    ),
+    (
+        "more used than issued",
+        ServerParts {
+            issued: 4,
+            arrived: 3,
+            taken: 3,
+            absolved: 2,
+            ..FULL_SERVER
+        },
+    ),
+    (
+        "a sum that wraps",
+        ServerParts {
+            issued: 4,
+            arrived: u64::MAX,
+            taken: u64::MAX,
+            absolved: 1,
+            ..FULL_SERVER
+        },
+    ),
+    (
+        "more taken than arrived",
+        ServerParts {
+            issued: 4,
+            arrived: 4,
+            taken: 5,
+            absolved: 0,
+            ..FULL_SERVER
+        },
+    ),
+    (
+        "more promised than there is room for",
+        ServerParts {
+            absolved: 0,
+            ..FULL_SERVER
+        },
+    ),
+    (
+        "more buffered than there is room for",
+        ServerParts {
+            taken: TWO_62 - 16_777_218,
+            ..FULL_SERVER
+        },
+    ),
+    (
+        "a limit on sending above 2^62",
+        ServerParts {
+            send_left: Some(TWO_62 + 1),
+            ..FULL_SERVER
+        },
+    ),
+    (
+        "a limit on receiving above 2^62",
+        ServerParts {
+            receive_left: Some(TWO_62 + 1),
+            ..FULL_SERVER
+        },
+    ),
+];
+
+#[test]
+fn books_at_their_bounds_are_books(rt: HostRuntime) -> Result<(), Fail> {
+    let alloc = rt.alloc();
+    let client = ClientBook::restore(FULL_CLIENT).ok_or("a client at its bounds")?;
+    let found = format!(in alloc;
+        "{} {:?} {:?} {:?}",
+        client.held(),
+        client.send_left(),
+        client.receive_left(),
+        client.asked()
+    )?;
+    let wanted = "16777216 Some(4611686018427387904) Some(4611686018427387904) Some(16777216)";
+    same(&rt, "a client", found.as_str(), wanted);
+    let server = ServerBook::restore(FULL_SERVER).ok_or("a server at its bounds")?;
+    let found = format!(in alloc;
+        "{} {} {} {:?} {:?}",
+        server.outstanding(),
+        server.buffered(),
+        server.room(),
+        server.send_left(),
+        server.receive_left()
+    )?;
+    let wanted = "16777215 1 0 Some(4611686018427387904) Some(4611686018427387904)";
+    same(&rt, "a server", found.as_str(), wanted);
+    Ok(())
+}
+
+#[test]
+fn broken_books_are_none(rt: HostRuntime) -> Result<(), Fail> {
+    for (broken, parts) in BROKEN_CLIENTS {
+        let found = format!(in rt.alloc(); "{:?}", ClientBook::restore(parts))?;
+        same(&rt, broken, found.as_str(), "None");
+    }
+    for (broken, parts) in BROKEN_SERVERS {
+        let found = format!(in rt.alloc(); "{:?}", ServerBook::restore(parts))?;
+        same(&rt, broken, found.as_str(), "None");
+    }
+    Ok(())
+}

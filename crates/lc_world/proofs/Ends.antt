@@ -1,0 +1,179 @@
+-- Two ends stand for the lines that they are the ends of.
+use Rattle.std.proofs.Common.{◌≡◌, ℕ, ◌<◌, List, [], ◌∷◌, length, map, get_or, take, drop, Option, None, refl, sym, ap, ap₂, ◌∙◌, subst, arith}
+use Rattle.std.specs.Prelude.{◌-◌, All}
+use Rattle.std.proofs.lemmas.List.{append-nil, length-drop, length-take}
+use Rattle.std.proofs.lemmas.List.Elements.{All-take}
+use Rattle.std.proofs.Math.Seq.{drop-append_seam}
+use Rattle.lc_frame.specs.declared.channel.Channel.{Channel}
+use Rattle.lc_frame.specs.declared.channel.Channel.TheVariants.{ReconciliationChannel}
+use Rattle.lc_frame.specs.declared.frame.Frame.{Frame}
+use Rattle.lc_frame.specs.Channel.{number_of}
+use Rattle.lc_frame.specs.Stream.{messages}
+use Rattle.lc_frame.specs.Splits.{Splits, frames_of, rest_of}
+use Rattle.lc_book.specs.Client.{Client}
+use Rattle.lc_book.specs.Server.{Server}
+use Rattle.lc_peer.specs.Peer.{PeerState, client, inbox, server}
+use Rattle.lc_world.specs.declared.event.Side.{Side}
+use Rattle.lc_world.specs.declared.event.Side.TheVariants.{A, B}
+use Rattle.lc_world.specs.declared.event.Act.{Act}
+use Rattle.lc_world.specs.declared.event.Answer.{Answer}
+use Rattle.lc_world.specs.declared.endpoint.Endpoint.{Endpoint}
+use Rattle.lc_world.specs.State.{Line, line, other, stream, taken_count, kept_plead, client_book, server_book}
+use Rattle.lc_world.specs.Answers.{IsAnswerOf, IsAnswer, mine_after, theirs_after, state_after}
+use Rattle.lc_world.specs.Sound.{AllFit, Sound, IsSound}
+use Rattle.lc_world.specs.Delivery.{bytes_of, delivered}
+use Rattle.lc_world.specs.Endpoint.{every_channel, taken_by, pleads_of, line_in, line_of, capacity_of, state_between, of_lines, IsPeerBetween, IsEnd, IsLine, AreEnds, AreInStep, Acts}
+use Rattle.lc_world.proofs.Bytes.{is_cut, begun_within}
+use Rattle.lc_world.proofs.Parts.{each_first, each_behind, part_splits, frames_are}
+
+-- seven by their channels
+listed : {X : Type 0} (xs : List X) (d : X) → length xs ≡ 7 → map (λ c. get_or xs (number_of c) d) every_channel ≡ xs
+listed [] d len = absurd (omega (arith, len))
+listed (a ∷ []) d len = absurd (omega (arith, len))
+listed (a ∷ b ∷ []) d len = absurd (omega (arith, len))
+listed (a ∷ b ∷ c ∷ []) d len = absurd (omega (arith, len))
+listed (a ∷ b ∷ c ∷ e ∷ []) d len = absurd (omega (arith, len))
+listed (a ∷ b ∷ c ∷ e ∷ f ∷ []) d len = absurd (omega (arith, len))
+listed (a ∷ b ∷ c ∷ e ∷ f ∷ g ∷ []) d len = absurd (omega (arith, len))
+listed (a ∷ b ∷ c ∷ e ∷ f ∷ g ∷ h ∷ []) d len = refl
+listed (a ∷ b ∷ c ∷ e ∷ f ∷ g ∷ h ∷ i ∷ xs) d len = absurd (omega (arith, len))
+
+map_same : {X : Type 0} (f g : Channel → X) (cs : List Channel) → ((c : Channel) → f c ≡ g c) → map f cs ≡ map g cs
+map_same f g [] h = refl
+map_same f g (c ∷ cs) h = ap₂ ◌∷◌ (h c) (map_same f g cs h)
+
+-- a peer of two lines has their books
+module _ (k : ℕ) (mine theirs : Line) (p : PeerState) (h : IsPeerBetween k mine theirs p) where
+  pub client_is : (c : Channel) → client p c ≡ client_book c mine theirs
+  client_is c = (h.sums.channels c).client
+
+  pub server_is : (c : Channel) → server p c ≡ server_book k c mine theirs
+  server_is c = (h.sums.channels c).server
+
+  taken_is : (c : Channel) → length (messages c theirs.arrived) - length (inbox p c).ring.messages ≡ taken_count c theirs
+  taken_is c =
+      let s = h.sums.channels c in
+      omega (arith, ap length s.waiting, length-drop (taken_count c theirs) (messages c theirs.arrived), s.of_arrived)
+
+  taken_read : length theirs.taken ≡ 7 → taken_by p theirs.arrived ≡ theirs.taken
+  taken_read len = map_same (λ c. length (messages c theirs.arrived) - length (inbox p c).ring.messages) (λ c. taken_count c theirs) every_channel taken_is ∙ listed theirs.taken 0 len
+
+  asked_read : length theirs.asked ≡ 7 → pleads_of p ≡ theirs.asked
+  asked_read len = map_same (λ c. (client p c).asked) (λ c. kept_plead c theirs) every_channel (λ c. ap (λ (b : Client). b.asked) (client_is c)) ∙ listed theirs.asked None len
+
+-- the frames of the bytes of a line
+record Reads (bytes : List ℕ) (count : ℕ) (l : Line) : Type 0 where
+  all : frames_of bytes ≡ stream l
+  came : frames_of (take count bytes) ≡ l.arrived
+  rest : rest_of (take count bytes) ≡ take l.begun (bytes_of l.in_flight)
+
+reads : (l : Line) → IsLine l → All (λ b. b < 256) (bytes_of (stream l)) → Reads (bytes_of (stream l)) (delivered l) l
+reads l h all =
+    let text : List ℕ = bytes_of (stream l) in
+    let came = each_first l.arrived l.in_flight h.valid in
+    let rest = each_behind l.arrived l.in_flight h.valid in
+    let cut : Splits (take (delivered l) text) l.arrived (take l.begun (bytes_of l.in_flight)) =
+    subst (λ (x : List ℕ). Splits x l.arrived (take l.begun (bytes_of l.in_flight))) (is_cut l h.begun).front (part_splits l.arrived l.in_flight l.begun came rest h.begun) in
+    let whole : Splits text (stream l) [] =
+    subst (λ (x : List ℕ). Splits x (stream l) []) (append-nil text) (part_splits (stream l) [] 0 h.valid tt refl) in
+    let part = frames_are (take (delivered l) text) l.arrived (take l.begun (bytes_of l.in_flight)) (All-take (λ b. b < 256) (delivered l) text all) cut in
+    record { all = (frames_are text (stream l) [] all whole).0; came = part.0; rest = part.1 }
+
+same_line : (a a' i i' : List Frame) (b b' : ℕ) (t t' : List ℕ) (q q' : List (Option ℕ)) → a ≡ a' → i ≡ i' → b ≡ b' → t ≡ t' → q ≡ q' → (let l : Line = record { arrived = a; in_flight = i; begun = b; taken = t; asked = q } in let m : Line = record { arrived = a'; in_flight = i'; begun = b'; taken = t'; asked = q' } in l ≡ m)
+same_line a a' i i' b b' t t' q q' ea ei eb et eq =
+    ap (λ (x : List Frame). let l : Line = record { arrived = x; in_flight = i; begun = b; taken = t; asked = q } in l) ea
+    ∙ (ap (λ (x : List Frame). let l : Line = record { arrived = a'; in_flight = x; begun = b; taken = t; asked = q } in l) ei
+    ∙ (ap (λ (x : ℕ). let l : Line = record { arrived = a'; in_flight = i'; begun = x; taken = t; asked = q } in l) eb
+    ∙ (ap (λ (x : List ℕ). let l : Line = record { arrived = a'; in_flight = i'; begun = b'; taken = x; asked = q } in l) et
+    ∙ ap (λ (x : List (Option ℕ)). let l : Line = record { arrived = a'; in_flight = i'; begun = b'; taken = t'; asked = x } in l) eq)))
+
+-- the line that is read off the bytes and the peer that they came to
+line_in_is : (bytes : List ℕ) (count : ℕ) (p : PeerState) (l : Line) → IsLine l → Reads bytes count l → ((frames : List Frame) → frames ≡ l.arrived → taken_by p frames ≡ l.taken) → pleads_of p ≡ l.asked → line_in bytes count p ≡ l
+line_in_is bytes count p l h r taken asked =
+    same_line _ l.arrived _ l.in_flight _ l.begun _ l.taken _ l.asked
+    r.came
+    (ap₂ (λ (xs fs : List Frame). drop (length xs) fs) r.came r.all ∙ drop-append_seam l.arrived l.in_flight)
+    (ap length r.rest ∙ omega (arith, length-take l.begun (bytes_of l.in_flight), begun_within l.in_flight l.begun h.begun))
+    (taken (frames_of (take count bytes)) r.came)
+    asked
+
+line_is : (k : ℕ) (mine theirs : Line) (writer reader : Endpoint) → IsLine mine → IsEnd k mine theirs writer → IsEnd k theirs mine reader → line_of writer reader ≡ mine
+line_is k mine theirs writer reader l w r =
+    let all = subst (λ (x : List ℕ). All (λ b. b < 256) x) w.bytes w.are_bytes in
+    ap₂ (λ (bytes : List ℕ) (count : ℕ). line_in bytes count reader.peer) w.bytes w.count
+    ∙ line_in_is (bytes_of (stream mine)) (delivered mine) reader.peer mine l (reads mine l all)
+    (λ frames e. ap (taken_by reader.peer) e ∙ taken_read k theirs mine reader.peer r.peer l.taken_places)
+    (asked_read k theirs mine reader.peer r.peer l.asked_places)
+
+-- what is sound of two lines is so of the other side's view
+swap_sums : (k : ℕ) (a b : Line) → IsSound (of_lines k a b) → (s : Side) (c : Channel) → Sound k c (line (of_lines k b a) s) (line (of_lines k b a) (other s))
+swap_sums k a b h A c = h.sums B c
+swap_sums k a b h B c = h.sums A c
+
+swap_limits : (k : ℕ) (a b : Line) → IsSound (of_lines k a b) → (s : Side) → AllFit [] (stream (line (of_lines k b a) s))
+swap_limits k a b h A = h.limits B
+swap_limits k a b h B = h.limits A
+
+pub swap : (k : ℕ) (mine theirs : Line) (me peer : Endpoint) → AreEnds k mine theirs me peer → AreEnds k theirs mine peer me
+swap k mine theirs me peer h = record { small = h.small; my_end = h.their_end; their_end = h.my_end; my_line = h.their_line; their_line = h.my_line; sound = record { sums = swap_sums k mine theirs h.sound; limits = swap_limits k mine theirs h.sound } }
+
+module _ (k : ℕ) (mine theirs : Line) (me peer : Endpoint) (h : AreEnds k mine theirs me peer) where
+  pub my_line_is : line_of me peer ≡ mine
+  my_line_is = line_is k mine theirs me peer h.my_line h.my_end h.their_end
+
+  pub their_line_is : line_of peer me ≡ theirs
+  their_line_is = line_is k theirs mine peer me h.their_line h.their_end h.my_end
+
+  pub capacity_is : capacity_of me ≡ k
+  capacity_is = ap (λ (b : Server). b.capacity) (server_is k mine theirs me.peer h.my_end.peer ReconciliationChannel)
+
+  pub in_step : AreInStep me peer
+  in_step = record {
+    ends = subst (λ (n : ℕ). AreEnds n (line_of me peer) (line_of peer me) me peer) (sym capacity_is)
+        (subst (λ (l : Line). AreEnds k l (line_of peer me) me peer) (sym my_line_is)
+        (subst (λ (l : Line). AreEnds k mine l me peer) (sym their_line_is) h));
+  }
+
+-- one state for two ends, seen from each
+pub states_same : (k k' : ℕ) (a a' b b' : Line) → k ≡ k' → a ≡ a' → b ≡ b' → of_lines k a b ≡ of_lines k' a' b'
+states_same k k' a a' b b' ek ea eb = ap (λ (n : ℕ). of_lines n a b) ek ∙ (ap (λ (l : Line). of_lines k' l b) ea ∙ ap (λ (l : Line). of_lines k' a' l) eb)
+
+-- an event at side A, and one at side B
+module _ (a b a' b' : Endpoint) (act : Act) (answer : Answer) where
+  module _ (h : AreInStep a b) (s : Acts a b a' b' act answer) where
+    pub a_answers : IsAnswer (state_between a b) (record { side = A; act = act }) answer
+    a_answers = s.right
+
+    pub a_leaves : state_between a' b' ≡ state_after (state_between a b) A act answer
+    a_leaves =
+        let k : ℕ = capacity_of a in
+        let mine : Line = mine_after (line_of a b) (line_of b a) act answer in
+        let theirs : Line = theirs_after (line_of a b) (line_of b a) act answer in
+        states_same (capacity_of a') k (line_of a' b') mine (line_of b' a') theirs
+        (capacity_is k mine theirs a' b' s.ends) (my_line_is k mine theirs a' b' s.ends) (their_line_is k mine theirs a' b' s.ends)
+
+    pub a_in_step : AreInStep a' b'
+    a_in_step = in_step _ _ _ a' b' s.ends
+
+  module _ (h : AreInStep a b) (s : Acts b a b' a' act answer) where
+    one_capacity : capacity_of b ≡ capacity_of a
+    one_capacity = ap (λ (x : Server). x.capacity) (server_is (capacity_of a) (line_of b a) (line_of a b) b.peer h.ends.their_end.peer ReconciliationChannel)
+
+    pub b_answers : IsAnswer (state_between a b) (record { side = B; act = act }) answer
+    b_answers = subst (λ (k : ℕ). IsAnswerOf k (line_of b a) (line_of a b) act answer) one_capacity s.right
+
+    pub b_leaves : state_between a' b' ≡ state_after (state_between a b) B act answer
+    b_leaves =
+        let k : ℕ = capacity_of b in
+        let mine : Line = mine_after (line_of b a) (line_of a b) act answer in
+        let theirs : Line = theirs_after (line_of b a) (line_of a b) act answer in
+        let back = swap k mine theirs b' a' s.ends in
+        states_same (capacity_of a') (capacity_of a) (line_of a' b') theirs (line_of b' a') mine
+        (capacity_is k theirs mine a' b' back ∙ one_capacity) (my_line_is k theirs mine a' b' back) (their_line_is k theirs mine a' b' back)
+
+    pub b_in_step : AreInStep a' b'
+    b_in_step = in_step _ _ _ a' b' (swap _ _ _ b' a' s.ends)
+
+-- the other side's view of two ends in step
+pub turned : (a b : Endpoint) → AreInStep a b → AreInStep b a
+turned a b h = in_step _ _ _ b a (swap _ _ _ a b h.ends)

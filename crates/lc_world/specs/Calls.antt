@@ -1,0 +1,60 @@
+-- What an own event is to the peer of its side, for src/endpoint.rt and src/act.rt.
+use Rattle.std.specs.Prelude.{◌≡◌, ℕ, List, [], ◌++◌, replicate, Option, Some, None, Result, Ok, Err}
+use Rattle.lc_frame.specs.declared.channel.Channel.{Channel}
+use Rattle.lc_frame.specs.declared.frame.Frame.{Frame}
+use Rattle.lc_frame.specs.Encoding.{encoding}
+use Rattle.lc_book.specs.declared.fault.Refusal.{Refusal}
+use Rattle.lc_peer.specs.Peer.{PeerState, client, server}
+use Rattle.lc_peer.specs.Calls.{put, put_honour}
+use Rattle.lc_peer.specs.Config.{new_peer}
+use Rattle.lc_world.specs.declared.endpoint.Endpoint.{Endpoint}
+use Rattle.lc_world.specs.declared.event.Act.{Act}
+use Rattle.lc_world.specs.declared.event.Act.TheVariants.{Send, Issue, Plead, Absolve, Honour, LimitSending, LimitReceiving, Arrive, Deliver, Take}
+use Rattle.lc_world.specs.declared.event.Answer.{Answer}
+use Rattle.lc_world.specs.declared.event.Answer.TheVariants.{Absolved, NothingToAbsolve, Refused}
+use Rattle.lc_world.specs.Answers.{own_answer, honoured, frame_put, IsUnlessMemory}
+
+-- an end at which nothing has happened
+pub record IsNewEnd (capacity : ℕ) (e : Endpoint) : Type 0 where
+  pub peer : e.peer ≡ new_peer (record { capacities = replicate 7 capacity; slots = 1 })
+  pub stream : e.stream.items ≡ []
+  pub delivered : e.delivered ≡ 0
+  pub decoder : e.decoder.bytes ≡ []
+
+-- a stream of bytes with a frame, if there is one, put last
+abbrev pub with_next : Option Frame → List ℕ → List ℕ
+with_next None bytes = bytes
+with_next (Some f) bytes = bytes ++ encoding f
+
+-- the channel of an own event
+abbrev pub own_channel : Act → Option Channel
+own_channel (Send c body) = Some c
+own_channel (Issue c amount) = Some c
+own_channel (Plead c target) = Some c
+own_channel (Absolve c amount) = Some c
+own_channel (Honour c) = Some c
+own_channel (LimitSending c bound) = Some c
+own_channel (LimitReceiving c bound) = Some c
+own_channel Arrive = None
+own_channel (Deliver count) = None
+own_channel (Take c) = None
+
+abbrev pub put_any_at : Option Frame → PeerState → PeerState
+put_any_at None p = p
+put_any_at (Some f) p = put p f
+
+-- what an own event, so answered, leaves of the peer: an honour forgets the plead, else the frame alone changes it
+abbrev pub after_call : Act → Answer → PeerState → PeerState
+after_call (Honour c) (Absolved amount) p = put_honour p c
+after_call (Honour c) NothingToAbsolve p = put_honour p c
+after_call act answer p = put_any_at (frame_put act answer) p
+
+-- the answer to an honour
+abbrev pub honour_answer : Result (Option ℕ) Refusal → Answer
+honour_answer (Ok amount) = honoured amount
+honour_answer (Err r) = Refused r
+
+-- the call answered by the books of its channel
+pub record Called (p new : PeerState) (c : Channel) (act : Act) (answer : Answer) : Type 0 where
+  pub right : IsUnlessMemory act (own_answer (client p c) (server p c) act) answer
+  pub after : new ≡ after_call act answer p

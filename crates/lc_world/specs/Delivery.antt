@@ -1,0 +1,45 @@
+-- The bytes of a stream, and which of its frames have arrived when so many of them were delivered. That a stream keeps its order is LCMUX's; that it may be cut at any byte is this project's own.
+use Rattle.std.specs.Prelude.{◌≡◌, ◌↔◌, ℕ, ◌+◌, ◌-◌, ◌<◌, ◌≤◌, min, List, [], ◌∷◌, ◌++◌, length, take}
+use Rattle.std.specs.List.{flat_map}
+use Rattle.lc_frame.specs.declared.frame.Frame.{Frame}
+use Rattle.lc_frame.specs.Encoding.{encoding}
+use Rattle.lc_world.specs.declared.event.Side.{Side}
+use Rattle.lc_world.specs.State.{Line, line, stream, size, arrive_on, deliver_on}
+use Rattle.lc_world.specs.Answers.{bytes_in_flight}
+use Rattle.lc_world.specs.Histories.{History, IsHistory}
+use Rattle.lc_world.specs.Guarantee.{state_of}
+
+-- the bytes of frames, one frame after the other
+abbrev pub bytes_of : List Frame → List ℕ
+bytes_of frames = flat_map encoding frames
+
+-- how many bytes of a stream were delivered
+abbrev pub delivered : Line → ℕ
+delivered l = length (bytes_of l.arrived) + l.begun
+
+-- fewer bytes of the first frame in flight were delivered than it has, and none where no frame is in flight
+abbrev pub HasBegun : List Frame → ℕ → Type 0
+HasBegun [] begun = begun ≡ 0
+HasBegun (f ∷ rest) begun = begun < size f
+
+pub record IsCutByBytes (l : Line) : Type 0 where
+  pub begun : HasBegun l.in_flight l.begun
+  -- the bytes of the frames that arrived, and those that have begun to come, are the first so many of the stream
+  pub front : bytes_of l.arrived ++ take l.begun (bytes_of l.in_flight) ≡ take (delivered l) (bytes_of (stream l))
+  -- a frame has arrived exactly where its last byte was delivered
+  pub whole : (before behind : List Frame) (f : Frame) → stream l ≡ before ++ f ∷ behind → (length before < length l.arrived) ↔ (length (bytes_of (before ++ f ∷ [])) ≤ delivered l)
+
+abbrev pub EveryStreamIsCutByBytes : Type 0
+EveryStreamIsCutByBytes = (capacity : ℕ) (history : History) → IsHistory capacity history → (s : Side) → IsCutByBytes (line (state_of capacity history) s)
+
+-- what deliveries make of a stream
+pub record DeliversBytes (l : Line) : Type 0 where
+  -- so many bytes more were delivered, or all that were in flight
+  pub counts : (count : ℕ) → delivered (deliver_on count l) ≡ delivered l + min count (bytes_in_flight l)
+  -- two deliveries are one of as many bytes
+  pub in_pieces : (m n : ℕ) → deliver_on n (deliver_on m l) ≡ deliver_on (m + n) l
+  -- the arrival of a frame is the delivery of the bytes that are missing of it
+  pub arrives : (f : Frame) (rest : List Frame) → l.in_flight ≡ f ∷ rest → arrive_on l ≡ deliver_on (size f - l.begun) l
+
+abbrev pub DeliveriesAddUp : Type 0
+DeliveriesAddUp = (l : Line) → HasBegun l.in_flight l.begun → DeliversBytes l

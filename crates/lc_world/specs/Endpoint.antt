@@ -1,0 +1,103 @@
+-- One end of a world as it is kept, the lines that two of them stand for, and what they keep. A device of the proofs: a world is seen as the lines alone.
+use Rattle.std.specs.Prelude.{◌≡◌, ℕ, ◌+◌, ◌-◌, ◌<◌, ◌≤◌, List, [], ◌∷◌, length, map, take, drop, All, Option}
+use Rattle.std.specs.List.{AllByRecursion}
+use Rattle.lc_frame.specs.declared.channel.Channel.{Channel}
+use Rattle.lc_frame.specs.declared.channel.Channel.TheVariants.{ReconciliationChannel, DataChannel, OverlapChannel, CapabilityChannel, AreaOfInterestChannel, PayloadRequestChannel, StaticTokenChannel}
+use Rattle.lc_frame.specs.declared.frame.Frame.{Frame}
+use Rattle.lc_frame.specs.Kind.{max_amount}
+use Rattle.lc_frame.specs.Frame.{IsValid}
+use Rattle.lc_frame.specs.Stream.{messages}
+use Rattle.lc_peer.specs.Peer.{PeerState, client, inbox, server}
+use Rattle.lc_peer.specs.Streams.{Streams, IsPeerOf}
+use Rattle.lc_world.specs.declared.endpoint.Endpoint.{Endpoint}
+use Rattle.lc_world.specs.declared.event.Act.{Act}
+use Rattle.lc_world.specs.declared.event.Answer.{Answer}
+use Rattle.lc_frame.specs.Splits.{frames_of, rest_of}
+use Rattle.lc_world.specs.State.{Line, State, stream, taken_count, kept_plead, deliver_on}
+use Rattle.lc_world.specs.Answers.{IsAnswerOf, mine_after, theirs_after}
+use Rattle.lc_world.specs.Sound.{IsSound}
+use Rattle.lc_world.specs.Delivery.{bytes_of, delivered, HasBegun}
+
+-- the channels by their numbers
+abbrev pub every_channel : List Channel
+every_channel = ReconciliationChannel ∷ DataChannel ∷ OverlapChannel ∷ CapabilityChannel ∷ AreaOfInterestChannel ∷ PayloadRequestChannel ∷ StaticTokenChannel ∷ []
+
+-- by channel, how many of the messages that arrived do not wait in the ring of the peer that they came to, and the plead that it keeps
+abbrev pub taken_by : PeerState → List Frame → List ℕ
+taken_by reader arrived = map (λ c. length (messages c arrived) - length (inbox reader c).ring.messages) every_channel
+
+abbrev pub pleads_of : PeerState → List (Option ℕ)
+pleads_of reader = map (λ c. (client reader c).asked) every_channel
+
+-- the line of a stream of bytes, of which so many were delivered to its reader
+abbrev pub line_in : List ℕ → ℕ → PeerState → Line
+line_in bytes count reader = record {
+  arrived = frames_of (take count bytes);
+  in_flight = drop (length (frames_of (take count bytes))) (frames_of bytes);
+  begun = length (rest_of (take count bytes));
+  taken = taken_by reader (frames_of (take count bytes));
+  asked = pleads_of reader;
+}
+
+-- the line of the stream that one end writes and the other reads
+abbrev pub line_of : Endpoint → Endpoint → Line
+line_of writer reader = line_in writer.stream.items writer.delivered reader.peer
+
+-- all rings have one capacity
+abbrev pub capacity_of : Endpoint → ℕ
+capacity_of e = (server e.peer ReconciliationChannel).capacity
+
+abbrev pub state_between : Endpoint → Endpoint → State
+state_between a b = record { capacity = capacity_of a; a = line_of a b; b = line_of b a }
+
+-- two lines as the peer sees them that writes the first and reads the second
+abbrev pub streams_of : ℕ → Line → Line → Streams
+streams_of capacity mine theirs = record { put = stream mine; arrived = theirs.arrived; capacity = λ c. capacity; taken = λ c. taken_count c theirs; asked = λ c. kept_plead c theirs }
+
+-- the peer of two lines, with one slot, all of whose frames went out
+pub record IsPeerBetween (capacity : ℕ) (mine theirs : Line) (p : PeerState) : Type 0 where
+  pub sums : IsPeerOf (streams_of capacity mine theirs) p
+  pub one_slot : p.slots ≡ 1
+  pub none_waits : p.waiting ≡ []
+
+-- the end of two lines: its peer is theirs, its stream is the bytes of the first, and its decoder holds what was delivered of a frame of the second
+pub record IsEnd (capacity : ℕ) (mine theirs : Line) (e : Endpoint) : Type 0 where
+  pub peer : IsPeerBetween capacity mine theirs e.peer
+  pub bytes : e.stream.items ≡ bytes_of (stream mine)
+  pub are_bytes : All (λ b. b < 256) e.stream.items
+  pub count : e.delivered ≡ delivered mine
+  pub held : e.decoder.bytes ≡ take theirs.begun (bytes_of theirs.in_flight)
+
+-- what every line keeps
+pub record IsLine (l : Line) : Type 0 where
+  pub valid : AllByRecursion IsValid (stream l)
+  pub begun : HasBegun l.in_flight l.begun
+  pub taken_places : length l.taken ≡ 7
+  pub asked_places : length l.asked ≡ 7
+
+-- two lines as a state, the first as that of side A
+abbrev pub of_lines : ℕ → Line → Line → State
+of_lines capacity mine theirs = record { capacity = capacity; a = mine; b = theirs }
+
+-- two ends of the same two lines, of which the laws hold
+pub record AreEnds (capacity : ℕ) (mine theirs : Line) (me peer : Endpoint) : Type 0 where
+  pub small : capacity ≤ max_amount
+  pub my_end : IsEnd capacity mine theirs me
+  pub their_end : IsEnd capacity theirs mine peer
+  pub my_line : IsLine mine
+  pub their_line : IsLine theirs
+  pub sound : IsSound (of_lines capacity mine theirs)
+
+-- two ends of the lines that they stand for
+pub record AreInStep (me peer : Endpoint) : Type 0 where
+  pub ends : AreEnds (capacity_of me) (line_of me peer) (line_of peer me) me peer
+
+-- what an event at the first of two ends leaves of both
+pub record Acts (me peer me' peer' : Endpoint) (act : Act) (answer : Answer) : Type 0 where
+  pub right : IsAnswerOf (capacity_of me) (line_of me peer) (line_of peer me) act answer
+  pub ends : AreEnds (capacity_of me) (mine_after (line_of me peer) (line_of peer me) act answer) (theirs_after (line_of me peer) (line_of peer me) act answer) me' peer'
+
+-- what a delivery of so many bytes at the first end leaves of both, and how many frames it brings
+pub record Brings (me peer me' peer' : Endpoint) (count frames : ℕ) : Type 0 where
+  pub frames_are : length (deliver_on count (line_of peer me)).arrived ≡ length (line_of peer me).arrived + frames
+  pub ends : AreEnds (capacity_of me) (line_of me peer) (deliver_on count (line_of peer me)) me' peer'

@@ -1,0 +1,80 @@
+//! One end of a world: a peer, the stream that it writes, and what came of a frame of the other.
+ghost use Rattle.std.specs.Prelude.{◌≡◌, ◌↔◌, replicate, ◌+◌, ◌≤◌, ◌<◌, All, IfOk, IfSome, Err, vec_len, vec_capacity};
+ghost use Rattle.lc_frame.specs.Frame.{IsValid};
+ghost use Rattle.lc_ring.specs.Ring.{IsNoCapacity};
+ghost use Rattle.lc_peer.specs.Config as configs;
+ghost use Rattle.lc_peer.specs.Calls.{next, without_next};
+ghost use Rattle.lc_world.specs.State.{size};
+ghost use Rattle.lc_world.specs.Calls.{IsNewEnd, with_next};
+
+use lc_frame::StreamDecoder;
+use lc_peer::{Config, Peer, PeerFault};
+use lc_ring::NewFault;
+use std::alloc::Global;
+
+#[derive(Drop)]
+pub(crate) struct Endpoint {
+    pub peer: Peer,
+    /// The bytes of all frames that the peer put.
+    pub stream: Vec<u8>,
+    /// How many of them were delivered to the other end.
+    pub delivered: usize,
+    /// What was delivered of the other end's next frame.
+    pub decoder: StreamDecoder,
+}
+
+// All rings have one capacity, and a frame goes out at once.
+fn new_peer(alloc: Global, capacity: u32) -> Result<Peer, NewFault>
+    ensures capacity { (result ≡ Err NewFault.BadCapacity) ↔ IsNoCapacity capacity }
+    ensures value { IfOk result (λ peer. peer ≡ configs.new_peer (record { capacities = replicate 7 capacity; slots = 1 })) }
+{
+    let config = Config {
+        capacities: [capacity; 7],
+        slots: 1,
+    };
+    match Peer::new(alloc, config) {
+        Ok(peer) => Ok(peer),
+        Err(PeerFault::BadCapacity { .. }) => Err(NewFault::BadCapacity),
+        Err(PeerFault::BadSlots) => unreachable!(),
+        Err(PeerFault::OutOfMemory) => Err(NewFault::OutOfMemory),
+    }
+}
+
+impl Endpoint {
+    /// An end at which nothing has happened. The memory of its rings and of its decoder is taken
+    /// here.
+    pub(crate) fn new(alloc: Global, capacity: u32) -> Result<Endpoint, NewFault>
+        ensures capacity { (result ≡ Err NewFault.BadCapacity) ↔ IsNoCapacity capacity }
+        ensures value { IfOk result (IsNewEnd capacity) }
+    {
+        let peer = new_peer(alloc, capacity)?;
+        let Ok(decoder) = StreamDecoder::new(alloc) else {
+            return Err(NewFault::OutOfMemory);
+        };
+        Ok(Endpoint {
+            peer,
+            stream: Vec::new(alloc),
+            delivered: 0,
+            decoder,
+        })
+    }
+}
+
+/// The frame that waits, if there is one, goes to the stream, where there is room for it.
+pub(crate) fn go_out(peer: &mut Peer, stream: &mut Vec<u8>)
+    requires { IfSome (next peer.old) (λ f. IsValid f → vec_len stream.old + size f ≤ vec_capacity stream.old) }
+    ensures peer { peer.new ≡ without_next peer.old }
+    ensures stream { stream.new.items ≡ with_next (next peer.old) stream.old.items }
+    ensures valid { IfSome (next peer.old) IsValid }
+    ensures bytes { All (λ b. b < 256) stream.new.items }
+{
+    match peer.next_out() {
+        Some(frame) => {
+            if frame.encode_into(stream).is_err() {
+                unreachable!();
+            }
+        }
+        None => {}
+    }
+    let _bytes = stream.as_slice();
+}
