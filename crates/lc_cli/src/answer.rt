@@ -1,0 +1,56 @@
+//! The line of each answer.
+use crate::output::write_hex;
+use lc_world::{Answer, Refusal};
+use std::io;
+use std::io::Write;
+
+/// Writes the answer's line, with its line feed. Takes no memory.
+pub fn write_answer<W: Write>(answer: &Answer, out: &mut W) -> io::Result<()> {
+    match answer {
+        Answer::Accepted => out.write_all(b"ok\n"),
+        Answer::Absolved(amount) => writeln!(out, "absolved {amount}"),
+        Answer::NothingToAbsolve => out.write_all(b"nothing to absolve\n"),
+        Answer::Arrived => out.write_all(b"arrived\n"),
+        Answer::Delivered { bytes, frames } => {
+            writeln!(out, "delivered {bytes} bytes {frames} frames")
+        }
+        Answer::NothingInFlight => out.write_all(b"nothing in flight\n"),
+        Answer::Violated(violation) => {
+            let number = violation.number();
+            writeln!(out, "violation V{number}")
+        }
+        Answer::Took(body) => {
+            out.write_all(b"took ")?;
+            write_hex(body.as_slice(), out)?;
+            out.write_all(b"\n")
+        }
+        Answer::Empty => out.write_all(b"empty\n"),
+        Answer::Ended => out.write_all(b"ended\n"),
+        Answer::Refused(refusal) => write_refusal(*refusal, out),
+    }
+}
+
+// A refusal that was judged against a number shows it.
+fn write_refusal<W: Write>(refusal: Refusal, out: &mut W) -> io::Result<()> {
+    let number = refusal.number();
+    match refusal {
+        Refusal::PastSendLimit { left }
+        | Refusal::LimitRaised { left }
+        | Refusal::PastReceiveLimit { left } => writeln!(out, "refused {number} left {left}"),
+        Refusal::NoGuarantee { held } | Refusal::NotHeld { held } => {
+            writeln!(out, "refused {number} held {held}")
+        }
+        Refusal::NoRoom { room } => writeln!(out, "refused {number} room {room}"),
+        Refusal::NothingToAsk { outstanding } => {
+            writeln!(out, "refused {number} outstanding {outstanding}")
+        }
+        Refusal::BufferTooSmall { need } => writeln!(out, "refused {number} need {need}"),
+        Refusal::EmptyBody
+        | Refusal::BodyTooLong
+        | Refusal::ZeroAmount
+        | Refusal::BoundTooLarge
+        | Refusal::TotalReached
+        | Refusal::QueueFull
+        | Refusal::OutOfMemory => writeln!(out, "refused {number}"),
+    }
+}

@@ -1,0 +1,19 @@
+//! What the program `lcmux` does, over readers, writers and arguments: it replays scripts of events
+//! between two peers, and prints the frames of a stream.
+#![tactic(auto)]
+
+mod answer;
+mod command;
+mod fault;
+mod input;
+mod listing;
+mod number;
+mod output;
+mod replaying;
+mod script;
+
+pub use answer::write_answer;
+pub use command::run;
+pub use input::MAX_INPUT;
+pub use listing::frames;
+pub use replaying::replay;

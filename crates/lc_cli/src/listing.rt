@@ -1,0 +1,146 @@
+//! `lcmux frames`: the frames of a stream, one a line.
+ghost use Rattle.std.specs.Prelude.{◌≡◌, ◌<◌, ◌≤◌, ◌+◌, OnOk, IfOk, length};
+ghost use Rattle.lc_frame.specs.Decoded.{IsOpen};
+
+use crate::fault::{Fault, Status};
+use crate::input::{MAX_INPUT, PIECE};
+use crate::output::write_hex;
+use lc_frame::{FrameFault, FrameRef, StreamDecoder};
+use std::alloc::{AllocError, Global};
+use std::io;
+use std::io::{BufWriter, Read, Write};
+
+/// Prints the frames of the stream that the input holds to `out`, up to the first fault, whose line
+/// goes to `err`, and answers the exit status. One frame and one piece of the input are held at a
+/// time, and each frame's line is written out before a read that may wait.
+pub fn frames<R: Read, W: Write, E: Write>(
+    alloc: Global,
+    input: &mut R,
+    out: &mut W,
+    err: &mut E,
+) -> u8 {
+    match print_frames(alloc, input, out) {
+        Ok(()) => Status::Done.code(),
+        Err(fault) => fault.report(err),
+    }
+}
+
+fn print_frames<R: Read, W: Write>(alloc: Global, input: &mut R, out: &mut W) -> Result<(), Fault> {
+    let mut listing = Listing::new(alloc)?;
+    let mut buffered = BufWriter::new(alloc, out).map_err(|_| Fault::OutOfMemory)?;
+    // The frames before a fault are printed, so a failed write is met first.
+    let printed = match listing.read(input, &mut buffered) {
+        Err(Fault::WriteFailed) => Err(Fault::WriteFailed),
+        read => buffered.flush().map_err(|_| Fault::WriteFailed).and(read),
+    };
+    // A writer that is dropped would try once more to write what a failed write left.
+    let _ = buffered.into_parts();
+    printed
+}
+
+// Writes the frame's line, with its line feed. Takes no memory.
+fn write_frame<W: Write>(frame: &FrameRef<'_>, out: &mut W) -> io::Result<()> {
+    let number = frame.channel().number();
+    match frame {
+        FrameRef::Send { body, .. } => {
+            write!(out, "send {number} ")?;
+            write_hex(body, out)?;
+            out.write_all(b"\n")
+        }
+        FrameRef::Issue { amount, .. } => writeln!(out, "issue {number} {amount}"),
+        FrameRef::Absolve { amount, .. } => writeln!(out, "absolve {number} {amount}"),
+        FrameRef::Plead { target, .. } => writeln!(out, "plead {number} {target}"),
+        FrameRef::LimitSending { bound, .. } => writeln!(out, "limit-sending {number} {bound}"),
+        FrameRef::LimitReceiving { bound, .. } => writeln!(out, "limit-receiving {number} {bound}"),
+    }
+}
+
+// How far a stream has been read.
+#[derive(Drop)]
+struct Listing {
+    decoder: StreamDecoder,
+    // The bytes that the decoder took.
+    position: usize,
+    // The place of the first byte of the frame at hand.
+    frame_start: usize,
+}
+
+impl Listing {
+    fn new(alloc: Global) -> Result<Listing, AllocError>
+        ensures start { IfOk result (λ listing. listing.position ≡ 0) }
+        ensures open { IfOk result (λ listing. IsOpen listing.decoder.bytes) }
+    {
+        Ok(Listing {
+            decoder: StreamDecoder::new(alloc)?,
+            position: 0,
+            frame_start: 0,
+        })
+    }
+
+    // Reads to the end of the input or to a fault, and prints each frame that comes to stand. A
+    // read may wait, so what was printed is written out before each.
+    fn read<R: Read, W: Write>(&mut self, input: &mut R, out: &mut W) -> Result<(), Fault>
+        requires start { self.old.position ≤ MAX_INPUT }
+        requires open { IsOpen self.old.decoder.bytes }
+    {
+        let mut piece = [0u8; PIECE];
+        loop {
+            out.flush().map_err(|_| Fault::WriteFailed)?;
+            let count = input.read(&mut piece).map_err(|_| Fault::ReadFailed)?;
+            if count == 0 {
+                return self.decoder.end().map_err(|fault| self.fault(fault));
+            }
+            let within = count.min(MAX_INPUT - self.position);
+            self.feed(&piece[..within], out)?;
+            if within < count {
+                return Err(Fault::InputTooLong);
+            }
+        }
+    }
+
+    // Feeds the piece to the decoder, and prints each frame that comes to stand.
+    fn feed<W: Write>(&mut self, piece: &[u8], out: &mut W) -> Result<(), Fault>
+        requires within { self.old.position + length piece.now ≤ MAX_INPUT }
+        requires open { IsOpen self.old.decoder.bytes }
+        ensures all { OnOk result (self.new.position ≡ self.old.position + length piece.now) }
+        ensures open { OnOk result (IsOpen self.new.decoder.bytes) }
+    {
+        let mut rest = piece;
+        while !rest.is_empty() {
+            let taken = self.step(rest, out)?;
+            rest = &rest[taken..];
+        }
+        Ok(())
+    }
+
+    // Feeds the piece up to the end of a frame, prints the frame, and answers how many bytes that
+    // took.
+    fn step<W: Write>(&mut self, piece: &[u8], out: &mut W) -> Result<usize, Fault>
+        requires within { self.old.position + length piece.now ≤ MAX_INPUT }
+        requires open { IsOpen self.old.decoder.bytes }
+        ensures count { IfOk result (λ n. n ≤ length piece.now) }
+        ensures progress { IfOk result (λ n. 0 < length piece.now → 0 < n) }
+        ensures position { IfOk result (λ n. self.new.position ≡ self.old.position + n) }
+        ensures open { OnOk result (IsOpen self.new.decoder.bytes) }
+    {
+        let taken = self.decoder.feed(piece);
+        self.position += taken;
+        if let Some(fault) = self.decoder.fault() {
+            return Err(self.fault(fault));
+        }
+        if let Some(frame) = self.decoder.frame() {
+            write_frame(&frame, out).map_err(|_| Fault::WriteFailed)?;
+            self.frame_start = self.position;
+        }
+        self.decoder.clear();
+        Ok(taken)
+    }
+
+    // The fault in the frame at hand.
+    fn fault(&self, fault: FrameFault) -> Fault {
+        Fault::BadFrame {
+            number: fault.number(),
+            offset: self.frame_start,
+        }
+    }
+}

@@ -1,0 +1,79 @@
+//! `lcmux replay`: a script of events between two peers, and the answer to each.
+ghost use Rattle.std.specs.Prelude.{◌≡◌, ◌<◌, ◌↔◌, ◌⊎◌, Err, IfErr};
+ghost use Rattle.lc_cli.specs.Fault.{status_of};
+
+use crate::answer::write_answer;
+use crate::fault::{Fault, Status};
+use crate::input::read_all;
+use crate::script::parse_script;
+use lc_frame::MAX_AMOUNT;
+use lc_world::{Answer, Event, NewFault, run};
+use std::alloc::Global;
+use std::io;
+use std::io::{BufWriter, Read, Write};
+
+/// Replays the script that the input holds between two new peers, whose receiving rings have
+/// `capacity` bytes each. The answers go to `out`, a fault's line to `err`, and the exit status is
+/// answered. The whole script is read and checked before the first event.
+pub fn replay<R: Read, W: Write, E: Write>(
+    alloc: Global,
+    capacity: u32,
+    input: &mut R,
+    out: &mut W,
+    err: &mut E,
+) -> u8
+    ensures bad_input_prints_nothing { result ≡ 2 → out.new ≡ out.old }
+    ensures capacity { (capacity ≡ 0) ⊎ (MAX_AMOUNT < capacity) → (result ≡ 2) × (input.new ≡ input.old) }
+{
+    match try_replay(alloc, capacity, input, out) {
+        Ok(()) => Status::Done.code(),
+        Err(fault) => fault.report(err),
+    }
+}
+
+fn try_replay<R: Read, W: Write>(
+    alloc: Global,
+    capacity: u32,
+    input: &mut R,
+    out: &mut W,
+) -> Result<(), Fault>
+    ensures bad { IfErr result (λ fault. status_of fault ≡ Status.Bad → out.new ≡ out.old) }
+    ensures usage { (result ≡ Err Fault.Usage) ↔ ((capacity ≡ 0) ⊎ (MAX_AMOUNT < capacity)) }
+    ensures unread { result ≡ Err Fault.Usage → input.new ≡ input.old }
+{
+    if capacity == 0 || capacity > MAX_AMOUNT {
+        return Err(Fault::Usage);
+    }
+    let events = read_events(alloc, input)?;
+    let answers = match run(alloc, capacity, events.as_slice()) {
+        Ok(answers) => answers,
+        Err(NewFault::BadCapacity) => return Err(Fault::Usage),
+        Err(NewFault::OutOfMemory) => return Err(Fault::OutOfMemory),
+    };
+    print_answers(alloc, answers.as_slice(), out)
+}
+
+// The script's bytes are given back once its events stand.
+fn read_events<R: Read>(alloc: Global, input: &mut R) -> Result<Vec<Event>, Fault>
+    ensures { ¬ (result ≡ Err Fault.Usage) }
+{
+    let script = read_all(alloc, input)?;
+    parse_script(alloc, script.as_slice())
+}
+
+fn print_answers<W: Write>(alloc: Global, answers: &[Answer], out: &mut W) -> Result<(), Fault>
+    ensures { IfErr result (λ fault. status_of fault ≡ Status.Failed) }
+{
+    let mut buffered = BufWriter::new(alloc, out).map_err(|_| Fault::OutOfMemory)?;
+    let written = write_answers(answers, &mut buffered);
+    // A writer that is dropped would try once more to write what a failed write left.
+    let _ = buffered.into_parts();
+    written.map_err(|_| Fault::WriteFailed)
+}
+
+fn write_answers<W: Write>(answers: &[Answer], out: &mut W) -> io::Result<()> {
+    for answer in answers {
+        write_answer(answer, out)?;
+    }
+    out.flush()
+}

@@ -1,0 +1,163 @@
+//! What is no line of a script, and how the first such line is named.
+use super::devices::ShortReader;
+use super::transcript::{Run, run_as_shown};
+use std::test::Fail;
+
+// Each is no line of a script.
+const BAD_LINES: &str = "C arrive
+a arrive
+b arrive
+AB arrive
+A: arrive
+0 arrive
+A
+B
+arrive
+A\x20
+A arive
+A Arrive
+A ARRIVE
+A arrived
+A finish 1
+ A arrive
+A  arrive
+A arrive\x20
+A arrive\r
+A\tarrive
+A arrive\0
+\r
+\x20
+\t
+ # no comment
+A arrive # no comment
+A arrive 1
+A arrive 0
+A take
+A take\x20
+A take 7
+A take 8
+A take 9
+A take 10
+A take 11
+A take 16
+A take 19
+A take 257
+A take 01
+A take 00
+A take +1
+A take -1
+A take -
+A take a
+A take 1 1
+A take 1\x20
+A Take 1
+A TAKE 1
+B honour
+B honour 7
+B honour 1 0
+B honor 1
+A send
+A send 1
+A send 1\x20
+A send 1 6
+A send 1 686
+A send 1 6g
+A send 1 g6
+A send 1 0x68
+A send 1 --
+A send 1 -68
+A send 1 68-
+A send 1 68 69
+A send 1 -\x20
+A send 7 68
+A send 10 68
+A send 68
+A Send 1 68
+A s\u{e9}nd 1 68
+A send 1 6\u{e9}
+B issue 1
+B issue 1\x20
+B issue 1 05
+B issue 1 00
+B issue 1 +5
+B issue 1 -5
+B issue 1 5.0
+B issue 1 1_000
+B issue 1 5\x20
+B issue 1 5 5
+B issue 1 5a
+B issue 1 0x5
+B issue 1 4294967296
+B issue 1 4294967301
+B issue 1 18446744073709551616
+B issue 7 5
+B issue 15 5
+B plead 1
+B plead 1 00
+B plead 1 4294967296
+B plead 9 1
+A absolve 1
+A absolve 1 01
+A absolve 1 4294967296
+A absolve 12 1
+A limit-sending 1
+A limit-sending 1 01
+A limit-sending 1 18446744073709551616
+A limit-sending 13 1
+A limit_sending 1 1
+A limit-receiving 1
+A limit-receiving 1 99999999999999999999999999
+A limit-receiving 1 +1
+A limit 1 1
+A deliver
+A deliver 01
+A deliver -1
+A deliver 4294967296
+A deliver 1 1
+A delivers 1";
+
+#[test]
+fn bad_lines_are_refused(rt: HostRuntime) -> Result<(), Fail> {
+    for line in BAD_LINES.split('\n') {
+        // The line before is good, and yet nothing is printed.
+        let script = format!(in rt.alloc(); "B issue 1 5\n{line}\nA arrive\n")?;
+        let mut input = ShortReader::new(script.as_bytes(), 16);
+        let run = Run::new(rt.alloc(), "lcmux replay 8", &mut input)?;
+        run.check(&rt, line, "", "lcmux: line 2: bad script line\n", "2")?;
+    }
+    Ok(())
+}
+
+// A line of bytes that are no text, and the first of several bad lines.
+const FIRST: &str = "$ lcmux replay 8
+x 41 20 ff
+! lcmux: line 1: bad script line
+= 2
+$ lcmux replay 8
+< B issue 1 5
+x 0a 23 20 63 0d 20 ff 0a
+< A arrive
+< B issue 1 x
+< B issue
+! lcmux: line 5: bad script line
+= 2
+";
+
+#[test]
+fn the_first_bad_line_is_named(rt: HostRuntime) -> Result<(), Fail> {
+    run_as_shown(&rt, rt.alloc(), FIRST)?;
+    let mut script = Vec::new(rt.alloc());
+    for number in 1..70_000u32 {
+        if [9, 10, 255, 256, 257, 300, 9_999, 65_535, 65_536, 65_537].contains(&number) {
+            // The bad line has no line feed.
+            script.push(b'x')?;
+            let mut input = ShortReader::new(script.as_slice(), 70_000);
+            let run = Run::new(rt.alloc(), "lcmux replay 8", &mut input)?;
+            let wanted = format!(in rt.alloc(); "lcmux: line {number}: bad script line\n")?;
+            run.check(&rt, "a late line", "", wanted.as_str(), "2")?;
+            script.pop();
+        }
+        script.push(b'\n')?;
+    }
+    Ok(())
+}

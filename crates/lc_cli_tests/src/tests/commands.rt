@@ -1,0 +1,131 @@
+//! Command lines: those that name a command, and the usage line for all others.
+use super::devices::ShortReader;
+use super::same;
+use super::transcript::{Run, run_as_shown};
+use lc_cli::run;
+use std::alloc::Global;
+use std::io::ErrorKind;
+use std::process::Abort;
+use std::test::Fail;
+use std::{io, str};
+
+const USAGE: &str = "lcmux: usage: lcmux replay CAPACITY, lcmux frames, lcmux loopback N\n";
+
+// Capacities at their ends.
+const COMMANDS: &str = "$ lcmux replay 1
+< B issue 0 2
+> refused 10 room 1
+= 0
+$ lcmux replay 16777216
+< B issue 0 16777217
+< B issue 0 16777216
+> refused 10 room 16777216
+> ok
+= 0
+$ lcmux replay 65537
+< B issue 0 65538
+> refused 10 room 65537
+= 0
+$ another-name frames
+x 21 00 00 00 05
+> issue 1 5
+= 0
+";
+
+const NO_COMMANDS: &str = "lcmux
+lcmux ''
+lcmux replay
+lcmux replay ''
+lcmux replay 0
+lcmux replay 00
+lcmux replay 08
+lcmux replay +8
+lcmux replay -8
+lcmux replay 8x
+lcmux replay 0x8
+lcmux replay 8.0
+lcmux replay 1_000
+lcmux replay eight
+lcmux replay 16777217
+lcmux replay 33554432
+lcmux replay 4294967295
+lcmux replay 4294967296
+lcmux replay 4294967304
+lcmux replay 18446744073709551615
+lcmux replay 18446744073709551616
+lcmux replay 18446744073709551624
+lcmux replay 99999999999999999999999999
+lcmux replay 8 2
+lcmux replay 8 ''
+lcmux Replay 8
+lcmux REPLAY 8
+lcmux repla 8
+lcmux replays 8
+lcmux '' replay 8
+lcmux 8 replay
+lcmux 8
+lcmux frames 8
+lcmux frames ''
+lcmux frames frames
+lcmux FRAMES
+lcmux Frames
+lcmux frame
+lcmux framess
+lcmux loopback
+lcmux loopback 1
+lcmux help
+lcmux --help
+lcmux -h
+lcmux --version
+replay 8
+frames";
+
+#[test]
+fn commands_are_run(rt: HostRuntime) -> Result<(), Fail> {
+    run_as_shown(&rt, rt.alloc(), COMMANDS)
+}
+
+#[test]
+fn what_names_no_command_is_answered_by_the_usage(rt: HostRuntime) -> Result<(), Fail> {
+    for command in NO_COMMANDS.split('\n') {
+        // Nothing is read.
+        let mut input = ShortReader::failing(b"B issue 1 5\n", 100, 1);
+        let run = Run::new(rt.alloc(), command, &mut input)?;
+        run.check(&rt, command, "", USAGE, "2")?;
+    }
+    Ok(())
+}
+
+// Arguments that could not be read, as the kit's `env::args` answers where one is no text.
+fn without_arguments(
+    rt: &impl Abort,
+    alloc: Global,
+    kind: ErrorKind,
+    wanted: &str,
+) -> Result<(), Fail> {
+    let mut input = ShortReader::failing(b"B issue 1 5\n", 100, 1);
+    let (mut out, mut err) = (Vec::new(alloc), Vec::new(alloc));
+    let status = run(
+        alloc,
+        Err(io::Error::from(kind)),
+        &mut input,
+        &mut out,
+        &mut err,
+    );
+    let shown = format!(in alloc; "{status} {}", str::from_utf8(err.as_slice())?)?;
+    same(rt, "no arguments", shown.as_str(), wanted);
+    same(rt, "no arguments", str::from_utf8(out.as_slice())?, "");
+    Ok(())
+}
+
+#[test]
+fn arguments_that_are_not_text_name_no_command(rt: HostRuntime) -> Result<(), Fail> {
+    let usage = format!(in rt.alloc(); "2 {USAGE}")?;
+    without_arguments(&rt, rt.alloc(), ErrorKind::InvalidData, usage.as_str())?;
+    without_arguments(
+        &rt,
+        rt.alloc(),
+        ErrorKind::OutOfMemory,
+        "1 lcmux: out of memory\n",
+    )
+}
