@@ -1,0 +1,13 @@
+use Rattle.std.proofs.Common.{length, arith, ap, vec_len}
+use Rattle.std.proofs.lemmas.List.{length-drop}
+use Rattle.lc_driver.specs.declared.outgo.Outgo.TheInside.{Inside}
+use Rattle.lc_driver.proofs.outgo.Outgo.append.Goals as goal
+use Rattle.lc_driver.proofs.outgo.Outgo.append.Goals.{then-self-len, else-self-len}
+
+pub returns-then-len-encoded_len-clause-room : goal.returns-then-len-encoded_len-clause-room
+returns-then-len-encoded_len-clause-room c = λ nothing.
+    let long = c.encoded_len.ensures.longest c.requires in
+    elim c.if-self-len.branch [
+      | then-self-len w ↦ absurd (omega (arith, long, ap (λ (inside : Inside). vec_len inside.buffer) w.self-inside-is))
+      | else-self-len w ↦ absurd (grind (arith, ap length nothing, length-drop c.self.inside.start c.self.inside.buffer.items, c.self.inside.buffer.ok.0))
+    ]

@@ -1,0 +1,30 @@
+use Rattle.std.proofs.Common.{◌∙◌, ◌<◌, sym, refl, subst, arith, take, List, ℕ}
+use Rattle.std.specs.Prelude.{All}
+use Rattle.lc_driver.specs.declared.reading.ReadEnd.{ReadEnd}
+use Rattle.lc_driver.specs.Reading.{Reads}
+use Rattle.lc_driver.proofs.Written.{count_stays}
+use Rattle.lc_driver.proofs.Arrived.{nothing_read, reads_on, reads_stop}
+use Rattle.lc_driver.proofs.reading.read_in.Goals as goal
+
+pub reads-init : goal.reads-init
+reads-init g c =
+    let none = c.in-None.is in
+    record {
+      so_far = nothing_read _ c.args.intake.now c.args.peer.now c.stop.ensures.bytes (c.stop.ensures.undecided none) (sym c.stop.ensures.value ∙ none);
+      failed = refl;
+      ended = refl;
+    }
+
+pub returns-in-Some-stop-clause-reads : goal.returns-in-Some-stop-clause-reads
+returns-in-Some-stop-clause-reads g c = λ going.
+    let at = c.reads.invariant in
+    subst (λ (end : ReadEnd). Reads (g.R.Read.remaining c.args.reader.now) (g.R.Read.remaining c.read_counted.new.self) c.args.intake.now.held c.args.peer.now c.deliver.new.self c.deliver.new.peer c.args.max_reads end) (sym c.of-in-Some-stop.ensures) (reads_stop c.args.max_reads c.deliver.new.self (take c.in-Ok.n c.read_counted.new.buf) _ c.deliver.result c.in-Some-stop.stop at.so_far c.reads-test.true c.in-Ok.ensures.bytes.0 c.split_at.ensures.front (omega (arith, c.in-Ok.ensures.bound)) c.deliver.ensures.delivers c.in-Some-stop.is c.deliver.ensures.stop)
+
+pub reads-preserved : goal.reads-preserved
+reads-preserved g c =
+    let at = c.reads.invariant in
+    record {
+      so_far = reads_on c.deliver.new.self (take c.in-Ok.n c.read_counted.new.buf) _ c.deliver.result at.so_far c.in-Ok.ensures.bytes.0 c.split_at.ensures.front (omega (arith, c.in-Ok.ensures.bound.1, c.in-Ok.n-test.1)) (omega (arith, c.in-Ok.ensures.bound)) (subst (λ (xs : List ℕ). All (λ b. b < 256) xs) c.split_at.ensures.front c.deliver.ensures.bytes) c.deliver.ensures.delivers c.in-None-stop.is c.deliver.ensures.stop;
+      failed = c.in-Ok.ensures.counts.0 ∙ at.failed;
+      ended = count_stays _ _ _ _ _ c.in-Ok.n-test.1 c.in-Ok.ensures.counts.1 ∙ at.ended;
+    }

@@ -1,0 +1,16 @@
+use Rattle.std.proofs.Common.{arith, ap, ◌∙◌, ◌++◌, List, ℕ}
+use Rattle.lc_frame.specs.FrameRef.{frame_of}
+use Rattle.lc_frame.specs.Encoding.{encoding}
+use Rattle.lc_driver.proofs.Frames.{joins, joined_none}
+use Rattle.lc_driver.proofs.writing.join_waiting.Goals as goal
+
+pub frames-preserved : goal.frames-preserved
+frames-preserved c = record {
+  joined =
+      c.if-not-append.ensures.after
+      ∙ ap (λ (x : List ℕ). x ++ encoding (frame_of c.in-Some.frame)) c.frames.invariant.joined
+      ∙ joins c.args.outgo.now.pending c.args.peer.now.waiting c.frames.place (frame_of c.in-Some.frame) c.in-Some.ensures.value;
+}
+
+pub returns-clause-none : goal.returns-clause-none
+returns-clause-none c = λ nothing. joined_none c.args.outgo.now.pending c.frames.outgo.pending c.args.peer.now.waiting c.frames.place c.frames.invariant.joined (omega (arith, c.waiting-place-end.ensures.value, c.frames-test.false)) nothing

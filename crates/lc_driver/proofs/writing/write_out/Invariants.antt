@@ -1,0 +1,14 @@
+use Rattle.std.proofs.Common.{◌≡◌, ◌+◌, ◌*◌, ◌≤◌, length}
+use Rattle.lc_driver.specs.Writing.{Writes, text}
+use Rattle.lc_driver.proofs.writing.write_out.Given as goal
+
+abbrev pub invariant-batches : goal.invariant-batches
+invariant-batches g l = record {
+  small : l.written + length (text l.outgo.pending l.peer.waiting) ≤ 65538 * 65537;
+  writes : Writes (g.W.Write.contents l.initial.writer) (g.W.Write.contents l.writer) l.initial.outgo.pending l.initial.peer l.outgo.pending l.peer l.written;
+  failed : g.W.Failures.failed l.writer ≡ g.W.Failures.failed l.initial.writer;
+  ended : g.W.Failures.ended l.writer ≡ g.W.Failures.ended l.initial.writer;
+}
+
+abbrev pub decreases-batches : goal.decreases-batches
+decreases-batches g l = length (text l.outgo.pending l.peer.waiting)

@@ -1,0 +1,5 @@
+pub mod Counts
+pub mod Outgo
+pub mod Writing
+pub mod Intake
+pub mod Reading

@@ -1,0 +1,61 @@
+-- What reading does: which frames arrive, what is held, and how it ends. These rules are this project's own.
+use Rattle.std.specs.Prelude.{◌≡◌, ℕ, ◌*◌, ◌≤◌, List, [], ◌++◌, length, Option, Some, None}
+use Rattle.std.specs.Io.KnownBytes.{Consumes}
+use Rattle.lc_frame.specs.Encoding.{FaultStands}
+use Rattle.lc_frame.specs.Decoded.{IsOpen}
+use Rattle.lc_frame.specs.StreamDecoder.{IsPart}
+use Rattle.lc_frame.specs.Splits.{frames_of, rest_of}
+use Rattle.lc_peer.specs.declared.delivery.Stop.{Stop}
+use Rattle.lc_peer.specs.declared.delivery.Stop.TheVariants as stops
+use Rattle.lc_peer.specs.Peer.{PeerState}
+use Rattle.lc_peer.specs.Arrivals.{Arrival, arrivals}
+use Rattle.lc_driver.specs.declared.reading.ReadEnd.{ReadEnd}
+use Rattle.lc_driver.specs.declared.reading.ReadEnd.TheVariants.{Clean, Truncated, Fault, Violated, ReadFailed, TurnsSpent}
+use Rattle.lc_driver.specs.Counts.{count_up}
+use Rattle.lc_driver.specs.Intake.{IntakeState}
+
+-- the bytes asked for per read
+abbrev pub max_read : ℕ
+max_read = 512
+
+-- the answer where the stream was given up
+abbrev pub end_of : Stop → ReadEnd
+end_of (stops.Fault fault) = Fault fault
+end_of (stops.Violated violation) = Violated violation
+
+-- an answer that is kept for good
+abbrev pub stop_of : ReadEnd → Option Stop
+stop_of (Fault fault) = Some (stops.Fault fault)
+stop_of (Violated violation) = Some (stops.Violated violation)
+stop_of end = None
+
+-- every frame arrived, and the rest, which may be part of one, is held
+pub record GoesOn (came : Arrival) (rest held : List ℕ) : Type 0 where
+  pub lawful : came.violation ≡ None
+  pub all : held ≡ rest
+  pub undecided : IsOpen held
+
+-- why a call of so many reads at most ended, which read so many bytes: what came of the frames, and what follows them
+abbrev pub EndsBy : ReadEnd → Arrival → List ℕ → List ℕ → ℕ → ℕ → Type 0
+EndsBy Clean came rest held read max_reads = GoesOn came rest held × (rest ≡ [])
+EndsBy Truncated came rest held read max_reads = GoesOn came rest held × IsPart rest
+EndsBy (Fault fault) came rest held read max_reads = (came.violation ≡ None) × FaultStands fault rest
+EndsBy (Violated violation) came rest held read max_reads = came.violation ≡ Some violation
+EndsBy ReadFailed came rest held read max_reads = GoesOn came rest held
+EndsBy TurnsSpent came rest held read max_reads = GoesOn came rest held × (max_reads ≤ read)
+
+-- the frames of what was held and of what was read arrive, in order, up to the first fault or violation, however the reads were cut
+pub record Reads (before after : Option (List ℕ)) (held : List ℕ) (old : PeerState) (intake : IntakeState) (new : PeerState) (max_reads : ℕ) (end : ReadEnd) : Type 0 where
+  pub read : List ℕ
+  pub consumed : Consumes before after read
+  pub few : length read ≤ max_read * max_reads
+  pub peer : new ≡ (arrivals old (frames_of (held ++ read))).peer
+  pub ends : EndsBy end (arrivals old (frames_of (held ++ read))) (rest_of (held ++ read)) intake.held (length read) max_reads
+  pub kept : intake.stop ≡ stop_of end
+
+-- the reader's own counts name what it did: one read failed, or one gave nothing; else no read did
+abbrev pub CountsReads : ReadEnd → ℕ → ℕ → ℕ → ℕ → Type 0
+CountsReads Clean failed failed' ended ended' = (failed' ≡ failed) × (ended' ≡ count_up ended)
+CountsReads Truncated failed failed' ended ended' = (failed' ≡ failed) × (ended' ≡ count_up ended)
+CountsReads ReadFailed failed failed' ended ended' = (failed' ≡ count_up failed) × (ended' ≡ ended)
+CountsReads end failed failed' ended ended' = (failed' ≡ failed) × (ended' ≡ ended)

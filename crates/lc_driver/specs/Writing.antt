@@ -1,0 +1,63 @@
+-- What writing does: which bytes the writer takes, and which frames leave the peer. These rules are this project's own.
+use Rattle.std.specs.Prelude.{◌≡◌, ℕ, ◌+◌, ◌<◌, ◌≤◌, List, ◌++◌, length, take, drop, Option, Result, Ok, Err}
+use Rattle.std.specs.List.{flat_map}
+use Rattle.std.specs.Io.KnownBytes.{Appends}
+use Rattle.lc_frame.specs.declared.frame.Frame.{Frame}
+use Rattle.lc_frame.specs.Encoding.{encoding}
+use Rattle.lc_peer.specs.Peer.{PeerState}
+use Rattle.lc_driver.specs.declared.writing.WriteFault.{WriteFault}
+use Rattle.lc_driver.specs.declared.writing.WriteFault.TheVariants.{Failed, Zero}
+use Rattle.lc_driver.specs.Counts.{count_up}
+
+-- the bytes that are pending, then those of the frames that wait
+abbrev pub text : List ℕ → List Frame → List ℕ
+text pending waiting = pending ++ flat_map encoding waiting
+
+-- the peer when so many of the frames that waited left
+abbrev pub without : ℕ → PeerState → PeerState
+without n p = record p { waiting = drop n p.waiting }
+
+-- the writer's bytes grew by the first so many of the text, and the rest of it is what is pending and what waits now
+pub record Writes (before after : Option (List ℕ)) (old_pending : List ℕ) (old : PeerState) (new_pending : List ℕ) (new : PeerState) (written : ℕ) : Type 0 where
+  pub taken : List ℕ
+  pub count : written ≡ length taken
+  pub grown : Appends before after taken
+  pub rest : text old_pending old.waiting ≡ taken ++ text new_pending new.waiting
+  -- so many frames left the peer, which is else as it was
+  pub gone : ℕ
+  pub peer : new ≡ without gone old
+  -- of each of them the first byte was taken
+  pub begun : (k : ℕ) → k < gone → length (text old_pending (take k old.waiting)) < written
+
+-- how many bytes were written in a call
+abbrev pub fault_written : WriteFault → ℕ
+fault_written (Failed n) = n
+fault_written (Zero n) = n
+
+abbrev pub written_in : Result ℕ WriteFault → ℕ
+written_in (Ok n) = n
+written_in (Err fault) = fault_written fault
+
+-- the fault of a call that wrote so many bytes before
+abbrev pub fault_after : WriteFault → ℕ → WriteFault
+fault_after (Failed n) before = Failed (before + n)
+fault_after (Zero n) before = Zero (before + n)
+
+-- the writer's own counts name the fault: one call failed, or one took nothing; else no call did
+abbrev pub CountsWrites : Result ℕ WriteFault → ℕ → ℕ → ℕ → ℕ → Type 0
+CountsWrites (Ok n) failed failed' ended ended' = (failed' ≡ failed) × (ended' ≡ ended)
+CountsWrites (Err (Failed n)) failed failed' ended ended' = (failed' ≡ count_up failed) × (ended' ≡ ended)
+CountsWrites (Err (Zero n)) failed failed' ended ended' = (failed' ≡ failed) × (ended' ≡ count_up ended)
+
+-- behind the first so many bytes stand those of the first frames that wait
+pub record IsAhead (begun : ℕ) (bytes : List ℕ) (waiting : List Frame) : Type 0 where
+  pub within : begun ≤ length bytes
+  pub joined : ℕ
+  pub is : drop begun bytes ≡ flat_map encoding (take joined waiting)
+
+-- the writer took some of these bytes: the frames whose first byte is among them left the peer, the last of which ends where it is said
+pub record LetsGo (bytes : List ℕ) (begun taken end : ℕ) (old new : PeerState) : Type 0 where
+  pub rest : take begun bytes ++ flat_map encoding old.waiting ≡ take end bytes ++ flat_map encoding new.waiting
+  pub gone : ℕ
+  pub peer : new ≡ without gone old
+  pub first : (k : ℕ) → k < gone → begun + length (flat_map encoding (take k old.waiting)) < taken

@@ -1,0 +1,88 @@
+//! The bytes of frames on their way out.
+ghost use Rattle.std.specs.Prelude.{◌≡◌, ◌≤◌, [], ◌++◌, length, take, drop, IsTrue, if◌then◌else◌, IfOk};
+ghost use Rattle.lc_frame.specs.Kind.{max_frame};
+ghost use Rattle.lc_frame.specs.Frame.{IsValid};
+ghost use Rattle.lc_frame.specs.FrameRef.{frame_of};
+ghost use Rattle.lc_frame.specs.Encoding.{encoding};
+
+use lc_frame::{FrameRef, MAX_FRAME};
+use std::alloc::{AllocError, Global};
+use std::marker::Model;
+
+/// What is left of the frame that a writer began to take. Contracts see it as the pending bytes.
+#[derive(Debug, Drop)]
+pub struct Outgo {
+    buffer: Vec<u8>,
+    start: usize,
+}
+
+impl Model for Outgo {
+    ghost use Rattle.std.specs.Prelude.{drop, vec_len, vec_capacity};
+    ghost use Rattle.lc_driver.specs.Outgo.{OutgoState, IsKept};
+
+    ghost Value = { OutgoState };
+
+    ghost view = { λ outgo. record { pending = drop outgo.start outgo.buffer.items } };
+
+    ghost invariant = { λ outgo. IsKept (vec_len outgo.buffer) (vec_capacity outgo.buffer) outgo.start };
+}
+
+impl Outgo {
+    /// Nothing is pending. It takes the memory for `MAX_FRAME` bytes here and none later; the error
+    /// is want of it.
+    pub fn new(alloc: Global) -> Result<Outgo, AllocError>
+        ensures { IfOk result (λ outgo. outgo.pending ≡ []) }
+    {
+        Ok(Outgo {
+            buffer: Vec::with_capacity(alloc, MAX_FRAME)?,
+            start: 0,
+        })
+    }
+
+    /// How many bytes are pending.
+    pub fn pending(&self) -> usize
+        ensures value { result ≡ length self.now.pending }
+        ensures most { result ≤ max_frame }
+    {
+        self.buffer.len() - self.start
+    }
+
+    pub(crate) fn bytes(&self) -> &[u8]
+        ensures value { result.now ≡ self.now.pending }
+    {
+        self.buffer.split_at(self.start).1
+    }
+
+    // Drops the first so many bytes.
+    pub(crate) fn advance(&mut self, count: usize)
+        requires { count ≤ length self.old.pending }
+        ensures { self.new.pending ≡ drop count self.old.pending }
+    {
+        self.start += count;
+    }
+
+    // Keeps the first so many bytes alone.
+    pub(crate) fn cut_back(&mut self, count: usize)
+        requires { count ≤ length self.old.pending }
+        ensures { self.new.pending ≡ take count self.old.pending }
+    {
+        self.buffer.truncate(self.start + count);
+    }
+
+    // Puts the bytes of a frame last, where there is room for all of them. There is where nothing is pending.
+    pub(crate) fn append(&mut self, frame: FrameRef<'_>) -> bool
+        requires { IsValid (frame_of frame) }
+        ensures after { self.new.pending ≡ (if result then self.old.pending ++ encoding (frame_of frame.entry) else self.old.pending) }
+        ensures room { self.old.pending ≡ [] → IsTrue result }
+    {
+        if self.start == self.buffer.len() {
+            self.buffer.clear();
+            self.start = 0;
+        }
+        if MAX_FRAME - self.buffer.len() < frame.encoded_len() {
+            return false;
+        }
+        let _ = frame.encode_into(&mut self.buffer);
+        true
+    }
+}

@@ -1,0 +1,142 @@
+//! Writing what waits at a peer.
+ghost use Rattle.std.specs.Prelude.{◌≡◌, ℕ, ◌+◌, ◌<◌, ◌≤◌, ◌^◌, [], ◌++◌, length, take, drop, OnOk, IfOk};
+ghost use Rattle.std.specs.List.{flat_map};
+ghost use Rattle.lc_frame.specs.Encoding.{encoding};
+ghost use Rattle.lc_frame.specs.Kind.{max_frame};
+ghost use Rattle.lc_driver.specs.Writing.{Writes, CountsWrites, written_in, fault_written, fault_after, IsAhead, LetsGo, text};
+
+use crate::counted::CountedWrite;
+use crate::outgo::Outgo;
+use lc_peer::Peer;
+use thiserror::Error;
+
+/// Why not all was written, and how many bytes were.
+#[derive(Clone, Copy, Debug, PartialEq, Eq, Error)]
+pub enum WriteFault {
+    /// A write failed.
+    #[error("a write failed behind {written} bytes")]
+    Failed { written: u64 },
+    /// A write took nothing.
+    #[error("a write took nothing behind {written} bytes")]
+    Zero { written: u64 },
+}
+
+impl WriteFault {
+    // The same fault, where so many bytes were written before.
+    fn after(self, before: u64) -> WriteFault
+        requires { before + fault_written self < 2 ^ 64 }
+        ensures { result ≡ fault_after self before }
+    {
+        match self {
+            WriteFault::Failed { written } => WriteFault::Failed {
+                written: before + written,
+            },
+            WriteFault::Zero { written } => WriteFault::Zero {
+                written: before + written,
+            },
+        }
+    }
+}
+
+// Encodes frames that wait behind what is pending, as long as a whole one has room.
+fn join_waiting(peer: &Peer, outgo: &mut Outgo)
+    ensures ahead { IsAhead (length outgo.old.pending) outgo.new.pending peer.now.waiting }
+    ensures begun { take (length outgo.old.pending) outgo.new.pending ≡ outgo.old.pending }
+    ensures none { outgo.new.pending ≡ [] → peer.now.waiting ≡ [] }
+{
+    'frames: for place in 0..peer.waiting() {
+        match peer.waiting_frame(place) {
+            Some(frame) => {
+                if !outgo.append(frame) {
+                    return;
+                }
+            }
+            None => unreachable!(),
+        }
+    }
+}
+
+// The writer took so many bytes: they are no longer pending, and the frames whose first byte is
+// among them leave the peer. Answers how many bytes are left of the frame that was begun last.
+fn note_taken(peer: &mut Peer, outgo: &mut Outgo, begun: usize, taken: usize) -> usize
+    requires within { taken ≤ length outgo.old.pending }
+    requires small { length outgo.old.pending ≤ max_frame }
+    requires ahead { IsAhead begun outgo.old.pending peer.old.waiting }
+    ensures advanced { outgo.new.pending ≡ drop taken outgo.old.pending }
+    ensures ahead { IsAhead result outgo.new.pending peer.new.waiting }
+    ensures gone { LetsGo outgo.old.pending begun taken (taken + result) peer.old peer.new }
+{
+    outgo.advance(taken);
+    let mut end = begun;
+    'frames: while end < taken {
+        match peer.next_out() {
+            Some(frame) => end += frame.encoded_len(),
+            None => unreachable!(),
+        }
+    }
+    end - taken
+}
+
+// Writes all that is in Outgo: the rest of the frame that was begun, as long as is said, and
+// behind it frames that wait.
+fn write_joined<W: CountedWrite>(
+    peer: &mut Peer,
+    outgo: &mut Outgo,
+    writer: &mut W,
+    rest: usize,
+) -> Result<u64, WriteFault>
+    requires ahead { IsAhead rest outgo.old.pending peer.old.waiting }
+    ensures writes { Writes (W.contents writer.old) (W.contents writer.new) (take rest outgo.old.pending) peer.old outgo.new.pending peer.new (written_in result) }
+    ensures all { IfOk result (λ n. (outgo.new.pending ≡ []) × (n ≡ length outgo.old.pending)) }
+    ensures counts { CountsWrites result (W.failed writer.old) (W.failed writer.new) (W.ended writer.old) (W.ended writer.new) }
+{
+    let all = outgo.pending();
+    let mut begun = rest;
+    'writes: while outgo.pending() > 0 {
+        let written = (all - outgo.pending()) as u64;
+        match writer.write_counted(outgo.bytes()) {
+            Ok(0) => {
+                outgo.cut_back(begun);
+                return Err(WriteFault::Zero { written });
+            }
+            Ok(taken) => begun = note_taken(peer, outgo, begun, taken),
+            Err(_) => {
+                outgo.cut_back(begun);
+                return Err(WriteFault::Failed { written });
+            }
+        }
+    }
+    Ok(all as u64)
+}
+
+/// Writes the rest of the frame that was begun, and then all frames that wait, several in one write
+/// as far as they fit `MAX_FRAME` bytes. `Ok` carries the number of bytes that were written.
+///
+/// A frame leaves the peer when the writer takes its first byte. After a fault what is left of that
+/// frame is pending in Outgo, frames that were not begun wait in the peer, and a further call goes on
+/// with the next byte. It doesn't flush, and tries no failed write again.
+pub fn write_out<W: CountedWrite>(
+    peer: &mut Peer,
+    outgo: &mut Outgo,
+    writer: &mut W,
+) -> Result<u64, WriteFault>
+    ensures writes { Writes (W.contents writer.old) (W.contents writer.new) outgo.old.pending peer.old outgo.new.pending peer.new (written_in result) }
+    ensures all { OnOk result ((outgo.new.pending ≡ []) × (peer.new.waiting ≡ [])) }
+    ensures counts { CountsWrites result (W.failed writer.old) (W.failed writer.new) (W.ended writer.old) (W.ended writer.new) }
+{
+    // All that there is to write fits the count.
+    let _pending = outgo.pending();
+    let _waiting = peer.waiting();
+    let mut written = 0;
+    'batches: loop {
+        let rest = outgo.pending();
+        join_waiting(peer, outgo);
+        if outgo.pending() == 0 {
+            return Ok(written);
+        }
+        match write_joined(peer, outgo, writer, rest) {
+            Ok(n) => written += n,
+            Err(fault) => return Err(fault.after(written)),
+        }
+    }
+}
