@@ -1,0 +1,4 @@
+pub mod Parts
+pub mod Rule
+pub mod Passes
+pub mod Opened

@@ -1,0 +1,72 @@
+-- What contracts see of the parts of a queue: which queue each is of, and what it has done. That the seven channels of both directions are fourteen lanes of one queue is this project's own.
+use Rattle.std.specs.Prelude.{◌≡◌, ℕ, ◌^◌, ◌≤◌, ◌<◌, List, [], ◌∷◌, ◌++◌, length, map}
+use Rattle.std.specs.List.{All}
+use Rattle.atomic_table.specs.Seated.{TableId}
+use Rattle.lc_frame.specs.declared.frame.Frame.{Frame}
+use Rattle.lc_frame.specs.Stream.{of_lane}
+use Rattle.lc_queue.specs.declared.rule.JoinedLane.{JoinedLane}
+
+-- which queue a part is of
+abbrev pub QueueId : Type 0
+QueueId = TableId
+
+-- how many frames the queue has room for
+abbrev pub slots_of : QueueId → ℕ
+slots_of queue = queue.slots
+
+-- a queue has room for 1 to 65,536 frames
+abbrev pub max_slots : ℕ
+max_slots = 2 ^ 16
+
+abbrev pub IsSlots : ℕ → Type 0
+IsSlots slots = (1 ≤ slots) × (slots ≤ max_slots)
+
+-- the end of a lane: its queue, the lane's number, and what was put there, in order
+pub record End : Type 0 where
+  pub queue : QueueId
+  pub lane : ℕ
+  pub put : List Frame
+
+-- the drain: its queue, what it popped, in order, and the lanes whose ends were joined to it, the last one first
+pub record Outlet : Type 0 where
+  pub queue : QueueId
+  pub popped : List Frame
+  pub joined : List JoinedLane
+
+-- both are of one queue
+abbrev pub IsSame : QueueId → QueueId → Type 0
+IsSame a b = a ≡ b
+
+-- it is still the end of the same lane of the same queue
+abbrev pub IsSameEnd : End → End → Type 0
+IsSameEnd old new = IsSame new.queue old.queue × (new.lane ≡ old.lane)
+
+-- the end of a lane at which nothing was put, and a drain that popped nothing
+abbrev pub new_end : QueueId → ℕ → End
+new_end queue lane = record { queue = queue; lane = lane; put = [] }
+
+abbrev pub new_outlet : QueueId → Outlet
+new_outlet queue = record { queue = queue; popped = []; joined = [] }
+
+-- the ends of the lanes 0 to 13, in order
+abbrev pub new_ends : QueueId → List End
+new_ends queue = map (new_end queue) (0 ∷ 1 ∷ 2 ∷ 3 ∷ 4 ∷ 5 ∷ 6 ∷ 7 ∷ 8 ∷ 9 ∷ 10 ∷ 11 ∷ 12 ∷ 13 ∷ [])
+
+-- the lane that an end leaves behind when it is joined
+abbrev pub lane_of_end : End → JoinedLane
+lane_of_end end = record { lane = end.lane; put = end.put }
+
+-- the promise of a lane, at a moment at which these frames are queued: with what was popped until then before them, those of the lane are what was put at its end, in order
+abbrev pub KeepsLane : End → List Frame → Type 0
+KeepsLane end queued = (popped : List Frame) × (of_lane end.lane (popped ++ queued) ≡ end.put)
+
+-- at one step of the call a slot was free, or all slots were taken
+abbrev pub HadRoom : End → Type 0
+HadRoom end = (queued : List Frame) × (length queued < slots_of end.queue) × KeepsLane end queued
+
+abbrev pub WasFull : End → Type 0
+WasFull end = (queued : List Frame) × (length queued ≡ slots_of end.queue) × KeepsLane end queued
+
+-- of the lanes that were joined, all that was put is popped
+abbrev pub AllPopped : Outlet → Type 0
+AllPopped drain = All (λ l. of_lane l.lane drain.popped ≡ l.put) drain.joined

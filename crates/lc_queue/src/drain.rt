@@ -1,0 +1,63 @@
+//! Where the frames of all lanes are popped.
+ghost use Rattle.std.specs.Prelude.{◌≡◌, [], ◌∷◌, ◌++◌, MatchOption, IfSome, IfNone};
+ghost use Rattle.lc_frame.specs.Frame.{IsValid};
+ghost use Rattle.lc_queue.specs.Parts.{IsSame, AllPopped, lane_of_end};
+
+use crate::lane_end::LaneEnd;
+use crate::rule::{EndOfLane, Pop, Queue, View};
+use crossbeam_queue::Pass;
+use lc_frame::Frame;
+use std::alloc::Global;
+use std::marker::Model;
+use std::sync::{Arc, Wait};
+
+/// Where the frames of all lanes are popped. Contracts see which queue it is of, all that it
+/// popped, and what was put in the lanes that ended.
+#[derive(Drop)]
+pub struct Drain {
+    pub(crate) queue: Arc<Queue, Global>,
+    pub(crate) pass: Pass<Frame, View>,
+}
+
+impl Model for Drain {
+    ghost use Rattle.std.specs.Prelude.{◌≡◌};
+    ghost use Rattle.std.specs.Arc.{arc_value};
+    ghost use Rattle.crossbeam_queue.specs.Passes.{view as pass_view, IsPassOf};
+    ghost use Rattle.lc_queue.specs.declared.rule.View.TheVariants.{Drain};
+    ghost use Rattle.lc_queue.specs.Passes.{popped_of, joined_of};
+    ghost use Rattle.lc_queue.specs.Parts.{Outlet};
+
+    ghost Value = { Outlet };
+
+    ghost view = { λ d. record { queue = d.pass.table_id; popped = popped_of (pass_view d.pass); joined = joined_of (pass_view d.pass) } };
+
+    ghost invariant = { λ d. IsPassOf (arc_value d.queue) d.pass × (pass_view d.pass ≡ Drain d.pass.table_id.slots 14 (popped_of (pass_view d.pass)) (joined_of (pass_view d.pass))) };
+}
+
+impl Drain {
+    /// Takes the frame that has been queued longest; it is valid. `None` comes only where the queue
+    /// was empty at a step of the call, so that all which was put in the lanes that ended was
+    /// popped. It does not try again.
+    pub fn pop<R: Wait>(&mut self, rt: &R) -> Option<Frame>
+        ensures same { IsSame self.new.queue self.old.queue }
+        ensures after { MatchOption result (self.new ≡ self.old) (λ frame. self.new ≡ record self.old { popped = self.old.popped ++ frame ∷ [] }) }
+        ensures valid { IfSome result (λ frame. IsValid frame) }
+        ensures empty { IfNone result (AllPopped self.old) }
+    {
+        self.queue.pop_as::<Pop, R>(rt, &mut self.pass)
+    }
+
+    /// Ends a lane of the same queue. What its end has put and is still queued will be popped.
+    pub fn join(&mut self, end: LaneEnd)
+        requires one { IsSame self.old.queue end.queue }
+        ensures same { IsSame self.new.queue self.old.queue }
+        ensures after { self.new ≡ record self.old { joined = lane_of_end end ∷ self.old.joined } }
+    {
+        let LaneEnd {
+            queue: _,
+            pass,
+            lane: _,
+        } = end;
+        self.queue.absorb::<EndOfLane>(&mut self.pass, pass);
+    }
+}

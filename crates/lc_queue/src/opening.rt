@@ -1,0 +1,120 @@
+//! How a queue is made.
+ghost use Rattle.std.specs.Prelude.{◌≡◌, ◌+◌, ◌<◌, ◌≤◌, ◌↔◌, [], IfOk};
+ghost use Rattle.std.specs.List.{All};
+ghost use Rattle.lc_queue.specs.declared.fault.LanesFault.TheVariants.{BadSlots};
+ghost use Rattle.lc_queue.specs.Parts.{IsSame, IsSlots, slots_of, new_end, new_ends, new_outlet};
+
+use crate::drain::Drain;
+use crate::fault::LanesFault;
+use crate::lane_end::LaneEnd;
+use crate::parts::Lanes;
+use crate::rule::{FirstLane, NextLane, Queue, Told, View};
+use crossbeam_queue::Pass;
+use lc_frame::Frame;
+use std::alloc::{AllocError, Global};
+use std::marker::{Brand, Model};
+use std::sync::Arc;
+
+/// The most slots of a queue.
+pub const MAX_SLOTS: u32 = 65_536;
+
+// A queue that has no ends for the lanes from `next` on.
+#[derive(Drop)]
+struct Opening {
+    queue: Arc<Queue, Global>,
+    pass: Pass<Frame, View>,
+}
+
+impl Model for Opening {
+    ghost use Rattle.std.specs.Prelude.{◌≡◌, []};
+    ghost use Rattle.std.specs.Arc.{arc_value};
+    ghost use Rattle.crossbeam_queue.specs.Passes.{view as pass_view, IsPassOf};
+    ghost use Rattle.lc_queue.specs.declared.rule.View.TheVariants.{Drain};
+    ghost use Rattle.lc_queue.specs.Passes.{next_of};
+    ghost use Rattle.lc_queue.specs.Opened.{Opened};
+
+    ghost Value = { Opened };
+
+    ghost view = { λ o. record { queue = o.pass.table_id; next = next_of (pass_view o.pass) } };
+
+    ghost invariant = { λ o. IsPassOf (arc_value o.queue) o.pass × (pass_view o.pass ≡ Drain o.pass.table_id.slots (next_of (pass_view o.pass)) [] []) };
+}
+
+impl Opening {
+    // A new queue and the end of lane 0.
+    fn new<N: Told>(alloc: Global, slots: usize) -> Result<(Opening, LaneEnd), AllocError>
+        requires some { 0 < slots }
+        requires told { N.slots ≡ slots }
+        ensures { IfOk result (λ new. (slots_of new.0.queue ≡ slots) × (new.0.next ≡ 1) × (new.1 ≡ new_end new.0.queue 0)) }
+    {
+        let (queue, mut pass) = Queue::ruled(alloc, slots)?;
+        let first = queue.another::<FirstLane<N>>(&mut pass);
+        let queue = Arc::new(alloc, queue)?;
+        let end = LaneEnd {
+            queue: Arc::try_clone(&queue)?,
+            pass: first,
+            lane: 0,
+        };
+        Ok((Opening { queue, pass }, end))
+    }
+
+    // The end of the next lane.
+    fn next_lane(&mut self, lane: u8) -> Result<LaneEnd, AllocError>
+        requires { (self.old.next ≡ lane) × (lane < 14) }
+        ensures { IfOk result (λ end. (end ≡ new_end self.old.queue lane) × (self.new ≡ record self.old { next = lane + 1 })) }
+    {
+        let queue = Arc::try_clone(&self.queue)?;
+        let pass = self.queue.another::<NextLane>(&mut self.pass);
+        Ok(LaneEnd { queue, pass, lane })
+    }
+
+    // The ends of all lanes.
+    fn ends(&mut self, first: LaneEnd) -> Result<[LaneEnd; 14], AllocError>
+        requires { (self.old.next ≡ 1) × (first ≡ new_end self.old.queue 0) }
+        ensures { IfOk result (λ ends. (ends ≡ new_ends self.old.queue) × (self.new ≡ record self.old { next = 14 })) }
+    {
+        Ok([
+            first,
+            self.next_lane(1)?,
+            self.next_lane(2)?,
+            self.next_lane(3)?,
+            self.next_lane(4)?,
+            self.next_lane(5)?,
+            self.next_lane(6)?,
+            self.next_lane(7)?,
+            self.next_lane(8)?,
+            self.next_lane(9)?,
+            self.next_lane(10)?,
+            self.next_lane(11)?,
+            self.next_lane(12)?,
+            self.next_lane(13)?,
+        ])
+    }
+
+    // The drain of a queue whose lanes all have their ends.
+    fn drain(self) -> Drain
+        requires { self.next ≡ 14 }
+        ensures { result ≡ new_outlet self.queue }
+    {
+        let Opening { queue, pass } = self;
+        Drain { queue, pass }
+    }
+}
+
+/// The fourteen lane ends and the drain of a new queue, which has room for `slots` frames, 1 to
+/// 65,536. It takes all the memory of the queue; no later call takes any.
+pub fn lanes(alloc: Global, slots: u32) -> Result<Lanes, LanesFault>
+    ensures bad { (result ≡ Err BadSlots) ↔ ¬ IsSlots slots }
+    ensures drain { IfOk result (λ parts. parts.drain ≡ new_outlet parts.drain.queue) }
+    ensures ends { IfOk result (λ parts. parts.ends ≡ new_ends parts.drain.queue) }
+    ensures one { IfOk result (λ parts. All (λ end. IsSame parts.drain.queue end.queue) parts.ends) }
+    ensures slots { IfOk result (λ parts. slots_of parts.drain.queue ≡ slots) }
+{
+    if slots < 1 || slots > MAX_SLOTS {
+        return Err(LanesFault::BadSlots);
+    }
+    let (mut opening, first) = Opening::new::<Brand>(alloc, slots as usize)?;
+    let ends = opening.ends(first)?;
+    let drain = opening.drain();
+    Ok(Lanes { ends, drain })
+}

@@ -1,0 +1,118 @@
+//! The rule of the queue, and what each step tells the pass that makes it.
+use crossbeam_queue::RuledArrayQueue;
+use crossbeam_queue::protocol::{Join, Lesson, Outcome, Protocol, Split};
+use lc_frame::Frame;
+use std::alloc::Global;
+use std::collections::LinkedList;
+use std::marker::{Brand, PhantomData};
+
+/// The queue that all parts share.
+pub type Queue = RuledArrayQueue<Frame, View, LanesKept, Global>;
+
+/// A lane whose end was joined to the drain: its number and all that was put there. No value of it
+/// is made.
+pub struct JoinedLane {
+    pub lane: u64,
+    pub put: LinkedList<Frame>,
+}
+
+/// What a pass knows. No value of it is made.
+pub enum View {
+    /// A lane's end: the queue's slots, the lane, and what was put there.
+    Lane(u64, u64, LinkedList<Frame>),
+    /// The drain: the queue's slots, the first lane that has no end yet, what was popped, and the
+    /// lanes that ended. A new queue has not been told its slots, and has no lane.
+    Drain(u64, u64, LinkedList<Frame>, LinkedList<JoinedLane>),
+    /// The end of a lane that was joined.
+    Spent,
+}
+
+/// Lane by lane, what was popped and then what is queued is what was put, and no more is queued than
+/// there are slots.
+pub struct LanesKept;
+
+impl Protocol<Frame, View> for LanesKept {
+    ghost use Rattle.lc_queue.specs.Rule.{KeepsLanes};
+    ghost use Rattle.lc_queue.specs.Passes.{new_view};
+
+    ghost holds = { KeepsLanes };
+
+    ghost first = { new_view };
+}
+
+/// How many slots a queue has, which its first two passes are told.
+pub trait Told {
+    ghost use Rattle.std.specs.Prelude.{ℕ};
+
+    ghost slots: { ℕ };
+}
+
+impl Told for Brand {
+    ghost slots = { 0 };
+}
+
+/// The pass of lane 0 is cut from that of a new queue.
+pub struct FirstLane<N: Told> {
+    told: PhantomData<N>,
+}
+
+impl<N: Told> Split<View> for FirstLane<N> {
+    ghost use Rattle.lc_queue.specs.Passes.{first_drain_cut, first_lane_cut};
+
+    ghost left = { first_drain_cut N.slots };
+
+    ghost right = { first_lane_cut N.slots };
+}
+
+/// The pass of the next lane is cut from the drain's.
+pub struct NextLane;
+
+impl Split<View> for NextLane {
+    ghost use Rattle.lc_queue.specs.Passes.{drain_cut, lane_cut};
+
+    ghost left = { drain_cut };
+
+    ghost right = { lane_cut };
+}
+
+/// A lane ends: the drain's pass takes over what its end knew.
+pub struct EndOfLane;
+
+impl Join<View> for EndOfLane {
+    ghost use Rattle.lc_queue.specs.declared.rule.View.TheVariants.{Spent};
+    ghost use Rattle.lc_queue.specs.Passes.{drain_joined};
+
+    ghost both = { drain_joined };
+
+    ghost spent = { Spent };
+}
+
+/// A push of a lane's end.
+pub struct Push;
+
+impl Outcome<Frame, View> for Push {
+    ghost use Rattle.lc_queue.specs.Passes.{Puts};
+
+    ghost then = { Puts };
+}
+
+impl Lesson<Frame, View> for Push {
+    ghost use Rattle.lc_queue.specs.Passes.{Sees};
+
+    ghost fact = { Sees };
+}
+
+/// A pop of the drain.
+pub struct Pop;
+
+impl Outcome<Frame, View> for Pop {
+    ghost use Rattle.lc_queue.specs.Passes.{Takes};
+
+    ghost then = { Takes };
+}
+
+impl Lesson<Frame, View> for Pop {
+    ghost use Rattle.lc_queue.specs.Passes.{FindsEmpty};
+
+    ghost fact = { FindsEmpty };
+}

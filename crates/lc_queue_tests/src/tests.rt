@@ -1,0 +1,143 @@
+//! Worked examples, and threads.
+ghost use Rattle.std.specs.Prelude.{IfOk};
+ghost use Rattle.std.specs.List.{All};
+ghost use Rattle.lc_queue.specs.Parts.{IsSame, IsSameEnd};
+
+use crate::keeps_order;
+use lc_frame::{Body, Channel, Frame};
+use lc_queue::{Drain, LaneEnd, Lanes, LanesFault, lanes};
+use std::alloc::Global;
+use std::process::Abort;
+use std::sync::Wait;
+use std::test::Fail;
+
+const RECONCILIATION: Channel = Channel::ReconciliationChannel;
+
+const DATA: Channel = Channel::DataChannel;
+
+fn send(alloc: Global, channel: Channel, text: &[u8]) -> Result<Frame, Fail> {
+    let mut bytes = Vec::new(alloc);
+    bytes.extend_from_slice(text)?;
+    let body = Body::from_vec(bytes);
+    Ok(Frame::Send { channel, body })
+}
+
+fn push(rt: &(impl Wait + Abort), end: &mut LaneEnd, frame: Frame) -> Result<(), Frame>
+    ensures { IsSameEnd end.old end.new }
+{
+    assert!(rt; frame.is_valid() && frame.lane() == end.lane());
+    end.push(rt, frame)
+}
+
+fn put(rt: &(impl Wait + Abort), end: &mut LaneEnd, frame: Frame)
+    ensures { IsSameEnd end.old end.new }
+{
+    assert!(rt; push(rt, end, frame).is_ok());
+}
+
+fn issue() -> Frame {
+    Frame::Issue {
+        channel: DATA,
+        amount: 5,
+    }
+}
+
+// Two slots, taken by an Issue of lane 8 and then a Send of lane 1.
+fn two_put(rt: &(impl Wait + Abort), alloc: Global) -> Result<Lanes, Fail>
+    ensures { IfOk result (λ parts. All (λ end. IsSame parts.drain.queue end.queue) parts.ends) }
+{
+    let mut parts = lanes(alloc, 2)?;
+    let hi = send(alloc, DATA, b"hi")?;
+    put(rt, &mut parts.ends[8], issue());
+    put(rt, &mut parts.ends[1], hi);
+    Ok(parts)
+}
+
+// Pops these two, and then nothing.
+fn pop_two(rt: &(impl Wait + Abort), alloc: Global, drain: &mut Drain) -> Result<(), Fail> {
+    let hi = send(alloc, DATA, b"hi")?;
+    for want in [Some(issue()), Some(hi), None] {
+        assert_eq!(rt; drain.pop(rt), want);
+    }
+    Ok(())
+}
+
+fn join_all(drain: &mut Drain, ends: [LaneEnd; 14])
+    requires { All (λ end. IsSame drain.old.queue end.queue) ends }
+{
+    for end in ends {
+        drain.join(end);
+    }
+}
+
+#[test]
+fn a_full_queue_gives_the_frame_back(rt: HostRuntime) -> Result<(), Fail> {
+    let mut parts = two_put(&rt, rt.alloc())?;
+    let back = push(
+        &rt,
+        &mut parts.ends[0],
+        send(rt.alloc(), RECONCILIATION, b"a")?,
+    );
+    assert_eq!(rt; back, Err(send(rt.alloc(), RECONCILIATION, b"a")?));
+    pop_two(&rt, rt.alloc(), &mut parts.drain)
+}
+
+#[test]
+fn what_ended_lanes_put_is_popped(rt: HostRuntime) -> Result<(), Fail> {
+    let parts = two_put(&rt, rt.alloc())?;
+    let mut drain = parts.drain;
+    join_all(&mut drain, parts.ends);
+    pop_two(&rt, rt.alloc(), &mut drain)
+}
+
+#[test]
+fn a_queue_has_its_slots(rt: HostRuntime) -> Result<(), Fail> {
+    for slots in [0, 65_537, 4_294_967_295] {
+        assert!(rt;
+            matches!(lanes(rt.alloc(), slots), Err(LanesFault::BadSlots)),
+            "{slots}"
+        );
+    }
+    for slots in [1, 65_536] {
+        let mut parts = lanes(rt.alloc(), slots)?;
+        let end = &mut parts.ends[13];
+        let mut room = 0u32;
+        for _ in 0..=slots {
+            let frame = Frame::Plead {
+                channel: Channel::StaticTokenChannel,
+                target: 0,
+            };
+            if push(&rt, end, frame).is_ok() {
+                room = room.saturating_add(1);
+            }
+        }
+        assert_eq!(rt; room, slots);
+    }
+    Ok(())
+}
+
+#[test]
+fn ends_have_their_lanes_in_order(rt: HostRuntime) -> Result<(), Fail> {
+    let mut lane = 0;
+    for end in lanes(rt.alloc(), 1)?.ends {
+        assert_eq!(rt; end.lane(), lane);
+        lane += 1;
+    }
+    Ok(())
+}
+
+#[test]
+fn faults_have_texts(rt: HostRuntime) -> Result<(), Fail> {
+    let text = format!(in rt.alloc(); "{}, {}", LanesFault::BadSlots, LanesFault::OutOfMemory)?;
+    assert_eq!(rt;
+        text.as_str(),
+        "a queue has 1 to 65536 slots, out of memory"
+    );
+    Ok(())
+}
+
+#[test]
+fn lanes_keep_their_order_in_threads(rt: HostRuntime) -> Result<(), Fail> {
+    assert!(rt; keeps_order(rt, rt.alloc(), 4, 2_000)?);
+    Ok(())
+}

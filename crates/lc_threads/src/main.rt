@@ -1,0 +1,45 @@
+//! Runs what threads share, under load: `lc_threads queue FRAMES` sends so many frames through each
+//! lane of a queue, and `lc_threads lanes SLOTS` makes a queue, and says whether there was memory.
+#![tactic(auto)]
+
+use lc_queue::{LanesFault, lanes};
+use lc_queue_tests::keeps_order;
+use std::alloc::Global;
+use std::sync::Wait;
+use std::thread::Threads;
+use std::{env, io};
+
+/// The slots through which fourteen threads push.
+const SLOTS: u32 = 4;
+
+fn run_queue<R>(rt: R, alloc: Global, frames: u32) -> &'static str
+where
+    R: Threads + Wait + Copy + Send + 'static,
+{
+    match keeps_order(rt, alloc, SLOTS, frames) {
+        Ok(true) => "each lane in order",
+        Ok(false) => "a lane lost its order",
+        Err(LanesFault::BadSlots) => "bad slots",
+        Err(LanesFault::OutOfMemory) => "out of memory",
+    }
+}
+
+fn make_lanes(alloc: Global, slots: u32) -> &'static str {
+    match lanes(alloc, slots) {
+        Ok(_) => "made",
+        Err(LanesFault::BadSlots) => "bad slots",
+        Err(LanesFault::OutOfMemory) => "out of memory",
+    }
+}
+
+fn main(rt: HostRuntime) -> io::Result<()> {
+    let mut arguments = env::args(&rt)?.skip(1);
+    let what = arguments.next().unwrap_or(String::new(rt.alloc()));
+    let count = arguments.next().and_then(|text| text.parse::<u32>().ok());
+    let count = count.unwrap_or(0);
+    match what.as_str() {
+        "queue" => println!(rt; "queue: {}", run_queue(rt, rt.alloc(), count)),
+        "lanes" => println!(rt; "lanes: {}", make_lanes(rt.alloc(), count)),
+        _ => println!(rt; "usage: lc_threads queue FRAMES, lc_threads lanes SLOTS"),
+    }
+}
