@@ -1,0 +1,5 @@
+mod Histories
+mod Steps
+mod Seats
+mod Targets
+mod Channels

@@ -1,0 +1,28 @@
+use Rattle.std.proofs.Common.{rules, ◌≡◌, ◌++◌, ◌∷◌, [], map, length, sym, ap, ◌∙◌, slice_get, IfSome, arith, append_assoc, length-append, length-set}
+use Rattle.lc_credit.specs.Sides.{IsSettled}
+use Rattle.lc_credit.specs.Channels.{credit_out}
+use Rattle.lc_credit.proofs.Channels.{credit_at, before_end, settled_push}
+use Rattle.lc_credit.proofs.balance.settle_all.Goals as goal
+
+pub settle_at-requires-clause-matched : goal.settle_at-requires-clause-matched
+settle_at-requires-clause-matched c =
+    let i = c.loop-end.invariant in
+    let whole = ap (λ r. c.loop-end.yielded ++ r) (sym c.in-Some.ensures.steps) ∙ i.rest in
+    rw (i.at, i.channels) (credit_at c.loop-end.yielded c.in-Some.end _ c.args.channels (c.requires.matched ∙ ap (map credit_out) (sym whole)))
+
+pub loop-end-preserved : goal.loop-end-preserved
+loop-end-preserved c =
+    let i = c.loop-end.invariant in
+    let whole = ap (λ r. c.loop-end.yielded ++ r) (sym c.in-Some.ensures.steps) ∙ i.rest in
+    let ends : length c.args.outgoing ≡ 7 = search rules in
+    let sides : length c.args.channels ≡ 7 = search rules in
+    let size : length c.loop-end.balances ≡ 7 = i.size in
+    let inside = before_end _ _ _ _ whole in
+    let this : IfSome (slice_get c.args.channels (length c.loop-end.yielded)) (λ x. IsSettled x c.in-Some.end c.settle_at.result) = rw (sym i.at, sym i.channels) c.settle_at.ensures.settled in
+    record {
+      at = omega (arith, i.at, length-append c.loop-end.yielded (c.in-Some.end ∷ []));
+      channels = c.settle_at.ensures.same ∙ i.channels;
+      size = length-set c.loop-end.balances c.loop-end.channel c.settle_at.result ∙ i.size;
+      settled = rw i.at (settled_push c.loop-end.yielded c.args.channels c.loop-end.balances c.in-Some.end c.settle_at.result (omega arith) (omega arith) i.settled this);
+      rest = append_assoc c.loop-end.yielded (c.in-Some.end ∷ []) _ ∙ whole;
+    }

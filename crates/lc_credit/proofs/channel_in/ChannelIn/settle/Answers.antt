@@ -1,0 +1,38 @@
+use Rattle.std.proofs.Common.{rules, arith, ap, subst, ◌∙◌}
+use Rattle.lc_credit.specs.History.{is_incoming, is_outgoing, Knows}
+use Rattle.lc_credit.specs.Sides.{amount_of}
+use Rattle.lc_credit.proofs.Histories.{held_is, received_same, used_same, returned_same}
+use Rattle.lc_credit.proofs.Seats.{may_join, may_load_last, may_split, together, last_of}
+use Rattle.lc_credit.proofs.channel_in.ChannelIn.settle.Goals as goal
+
+pub join_seat-requires : goal.join_seat-requires
+join_seat-requires c = (search rules, search rules, c.end.invariant.2.slots, search rules, may_join _ _ _ _ _ _ _ c.self.invariant.2.view c.end.invariant.2.view)
+
+pub load-held-requires : goal.load-held-requires
+load-held-requires c = (search rules, search rules, may_load_last _ _ _ _ _ (together _ _ _ _ c.join_seat.ensures.2 c.self.invariant.2 c.end.invariant.2))
+
+pub split_seat-requires : goal.split_seat-requires
+split_seat-requires c = (search rules, search rules, may_split _ _ _ _ (ap (λ m. m.0) (c.load-held.ensures.2.same ∙ together _ _ _ _ c.join_seat.ensures.2 c.self.invariant.2 c.end.invariant.2)))
+
+pub returns-clause-settled : goal.returns-clause-settled
+returns-clause-settled c =
+    let last = last_of _ _ _ _ _ _ (together _ _ _ _ c.join_seat.ensures.2 c.self.invariant.2 c.end.invariant.2) c.load-held.ensures.2 in
+    let idle = ap amount_of (ap (λ v. v.pending) c.end.view_is ∙ c.requires.idle) in
+    let sum = held_is _ _ _ _ _ last.seen last.sent last.held c.end.invariant.3.counted in
+    let counted = c.self.invariant.3.counted in
+    let counted_out = c.end.invariant.3.counted in
+    let all_received = received_same _ _ last.seen in
+    let all_used = used_same _ _ last.sent in
+    let all_returned = returned_same _ _ last.sent in
+    record {
+      received_is = search rules;
+      spent_is = search rules;
+      absolved_is = search rules;
+      adds_up = omega arith;
+      history = last.history;
+      legal = last.legal;
+      incoming_knows = subst (λ seen. Knows is_incoming seen last.history) (ap (λ v. v.seen) c.self.view_is) last.seen;
+      outgoing_knows = subst (λ seen. Knows is_outgoing seen last.history) (ap (λ v. v.seen) c.end.view_is) last.sent;
+      all_received = omega arith;
+      all_used = omega arith;
+    }

@@ -1,0 +1,37 @@
+-- The credits of all seven channels, by number. The channels are this project's own.
+use Rattle.std.specs.Prelude.{◌≡◌, ℕ, List, [], ◌∷◌, map, IfSome, slice_get, slice_set}
+use Rattle.lc_credit.specs.declared.balance.Balance.{Balance}
+use Rattle.lc_credit.specs.Sides.{CreditId, Incoming, Outgoing, new_incoming, new_outgoing, IsSettled}
+
+-- which credits they are, by channel
+abbrev pub credit_in : Incoming → CreditId
+credit_in i = i.credit
+
+abbrev pub credit_out : Outgoing → CreditId
+credit_out o = o.credit
+
+-- a call leaves both sides what they were: of these credits
+abbrev pub SameCredits : List Incoming → List Incoming → Type 0
+SameCredits old new = map credit_in new ≡ map credit_in old
+
+abbrev pub SameCredit : Outgoing → Outgoing → Type 0
+SameCredit old new = new.credit ≡ old.credit
+
+-- on each channel both sides are of one credit
+abbrev pub AreMatched : List Incoming → List Outgoing → Type 0
+AreMatched incoming outgoing = map credit_in incoming ≡ map credit_out outgoing
+
+-- nothing has happened on any channel
+pub record AreNew (incoming : List Incoming) (outgoing : List Outgoing) : Type 0 where
+  pub incoming_new : incoming ≡ map new_incoming (map credit_out outgoing)
+  pub outgoing_new : outgoing ≡ map new_outgoing (map credit_out outgoing)
+
+-- one channel changed, in this way, and no other
+abbrev pub ChangesAt : ℕ → (Incoming → Incoming → Type 0) → List Incoming → List Incoming → Type 0
+ChangesAt at Changes old new = (i : Incoming) × IfSome (slice_get old at) (λ was. Changes was i) × (new ≡ slice_set old at i)
+
+-- each channel is settled, by its number
+abbrev pub AreSettled : List Incoming → List Outgoing → List Balance → Type 0
+AreSettled incoming [] balances = Unit {0}
+AreSettled (i ∷ incoming) (o ∷ outgoing) (b ∷ balances) = IsSettled i o b × AreSettled incoming outgoing balances
+AreSettled incoming outgoing balances = ⊥

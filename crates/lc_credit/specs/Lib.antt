@@ -1,0 +1,5 @@
+pub mod History
+pub mod Rule
+pub mod Sides
+pub mod Channels
+pub mod Targets

@@ -1,0 +1,162 @@
+-- What contracts see of the two sides of one channel's credit, and what each call does to them. Sending and absolving within the guarantees received, limits on receiving and pleads are LCMUX's; the order of the violations, and that an amount is pending between its use and its frame, is this project's own.
+use Rattle.std.specs.Prelude.{◌≡◌, ◌⊎◌, ℕ, ◌+◌, ◌-◌, ◌≤◌, ◌<◌, true, false, List, [], Option, None, Some}
+use Rattle.std.specs.Option.{ForSome}
+use Rattle.atomic_table.specs.Seated.{TableId}
+use Rattle.lc_frame.specs.Kind.{max_amount, max_total}
+use Rattle.lc_book.specs.Limit.{is_past, less}
+use Rattle.lc_book.specs.declared.fault.Refusal.{Refusal}
+use Rattle.lc_book.specs.declared.fault.Refusal.TheVariants.{NoGuarantee, NotHeld}
+use Rattle.lc_book.specs.declared.fault.Violation.{Violation}
+use Rattle.lc_book.specs.declared.fault.Violation.TheVariants.{IssuedPastLimit, TooManyGuarantees, TotalPassed}
+use Rattle.lc_credit.specs.declared.history.Entry.{Entry}
+use Rattle.lc_credit.specs.declared.history.Entry.TheVariants.{Received, Used, Asked}
+use Rattle.lc_credit.specs.declared.credit_out.Use.{Use}
+use Rattle.lc_credit.specs.declared.credit_out.Use.TheVariants.{Spend, Absolve}
+use Rattle.lc_credit.specs.declared.credit_out.Pending.{Pending}
+use Rattle.lc_credit.specs.declared.balance.Balance.{Balance}
+use Rattle.lc_credit.specs.History.{received, used, returned, IsHeld, IsHistory, is_incoming, is_outgoing, Knows, Learns, Makes}
+
+-- which credit it is: no two have the same
+abbrev pub CreditId : Type 0
+CreditId = TableId
+
+-- the reading side: the history that it has seen, the sum of what it received, and what the server may still issue, None without a limit
+pub record Incoming : Type 0 where
+  pub credit : CreditId
+  pub seen : List Entry
+  pub received : ℕ
+  pub left : Option ℕ
+
+-- the sending end: the history that it has seen, the sums of what it spent and absolved, what left the word and is not counted yet, and a number that the word has at least: what the end loaded last, less what it used since, and with what it gave back
+pub record Outgoing : Type 0 where
+  pub credit : CreditId
+  pub seen : List Entry
+  pub spent : ℕ
+  pub absolved : ℕ
+  pub pending : Option Pending
+  pub least : ℕ
+
+abbrev pub new_incoming : CreditId → Incoming
+new_incoming credit = record { credit = credit; seen = []; received = 0; left = None }
+
+abbrev pub new_outgoing : CreditId → Outgoing
+new_outgoing credit = record { credit = credit; seen = []; spent = 0; absolved = 0; pending = None; least = 0 }
+
+abbrev pub amount_of : Option Pending → ℕ
+amount_of None = 0
+amount_of (Some p) = p.amount
+
+-- nothing is pending
+abbrev pub IsIdle : Outgoing → Type 0
+IsIdle o = o.pending ≡ None
+
+-- what each side counted is what its entries add up to
+pub record IsIncoming (i : Incoming) : Type 0 where
+  pub counted : i.received ≡ received i.seen
+  pub total : i.received ≤ max_total
+  pub bound : ForSome i.left (λ left. left ≤ max_total)
+
+pub record IsOutgoing (o : Outgoing) : Type 0 where
+  pub counted : used o.seen ≡ returned o.seen + (o.spent + o.absolved + amount_of o.pending)
+  pub total : o.spent + o.absolved + amount_of o.pending ≤ max_total
+
+-- the reading side loaded the word, which is no more than what it received
+pub record LoadsIn (word : ℕ) (old new : Incoming) : Type 0 where
+  pub learns : Learns is_incoming old.seen new.seen
+  pub held : IsHeld word new.seen
+  pub covered : word ≤ old.received
+  pub after : new ≡ record old { seen = new.seen }
+
+-- an amount that arrives is within the limit; the word, as it was loaded, has room for it, and so has the sum of all; it is received
+pub record IsAdded (n : ℕ) (old new : Incoming) : Type 0 where
+  pub within : is_past old.left n ≡ false
+  pub held : ℕ
+  pub between : Incoming
+  pub loads : LoadsIn held old between
+  pub room : held + n ≤ max_amount
+  pub total : old.received + n ≤ max_total
+  pub makes : Makes is_incoming between.seen (Received n) new.seen
+  pub after : new ≡ record old { seen = new.seen; received = old.received + n; left = less old.left n }
+
+-- the word, as it was loaded, has no room for the amount; and it has
+pub record HasNoRoom (n : ℕ) (old new : Incoming) : Type 0 where
+  pub held : ℕ
+  pub loads : LoadsIn held old new
+  pub over : max_amount < held + n
+
+pub record HasRoom (n : ℕ) (old new : Incoming) : Type 0 where
+  pub held : ℕ
+  pub loads : LoadsIn held old new
+  pub room : held + n ≤ max_amount
+
+-- a number is past the limit, and nothing changed
+pub record IsPastLimit (n : ℕ) (old new : Incoming) : Type 0 where
+  pub past : is_past old.left n ≡ true
+  pub after : new ≡ old
+
+-- what is wrong with an amount that arrives
+abbrev pub IsNotAdded : Violation → ℕ → Incoming → Incoming → Type 0
+IsNotAdded IssuedPastLimit n old new = IsPastLimit n old new
+IsNotAdded TooManyGuarantees n old new = (is_past old.left n ≡ false) × HasNoRoom n old new
+IsNotAdded TotalPassed n old new = (is_past old.left n ≡ false) × HasRoom n old new × (max_total < old.received + n)
+IsNotAdded v n old new = ⊥
+
+-- a limit on receiving that is no higher than what the one before it leaves
+pub record IsLimited (bound : ℕ) (old new : Incoming) : Type 0 where
+  pub within : is_past old.left bound ≡ false
+  pub after : new ≡ record old { left = Some bound }
+
+-- a target is asked
+pub record IsAsked (target : ℕ) (old new : Incoming) : Type 0 where
+  pub makes : Makes is_incoming old.seen (Asked target) new.seen
+  pub after : new ≡ record old { seen = new.seen }
+
+-- the sending end loaded the word, which has what was known of it and more
+pub record LoadsOut (word : ℕ) (old new : Outgoing) : Type 0 where
+  pub learns : Learns is_outgoing old.seen new.seen
+  pub held : IsHeld word new.seen
+  pub least : old.least ≤ word
+  pub after : new ≡ record old { seen = new.seen; least = word }
+
+-- the word, as it was loaded, had enough, and was lowered; the amount is pending
+pub record IsUsed (kind : Use) (n : ℕ) (old new : Outgoing) : Type 0 where
+  pub held : ℕ
+  pub between : Outgoing
+  pub loads : LoadsOut held old between
+  pub enough : n ≤ held
+  pub makes : Makes is_outgoing between.seen (Used n) new.seen
+  pub after : new ≡ record old { seen = new.seen; pending = Some (record { kind = kind; amount = n }); least = held - n }
+
+-- why an amount is not spent, or not absolved: the number that the refusal carries is the word as it was loaded
+abbrev pub IsNotSpent : Refusal → ℕ → Outgoing → Outgoing → Type 0
+IsNotSpent (NoGuarantee held) n old new = (held < n) × LoadsOut held old new
+IsNotSpent e n old new = ⊥
+
+abbrev pub IsNotAbsolved : Refusal → ℕ → Outgoing → Outgoing → Type 0
+IsNotAbsolved (NotHeld held) n old new = ((held < n) ⊎ (max_amount < n)) × LoadsOut held old new
+IsNotAbsolved e n old new = ⊥
+
+-- what is pending is counted
+abbrev pub counted_as : Use → ℕ → Outgoing → Outgoing
+counted_as Spend n o = record o { spent = o.spent + n; pending = None }
+counted_as Absolve n o = record o { absolved = o.absolved + n; pending = None }
+
+abbrev pub counted : Pending → Outgoing → Outgoing
+counted p o = counted_as p.kind p.amount o
+
+-- what is pending is given back
+abbrev pub given_back : Pending → List Entry → Outgoing → Outgoing
+given_back p seen o = record o { seen = seen; pending = None; least = o.least + p.amount }
+
+-- A channel is settled: what both sides counted, beside what is held, adds up; and there is one history that both sides know, of which these are the sums
+pub record IsSettled (incoming : Incoming) (outgoing : Outgoing) (b : Balance) : Type 0 where
+  pub received_is : b.received ≡ incoming.received
+  pub spent_is : b.spent ≡ outgoing.spent
+  pub absolved_is : b.absolved ≡ outgoing.absolved
+  pub adds_up : b.held + b.spent + b.absolved ≡ b.received
+  pub history : List Entry
+  pub legal : IsHistory history
+  pub incoming_knows : Knows is_incoming incoming.seen history
+  pub outgoing_knows : Knows is_outgoing outgoing.seen history
+  pub all_received : received history ≡ b.received
+  pub all_used : used history ≡ returned history + (b.spent + b.absolved)

@@ -1,0 +1,12 @@
+//! The numbers of worked sequences of calls, and eight threads at once.
+mod calls;
+mod play;
+
+use crate::balances_agree;
+use std::test::Fail;
+
+#[test]
+fn eight_threads_share_seven_credits(rt: HostRuntime) -> Result<(), Fail> {
+    assert!(rt; balances_agree(&rt, rt.alloc(), 200)?);
+    Ok(())
+}
