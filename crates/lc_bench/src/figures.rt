@@ -9,16 +9,31 @@ use std::time::Instant;
 /// How long a repetition lasts about, in nanoseconds.
 const TARGET: u64 = 20_000_000;
 
-// The nanoseconds of so many turns, at least 1.
-fn time(
-    rt: &HostRuntime,
-    walk: &mut Walk<'_>,
+/// What a figure is taken of.
+pub trait Turns {
+    /// Runs so many turns. What it reads goes into the sum.
+    fn run(&mut self, turns: u64, sum: &mut u64) -> io::Result<()>;
+}
+
+// An operation over a walk.
+#[derive(Drop)]
+struct Walking<'a, 'b> {
+    walk: &'a mut Walk<'b>,
     operation: Operation,
-    turns: u64,
-) -> io::Result<u64> {
+}
+
+impl Turns for Walking<'_, '_> {
+    fn run(&mut self, turns: u64, sum: &mut u64) -> io::Result<()> {
+        self.walk.run(self.operation, turns, sum)?;
+        Ok(())
+    }
+}
+
+// The nanoseconds of so many turns, at least 1.
+fn time<T: Turns>(rt: &HostRuntime, subject: &mut T, turns: u64) -> io::Result<u64> {
     let mut sum = 0;
     let start = Instant::now(rt)?;
-    walk.run(operation, turns, &mut sum)?;
+    subject.run(turns, &mut sum)?;
     let took = start.elapsed(rt)?;
     let seconds = took.as_secs().saturating_mul(1_000_000_000);
     Ok(
@@ -29,10 +44,10 @@ fn time(
 }
 
 // How many turns last as long as a repetition should.
-fn turns_of(rt: &HostRuntime, walk: &mut Walk<'_>, operation: Operation) -> io::Result<u64> {
+fn turns_of<T: Turns>(rt: &HostRuntime, subject: &mut T) -> io::Result<u64> {
     let mut turns = 1u64;
     for _ in 0..40u32 {
-        let took = time(rt, walk, operation, turns)?;
+        let took = time(rt, subject, turns)?;
         if took >= TARGET / 4 {
             return Ok((turns.saturating_mul(TARGET) / took.max(1)).max(1));
         }
@@ -41,17 +56,12 @@ fn turns_of(rt: &HostRuntime, walk: &mut Walk<'_>, operation: Operation) -> io::
     Ok(turns)
 }
 
-// The seconds of one turn: the middle of all repetitions.
-fn seconds(
-    rt: &HostRuntime,
-    plan: &Plan,
-    walk: &mut Walk<'_>,
-    operation: Operation,
-) -> io::Result<f64> {
-    let turns = turns_of(rt, walk, operation)?;
+/// The seconds of one turn: the middle of all repetitions.
+pub fn seconds<T: Turns>(rt: &HostRuntime, plan: &Plan, subject: &mut T) -> io::Result<f64> {
+    let turns = turns_of(rt, subject)?;
     let mut taken = Vec::new(rt.alloc());
     for _ in 0..plan.reps {
-        taken.push(time(rt, walk, operation, turns)?)?;
+        taken.push(time(rt, subject, turns)?)?;
     }
     taken.sort()?;
     let middle = taken.get(taken.len() / 2).copied().unwrap_or(1);
@@ -87,7 +97,14 @@ pub fn measure(
         walk.run(operation, turns, &mut 0)?;
         return Ok(());
     }
-    let turn = seconds(rt, plan, &mut walk, operation)?;
+    let turn = seconds(
+        rt,
+        plan,
+        &mut Walking {
+            walk: &mut walk,
+            operation,
+        },
+    )?;
     let frames = nearest_u64_to_f64(walk.frames() as u64) / turn;
     println!(rt; "{name}.frames {frames:.0} frames/s")?;
     if has_bytes {

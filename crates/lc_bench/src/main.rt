@@ -1,4 +1,4 @@
-//! How fast the codec and the stream decoder are.
+//! How fast the codec, the stream decoder and the receiving ring are.
 //!
 //! Prints a line `name value unit` for each figure, or with the argument `list` the names alone.
 //! Another argument is what the names of the figures begin with that are taken. The environment
@@ -10,11 +10,13 @@
 mod figures;
 mod operation;
 mod plan;
+mod ring;
 
 use figures::measure;
 use lc_frame::{Body, Channel, Frame, MAX_BODY};
 use operation::Operation;
 use plan::Plan;
+use ring::measure_rings;
 use std::io;
 
 /// The frames that are measured: a name, and the length of the body in bytes; an Issue has none.
@@ -50,5 +52,5 @@ fn main(rt: HostRuntime) -> io::Result<()> {
             measure(&rt, &plan, operation, name, &frame)?;
         }
     }
-    Ok(())
+    measure_rings(&rt, &plan)
 }
