@@ -120,8 +120,8 @@ fn cut_at(alloc: Global, own: &str, cut: usize, end: &str, state: &str) -> Resul
 #[test]
 fn streams_cut_anywhere(rt: HostRuntime) -> Result<(), Fail> {
     for (own, bytes, end, state) in STREAMS {
-        for cut in 1..=bytes.len() / 2 {
-            let script = cut_at(rt.alloc(), own, cut, end, state)?;
+        for before in 0..bytes.len() / 2 {
+            let script = cut_at(rt.alloc(), own, before + 1, end, state)?;
             run(&rt, rt.alloc(), bytes, script.as_str())?;
         }
     }
