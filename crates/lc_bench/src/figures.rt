@@ -4,7 +4,7 @@ use crate::plan::Plan;
 use lc_frame::Frame;
 use std::io;
 use std::num::nearest_u64_to_f64;
-use std::time::Instant;
+use std::time::{Duration, Instant};
 
 /// How long a repetition lasts about, in nanoseconds.
 const TARGET: u64 = 20_000_000;
@@ -15,32 +15,79 @@ pub trait Turns {
     fn run(&mut self, turns: u64, sum: &mut u64) -> io::Result<()>;
 }
 
-// An operation over a walk.
-#[derive(Drop)]
-struct Walking<'a, 'b> {
-    walk: &'a mut Walk<'b>,
-    operation: Operation,
+/// What a figure is called, and what a turn of it has.
+#[derive(Clone, Copy)]
+pub struct Figure<'a> {
+    pub name: &'a str,
+    /// What is counted, as `frames`.
+    pub things: &'a str,
+    /// How many of these a turn has.
+    pub count: usize,
+    /// The bytes of a turn, where their rate says something.
+    pub bytes: Option<usize>,
 }
 
-impl Turns for Walking<'_, '_> {
-    fn run(&mut self, turns: u64, sum: &mut u64) -> io::Result<()> {
-        self.walk.run(self.operation, turns, sum)?;
+impl Figure<'_> {
+    /// Prints the figure, its names, or what a turn has, as the plan says.
+    pub fn take<T: Turns>(&self, rt: &HostRuntime, plan: &Plan, subject: &mut T) -> io::Result<()> {
+        if plan.listing {
+            return self.list(rt);
+        }
+        if let Some(turns) = plan.fixed {
+            self.print_turn(rt)?;
+            return subject.run(turns, &mut 0);
+        }
+        let turn = seconds(rt, plan, subject)?;
+        self.print(rt, turn)
+    }
+
+    /// Prints the names.
+    pub fn list(&self, rt: &HostRuntime) -> io::Result<()> {
+        println!(rt; "{}.{}", self.name, self.things)?;
+        if self.bytes.is_some() {
+            println!(rt; "{}.bytes", self.name)?;
+        }
+        Ok(())
+    }
+
+    /// Prints how many things a turn has.
+    pub fn print_turn(&self, rt: &HostRuntime) -> io::Result<()> {
+        println!(rt; "{} {} per_turn", self.name, self.count)
+    }
+
+    /// Prints the figure by the seconds of a turn.
+    pub fn print(&self, rt: &HostRuntime, turn: f64) -> io::Result<()> {
+        let rate = nearest_u64_to_f64(self.count as u64) / turn;
+        println!(rt; "{}.{} {rate:.0} {}/s", self.name, self.things, self.things)?;
+        if let Some(bytes) = self.bytes {
+            let rate = nearest_u64_to_f64(bytes as u64) / 1e6 / turn;
+            println!(rt; "{}.bytes {rate:.1} MB/s", self.name)?;
+        }
         Ok(())
     }
 }
 
-// The nanoseconds of so many turns, at least 1.
+/// The nanoseconds of a duration, at least 1.
+pub fn nanoseconds(took: Duration) -> u64 {
+    let seconds = took.as_secs().saturating_mul(1_000_000_000);
+    seconds
+        .saturating_add(u64::from(took.subsec_nanos()))
+        .max(1)
+}
+
+/// The seconds of one turn, by the middle of some repetitions of so many turns in nanoseconds.
+pub fn middle(mut taken: Vec<u64>, turns: u64) -> io::Result<f64> {
+    taken.sort()?;
+    let middle = taken.get(taken.len() / 2).copied().unwrap_or(1);
+    Ok(nearest_u64_to_f64(middle) / 1e9 / nearest_u64_to_f64(turns))
+}
+
+// The nanoseconds of so many turns.
 fn time<T: Turns>(rt: &HostRuntime, subject: &mut T, turns: u64) -> io::Result<u64> {
     let mut sum = 0;
     let start = Instant::now(rt)?;
     subject.run(turns, &mut sum)?;
-    let took = start.elapsed(rt)?;
-    let seconds = took.as_secs().saturating_mul(1_000_000_000);
-    Ok(
-        seconds
-            .saturating_add(u64::from(took.subsec_nanos()))
-            .max(1),
-    )
+    Ok(nanoseconds(start.elapsed(rt)?))
 }
 
 // How many turns last as long as a repetition should.
@@ -56,19 +103,30 @@ fn turns_of<T: Turns>(rt: &HostRuntime, subject: &mut T) -> io::Result<u64> {
     Ok(turns)
 }
 
-/// The seconds of one turn: the middle of all repetitions.
-pub fn seconds<T: Turns>(rt: &HostRuntime, plan: &Plan, subject: &mut T) -> io::Result<f64> {
+// The seconds of one turn: the middle of all repetitions.
+fn seconds<T: Turns>(rt: &HostRuntime, plan: &Plan, subject: &mut T) -> io::Result<f64> {
     let turns = turns_of(rt, subject)?;
     let mut taken = Vec::new(rt.alloc());
     for _ in 0..plan.reps {
         taken.push(time(rt, subject, turns)?)?;
     }
-    taken.sort()?;
-    let middle = taken.get(taken.len() / 2).copied().unwrap_or(1);
-    Ok(nearest_u64_to_f64(middle) / 1e9 / nearest_u64_to_f64(turns))
+    middle(taken, turns)
 }
 
-/// Prints the figures of one operation at one frame, or their names, as the plan says.
+// An operation over a walk.
+#[derive(Drop)]
+struct Walking<'a, 'b> {
+    walk: &'a mut Walk<'b>,
+    operation: Operation,
+}
+
+impl Turns for Walking<'_, '_> {
+    fn run(&mut self, turns: u64, sum: &mut u64) -> io::Result<()> {
+        self.walk.run(self.operation, turns, sum)
+    }
+}
+
+/// Takes the figures of one operation at one frame.
 pub fn measure(
     rt: &HostRuntime,
     plan: &Plan,
@@ -77,7 +135,7 @@ pub fn measure(
     frame: &Frame,
 ) -> io::Result<()> {
     let name = format!(in rt.alloc(); "{}.{subject}", operation.name())?;
-    if !name.as_str().starts_with(plan.prefix.as_str()) {
+    if !plan.wants(name.as_str()) {
         return Ok(());
     }
     let Some(mut walk) = Walk::new(rt.alloc(), frame)? else {
@@ -85,31 +143,15 @@ pub fn measure(
     };
     // A body that is lent is not touched, so its bytes per second would say nothing.
     let has_bytes = operation != Operation::Decode || frame.encoded_len() < 100;
-    if plan.listing {
-        println!(rt; "{name}.frames")?;
-        if has_bytes {
-            println!(rt; "{name}.bytes")?;
-        }
-        return Ok(());
-    }
-    if let Some(turns) = plan.fixed {
-        println!(rt; "{name} {} per_turn", walk.frames())?;
-        walk.run(operation, turns, &mut 0)?;
-        return Ok(());
-    }
-    let turn = seconds(
-        rt,
-        plan,
-        &mut Walking {
-            walk: &mut walk,
-            operation,
-        },
-    )?;
-    let frames = nearest_u64_to_f64(walk.frames() as u64) / turn;
-    println!(rt; "{name}.frames {frames:.0} frames/s")?;
-    if has_bytes {
-        let bytes = nearest_u64_to_f64(walk.bytes() as u64) / 1e6 / turn;
-        println!(rt; "{name}.bytes {bytes:.1} MB/s")?;
-    }
-    Ok(())
+    let figure = Figure {
+        name: name.as_str(),
+        things: "frames",
+        count: walk.frames(),
+        bytes: if has_bytes { Some(walk.bytes()) } else { None },
+    };
+    let mut walking = Walking {
+        walk: &mut walk,
+        operation,
+    };
+    figure.take(rt, plan, &mut walking)
 }

@@ -1,22 +1,31 @@
-//! How fast the codec, the stream decoder and the receiving ring are.
+//! How fast the codec, the stream decoder, the receiving ring, the peer, the queue and the credit
+//! are.
 //!
 //! Prints a line `name value unit` for each figure, or with the argument `list` the names alone.
 //! Another argument is what the names of the figures begin with that are taken. The environment
 //! variable BENCH_REPS says how often each figure is taken, of which the middle one is printed. With
 //! BENCH_FIXED=TURNS nothing is timed: each figure runs that many turns, and the line says how many
-//! frames a turn has.
+//! frames, messages or calls a turn has.
 #![tactic(auto)]
 
+mod credit;
 mod figures;
+mod frames;
 mod operation;
+mod peer;
 mod plan;
+mod queue;
+mod receiver;
 mod ring;
 
+use credit::measure_credits;
 use figures::measure;
 use lc_frame::{Body, Channel, Frame, MAX_BODY};
 use operation::Operation;
+use peer::measure_peers;
 use plan::Plan;
-use ring::measure_rings;
+use queue::measure_queues;
+use ring::measure_ring;
 use std::io;
 
 /// The frames that are measured: a name, and the length of the body in bytes; an Issue has none.
@@ -27,12 +36,16 @@ const FRAMES: [(&str, usize); 4] = [
     ("send64k", MAX_BODY),
 ];
 
-const OPERATIONS: [Operation; 5] = [
+/// The messages that are measured: a name, and the length in bytes.
+const MESSAGES: [(&str, u32); 3] = [("16", 16), ("1k", 1_024), ("60k", 61_440)];
+
+const OPERATIONS: [Operation; 6] = [
     Operation::EncodeInto,
     Operation::EncodeToSlice,
     Operation::Decode,
     Operation::DecodeOwned,
     Operation::Stream512,
+    Operation::Deliver512,
 ];
 
 fn frame_of(rt: &HostRuntime, len: usize) -> io::Result<Frame> {
@@ -52,5 +65,12 @@ fn main(rt: HostRuntime) -> io::Result<()> {
             measure(&rt, &plan, operation, name, &frame)?;
         }
     }
-    measure_rings(&rt, &plan)
+    for (name, len) in MESSAGES {
+        measure_ring(&rt, &plan, name, len as usize)?;
+    }
+    for (name, len) in MESSAGES {
+        measure_peers(&rt, &plan, name, len)?;
+    }
+    measure_queues(rt, &rt, &plan)?;
+    measure_credits(&rt, &plan)
 }

@@ -1,8 +1,10 @@
 //! What is measured.
 ghost use Rattle.lc_frame.specs.Frame.{IsValid};
 
+use crate::receiver::Receiver;
 use lc_frame::{Channel, Decoded, Frame, FrameRef, StreamDecoder, decode};
 use std::alloc::{AllocError, Global};
+use std::io;
 
 /// The bytes that a walk goes over: few enough for the second cache.
 const WALK: usize = 256 * 1024;
@@ -17,6 +19,7 @@ pub enum Operation {
     Decode,
     DecodeOwned,
     Stream512,
+    Deliver512,
 }
 
 impl Operation {
@@ -28,6 +31,7 @@ impl Operation {
             Operation::Decode => "decode",
             Operation::DecodeOwned => "decode_owned",
             Operation::Stream512 => "stream512",
+            Operation::Deliver512 => "deliver512",
         }
     }
 }
@@ -41,12 +45,13 @@ pub struct Walk<'a> {
     out: Vec<u8>,
     slice: Vec<u8>,
     decoder: StreamDecoder,
+    receiver: Receiver,
     alloc: Global,
 }
 
 impl<'a> Walk<'a> {
     /// The walk over a frame; `None` for a frame that is not valid.
-    pub fn new(alloc: Global, frame: &'a Frame) -> Result<Option<Walk<'a>>, AllocError> {
+    pub fn new(alloc: Global, frame: &'a Frame) -> io::Result<Option<Walk<'a>>> {
         if !frame.is_valid() {
             return Ok(None);
         }
@@ -62,6 +67,7 @@ impl<'a> Walk<'a> {
             slice: vec![in alloc; 0u8; bytes.len()]?,
             bytes,
             decoder: StreamDecoder::new(alloc)?,
+            receiver: Receiver::new(alloc, WALK as u32)?,
             alloc,
         }))
     }
@@ -77,22 +83,13 @@ impl<'a> Walk<'a> {
     }
 
     /// Runs so many turns of an operation. What it reads goes into the sum.
-    pub fn run(
-        &mut self,
-        operation: Operation,
-        turns: u64,
-        sum: &mut u64,
-    ) -> Result<(), AllocError> {
+    pub fn run(&mut self, operation: Operation, turns: u64, sum: &mut u64) -> io::Result<()> {
         match operation {
-            Operation::EncodeInto => encode_into_turns(
-                self.frame,
-                self.count,
-                turns,
-                &mut self.out,
-            ),
+            Operation::EncodeInto => {
+                encode_into_turns(self.frame, self.count, turns, &mut self.out)?;
+            }
             Operation::EncodeToSlice => {
                 encode_to_slice_turns(self.frame, self.count, turns, &mut self.slice);
-                Ok(())
             }
             Operation::Decode => {
                 let mut last = FrameRef::Issue {
@@ -101,14 +98,14 @@ impl<'a> Walk<'a> {
                 };
                 decode_turns(&self.bytes, turns, &mut last);
                 *sum = sum.wrapping_add(weight(last));
-                Ok(())
             }
-            Operation::DecodeOwned => decode_owned_turns(self.alloc, &self.bytes, turns, sum),
-            Operation::Stream512 => {
-                stream_turns(&mut self.decoder, &self.bytes, turns, sum);
-                Ok(())
+            Operation::DecodeOwned => decode_owned_turns(self.alloc, &self.bytes, turns, sum)?,
+            Operation::Stream512 => stream_turns(&mut self.decoder, &self.bytes, turns, sum),
+            Operation::Deliver512 => {
+                deliver_turns(&mut self.receiver, &self.bytes, turns, sum)?;
             }
         }
+        Ok(())
     }
 }
 
@@ -246,4 +243,20 @@ fn feed_piece(decoder: &mut StreamDecoder, piece: &[u8], sum: &mut u64) {
             decoder.clear();
         }
     }
+}
+
+#[inline(never)]
+fn deliver_turns(
+    receiver: &mut Receiver,
+    bytes: &[u8],
+    turns: u64,
+    sum: &mut u64,
+) -> io::Result<()> {
+    for _ in 0..turns {
+        let Some(frames) = receiver.turn(bytes, PIECE) else {
+            return Err(io::Error::other("a frame did not arrive"));
+        };
+        *sum = sum.wrapping_add(frames);
+    }
+    Ok(())
 }

@@ -44,4 +44,9 @@ impl Plan {
             prefix,
         })
     }
+
+    /// Whether the figure of this name is to be taken.
+    pub fn wants(&self, name: &str) -> bool {
+        name.starts_with(self.prefix.as_str())
+    }
 }

@@ -1,17 +1,13 @@
 //! A receiving ring: a message in, and out again.
-use crate::figures::{Turns, seconds};
+use crate::figures::{Figure, Turns};
 use crate::plan::Plan;
 use lc_frame::MAX_BODY;
 use lc_ring::RecvRing;
 use std::alloc::{AllocError, Global};
 use std::io;
-use std::num::nearest_u64_to_f64;
 
 /// The bytes of the ring.
 const CAPACITY: u32 = 65_536;
-
-/// The messages that are measured: a name, and the length in bytes.
-const MESSAGES: [(&str, usize); 3] = [("16", 16), ("1k", 1_024), ("60k", 61_440)];
 
 // A ring, a message for it, and a buffer of the same length.
 #[derive(Drop)]
@@ -57,34 +53,20 @@ fn pass(ring: &mut RecvRing, body: &[u8], buffer: &mut [u8], turns: u64, sum: &m
     }
 }
 
-/// Prints the figures of the ring, or their names, as the plan says.
-pub fn measure_rings(rt: &HostRuntime, plan: &Plan) -> io::Result<()> {
-    for (name, len) in MESSAGES {
-        let name = format!(in rt.alloc(); "ring.{name}")?;
-        if name.as_str().starts_with(plan.prefix.as_str()) {
-            measure_ring(rt, plan, name.as_str(), len)?;
-        }
-    }
-    Ok(())
-}
-
-fn measure_ring(rt: &HostRuntime, plan: &Plan, name: &str, len: usize) -> io::Result<()> {
-    if plan.listing {
-        println!(rt; "{name}.messages")?;
-        println!(rt; "{name}.bytes")?;
+/// Takes the figures of a ring and a message of this length.
+pub fn measure_ring(rt: &HostRuntime, plan: &Plan, subject: &str, len: usize) -> io::Result<()> {
+    let name = format!(in rt.alloc(); "ring.{subject}")?;
+    if !plan.wants(name.as_str()) {
         return Ok(());
     }
     let Some(mut passage) = Passage::new(rt.alloc(), len)? else {
         return Ok(());
     };
-    if let Some(turns) = plan.fixed {
-        println!(rt; "{name} 1 per_turn")?;
-        return passage.run(turns, &mut 0);
-    }
-    let turn = seconds(rt, plan, &mut passage)?;
-    let messages = 1.0 / turn;
-    println!(rt; "{name}.messages {messages:.0} messages/s")?;
-    let bytes = nearest_u64_to_f64(len as u64) / 1e6 / turn;
-    println!(rt; "{name}.bytes {bytes:.1} MB/s")?;
-    Ok(())
+    let figure = Figure {
+        name: name.as_str(),
+        things: "messages",
+        count: 1,
+        bytes: Some(len),
+    };
+    figure.take(rt, plan, &mut passage)
 }

@@ -4,7 +4,7 @@ use Rattle.std.specs.Option.{option_map}
 use Rattle.lc_book.specs.declared.fault.Refusal.{Refusal}
 use Rattle.lc_book.specs.declared.fault.Refusal.TheVariants.{BufferTooSmall}
 use Rattle.lc_book.specs.Server.{Server, IsServer, new_server, buffered, note_taken}
-use Rattle.lc_ring.specs.Ring.{Ring, IsRing, new_ring, bytes, front, pop}
+use Rattle.lc_ring.specs.Ring.{Ring, IsRing, IsLength, new_ring, bytes, front, pop}
 use Rattle.lc_peer.specs.declared.inbox.Take.{Take}
 use Rattle.lc_peer.specs.declared.inbox.Take.TheVariants.{Took, Empty, Ended}
 
@@ -38,6 +38,12 @@ taken book (Some len) = Took len
 
 abbrev pub take_answer : InboxState → Take
 take_answer i = taken i.book (option_map length (front i.ring))
+
+-- a message that was taken has a length that messages have
+abbrev pub IsTake : Take → Type 0
+IsTake (Took len) = IsLength len
+IsTake Empty = Unit {0}
+IsTake Ended = Unit {0}
 
 -- the first message is out of the ring, and counted as taken; where none waits nothing changes
 abbrev pub note_front : Server → Option ℕ → Server

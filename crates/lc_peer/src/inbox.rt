@@ -4,8 +4,8 @@ ghost use Rattle.std.specs.Option.{option_map};
 ghost use Rattle.std.specs.Result.{result_err};
 ghost use Rattle.lc_frame.specs.Kind.{max_body, max_amount, max_total};
 ghost use Rattle.lc_book.specs.Server.{buffered, message_violation, add_arrived, absolve_violation, add_absolved, send_limit_violation, note_send_limit};
-ghost use Rattle.lc_ring.specs.Ring.{IsNoCapacity, push, front, with_front};
-ghost use Rattle.lc_peer.specs.Inbox.{new_inbox, IsInbox, taken, note_front, take_answer, take_first, take_refusal};
+ghost use Rattle.lc_ring.specs.Ring.{IsNoCapacity, IsLength, push, front, with_front};
+ghost use Rattle.lc_peer.specs.Inbox.{new_inbox, IsInbox, IsTake, taken, note_front, take_answer, take_first, take_refusal};
 
 use lc_book::{Refusal, ServerBook, Violation};
 use lc_frame::BufferTooSmall;
@@ -43,7 +43,8 @@ impl Model for Inbox {
 
 // Counts the first message, of this length, as taken; without one it says why.
 fn note(book: &mut ServerBook, len: Option<usize>) -> Take
-    requires { IfSome len (λ n. (n ≤ max_body) × (n ≤ buffered book.old)) }
+    requires { IfSome len (λ n. IsLength n × (n ≤ buffered book.old)) }
+    ensures range { IsTake result }
     ensures answer { result ≡ taken book.old len }
     ensures after { book.new ≡ note_front book.old len }
 {
@@ -146,6 +147,7 @@ impl Inbox {
     #[inline]
     pub fn take_into(&mut self, buffer: &mut [u8]) -> Result<Take, Refusal>
         ensures answer { result_err result ≡ take_refusal self.old (length buffer.old) }
+        ensures range { IfOk result (λ take. IsTake take) }
         ensures value { IfOk result (λ take. take ≡ take_answer self.old) }
         ensures after { self.new ≡ (if is_ok result then take_first self.old else self.old) }
         ensures buffer { buffer.new ≡ (if is_ok result then with_front (front self.old.ring) buffer.old else buffer.old) }
@@ -168,6 +170,7 @@ impl Inbox {
     /// Takes the first message and drops it; the answer is that of `take_into`.
     #[inline]
     pub fn pop(&mut self) -> Take
+        ensures range { IsTake result }
         ensures answer { result ≡ take_answer self.old }
         ensures after { self.new ≡ take_first self.old }
     {

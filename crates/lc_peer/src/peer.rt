@@ -10,7 +10,7 @@ ghost use Rattle.lc_frame.specs.Frame.{channel_of, IsValid};
 ghost use Rattle.lc_book.specs.Client.{IsClient};
 ghost use Rattle.lc_book.specs.Sums.{client_after_put, server_after_put};
 ghost use Rattle.lc_ring.specs.Ring.{front, with_front};
-ghost use Rattle.lc_peer.specs.Inbox.{IsInbox, take_answer, take_refusal};
+ghost use Rattle.lc_peer.specs.Inbox.{IsInbox, IsTake, take_answer, take_refusal};
 ghost use Rattle.lc_peer.specs.Peer.{client, inbox, server, max_slots, AreWaiting};
 ghost use Rattle.lc_peer.specs.Calls.{refusal, queue_refusal, IsSendAnswer, put, due, honour_refusal, put_honour, take_on, next, without_next};
 ghost use Rattle.lc_peer.specs.Arrivals.{arrivals};
@@ -217,6 +217,7 @@ impl Peer {
     #[inline]
     pub fn take_into(&mut self, channel: Channel, buffer: &mut [u8]) -> Result<Take, Refusal>
         ensures answer { result_err result ≡ take_refusal (inbox self.old channel) (length buffer.old) }
+        ensures range { IfOk result (λ take. IsTake take) }
         ensures value { IfOk result (λ take. take ≡ take_answer (inbox self.old channel)) }
         ensures after { self.new ≡ (if is_ok result then take_on self.old channel else self.old) }
         ensures buffer { buffer.new ≡ (if is_ok result then with_front (front (inbox self.old channel).ring) buffer.old else buffer.old) }
@@ -236,6 +237,7 @@ impl Peer {
     /// Takes the first message and drops it.
     #[inline]
     pub fn pop(&mut self, channel: Channel) -> Take
+        ensures range { IsTake result }
         ensures answer { result ≡ take_answer (inbox self.old channel) }
         ensures after { self.new ≡ take_on self.old channel }
     {

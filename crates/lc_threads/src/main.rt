@@ -1,10 +1,13 @@
 //! Runs what threads share, under load: `lc_threads queue FRAMES` sends so many frames through each
-//! lane of a queue, and `lc_threads lanes SLOTS` makes a queue, and says whether there was memory.
+//! lane of a queue, and `lc_threads credits ROUNDS` gives so many rounds of guarantees to the ends
+//! of seven credits, which use them up. `lc_threads lanes SLOTS` makes a queue, and says whether
+//! there was memory.
 #![tactic(auto)]
 
+use lc_credit_tests::balances_agree;
 use lc_queue::{LanesFault, lanes};
 use lc_queue_tests::keeps_order;
-use std::alloc::Global;
+use std::alloc::{AllocError, Global};
 use std::sync::Wait;
 use std::thread::Threads;
 use std::{env, io};
@@ -24,6 +27,14 @@ where
     }
 }
 
+fn run_credits<R: Threads + Sync>(rt: &R, alloc: Global, rounds: u32) -> &'static str {
+    match balances_agree(rt, alloc, rounds) {
+        Ok(true) => "each balance agrees",
+        Ok(false) => "a balance is wrong",
+        Err(AllocError) => "out of memory",
+    }
+}
+
 fn make_lanes(alloc: Global, slots: u32) -> &'static str {
     match lanes(alloc, slots) {
         Ok(_) => "made",
@@ -39,7 +50,8 @@ fn main(rt: HostRuntime) -> io::Result<()> {
     let count = count.unwrap_or(0);
     match what.as_str() {
         "queue" => println!(rt; "queue: {}", run_queue(rt, rt.alloc(), count)),
+        "credits" => println!(rt; "credits: {}", run_credits(&rt, rt.alloc(), count)),
         "lanes" => println!(rt; "lanes: {}", make_lanes(rt.alloc(), count)),
-        _ => println!(rt; "usage: lc_threads queue FRAMES, lc_threads lanes SLOTS"),
+        _ => println!(rt; "usage: lc_threads queue FRAMES, credits ROUNDS or lanes SLOTS"),
     }
 }

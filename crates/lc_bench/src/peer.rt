@@ -1,0 +1,135 @@
+//! Two peers on one thread: a message there, and its guarantees back.
+use crate::figures::{Figure, Turns};
+use crate::plan::Plan;
+use lc_driver::{Counted, Intake, Outgo, ReadEnd, read_in, write_out};
+use lc_frame::Channel;
+use lc_peer::{Config, Peer, Take};
+use std::alloc::Global;
+use std::io;
+
+/// The bytes of each ring.
+const CAPACITY: u32 = 65_536;
+
+/// The frames that may wait at a peer.
+const SLOTS: u32 = 4;
+
+/// The bytes that the wire has room for.
+const WIRE: usize = 70_000;
+
+const CHANNEL: Channel = Channel::DataChannel;
+
+// A peer, and what it holds for both streams.
+#[derive(Drop)]
+struct Side {
+    peer: Peer,
+    outgo: Outgo,
+    intake: Intake,
+}
+
+impl Side {
+    fn new(alloc: Global) -> io::Result<Side> {
+        let config = Config {
+            capacities: [CAPACITY; 7],
+            slots: SLOTS,
+        };
+        let Ok(peer) = Peer::new(alloc, config) else {
+            return Err(io::Error::other("no peer was made"));
+        };
+        Ok(Side {
+            peer,
+            outgo: Outgo::new(alloc)?,
+            intake: Intake::new(alloc)?,
+        })
+    }
+}
+
+// Writes all that waits at one side, and reads it in at the other. Whether both went well.
+fn carry(from: &mut Side, to: &mut Side, wire: &mut Vec<u8>) -> bool {
+    wire.clear();
+    let mut writer = Counted::new(&mut *wire);
+    if let Err(_) = write_out(&mut from.peer, &mut from.outgo, &mut writer) {
+        return false;
+    }
+    let mut reader = Counted::new(wire.as_slice());
+    read_in(&mut to.peer, &mut reader, &mut to.intake, u64::MAX) == ReadEnd::Clean
+}
+
+// Two sides, a message from the first to the second, and a buffer of the same length.
+#[derive(Drop)]
+struct Exchange {
+    client: Side,
+    server: Side,
+    wire: Vec<u8>,
+    body: Vec<u8>,
+    buffer: Vec<u8>,
+    amount: u32,
+}
+
+impl Exchange {
+    // The first guarantees are there.
+    fn new(alloc: Global, amount: u32) -> io::Result<Exchange> {
+        let len = amount as usize;
+        let mut exchange = Exchange {
+            client: Side::new(alloc)?,
+            server: Side::new(alloc)?,
+            wire: Vec::with_capacity(alloc, WIRE)?,
+            body: vec![in alloc; 0x5a_u8; len]?,
+            buffer: vec![in alloc; 0u8; len]?,
+            amount,
+        };
+        if exchange.promise() {
+            Ok(exchange)
+        } else {
+            Err(io::Error::other("the guarantees did not come"))
+        }
+    }
+
+    // The server promises the room of one message.
+    fn promise(&mut self) -> bool {
+        if let Err(_) = self.server.peer.issue(CHANNEL, self.amount) {
+            return false;
+        }
+        carry(&mut self.server, &mut self.client, &mut self.wire)
+    }
+
+    // One message there, and its guarantees back. The bytes that were taken.
+    fn round(&mut self) -> Option<usize> {
+        if let Err(_) = self.client.peer.send(CHANNEL, &self.body) {
+            return None;
+        }
+        if !carry(&mut self.client, &mut self.server, &mut self.wire) {
+            return None;
+        }
+        let Ok(Take::Took(len)) = self.server.peer.take_into(CHANNEL, &mut self.buffer) else {
+            return None;
+        };
+        if self.promise() { Some(len) } else { None }
+    }
+}
+
+impl Turns for Exchange {
+    fn run(&mut self, turns: u64, sum: &mut u64) -> io::Result<()> {
+        for _ in 0..turns {
+            let Some(len) = self.round() else {
+                return Err(io::Error::other("a message did not arrive"));
+            };
+            *sum = sum.wrapping_add(len as u64);
+        }
+        Ok(())
+    }
+}
+
+/// Takes the figures of two peers and a message of this length.
+pub fn measure_peers(rt: &HostRuntime, plan: &Plan, subject: &str, len: u32) -> io::Result<()> {
+    let name = format!(in rt.alloc(); "peer.{subject}")?;
+    if !plan.wants(name.as_str()) {
+        return Ok(());
+    }
+    let figure = Figure {
+        name: name.as_str(),
+        things: "messages",
+        count: 1,
+        bytes: Some(len as usize),
+    };
+    figure.take(rt, plan, &mut Exchange::new(rt.alloc(), len)?)
+}

@@ -1,0 +1,5 @@
+//! Tests of `lc_driver`.
+#![tactic(auto)]
+
+#[cfg(test)]
+mod tests;

@@ -1,0 +1,7 @@
+//! One side of a session over devices that follow a plan.
+mod devices;
+mod failing;
+mod hostile;
+mod script;
+mod side;
+mod worked;

@@ -1,0 +1,123 @@
+//! A session whose devices fail, stop short or move nothing at each of their calls in turn.
+use crate::tests::devices::{Odd, Pipe, Plan};
+use crate::tests::side::{Side, pipe};
+use lc_driver::{ReadEnd, WriteFault};
+use lc_frame::Channel;
+use lc_peer::Take;
+use std::alloc::Global;
+use std::process::Abort;
+use std::test::Fail;
+
+/// The messages of a session.
+const MESSAGES: u8 = 20;
+
+/// What carries the bytes of a session, both ways, and how many calls told of a failure and of a
+/// write that took nothing.
+#[derive(Drop)]
+struct Link {
+    writing: Plan,
+    reading: Plan,
+    pipe: Pipe,
+    failed: u32,
+    empty: u32,
+}
+
+impl Link {
+    // Writes all that waits, in as many calls as it takes.
+    fn write(mut self, from: &mut Side) -> Link {
+        for _ in 0..4 {
+            let (answer, writer) = from.write(self.writing, self.pipe);
+            self.writing = writer.plan;
+            self.pipe = writer.pipe;
+            match answer {
+                Ok(_) => return self,
+                Err(WriteFault::Failed { .. }) => self.failed = self.failed.saturating_add(1),
+                Err(WriteFault::Zero { .. }) => self.empty = self.empty.saturating_add(1),
+            }
+        }
+        self
+    }
+
+    // Reads until the pipe is empty and says so.
+    fn read(mut self, to: &mut Side) -> Link {
+        for _ in 0..100 {
+            let (end, reader) = to.read(self.reading, self.pipe, 3);
+            self.reading = reader.plan;
+            self.pipe = reader.pipe;
+            match end {
+                ReadEnd::Clean if self.pipe.read == self.pipe.bytes.len() => return self,
+                ReadEnd::ReadFailed => self.failed = self.failed.saturating_add(1),
+                _ => {}
+            }
+        }
+        self
+    }
+}
+
+// Takes what waits, and issues as much again.
+fn take_all(rt: &impl Abort, side: &mut Side, taken: &mut Vec<u8>) -> Result<(), Fail> {
+    let mut buffer = [0; 16];
+    for _ in 0..MESSAGES {
+        let Ok(Take::Took(len)) = side.peer.take_into(Channel::DataChannel, &mut buffer) else {
+            return Ok(());
+        };
+        taken.extend_from_slice(buffer.get(..len).unwrap_or(&[]))?;
+        let amount = u32::try_from(len).unwrap_or(0);
+        assert_eq!(rt; side.peer.issue(Channel::DataChannel, amount), Ok(()));
+    }
+    Ok(())
+}
+
+// Twenty messages go from one side to another, which issues as it takes, and all that was sent is
+// taken.
+fn session(rt: &impl Abort, alloc: Global, writing: Plan, reading: Plan) -> Result<Link, Fail> {
+    let mut client = Side::new(alloc, 32, 32)?;
+    let mut server = Side::new(alloc, 32, 32)?;
+    let mut link = Link {
+        writing,
+        reading,
+        pipe: pipe(alloc, &[])?,
+        failed: 0,
+        empty: 0,
+    };
+    let (mut sent, mut taken) = (Vec::new(alloc), Vec::new(alloc));
+    assert_eq!(rt; server.peer.issue(Channel::DataChannel, 32), Ok(()));
+    for number in 0..MESSAGES {
+        link = link.write(&mut server).read(&mut client);
+        let body = vec![in alloc; number; 1 + usize::from(number % 16)]?;
+        assert_eq!(rt; client.peer.send(Channel::DataChannel, &body), Ok(()));
+        sent.extend_from_slice(&body)?;
+        if number % 2 == 1 || number > 12 {
+            link = link.write(&mut client).read(&mut server);
+            take_all(rt, &mut server, &mut taken)?;
+        }
+    }
+    assert_eq!(rt; taken.as_slice(), sent.as_slice());
+    Ok(link)
+}
+
+#[test]
+fn each_call_fails_in_turn(rt: HostRuntime) -> Result<(), Fail> {
+    for (odd, faults) in [(Odd::Fails, 1), (Odd::Moves(1), 0), (Odd::Moves(0), 0)] {
+        for at in 1..100 {
+            let link = session(&rt, rt.alloc(), Plan::odd(odd, at), Plan::whole())?;
+            if link.writing.calls < at {
+                break;
+            }
+            assert_eq!(rt; link.failed, faults, "write {at} {odd:?}");
+            assert_eq!(rt;
+                link.empty,
+                u32::from(odd == Odd::Moves(0)),
+                "write {at} {odd:?}"
+            );
+        }
+        for at in 1..100 {
+            let link = session(&rt, rt.alloc(), Plan::whole(), Plan::odd(odd, at))?;
+            if link.reading.calls < at {
+                break;
+            }
+            assert_eq!(rt; link.failed, faults, "read {at} {odd:?}");
+        }
+    }
+    Ok(())
+}

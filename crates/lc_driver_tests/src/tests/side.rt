@@ -1,0 +1,51 @@
+//! One side of a session with its pipes.
+use crate::tests::devices::{Pipe, PipeReader, PipeWriter, Plan};
+use lc_driver::{Counted, Intake, Outgo, ReadEnd, WriteFault, read_in, write_out};
+use lc_peer::{Config, Peer};
+use std::alloc::{AllocError, Global};
+use std::test::Fail;
+
+/// One side of a session, with what it holds for its two streams.
+#[derive(Drop)]
+pub struct Side {
+    pub peer: Peer,
+    pub outgo: Outgo,
+    pub intake: Intake,
+}
+
+impl Side {
+    /// A side on which nothing has happened.
+    pub fn new(alloc: Global, capacity: u32, slots: u32) -> Result<Side, Fail> {
+        let config = Config {
+            capacities: [capacity; 7],
+            slots,
+        };
+        Ok(Side {
+            peer: Peer::new(alloc, config)?,
+            outgo: Outgo::new(alloc)?,
+            intake: Intake::new(alloc)?,
+        })
+    }
+
+    /// Writes what waits into the pipe.
+    pub fn write(&mut self, plan: Plan, pipe: Pipe) -> (Result<u64, WriteFault>, PipeWriter) {
+        let mut writer = Counted::new(PipeWriter { plan, pipe });
+        let answer = write_out(&mut self.peer, &mut self.outgo, &mut writer);
+        (answer, writer.into_inner())
+    }
+
+    /// Reads what is in the pipe.
+    pub fn read(&mut self, plan: Plan, pipe: Pipe, max_reads: u64) -> (ReadEnd, PipeReader) {
+        let mut reader = Counted::new(PipeReader { plan, pipe });
+        let end = read_in(&mut self.peer, &mut reader, &mut self.intake, max_reads);
+        (end, reader.into_inner())
+    }
+}
+
+/// A pipe in which these bytes wait.
+pub fn pipe(alloc: Global, bytes: &[u8]) -> Result<Pipe, AllocError> {
+    Ok(Pipe {
+        bytes: Vec::from_slice(alloc, bytes)?,
+        read: 0,
+    })
+}

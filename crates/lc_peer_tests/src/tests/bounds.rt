@@ -1,0 +1,76 @@
+//! Bounds of peers, and the calls that take memory.
+use crate::tests::inbox::inbox;
+use crate::tests::script::{answers, peer};
+use lc_frame::{Channel, FrameRef};
+use lc_peer::{Config, Peer, Refusal, Take};
+use std::alloc::Global;
+use std::process::Abort;
+use std::test::Fail;
+
+/// Capacities and slots of which there is no peer, and why.
+const FAULTS: [([u32; 7], u32, &str); 4] = [
+    (
+        [8, 8, 0, 8, 8, 0, 8],
+        4,
+        "BadCapacity { channel: OverlapChannel }: the capacity of OverlapChannel is not 1 to 2^24",
+    ),
+    ([8; 7], 0, "BadSlots: the slots are not 1 to 65,536"),
+    ([8; 7], 65_537, "BadSlots: the slots are not 1 to 65,536"),
+    (
+        [8, 8, 8, 8, 8, 8, 16_777_217],
+        0,
+        "BadCapacity { channel: StaticTokenChannel }: the capacity of StaticTokenChannel is not 1 to 2^24",
+    ),
+];
+
+// Why there is no peer.
+fn fault(alloc: Global, capacities: [u32; 7], slots: u32) -> Result<String, Fail> {
+    match Peer::new(alloc, Config { capacities, slots }).err() {
+        Some(fault) => Ok(format!(in alloc; "{fault:?}: {fault}")?),
+        None => Err("there is a peer")?,
+    }
+}
+
+#[test]
+fn peers_of_other_bounds(rt: HostRuntime) -> Result<(), Fail> {
+    for (capacities, slots, want) in FAULTS {
+        let got = fault(rt.alloc(), capacities, slots)?;
+        answers(&rt, "new", &got, want);
+    }
+    let mut widest = [16_777_216; 7];
+    widest[0] = 1;
+    let mut peer = peer(rt.alloc(), widest, 65_536)?;
+    let long = vec![in rt.alloc(); 7_u8; 65_536]?;
+    let sent = peer.send(Channel::DataChannel, &long);
+    let issued = peer.issue(Channel::DataChannel, 16_777_216);
+    assert_eq!(rt; (sent, issued), (Err(Refusal::BodyTooLong), Ok(())));
+    Ok(())
+}
+
+fn arrives(rt: &impl Abort, peer: &mut Peer, frame: FrameRef<'_>) {
+    assert!(rt; frame.is_valid() && peer.arrive(frame).is_ok());
+}
+
+// Every request for memory can be refused here in turn.
+#[test]
+fn memory_is_asked_for_by_three_calls(rt: HostRuntime) -> Result<(), Fail> {
+    let channel = Channel::DataChannel;
+    let _inbox = inbox(rt.alloc(), 8)?;
+    let mut peer = peer(rt.alloc(), [8; 7], 4)?;
+    arrives(&rt, &mut peer, FrameRef::Issue { channel, amount: 5 });
+    arrives(&rt, &mut peer, FrameRef::Plead { channel, target: 0 });
+    let sent = peer.send(channel, b"hi");
+    if sent == Err(Refusal::OutOfMemory) {
+        let left = (peer.client(channel).held(), peer.waiting());
+        assert_eq!(rt; (left, peer.send(channel, b"hi")), ((5, 0), Ok(())));
+        return Err("a send was refused and changed nothing")?;
+    }
+    let issued = peer.issue(channel, 8);
+    let honoured = peer.honour(channel);
+    assert_eq!(rt; (sent, issued, honoured), (Ok(()), Ok(()), Ok(Some(3))));
+    let body = b"hello";
+    arrives(&rt, &mut peer, FrameRef::Send { channel, body });
+    let popped = peer.pop(channel);
+    assert_eq!(rt; (popped, peer.waiting()), (Take::Took(5), 3));
+    Ok(())
+}

@@ -1,0 +1,293 @@
+//! Peers to which generated calls, frames and bytes come.
+ghost use Rattle.std.specs.Prelude.{◌<◌};
+
+use crate::tests::script::Side;
+use lc_frame::{Channel, FrameRef};
+use lc_peer::{Peer, Take};
+use rand_core::utils::NextWord;
+use rand_pcg::Pcg32;
+use std::process::Abort;
+use std::test::Fail;
+
+// What was done on one channel, by the answers of the calls: bytes of the messages that were sent,
+// arrived and were taken, guarantees by what became of them, and the next message each way.
+#[derive(Clone, Copy, Default)]
+struct Done {
+    received: u64,
+    spent: u64,
+    absolved: u64,
+    issued: u64,
+    arrived: u64,
+    given_up: u64,
+    taken: u64,
+    coming: u8,
+    going: u8,
+}
+
+fn arrives(rt: &impl Abort, peer: &mut Peer, frame: FrameRef<'_>) -> bool {
+    assert!(rt; frame.is_valid());
+    peer.arrive(frame).is_ok()
+}
+
+fn below(rng: &mut Pcg32, bound: u32) -> u32
+    requires { 0 < bound }
+    ensures { result < bound }
+{
+    rng.next_word() % bound
+}
+
+// An own call of the client.
+fn as_client(rng: &mut Pcg32, peer: &mut Peer, channel: Channel, done: &mut Done) {
+    let n = below(rng, 12);
+    match below(rng, 4) {
+        0 | 1 => {
+            let body = [0; 12];
+            if peer.send(channel, &body[..n as usize]).is_ok() {
+                done.spent = done.spent.wrapping_add(u64::from(n));
+            }
+        }
+        2 => {
+            if peer.absolve(channel, n).is_ok() {
+                done.absolved = done.absolved.wrapping_add(u64::from(n));
+            }
+        }
+        _ => match peer.honour(channel) {
+            Ok(Some(amount)) => done.absolved = done.absolved.wrapping_add(u64::from(amount)),
+            Ok(None) => {}
+            Err(_) => {}
+        },
+    }
+}
+
+// An own call of the server, or a limit of either.
+fn as_server(rng: &mut Pcg32, peer: &mut Peer, channel: Channel, done: &mut Done) {
+    let n = below(rng, 12);
+    match below(rng, 8) {
+        0 => {
+            let _limited = peer.limit_sending(channel, u64::from(n) * 4);
+        }
+        1 => {
+            let _limited = peer.limit_receiving(channel, u64::from(n) * 4);
+        }
+        2 => {
+            let _asked = peer.plead(channel, n);
+        }
+        _ => {
+            if peer.issue(channel, n).is_ok() {
+                done.issued = done.issued.wrapping_add(u64::from(n));
+            }
+        }
+    }
+}
+
+// A frame for the channel's client arrives.
+fn at_client(rt: &impl Abort, rng: &mut Pcg32, peer: &mut Peer, channel: Channel, done: &mut Done) {
+    let n = below(rng, 12);
+    match below(rng, 8) {
+        0 => {
+            let bound = u64::from(n) * 4;
+            arrives(rt, peer, FrameRef::LimitReceiving { channel, bound });
+        }
+        1 | 2 => {
+            arrives(rt, peer, FrameRef::Plead { channel, target: n });
+        }
+        kind => {
+            let amount = if kind == 3 { 16_777_216 - n } else { n + 1 };
+            if arrives(rt, peer, FrameRef::Issue { channel, amount }) {
+                done.received = done.received.wrapping_add(u64::from(amount));
+            }
+        }
+    }
+}
+
+// A frame for the channel's server arrives. All bytes of a message are its number.
+fn at_server(rt: &impl Abort, rng: &mut Pcg32, peer: &mut Peer, channel: Channel, done: &mut Done) {
+    let n = below(rng, 9) + 1;
+    match below(rng, 8) {
+        0 => {
+            let bound = u64::from(n) * 4;
+            arrives(rt, peer, FrameRef::LimitSending { channel, bound });
+        }
+        1 => {
+            if arrives(rt, peer, FrameRef::Absolve { channel, amount: n }) {
+                done.given_up = done.given_up.wrapping_add(u64::from(n));
+            }
+        }
+        _ => {
+            let body = [done.coming; 9];
+            if arrives(
+                rt,
+                peer,
+                FrameRef::Send {
+                    channel,
+                    body: &body[..n as usize],
+                },
+            ) {
+                done.arrived = done.arrived.wrapping_add(u64::from(n));
+                done.coming = done.coming.wrapping_add(1);
+            }
+        }
+    }
+}
+
+// A message is taken, or a frame goes out.
+fn takes(rt: &impl Abort, rng: &mut Pcg32, peer: &mut Peer, channel: Channel, done: &mut Done) {
+    let mut buffer = [0; 8];
+    if below(rng, 3) == 0 {
+        let _frame = peer.next_out();
+        return;
+    }
+    match peer.take_into(channel, &mut buffer) {
+        Ok(Take::Took(len)) => {
+            let want = [done.going; 8];
+            assert!(rt; len <= 8 && buffer[..len] == want[..len]);
+            done.taken = done.taken.wrapping_add(len as u64);
+            done.going = done.going.wrapping_add(1);
+        }
+        Ok(Take::Empty) | Ok(Take::Ended) => assert_eq!(rt; done.going, done.coming),
+        Err(_) => assert!(rt; false, "a message is longer than its ring"),
+    }
+}
+
+// The books are the sums of what was done, and the ring is never overrun.
+fn is_balanced(rt: &impl Abort, peer: &Peer, channel: Channel, done: &Done) {
+    let (client, server) = (peer.client(channel), peer.server(channel));
+    let held = done
+        .received
+        .wrapping_sub(done.spent)
+        .wrapping_sub(done.absolved);
+    let outstanding = done
+        .issued
+        .wrapping_sub(done.arrived)
+        .wrapping_sub(done.given_up);
+    let buffered = done.arrived.wrapping_sub(done.taken);
+    assert_eq!(rt;
+        [
+            client.held(),
+            client.received(),
+            server.outstanding(),
+            server.buffered()
+        ],
+        [held, done.received, outstanding, buffered]
+    );
+    assert!(rt; server.outstanding() + server.buffered() <= 8 && peer.waiting() <= 4);
+}
+
+// A hundred calls, frames and takes on any channel.
+fn goes_on(rt: &impl Abort, rng: &mut Pcg32, peer: &mut Peer) -> Result<(), Fail> {
+    let mut all = [Done::default(); 7];
+    for _ in 0..100 {
+        let number = below(rng, 7).min(below(rng, 7)) as u8;
+        let channel = Channel::from_number(number).ok_or("a channel's number")?;
+        let mut done = all[usize::from(number)];
+        match below(rng, 5) {
+            0 => as_client(rng, peer, channel, &mut done),
+            1 => as_server(rng, peer, channel, &mut done),
+            2 => at_client(rt, rng, peer, channel, &mut done),
+            3 => at_server(rt, rng, peer, channel, &mut done),
+            _ => takes(rt, rng, peer, channel, &mut done),
+        }
+        is_balanced(rt, peer, channel, &done);
+        all[usize::from(number)] = done;
+    }
+    Ok(())
+}
+
+#[test]
+fn calls_and_frames(rt: HostRuntime) -> Result<(), Fail> {
+    let mut rng = Pcg32::new(42, 54);
+    for _ in 0..10_000 {
+        let mut side = Side::new(rt.alloc(), 4)?;
+        goes_on(&rt, &mut rng, &mut side.peer)?;
+    }
+    Ok(())
+}
+
+// The next byte of a linear congruential generator.
+fn next_byte(state: &mut u64) -> u8 {
+    *state = state
+        .wrapping_mul(6_364_136_223_846_793_005)
+        .wrapping_add(1_442_695_040_888_963_407);
+    state.to_be_bytes()[0]
+}
+
+// Whatever came, there is room for what may still come, and what is buffered can be taken.
+fn is_bounded(rt: &impl Abort, peer: &mut Peer, channel: Channel) -> u64 {
+    let book = peer.server(channel);
+    let (buffered, outstanding) = (book.buffered(), book.outstanding());
+    assert!(rt; buffered.saturating_add(outstanding) <= 8);
+    let mut taken = 0u64;
+    let mut buffer = [0; 8];
+    for _ in 0..=8 {
+        match peer.take_into(channel, &mut buffer) {
+            Ok(Take::Took(len)) => taken = taken.saturating_add(len as u64),
+            _ => break,
+        }
+    }
+    assert_eq!(rt; taken, buffered);
+    taken
+}
+
+fn any_bytes(state: &mut u64) -> [u8; 64] {
+    let mut bytes = [0; 64];
+    for byte in &mut bytes {
+        *byte = next_byte(state);
+    }
+    bytes
+}
+
+// Messages of two bytes each, on any channels, with one byte changed.
+fn changed_messages(state: &mut u64) -> [u8; 64] {
+    let mut bytes = [0; 64];
+    for (place, byte) in bytes.iter_mut().enumerate() {
+        *byte = match place % 5 {
+            0 => 0x10 + next_byte(state) % 7,
+            1 => 0,
+            2 => 2,
+            _ => next_byte(state),
+        };
+    }
+    bytes[usize::from(next_byte(state) % 64)] = next_byte(state);
+    bytes
+}
+
+// How many bytes of messages a new peer lets through that issued all that it may.
+fn let_through(rt: &impl Abort, side: &mut Side, first: &[u8], rest: &[u8]) -> u64 {
+    for channel in (0..7).filter_map(Channel::from_number) {
+        assert_eq!(rt; side.peer.issue(channel, 8), Ok(()));
+    }
+    let _first = side.peer.deliver(&mut side.decoder, first);
+    let _rest = side.peer.deliver(&mut side.decoder, rest);
+    let mut came = 0u64;
+    for channel in (0..7).filter_map(Channel::from_number) {
+        came = came.saturating_add(is_bounded(rt, &mut side.peer, channel));
+    }
+    came
+}
+
+#[test]
+fn streams_of_any_bytes(rt: HostRuntime) -> Result<(), Fail> {
+    let mut state = 1;
+    for number in 0..10_000 {
+        let mut side = Side::new(rt.alloc(), 7)?;
+        let bytes = any_bytes(&mut state);
+        let (first, rest) = bytes.split_at(number % 65);
+        let _came = let_through(&rt, &mut side, first, rest);
+    }
+    Ok(())
+}
+
+// Half of the streams are whole for six messages and more.
+#[test]
+fn streams_of_changed_messages(rt: HostRuntime) -> Result<(), Fail> {
+    let mut state = 1;
+    let mut came = 0u64;
+    for number in 0..10_000 {
+        let mut side = Side::new(rt.alloc(), 7)?;
+        let bytes = changed_messages(&mut state);
+        let (first, rest) = bytes.split_at(number % 65);
+        came = came.saturating_add(let_through(&rt, &mut side, first, rest));
+    }
+    assert!(rt; came > 50_000);
+    Ok(())
+}

@@ -1,0 +1,107 @@
+//! A script of calls on an inbox by itself.
+use crate::tests::script::{answers, bytes, call_of, text};
+use lc_frame::{Decoded, FrameRef, decode};
+use lc_peer::{Inbox, Refusal, Violation};
+use std::alloc::Global;
+use std::test::Fail;
+
+/// The calls on an inbox over a ring of 8 bytes, with what they answer.
+const CALLS: &str = "pop => Empty
+    issue 6 => Ok(())
+    arrive 1000026869 => Ok(())
+    arrive 10000568656c6c6f => Err(NotGuaranteed)
+    take 1 => Err(BufferTooSmall { need: 2 }) [238]
+    take 2 => Ok(Took(2)) [104, 105]
+    take 2 => Ok(Empty) [238, 238]
+    arrive 3000000005 => Err(AbsolvedTooMuch)
+    arrive 3000000003 => Ok(())
+    arrive 500000000000000001 => Ok(())
+    arrive 500000000000000002 => Err(SendLimitRaised)
+    arrive 10000178 => Ok(())
+    front => Some(([120], []))
+    pop => Took(1)
+    pop => Ended
+    book => 0 0 8";
+
+// A frame for the server arrives.
+fn arrive(alloc: Global, inbox: &mut Inbox, digits: &str) -> Result<Result<(), Violation>, Fail> {
+    let bytes = bytes(alloc, digits)?;
+    match decode(&bytes) {
+        Decoded::Whole {
+            frame: FrameRef::Send { body, .. },
+            used: _,
+        } => Ok(inbox.message(body)),
+        Decoded::Whole {
+            frame: FrameRef::Absolve { amount, .. },
+            used: _,
+        } => Ok(inbox.was_absolved(amount)),
+        Decoded::Whole {
+            frame: FrameRef::LimitSending { bound, .. },
+            used: _,
+        } => Ok(inbox.sending_limited(bound)),
+        _ => Err("no frame for a server")?,
+    }
+}
+
+fn issue(inbox: &mut Inbox, n: u32) -> Result<(), Refusal> {
+    let mut book = inbox.book();
+    book.issue(n)?;
+    inbox.adopt(book);
+    Ok(())
+}
+
+// A take into a buffer of so many bytes, and the buffer after it.
+fn take(alloc: Global, inbox: &mut Inbox, room: usize) -> Result<String, Fail> {
+    let mut buffer = vec![in alloc; 0xee_u8; room]?;
+    let took = inbox.take_into(&mut buffer);
+    Ok(format!(in alloc; "{took:?} {buffer:?}")?)
+}
+
+fn book(alloc: Global, inbox: &Inbox) -> Result<String, Fail> {
+    let book = inbox.book();
+    let (outstanding, buffered, room) = (book.outstanding(), book.buffered(), book.room());
+    Ok(format!(in alloc; "{outstanding} {buffered} {room}")?)
+}
+
+// What the call of a line answers.
+fn answer(alloc: Global, inbox: &mut Inbox, call: &str) -> Result<String, Fail> {
+    let (verb, word) = call.split_once(' ').unwrap_or((call, ""));
+    match verb {
+        "arrive" => text(alloc, &arrive(alloc, inbox, word)?),
+        "issue" => text(alloc, &issue(inbox, word.parse::<u32>()?)),
+        "take" => take(alloc, inbox, word.parse::<usize>()?),
+        "front" => text(alloc, &inbox.front()),
+        "pop" => text(alloc, &inbox.pop()),
+        "book" => book(alloc, inbox),
+        _ => Err("no such call")?,
+    }
+}
+
+/// An inbox on which nothing has happened.
+pub fn inbox(alloc: Global, capacity: u32) -> Result<Inbox, Fail> {
+    Ok(Inbox::new(alloc, capacity)?)
+}
+
+// Why there is no inbox.
+fn fault(alloc: Global, capacity: u32) -> Result<String, Fail> {
+    text(alloc, &Inbox::new(alloc, capacity).err())
+}
+
+#[test]
+fn worked_calls(rt: HostRuntime) -> Result<(), Fail> {
+    for capacity in [0, 16_777_217] {
+        answers(
+            &rt,
+            "new",
+            &fault(rt.alloc(), capacity)?,
+            "Some(BadCapacity)",
+        );
+    }
+    let mut inbox = inbox(rt.alloc(), 8)?;
+    for line in CALLS.lines() {
+        let (call, want) = call_of(line)?;
+        let got = answer(rt.alloc(), &mut inbox, call)?;
+        answers(&rt, call, &got, want);
+    }
+    Ok(())
+}
