@@ -1,71 +1,70 @@
 //! Bodies whose lengths lie about those of the blocks in which digits are printed, and the longest.
 use super::transcript::Run;
 use std::alloc::{AllocError, Global};
+use std::process::Abort;
 use std::test::Fail;
 
-const LENGTHS: [usize; 14] = [
+const LENGTHS: [u16; 14] = [
     1, 2, 127, 128, 255, 256, 257, 511, 512, 513, 4_093, 4_096, 65_534, 65_535,
 ];
 
-// A body whose bytes tell their places, and its digits.
+// The digits of a body whose bytes tell their places.
 #[derive(Drop)]
-struct Written {
-    bytes: Vec<u8>,
+struct Digits {
     lower: String,
     upper: String,
 }
 
-impl Written {
-    fn new(alloc: Global, length: usize) -> Result<Written, AllocError> {
-        let mut bytes = Vec::new(alloc);
+impl Digits {
+    fn new(alloc: Global, length: u16) -> Result<Digits, AllocError> {
         let (mut lower, mut upper) = (String::new(alloc), String::new(alloc));
         for place in 0..length {
-            let byte = (place % 251) as u8;
-            bytes.push(byte)?;
+            let byte = place % 251;
             write!(lower, "{byte:02x}")?;
             write!(upper, "{byte:02X}")?;
         }
-        Ok(Written {
-            bytes,
-            lower,
-            upper,
-        })
+        Ok(Digits { lower, upper })
+    }
+}
+
+// A message of this length in a stream, and a frame behind it.
+fn is_listed(rt: &impl Abort, alloc: Global, length: u16, digits: &str) -> Result<(), Fail> {
+    let stream = format!(in alloc; "16{length:04x}{digits}2100000005")?;
+    let stream = hex::decode(alloc, stream.as_str())?;
+    let run = Run::new(alloc, "lcmux frames", &mut stream.as_slice())?;
+    let wanted = format!(in alloc; "send 6 {digits}\nissue 1 5\n")?;
+    run.check(rt, "a body in a stream", wanted.as_str(), "", "0")
+}
+
+// A message that is a byte too long for a limit of this length, and one that is not.
+fn script(alloc: Global, length: u16, digits: &str) -> Result<String, AllocError> {
+    format!(in alloc;
+        "B issue 0 70000\nA arrive\nA limit-sending 0 {length}\nA send 0 {digits}00\nA send 0 {digits}\nB arrive\nB arrive\nB take 0\n"
+    )
+}
+
+fn replayed(alloc: Global, length: u16, digits: &str) -> Result<String, AllocError> {
+    let refused = longer(alloc, length)?;
+    format!(in alloc; "ok\narrived\nok\n{refused}\nok\narrived\narrived\ntook {digits}\n")
+}
+
+// How a body is refused that is a byte longer than a limit of this length.
+fn longer(alloc: Global, length: u16) -> Result<String, AllocError> {
+    match length {
+        65_535 => String::from_str(alloc, "refused 2"),
+        _ => format!(in alloc; "refused 3 left {length}"),
     }
 }
 
 #[test]
 fn long_bodies_are_whole(rt: HostRuntime) -> Result<(), Fail> {
-    let alloc = rt.alloc();
     for length in LENGTHS {
-        let Written {
-            bytes,
-            lower,
-            upper,
-        } = Written::new(alloc, length)?;
-        let head = [0x16, (length / 256) as u8, (length % 256) as u8];
-        let mut stream = Vec::from_slice(alloc, &head)?;
-        stream.extend_from_slice(bytes.as_slice())?;
-        stream.extend_from_slice(b"\x21\x00\x00\x00\x05")?;
-        let wanted = format!(in alloc; "send 6 {lower}\nissue 1 5\n")?;
-        let run = Run::new(alloc, "lcmux frames", &mut stream.as_slice())?;
-        run.check(&rt, "a body in a stream", wanted.as_str(), "", "0")?;
-        let script = format!(in alloc;
-            "B issue 0 70000\nA arrive\nA limit-sending 0 {length}\nA send 0 {upper}00\nA send 0 {upper}\nB arrive\nB arrive\nB take 0\n"
-        )?;
-        let wanted = format!(in alloc;
-            "ok\narrived\nok\n{}\nok\narrived\narrived\ntook {lower}\n",
-            longer(alloc, length)?
-        )?;
-        let run = Run::new(alloc, "lcmux replay 70000", &mut script.as_bytes())?;
+        let digits = Digits::new(rt.alloc(), length)?;
+        is_listed(&rt, rt.alloc(), length, digits.lower.as_str())?;
+        let script = script(rt.alloc(), length, digits.upper.as_str())?;
+        let wanted = replayed(rt.alloc(), length, digits.lower.as_str())?;
+        let run = Run::new(rt.alloc(), "lcmux replay 70000", &mut script.as_bytes())?;
         run.check(&rt, "a body in a script", wanted.as_str(), "", "0")?;
     }
     Ok(())
-}
-
-// How a body is refused that is a byte longer than a limit of this length.
-fn longer(alloc: Global, length: usize) -> Result<String, AllocError> {
-    match length {
-        65_535 => String::from_str(alloc, "refused 2"),
-        _ => format!(in alloc; "refused 3 left {length}"),
-    }
 }

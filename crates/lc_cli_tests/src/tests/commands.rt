@@ -1,13 +1,11 @@
 //! Command lines: those that name a command, and the usage line for all others.
 use super::devices::ShortReader;
-use super::same;
 use super::transcript::{Run, run_as_shown};
-use lc_cli::run;
 use std::alloc::Global;
+use std::io;
 use std::io::ErrorKind;
 use std::process::Abort;
 use std::test::Fail;
-use std::{io, str};
 
 const USAGE: &str = "lcmux: usage: lcmux replay CAPACITY, lcmux frames, lcmux loopback N\n";
 
@@ -101,31 +99,17 @@ fn without_arguments(
     rt: &impl Abort,
     alloc: Global,
     kind: ErrorKind,
-    wanted: &str,
+    err: &str,
+    status: &str,
 ) -> Result<(), Fail> {
     let mut input = ShortReader::failing(b"B issue 1 5\n", 100, 1);
-    let (mut out, mut err) = (Vec::new(alloc), Vec::new(alloc));
-    let status = run(
-        alloc,
-        Err(io::Error::from(kind)),
-        &mut input,
-        &mut out,
-        &mut err,
-    );
-    let shown = format!(in alloc; "{status} {}", str::from_utf8(err.as_slice())?)?;
-    same(rt, "no arguments", shown.as_str(), wanted);
-    same(rt, "no arguments", str::from_utf8(out.as_slice())?, "");
-    Ok(())
+    let run = Run::with(alloc, Err(io::Error::from(kind)), &mut input)?;
+    run.check(rt, "no arguments", "", err, status)
 }
 
 #[test]
 fn arguments_that_are_not_text_name_no_command(rt: HostRuntime) -> Result<(), Fail> {
-    let usage = format!(in rt.alloc(); "2 {USAGE}")?;
-    without_arguments(&rt, rt.alloc(), ErrorKind::InvalidData, usage.as_str())?;
-    without_arguments(
-        &rt,
-        rt.alloc(),
-        ErrorKind::OutOfMemory,
-        "1 lcmux: out of memory\n",
-    )
+    without_arguments(&rt, rt.alloc(), ErrorKind::InvalidData, USAGE, "2")?;
+    let full = "lcmux: out of memory\n";
+    without_arguments(&rt, rt.alloc(), ErrorKind::OutOfMemory, full, "1")
 }

@@ -1,8 +1,8 @@
 //! Streams that are fed in pieces.
-use super::frames::bytes_of;
-use super::same;
+use super::frames::{bytes_of, frame_in};
+use super::{Subject, answers, same};
 use lc_frame::{Channel, FrameRef, StreamDecoder};
-use std::alloc::Global;
+use std::alloc::{AllocError, Global};
 use std::test::Fail;
 
 // Streams, each with its frames and how it ends.
@@ -41,102 +41,131 @@ fn drain(decoder: &mut StreamDecoder, piece: &[u8], seen: &mut String) -> Result
     Ok(())
 }
 
-// The frames and the end of a stream that comes in two pieces.
-fn seen_in_two(alloc: Global, bytes: &[u8], cut: usize) -> Result<String, Fail> {
-    let mut decoder = StreamDecoder::new(alloc)?;
-    let mut seen = String::new(alloc);
-    let (first, second) = bytes.split_at(cut.min(bytes.len()));
-    drain(&mut decoder, first, &mut seen)?;
-    drain(&mut decoder, second, &mut seen)?;
-    write!(seen, "{:?}", decoder.end())?;
-    Ok(seen)
+// Decoders that are fed each stream in two pieces, of which the first has so many bytes.
+#[derive(Drop)]
+struct Cut(usize);
+
+impl Subject for Cut {
+    fn answer(&mut self, alloc: Global, digits: &str) -> Result<String, Fail> {
+        let bytes = bytes_of(alloc, digits)?;
+        let (first, second) = bytes.split_at(self.0.min(bytes.len()));
+        let mut decoder = StreamDecoder::new(alloc)?;
+        let mut seen = String::new(alloc);
+        drain(&mut decoder, first, &mut seen)?;
+        drain(&mut decoder, second, &mut seen)?;
+        write!(seen, "{:?}", decoder.end())?;
+        Ok(seen)
+    }
 }
 
+// The longest of the streams has 19 bytes.
 #[test]
 fn streams_are_read_however_they_are_cut(rt: HostRuntime) -> Result<(), Fail> {
-    for line in STREAMS.lines() {
-        let (bytes, wanted) = line.split_once(" => ").ok_or("no frames")?;
-        let bytes = bytes_of(rt.alloc(), bytes)?;
-        for cut in 0..=bytes.len() {
-            let found = seen_in_two(rt.alloc(), bytes.as_slice(), cut)?;
-            same(&rt, line, found.as_str(), wanted);
-        }
+    for len in 0..20 {
+        answers(&rt, rt.alloc(), &mut Cut(len), STREAMS)?;
     }
     Ok(())
+}
+
+// How much is taken of a piece, and how much then while the frame stands, and the fault.
+const STOPS: &str = "21 00 00 00 05 17 => 5 0 None
+17 => 1 0 Some(BadTag)
+21 => 0 0 Some(BadTag)
+21 => 0 0 Some(BadTag)
+";
+
+impl Subject for StreamDecoder {
+    fn answer(&mut self, alloc: Global, digits: &str) -> Result<String, Fail> {
+        let piece = bytes_of(alloc, digits)?;
+        let (first, second) = (self.feed(piece.as_slice()), self.feed(piece.as_slice()));
+        let answer = format!(in alloc; "{first} {second} {:?}", self.fault())?;
+        self.clear();
+        Ok(answer)
+    }
 }
 
 // A decoder takes nothing while a frame stands, and nothing ever again behind a fault.
 #[test]
 fn what_stands_stops_the_feed(rt: HostRuntime) -> Result<(), Fail> {
     let mut decoder = StreamDecoder::new(rt.alloc())?;
-    let mut seen = String::new(rt.alloc());
-    for piece in [
-        b"\x21\x00\x00\x00\x05\x17".as_slice(),
-        b"\x17",
-        b"\x21",
-        b"\x21",
-    ] {
-        let (first, second) = (decoder.feed(piece), decoder.feed(piece));
-        write!(seen, "{first} {second} {:?}; ", decoder.fault())?;
-        decoder.clear();
-    }
-    let wanted = "5 0 None; 1 0 Some(BadTag); 0 0 Some(BadTag); 0 0 Some(BadTag); ";
-    same(&rt, "feeds", seen.as_str(), wanted);
-    Ok(())
+    answers(&rt, rt.alloc(), &mut decoder, STOPS)
 }
 
-#[test]
-fn the_longest_frame_comes_in_pieces(rt: HostRuntime) -> Result<(), Fail> {
-    let alloc = rt.alloc();
+// The bytes of the longest message, behind its tag and its length.
+fn longest(alloc: Global) -> Result<Vec<u8>, AllocError> {
     let mut bytes = Vec::from_slice(alloc, b"\x11\xff\xff")?;
     for place in 0..65_535u32 {
         bytes.push((place % 251) as u8)?;
     }
+    Ok(bytes)
+}
+
+// A decoder that was fed these bytes in pieces.
+fn fed(alloc: Global, bytes: &[u8]) -> Result<StreamDecoder, AllocError> {
     let mut decoder = StreamDecoder::new(alloc)?;
     for piece in bytes.chunks(512) {
         decoder.feed(piece);
     }
-    let Some(frame) = decoder.frame() else {
-        return Err(Fail::new("no frame"));
-    };
-    let Some(body) = bytes.get(3..) else {
-        return Err(Fail::new("no body"));
-    };
-    let channel = Channel::DataChannel;
-    let is_whole = frame == FrameRef::Send { channel, body };
-    let owned = frame.to_frame(alloc)?;
-    let mut out = Vec::new(alloc);
-    if !owned.is_valid() {
+    Ok(decoder)
+}
+
+fn message_of(bytes: &[u8]) -> Option<FrameRef<'_>> {
+    Some(FrameRef::Send {
+        channel: Channel::DataChannel,
+        body: bytes.get(3..)?,
+    })
+}
+
+// What is written of the owned form of the decoder's frame.
+fn encoded(alloc: Global, decoder: &StreamDecoder) -> Result<Vec<u8>, Fail> {
+    let frame = decoder.frame().ok_or("no frame")?.to_frame(alloc)?;
+    if !frame.is_valid() {
         return Err(Fail::new("no valid frame"));
     }
-    owned.encode_into(&mut out)?;
-    let is_written = out.as_slice() == bytes.as_slice();
-    let found = format!(in alloc; "{is_whole} {is_written} {}", out.len())?;
+    let mut out = Vec::new(alloc);
+    frame.encode_into(&mut out)?;
+    Ok(out)
+}
+
+// Whether the decoder's frame is this message, and is written with the same bytes.
+fn compared(alloc: Global, decoder: &StreamDecoder, bytes: &[u8]) -> Result<String, Fail> {
+    let out = encoded(alloc, decoder)?;
+    let is_whole = decoder.frame() == message_of(bytes);
+    let is_written = out.as_slice() == bytes;
+    Ok(format!(in alloc; "{is_whole} {is_written} {}", out.len())?)
+}
+
+#[test]
+fn the_longest_frame_comes_in_pieces(rt: HostRuntime) -> Result<(), Fail> {
+    let bytes = longest(rt.alloc())?;
+    let decoder = fed(rt.alloc(), bytes.as_slice())?;
+    let found = compared(rt.alloc(), &decoder, bytes.as_slice())?;
     same(&rt, "the longest frame", found.as_str(), "true true 65538");
     Ok(())
 }
 
+// A buffer, to which each frame is appended.
+const APPENDED: &str = "11 00 02 68 69 => [7, 17, 0, 2, 104, 105]
+21 00 00 00 05 => [7, 17, 0, 2, 104, 105, 33, 0, 0, 0, 5]
+";
+
+#[derive(Drop)]
+struct Buffer(Vec<u8>);
+
+impl Subject for Buffer {
+    fn answer(&mut self, alloc: Global, digits: &str) -> Result<String, Fail> {
+        let bytes = bytes_of(alloc, digits)?;
+        let frame = frame_in(bytes.as_slice())?;
+        if !frame.is_valid() {
+            return Err(Fail::new("no valid frame"));
+        }
+        frame.encode_into(&mut self.0)?;
+        Ok(format!(in alloc; "{:?}", self.0)?)
+    }
+}
+
 #[test]
 fn frames_are_appended(rt: HostRuntime) -> Result<(), Fail> {
-    let alloc = rt.alloc();
-    let channel = Channel::DataChannel;
-    let mut out = Vec::from_slice(alloc, &[7])?;
-    for frame in [
-        FrameRef::Send {
-            channel,
-            body: b"hi",
-        },
-        FrameRef::Issue { channel, amount: 5 },
-    ] {
-        assert!(&rt; frame.is_valid());
-        frame.encode_into(&mut out)?;
-    }
-    let found = format!(in alloc; "{out:?}")?;
-    same(
-        &rt,
-        "two frames",
-        found.as_str(),
-        "[7, 17, 0, 2, 104, 105, 33, 0, 0, 0, 5]",
-    );
-    Ok(())
+    let mut buffer = Buffer(Vec::from_slice(rt.alloc(), &[7])?);
+    answers(&rt, rt.alloc(), &mut buffer, APPENDED)
 }

@@ -1,84 +1,120 @@
 //! Channels, bodies, frames that are not valid, and slices with and without room.
 use super::same;
 use lc_frame::{Body, Channel, Frame, FrameRef, MAX_AMOUNT, MAX_BODY, MAX_FRAME, MAX_TOTAL};
+use std::alloc::{AllocError, Global};
 use std::test::Fail;
 
-const CHANNELS: [(Channel, &str); 7] = [
-    (Channel::ReconciliationChannel, "0 0 0 7"),
-    (Channel::DataChannel, "1 1 1 8"),
-    (Channel::OverlapChannel, "2 2 2 9"),
-    (Channel::CapabilityChannel, "3 3 3 10"),
-    (Channel::AreaOfInterestChannel, "4 4 4 11"),
-    (Channel::PayloadRequestChannel, "5 5 5 12"),
-    (Channel::StaticTokenChannel, "6 6 6 13"),
-];
+// Each channel by its number, and the lanes of a client's frames on it and of a server's.
+const CHANNELS: &str = "0: ReconciliationChannel 0 0 0 7
+1: DataChannel 1 1 1 8
+2: OverlapChannel 2 2 2 9
+3: CapabilityChannel 3 3 3 10
+4: AreaOfInterestChannel 4 4 4 11
+5: PayloadRequestChannel 5 5 5 12
+6: StaticTokenChannel 6 6 6 13
+";
 
-// A channel's number, and the lanes of a client's frames and of a server's.
+fn shown(alloc: Global, channel: Channel) -> Result<String, AllocError> {
+    let number = channel.number();
+    let send = FrameRef::Send {
+        channel,
+        body: b"a",
+    };
+    let absolve = Frame::Absolve { channel, amount: 1 };
+    let plead = FrameRef::Plead { channel, target: 0 };
+    let (send, absolve, plead) = (send.lane(), absolve.lane(), plead.lane());
+    format!(in alloc; "{channel:?} {number} {send} {absolve} {plead}")
+}
+
 #[test]
 fn channels_have_numbers_and_lanes(rt: HostRuntime) -> Result<(), Fail> {
-    for (channel, wanted) in CHANNELS {
-        let found = format!(in rt.alloc();
-            "{} {} {} {}",
-            channel.number(),
-            FrameRef::Send {
-                channel,
-                body: b"a"
-            }
-            .lane(),
-            Frame::Absolve { channel, amount: 1 }.lane(),
-            FrameRef::Plead { channel, target: 0 }.lane()
-        )?;
-        same(&rt, wanted, found.as_str(), wanted);
-        let found = format!(in rt.alloc(); "{:?}", Channel::from_number(channel.number()))?;
-        let wanted = format!(in rt.alloc(); "Some({channel:?})")?;
-        same(&rt, "a channel", found.as_str(), wanted.as_str());
+    let mut found = String::new(rt.alloc());
+    for number in 0..=u8::MAX {
+        if let Some(channel) = Channel::from_number(number) {
+            writeln!(found, "{number}: {}", shown(rt.alloc(), channel)?)?;
+        }
     }
-    for number in 7..=u8::MAX {
-        let found = format!(in rt.alloc(); "{:?}", Channel::from_number(number))?;
-        same(&rt, "a number of no channel", found.as_str(), "None");
-    }
+    same(&rt, "channels", found.as_str(), CHANNELS);
     Ok(())
+}
+
+// Whether the frame is valid, borrowed and owned.
+fn validity(alloc: Global, frame: FrameRef<'_>) -> Result<String, AllocError> {
+    let owned = frame.to_frame(alloc)?;
+    let (borrowed, owned) = (frame.is_valid(), owned.is_valid());
+    format!(in alloc; "{borrowed} {owned}")
 }
 
 #[test]
 fn frames_out_of_range_are_not_valid(rt: HostRuntime) -> Result<(), Fail> {
     let channel = Channel::DataChannel;
-    for amount in [0, 16_777_217, u32::MAX] {
-        let issue = FrameRef::Issue { channel, amount }.is_valid();
-        let absolve = Frame::Absolve { channel, amount }.is_valid();
-        let found = format!(in rt.alloc(); "{issue} {absolve}")?;
-        same(&rt, "amounts", found.as_str(), "false false");
+    let (target, bound) = (16_777_217, 4_611_686_018_427_387_905);
+    for frame in [
+        FrameRef::Send { channel, body: b"" },
+        FrameRef::Plead { channel, target },
+        FrameRef::LimitSending { channel, bound },
+        FrameRef::LimitReceiving { channel, bound },
+    ] {
+        let found = validity(rt.alloc(), frame)?;
+        same(&rt, "a frame", found.as_str(), "false false");
     }
-    let empty = FrameRef::Send { channel, body: b"" }.is_valid();
-    let target = 16_777_217;
-    let plead = FrameRef::Plead { channel, target }.is_valid();
-    let bound = 4_611_686_018_427_387_905;
-    let sending = FrameRef::LimitSending { channel, bound }.is_valid();
-    let receiving = Frame::LimitReceiving { channel, bound }.is_valid();
-    let found = format!(in rt.alloc(); "{empty} {plead} {sending} {receiving}")?;
-    same(&rt, "numbers", found.as_str(), "false false false false");
+    Ok(())
+}
+
+#[test]
+fn amounts_out_of_range_are_not_valid(rt: HostRuntime) -> Result<(), Fail> {
+    let channel = Channel::DataChannel;
+    for amount in [0, 16_777_217, u32::MAX] {
+        let found = validity(rt.alloc(), FrameRef::Issue { channel, amount })?;
+        same(&rt, "an issue", found.as_str(), "false false");
+        let found = validity(rt.alloc(), FrameRef::Absolve { channel, amount })?;
+        same(&rt, "an absolve", found.as_str(), "false false");
+    }
+    Ok(())
+}
+
+fn body(alloc: Global, bytes: &[u8]) -> Result<Body, AllocError> {
+    Ok(Body::from_vec(Vec::from_slice(alloc, bytes)?))
+}
+
+fn are_equal(alloc: Global, one: &[u8], other: &[u8]) -> Result<bool, AllocError> {
+    Ok(body(alloc, one)? == body(alloc, other)?)
+}
+
+#[test]
+fn bodies_are_equal_by_their_bytes(rt: HostRuntime) -> Result<(), Fail> {
+    let is_equal = are_equal(rt.alloc(), &[1, 2, 3], &[1, 2, 3])?;
+    let is_other = are_equal(rt.alloc(), &[1, 2, 3], &[1, 2, 4])?;
+    let found = format!(in rt.alloc(); "{is_equal} {is_other}")?;
+    same(&rt, "bodies", found.as_str(), "true false");
     Ok(())
 }
 
 #[test]
 fn bodies_are_their_bytes(rt: HostRuntime) -> Result<(), Fail> {
-    let body = Body::from_vec(vec![in rt.alloc(); 1_u8, 2, 3]?);
-    let equal = Body::from_vec(vec![in rt.alloc(); 1_u8, 2, 3]?);
-    let other = Body::from_vec(vec![in rt.alloc(); 1_u8, 2, 4]?);
-    let bodies = (body == equal, body == other);
-    let found = format!(in rt.alloc(); "{bodies:?} {:?}", other.as_slice())?;
-    same(&rt, "bodies", found.as_str(), "(true, false) [1, 2, 4]");
-    let found = format!(in rt.alloc(); "{:?}", other.into_vec())?;
+    let body = body(rt.alloc(), &[1, 2, 4])?;
+    let found = format!(in rt.alloc(); "{:?}", body.as_slice())?;
     same(&rt, "bytes", found.as_str(), "[1, 2, 4]");
-    let channel = Channel::DataChannel;
-    let frame = Frame::Send { channel, body };
-    let again = Frame::Send {
-        channel,
-        body: equal,
+    let found = format!(in rt.alloc(); "{:?}", body.into_vec())?;
+    same(&rt, "bytes", found.as_str(), "[1, 2, 4]");
+    Ok(())
+}
+
+fn message(alloc: Global) -> Result<Frame, AllocError> {
+    let (channel, body) = (Channel::DataChannel, body(alloc, &[1, 2, 3])?);
+    Ok(Frame::Send { channel, body })
+}
+
+#[test]
+fn frames_are_equal_by_their_fields(rt: HostRuntime) -> Result<(), Fail> {
+    let frame = message(rt.alloc())?;
+    let issue = Frame::Issue {
+        channel: Channel::DataChannel,
+        amount: 3,
     };
-    let issue = Frame::Issue { channel, amount: 3 };
-    let found = format!(in rt.alloc(); "{:?}", (frame == again, frame == issue))?;
-    same(&rt, "frames", found.as_str(), "(true, false)");
+    let (is_equal, is_other) = (frame == message(rt.alloc())?, frame == issue);
+    let found = format!(in rt.alloc(); "{is_equal} {is_other}")?;
+    same(&rt, "frames", found.as_str(), "true false");
     Ok(())
 }
 

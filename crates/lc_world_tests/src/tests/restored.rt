@@ -1,4 +1,5 @@
 //! Books that are made of their fields, and which fields make none.
+use super::books::{shown_client, shown_server};
 use super::same;
 use lc_book::{ClientBook, ClientParts, ServerBook, ServerParts};
 use std::test::Fail;
@@ -214,40 +215,38 @@ const BROKEN_SERVERS: [(&str, ServerParts); 12] = [
 
 #[test]
 fn books_at_their_bounds_are_books(rt: HostRuntime) -> Result<(), Fail> {
-    let alloc = rt.alloc();
     let client = ClientBook::restore(FULL_CLIENT).ok_or("a client at its bounds")?;
-    let found = format!(in alloc;
-        "{} {:?} {:?} {:?}",
-        client.held(),
-        client.send_left(),
-        client.receive_left(),
-        client.asked()
-    )?;
-    let wanted = "16777216 Some(4611686018427387904) Some(4611686018427387904) Some(16777216)";
+    let found = shown_client(rt.alloc(), &client)?;
+    let wanted =
+        "held 16777216 received 4611686018427387904 spent 4611686018410610687 absolved 1 send_left Some(4611686018427387904) receive_left Some(4611686018427387904) asked Some(16777216)";
     same(&rt, "a client", found.as_str(), wanted);
     let server = ServerBook::restore(FULL_SERVER).ok_or("a server at its bounds")?;
-    let found = format!(in alloc;
-        "{} {} {} {:?} {:?}",
-        server.outstanding(),
-        server.buffered(),
-        server.room(),
-        server.send_left(),
-        server.receive_left()
-    )?;
-    let wanted = "16777215 1 0 Some(4611686018427387904) Some(4611686018427387904)";
+    let found = shown_server(rt.alloc(), &server)?;
+    let wanted =
+        "outstanding 16777215 buffered 1 room 0 issued 4611686018427387904 of 16777216 send_left Some(4611686018427387904) receive_left Some(4611686018427387904) ended false";
     same(&rt, "a server", found.as_str(), wanted);
     Ok(())
 }
 
+// Whether there is a book.
+fn made(is_some: bool) -> &'static str {
+    if is_some { "a book" } else { "no book" }
+}
+
 #[test]
-fn broken_books_are_none(rt: HostRuntime) -> Result<(), Fail> {
+fn broken_clients_are_none(rt: HostRuntime) -> Result<(), Fail> {
     for (broken, parts) in BROKEN_CLIENTS {
-        let found = format!(in rt.alloc(); "{:?}", ClientBook::restore(parts))?;
-        same(&rt, broken, found.as_str(), "None");
+        let found = made(ClientBook::restore(parts).is_some());
+        same(&rt, broken, found, "no book");
     }
+    Ok(())
+}
+
+#[test]
+fn broken_servers_are_none(rt: HostRuntime) -> Result<(), Fail> {
     for (broken, parts) in BROKEN_SERVERS {
-        let found = format!(in rt.alloc(); "{:?}", ServerBook::restore(parts))?;
-        same(&rt, broken, found.as_str(), "None");
+        let found = made(ServerBook::restore(parts).is_some());
+        same(&rt, broken, found, "no book");
     }
     Ok(())
 }

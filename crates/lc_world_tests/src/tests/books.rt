@@ -1,0 +1,312 @@
+//! Sequences of calls at a client's and a server's book of one channel, as frames would carry them.
+use super::{Subject, answers};
+use lc_book::{ClientBook, ClientParts, Refusal, ServerBook, ServerParts, Violation};
+use lc_frame::{MAX_AMOUNT, MAX_BODY, MAX_TOTAL};
+use std::alloc::{AllocError, Global};
+use std::test::Fail;
+
+// What 2^62 - 1 guarantees leave that went through a channel.
+const OLD_CLIENT: ClientParts = ClientParts {
+    received: 4_611_686_018_427_387_903,
+    spent: 4_611_686_018_427_387_903,
+    absolved: 0,
+    send_left: None,
+    receive_left: None,
+    asked: None,
+};
+
+const OLD_SERVER: ServerParts = ServerParts {
+    capacity: 8,
+    issued: 4_611_686_018_427_387_903,
+    arrived: 4_611_686_018_427_387_903,
+    taken: 4_611_686_018_427_387_903,
+    absolved: 0,
+    send_left: None,
+    receive_left: None,
+};
+
+// An own call of a side that takes a number.
+fn own(books: &mut Books, name: &str, number: u64) -> Option<Result<(), Refusal>> {
+    let Books { client, server } = books;
+    let amount = u32::try_from(number).unwrap_or(0);
+    Some(match name {
+        "spend" => client.spend(amount),
+        "absolve" => client.absolve(amount),
+        "limit_sending" => client.limit_sending(number),
+        "issue" => server.issue(amount),
+        "plead" => server.plead(amount),
+        "limit_receiving" => server.limit_receiving(number),
+        _ => return None,
+    })
+}
+
+// What a frame that arrives calls at the client.
+fn client_meets(client: &mut ClientBook, name: &str, number: u64) -> Option<Result<(), Violation>> {
+    let amount = u32::try_from(number).unwrap_or(0);
+    match name {
+        "issued" if amount <= MAX_AMOUNT => Some(client.issued(amount)),
+        "pleaded" if amount <= MAX_AMOUNT => {
+            client.pleaded(amount);
+            Some(Ok(()))
+        }
+        "receiving_limited" if number <= MAX_TOTAL => Some(client.receiving_limited(number)),
+        _ => None,
+    }
+}
+
+// What a frame that arrives calls at the server, and a take.
+fn server_meets(server: &mut ServerBook, name: &str, number: u64) -> Option<Result<(), Violation>> {
+    let amount = u32::try_from(number).unwrap_or(0);
+    match name {
+        "message" if amount as usize <= MAX_BODY => Some(server.message(amount)),
+        "was_absolved" if amount <= MAX_AMOUNT => Some(server.was_absolved(amount)),
+        "sending_limited" if number <= MAX_TOTAL => Some(server.sending_limited(number)),
+        "note_taken" if u64::from(amount) <= server.buffered() => {
+            server.note_taken(amount);
+            Some(Ok(()))
+        }
+        _ => None,
+    }
+}
+
+/// What a client shows of its book.
+pub fn shown_client(alloc: Global, client: &ClientBook) -> Result<String, AllocError> {
+    let (held, received) = (client.held(), client.received());
+    let (spent, absolved) = (client.spent(), client.absolved());
+    let (sending, receiving) = (client.send_left(), client.receive_left());
+    let asked = client.asked();
+    format!(in alloc;
+        "held {held} received {received} spent {spent} absolved {absolved} send_left {sending:?} receive_left {receiving:?} asked {asked:?}"
+    )
+}
+
+/// What a server shows of its book.
+pub fn shown_server(alloc: Global, server: &ServerBook) -> Result<String, AllocError> {
+    let (outstanding, buffered, room) = (server.outstanding(), server.buffered(), server.room());
+    let (issued, capacity) = (server.issued(), server.capacity());
+    let (sending, receiving) = (server.send_left(), server.receive_left());
+    let ended = server.is_ended();
+    format!(in alloc;
+        "outstanding {outstanding} buffered {buffered} room {room} issued {issued} of {capacity} send_left {sending:?} receive_left {receiving:?} ended {ended}"
+    )
+}
+
+// Both books of a channel.
+#[derive(Drop)]
+struct Books {
+    client: ClientBook,
+    server: ServerBook,
+}
+
+impl Books {
+    fn new(capacity: u32) -> Result<Books, Fail> {
+        Ok(Books {
+            client: ClientBook::new(),
+            server: ServerBook::new(capacity).ok_or("no server")?,
+        })
+    }
+
+    fn near_the_end() -> Result<Books, Fail> {
+        Ok(Books {
+            client: ClientBook::restore(OLD_CLIENT).ok_or("no client")?,
+            server: ServerBook::restore(OLD_SERVER).ok_or("no server")?,
+        })
+    }
+
+    // A call that takes a number.
+    fn call(&mut self, alloc: Global, name: &str, number: u64) -> Result<String, Fail> {
+        if let Some(answer) = own(self, name, number) {
+            return Ok(format!(in alloc; "{answer:?}")?);
+        }
+        let answer = client_meets(&mut self.client, name, number)
+            .or(server_meets(&mut self.server, name, number))
+            .ok_or("no call of a book")?;
+        Ok(format!(in alloc; "{answer:?}")?)
+    }
+
+    // An honour, and what a side can see of its book.
+    fn look(&mut self, alloc: Global, name: &str) -> Result<String, Fail> {
+        match name {
+            "honour" => Ok(format!(in alloc; "{:?}", self.client.honour())?),
+            "client" => Ok(shown_client(alloc, &self.client)?),
+            "server" => Ok(shown_server(alloc, &self.server)?),
+            _ => Err(Fail::new("no book")),
+        }
+    }
+}
+
+impl Subject for Books {
+    fn answer(&mut self, alloc: Global, call: &str) -> Result<String, Fail> {
+        match call.split_once(' ') {
+            Some((name, number)) => self.call(alloc, name, number.parse()?),
+            None => self.look(alloc, call),
+        }
+    }
+}
+
+// Nothing is sent without guarantees, and a refusal changes nothing.
+const NO_GUARANTEES: &str = "spend 0 => Err(EmptyBody)
+spend 65536 => Err(BodyTooLong)
+spend 65535 => Err(NoGuarantee { held: 0 })
+spend 1 => Err(NoGuarantee { held: 0 })
+client => held 0 received 0 spent 0 absolved 0 send_left None receive_left None asked None
+limit_sending 0 => Ok(())
+spend 0 => Err(EmptyBody)
+spend 1 => Err(PastSendLimit { left: 0 })
+";
+
+// A full ring gives no guarantees until a take.
+const FULL_RING: &str = "issue 1 => Ok(())
+issued 1 => Ok(())
+spend 1 => Ok(())
+message 1 => Ok(())
+issue 1 => Err(NoRoom { room: 0 })
+server => outstanding 0 buffered 1 room 0 issued 1 of 1 send_left None receive_left None ended false
+note_taken 1 => Ok(())
+issue 1 => Ok(())
+";
+
+// A plead that is honoured gives room back.
+const HONOURED: &str = "issue 10 => Ok(())
+issued 10 => Ok(())
+spend 5 => Ok(())
+plead 0 => Ok(())
+pleaded 0 => Ok(())
+client => held 5 received 10 spent 5 absolved 0 send_left None receive_left None asked Some(0)
+honour => Some(5)
+client => held 0 received 10 spent 5 absolved 5 send_left None receive_left None asked None
+message 5 => Ok(())
+was_absolved 5 => Ok(())
+plead 0 => Err(NothingToAsk { outstanding: 0 })
+server => outstanding 0 buffered 5 room 11 issued 10 of 16 send_left None receive_left None ended false
+issue 12 => Err(NoRoom { room: 11 })
+issue 11 => Ok(())
+server => outstanding 11 buffered 5 room 0 issued 21 of 16 send_left None receive_left None ended false
+";
+
+// A plead that is met absolves nothing, and the newer plead counts.
+const MET: &str = "issued 10 => Ok(())
+spend 5 => Ok(())
+pleaded 7 => Ok(())
+honour => None
+honour => None
+pleaded 0 => Ok(())
+pleaded 5 => Ok(())
+honour => None
+client => held 5 received 10 spent 5 absolved 0 send_left None receive_left None asked None
+";
+
+// Absolved guarantees are issued again.
+const ABSOLVED: &str = "absolve 0 => Err(ZeroAmount)
+absolve 1 => Err(NotHeld { held: 0 })
+issue 0 => Err(ZeroAmount)
+issue 8 => Ok(())
+issued 8 => Ok(())
+absolve 3 => Ok(())
+absolve 6 => Err(NotHeld { held: 5 })
+issue 1 => Err(NoRoom { room: 0 })
+was_absolved 3 => Ok(())
+issue 3 => Ok(())
+";
+
+// A peer that breaks the rules is found.
+const VIOLATIONS: &str = "issue 3 => Ok(())
+message 4 => Err(NotGuaranteed)
+was_absolved 4 => Err(AbsolvedTooMuch)
+server => outstanding 3 buffered 0 room 5 issued 3 of 8 send_left None receive_left None ended false
+issued 16777216 => Ok(())
+issued 1 => Err(TooManyGuarantees)
+client => held 16777216 received 16777216 spent 0 absolved 0 send_left None receive_left None asked None
+";
+
+// A channel ends with its limit.
+const ENDED: &str = "issue 8 => Ok(())
+issued 8 => Ok(())
+limit_sending 3 => Ok(())
+spend 3 => Ok(())
+client => held 5 received 8 spent 3 absolved 0 send_left Some(0) receive_left None asked None
+spend 1 => Err(PastSendLimit { left: 0 })
+server => outstanding 8 buffered 0 room 0 issued 8 of 8 send_left None receive_left None ended false
+sending_limited 3 => Ok(())
+server => outstanding 8 buffered 0 room 0 issued 8 of 8 send_left Some(3) receive_left None ended false
+sending_limited 4 => Err(SendLimitRaised)
+message 4 => Err(SentPastLimit)
+message 3 => Ok(())
+server => outstanding 5 buffered 3 room 0 issued 8 of 8 send_left Some(0) receive_left None ended true
+";
+
+// A limit is never raised.
+const NEVER_RAISED: &str = "limit_sending 4611686018427387905 => Err(BoundTooLarge)
+limit_sending 4611686018427387904 => Ok(())
+limit_sending 3 => Ok(())
+limit_sending 4 => Err(LimitRaised { left: 3 })
+limit_sending 3 => Ok(())
+";
+
+// Nothing is issued past a limit, and what was issued before may be used.
+const LIMITED: &str = "issue 5 => Ok(())
+issued 5 => Ok(())
+limit_receiving 4611686018427387905 => Err(BoundTooLarge)
+limit_receiving 0 => Ok(())
+limit_receiving 1 => Err(LimitRaised { left: 0 })
+server => outstanding 5 buffered 0 room 3 issued 5 of 8 send_left None receive_left Some(0) ended false
+client => held 5 received 5 spent 0 absolved 0 send_left None receive_left None asked None
+receiving_limited 0 => Ok(())
+client => held 5 received 5 spent 0 absolved 0 send_left None receive_left Some(0) asked None
+receiving_limited 1 => Err(ReceiveLimitRaised)
+issued 1 => Err(IssuedPastLimit)
+spend 5 => Ok(())
+issue 1 => Err(PastReceiveLimit { left: 0 })
+";
+
+// 2^62 guarantees are issued, and received, in all.
+const TOTALS: &str = "issue 9 => Err(NoRoom { room: 8 })
+issue 2 => Err(TotalReached)
+issue 1 => Ok(())
+issue 1 => Err(TotalReached)
+issued 2 => Err(TotalPassed)
+issued 1 => Ok(())
+";
+
+#[test]
+fn calls_have_their_answers(rt: HostRuntime) -> Result<(), Fail> {
+    for (capacity, calls) in [
+        (8, NO_GUARANTEES),
+        (1, FULL_RING),
+        (16, HONOURED),
+        (8, MET),
+        (8, ABSOLVED),
+        (8, VIOLATIONS),
+        (8, ENDED),
+        (8, NEVER_RAISED),
+        (8, LIMITED),
+    ] {
+        let mut books = Books::new(capacity)?;
+        answers(&rt, rt.alloc(), &mut books, calls)?;
+    }
+    let mut books = Books::near_the_end()?;
+    answers(&rt, rt.alloc(), &mut books, TOTALS)
+}
+
+// Whether there is a server with a ring of so many bytes.
+const CAPACITIES: &str = "0 => false
+1 => true
+16777216 => true
+16777217 => false
+4294967295 => false
+";
+
+#[derive(Drop)]
+struct Rings;
+
+impl Subject for Rings {
+    fn answer(&mut self, alloc: Global, capacity: &str) -> Result<String, Fail> {
+        let is_one = ServerBook::new(capacity.parse()?).is_some();
+        Ok(format!(in alloc; "{is_one}")?)
+    }
+}
+
+#[test]
+fn a_ring_has_1_to_2_to_the_24_bytes(rt: HostRuntime) -> Result<(), Fail> {
+    answers(&rt, rt.alloc(), &mut Rings, CAPACITIES)
+}

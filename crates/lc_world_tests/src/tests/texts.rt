@@ -1,0 +1,125 @@
+//! The numbers and the texts of refusals and violations, and why there is no world.
+use super::same;
+use lc_book::{Refusal, Violation};
+use lc_world::NewFault;
+use std::alloc::{AllocError, Global};
+use std::fmt::Display;
+use std::process::Abort;
+use std::test::Fail;
+
+const REFUSALS: [(Refusal, &str); 15] = [
+    (Refusal::EmptyBody, "1 the message is empty"),
+    (
+        Refusal::BodyTooLong,
+        "2 the message is longer than 65,535 bytes",
+    ),
+    (
+        Refusal::PastSendLimit { left: 7 },
+        "3 the limit on sending leaves 7 bytes",
+    ),
+    (
+        Refusal::NoGuarantee { held: 7 },
+        "4 guarantees for 7 bytes are held",
+    ),
+    (Refusal::ZeroAmount, "5 the amount is zero"),
+    (Refusal::NotHeld { held: 7 }, "6 only 7 guarantees are held"),
+    (Refusal::BoundTooLarge, "7 the bound is above 2^62"),
+    (
+        Refusal::LimitRaised { left: 7 },
+        "8 the bound is above the 7 that an earlier limit leaves",
+    ),
+    (
+        Refusal::PastReceiveLimit { left: 7 },
+        "9 the limit on receiving leaves 7 bytes",
+    ),
+    (
+        Refusal::NoRoom { room: 7 },
+        "10 the receiving ring has room for 7 bytes",
+    ),
+    (
+        Refusal::NothingToAsk { outstanding: 7 },
+        "11 the target is not below the 7 guarantees outstanding",
+    ),
+    (
+        Refusal::TotalReached,
+        "12 the guarantees of one channel would pass 2^62",
+    ),
+    (Refusal::QueueFull, "13 the outgoing queue is full"),
+    (Refusal::OutOfMemory, "14 out of memory"),
+    (
+        Refusal::BufferTooSmall { need: 7 },
+        "16 the buffer is too small: 7 bytes are needed",
+    ),
+];
+
+const VIOLATIONS: [(Violation, &str); 8] = [
+    (
+        Violation::NotGuaranteed,
+        "1 a message longer than the guarantees outstanding",
+    ),
+    (
+        Violation::SentPastLimit,
+        "2 a message beyond the limit on sending",
+    ),
+    (
+        Violation::AbsolvedTooMuch,
+        "3 more guarantees absolved than are outstanding",
+    ),
+    (
+        Violation::SendLimitRaised,
+        "4 a limit on sending that raises an earlier one",
+    ),
+    (
+        Violation::IssuedPastLimit,
+        "5 guarantees beyond the limit on receiving",
+    ),
+    (
+        Violation::TooManyGuarantees,
+        "6 more than 2^24 guarantees held",
+    ),
+    (
+        Violation::ReceiveLimitRaised,
+        "7 a limit on receiving that raises an earlier one",
+    ),
+    (
+        Violation::TotalPassed,
+        "8 more than 2^62 guarantees on one channel",
+    ),
+];
+
+// Compares a number and the text of its error.
+fn reads<E: Display>(
+    rt: &impl Abort,
+    alloc: Global,
+    number: u8,
+    error: &E,
+    wanted: &str,
+) -> Result<(), AllocError> {
+    let found = format!(in alloc; "{number} {error}")?;
+    same(rt, wanted, found.as_str(), wanted);
+    Ok(())
+}
+
+#[test]
+fn refusals_have_their_numbers_and_texts(rt: HostRuntime) -> Result<(), Fail> {
+    for (refusal, wanted) in REFUSALS {
+        reads(&rt, rt.alloc(), refusal.number(), &refusal, wanted)?;
+    }
+    Ok(())
+}
+
+#[test]
+fn violations_have_their_numbers_and_texts(rt: HostRuntime) -> Result<(), Fail> {
+    for (violation, wanted) in VIOLATIONS {
+        reads(&rt, rt.alloc(), violation.number(), &violation, wanted)?;
+    }
+    Ok(())
+}
+
+#[test]
+fn no_world_has_its_text(rt: HostRuntime) -> Result<(), Fail> {
+    let found = format!(in rt.alloc(); "{}, {}", NewFault::BadCapacity, NewFault::OutOfMemory)?;
+    let wanted = "the capacity is not 1 to 2^24, out of memory";
+    same(&rt, "errors", found.as_str(), wanted);
+    Ok(())
+}

@@ -1,0 +1,262 @@
+//! Worked sequences of events at two peers, on one channel, and the books that they leave.
+use super::{Subject, answers, same};
+use lc_frame::{Body, Channel, MAX_FRAME};
+use lc_world::{Act, Answer, Event, NewFault, Side, World, run};
+use std::alloc::{AllocError, Global};
+use std::process::Abort;
+use std::test::Fail;
+use std::vec::IntoIter;
+
+const DATA: Channel = Channel::DataChannel;
+
+// A message crosses.
+const MESSAGE: &str = "B issue 5 => Accepted
+A arrive => Arrived
+A send 07 => Accepted
+B arrive => Arrived
+B take => Took(Body { bytes: [7] })
+";
+
+// A plead is honoured down to its target.
+const HONOURED: &str = "B issue 10 => Accepted
+A arrive => Arrived
+A send 0102030405 => Accepted
+B plead 2 => Accepted
+A arrive => Arrived
+A honour => Absolved(3)
+A honour => NothingToAbsolve
+B arrive => Arrived
+B arrive => Arrived
+B arrive => NothingInFlight
+";
+
+// Limits are kept on both sides.
+const LIMITED: &str = "B issue 3 => Accepted
+B limit-receiving 1 => Accepted
+B limit-receiving 2 => Refused(LimitRaised { left: 1 })
+B issue 1 => Accepted
+B issue 1 => Refused(PastReceiveLimit { left: 0 })
+A limit-sending 2 => Accepted
+A arrive => Arrived
+A send 0102 => Accepted
+A send 03 => Refused(PastSendLimit { left: 0 })
+B arrive => Arrived
+B take => Empty
+B arrive => Arrived
+B take => Took(Body { bytes: [1, 2] })
+B take => Ended
+A absolve 2 => Refused(NotHeld { held: 1 })
+A absolve 1 => Accepted
+";
+
+// A stream is cut inside a promise, behind a message, and inside the next, of which the rest arrives.
+const CUT: &str = "B issue 5 => Accepted
+A deliver 2 => Delivered { bytes: 2, frames: 0 }
+A send 61 => Refused(NoGuarantee { held: 0 })
+A deliver 9 => Delivered { bytes: 3, frames: 1 }
+A deliver 1 => NothingInFlight
+A send 6869 => Accepted
+A send 61 => Accepted
+B deliver 6 => Delivered { bytes: 6, frames: 1 }
+B take => Took(Body { bytes: [104, 105] })
+B take => Empty
+B arrive => Arrived
+B take => Took(Body { bytes: [97] })
+B deliver 0 => NothingInFlight
+A send 62 => Accepted
+A send 63 => Accepted
+B deliver 0 => Delivered { bytes: 0, frames: 0 }
+B deliver 4294967295 => Delivered { bytes: 8, frames: 2 }
+";
+
+// An event that has a number.
+fn numbered(word: &str, number: u64) -> Option<Act> {
+    let channel = DATA;
+    let (amount, bound) = (u32::try_from(number).ok()?, number);
+    Some(match word {
+        "deliver" => Act::Deliver { count: amount },
+        "issue" => Act::Issue { channel, amount },
+        "absolve" => Act::Absolve { channel, amount },
+        "plead" => Act::Plead {
+            channel,
+            target: amount,
+        },
+        "limit-sending" => Act::LimitSending { channel, bound },
+        "limit-receiving" => Act::LimitReceiving { channel, bound },
+        _ => return None,
+    })
+}
+
+fn act(alloc: Global, word: &str, rest: &str) -> Result<Act, Fail> {
+    let channel = DATA;
+    Ok(match word {
+        "arrive" => Act::Arrive,
+        "honour" => Act::Honour { channel },
+        "take" => Act::Take { channel },
+        "send" => Act::Send {
+            channel,
+            body: Body::from_vec(hex::decode(alloc, rest)?),
+        },
+        _ => numbered(word, rest.parse()?).ok_or("no event")?,
+    })
+}
+
+fn event(alloc: Global, text: &str) -> Result<Event, Fail> {
+    let (side, rest) = text.split_once(' ').ok_or("no side")?;
+    let side = if side == "A" { Side::A } else { Side::B };
+    let (word, rest) = rest.split_once(' ').unwrap_or((rest, ""));
+    let act = act(alloc, word, rest)?;
+    Ok(Event { side, act })
+}
+
+// A world, and the events that it has answered.
+#[derive(Drop)]
+struct Stepped {
+    world: World,
+    events: Vec<Event>,
+}
+
+impl Subject for Stepped {
+    fn answer(&mut self, alloc: Global, text: &str) -> Result<String, Fail> {
+        let event = event(alloc, text)?;
+        let answer = self.world.step(&event);
+        self.events.push(event)?;
+        Ok(format!(in alloc; "{answer:?}")?)
+    }
+}
+
+// The answers of a run, one after the other.
+#[derive(Drop)]
+struct Ran(IntoIter<Answer>);
+
+impl Subject for Ran {
+    fn answer(&mut self, alloc: Global, _: &str) -> Result<String, Fail> {
+        let answer = self.0.next().ok_or("no answer")?;
+        Ok(format!(in alloc; "{answer:?}")?)
+    }
+}
+
+// A world that was given these events, and answered each of them so.
+fn play(rt: &impl Abort, alloc: Global, capacity: u32, lines: &str) -> Result<Stepped, Fail> {
+    let mut stepped = Stepped {
+        world: World::new(alloc, capacity)?,
+        events: Vec::new(alloc),
+    };
+    answers(rt, alloc, &mut stepped, lines)?;
+    Ok(stepped)
+}
+
+fn rerun(alloc: Global, capacity: u32, events: &[Event]) -> Result<Ran, NewFault> {
+    let answers = run(alloc, capacity, events)?;
+    Ok(Ran(answers.into_iter()))
+}
+
+// A world answers these events so, and `run` does.
+fn are_answered(rt: &impl Abort, alloc: Global, capacity: u32, lines: &str) -> Result<(), Fail> {
+    let stepped = play(rt, alloc, capacity, lines)?;
+    let mut ran = rerun(alloc, capacity, stepped.events.as_slice())?;
+    answers(rt, alloc, &mut ran, lines)
+}
+
+// A world in which the bytes of a frame that is to arrive come one by one.
+#[derive(Drop)]
+struct ByteByByte(World);
+
+impl ByteByByte {
+    fn arrive(&mut self, side: Side) -> Answer {
+        let act = Act::Deliver { count: 1 };
+        let event = Event { side, act };
+        for _ in 0..MAX_FRAME {
+            match self.0.step(&event) {
+                Answer::Delivered {
+                    bytes: 1,
+                    frames: 0,
+                } => {}
+                Answer::Delivered {
+                    bytes: 1,
+                    frames: 1,
+                } => return Answer::Arrived,
+                other => return other,
+            }
+        }
+        Answer::NothingInFlight
+    }
+}
+
+impl Subject for ByteByByte {
+    fn answer(&mut self, alloc: Global, text: &str) -> Result<String, Fail> {
+        let event = event(alloc, text)?;
+        let answer = match event.act {
+            Act::Arrive => self.arrive(event.side),
+            _ => self.0.step(&event),
+        };
+        Ok(format!(in alloc; "{answer:?}")?)
+    }
+}
+
+fn arrive_byte_by_byte(
+    rt: &impl Abort,
+    alloc: Global,
+    capacity: u32,
+    lines: &str,
+) -> Result<(), Fail> {
+    let mut world = ByteByByte(World::new(alloc, capacity)?);
+    answers(rt, alloc, &mut world, lines)
+}
+
+#[test]
+fn a_stream_may_be_cut_anywhere(rt: HostRuntime) -> Result<(), Fail> {
+    are_answered(&rt, rt.alloc(), 8, CUT)?;
+    arrive_byte_by_byte(&rt, rt.alloc(), 8, MESSAGE)?;
+    arrive_byte_by_byte(&rt, rt.alloc(), 8, LIMITED)?;
+    arrive_byte_by_byte(&rt, rt.alloc(), 16, HONOURED)
+}
+
+#[test]
+fn events_have_their_answers(rt: HostRuntime) -> Result<(), Fail> {
+    are_answered(&rt, rt.alloc(), 8, MESSAGE)?;
+    are_answered(&rt, rt.alloc(), 8, LIMITED)?;
+    are_answered(&rt, rt.alloc(), 16, HONOURED)
+}
+
+// What is held, spent and absolved, what is outstanding, buffered and free, and what A issued.
+fn books(alloc: Global, world: &World) -> Result<String, AllocError> {
+    let (client, server) = (world.client(Side::A, DATA), world.server(Side::B, DATA));
+    let (held, spent, absolved) = (client.held(), client.spent(), client.absolved());
+    let (outstanding, buffered, room) = (server.outstanding(), server.buffered(), server.room());
+    let issued = world.server(Side::A, DATA).issued();
+    format!(in alloc; "{held} {spent} {absolved}, {outstanding} {buffered} {room}, {issued}")
+}
+
+#[test]
+fn events_leave_their_books(rt: HostRuntime) -> Result<(), Fail> {
+    let stepped = play(&rt, rt.alloc(), 16, HONOURED)?;
+    let found = books(rt.alloc(), &stepped.world)?;
+    same(&rt, "books", found.as_str(), "2 5 3, 2 5 9, 0");
+    Ok(())
+}
+
+// Why there is no world with rings of so many bytes, and no run.
+const CAPACITIES: &str = "0 => Some(BadCapacity) Some(BadCapacity)
+1 => None None
+16777216 => None None
+16777217 => Some(BadCapacity) Some(BadCapacity)
+4294967295 => Some(BadCapacity) Some(BadCapacity)
+";
+
+#[derive(Drop)]
+struct Capacities;
+
+impl Subject for Capacities {
+    fn answer(&mut self, alloc: Global, capacity: &str) -> Result<String, Fail> {
+        let capacity = capacity.parse()?;
+        let world = World::new(alloc, capacity).err();
+        let answers = run(alloc, capacity, &[]).err();
+        Ok(format!(in alloc; "{world:?} {answers:?}")?)
+    }
+}
+
+#[test]
+fn a_capacity_is_1_to_2_to_the_24(rt: HostRuntime) -> Result<(), Fail> {
+    answers(&rt, rt.alloc(), &mut Capacities, CAPACITIES)
+}
