@@ -66,6 +66,7 @@ pub struct ShortWriter {
 }
 
 impl ShortWriter {
+    /// A writer that has taken nothing.
     pub fn new(alloc: Global, fails_at: u32) -> ShortWriter {
         ShortWriter {
             written: Vec::new(alloc),

@@ -1,8 +1,9 @@
 //! Scripts of calls on one peer: a call a line, and behind `=>` what it answers. Bytes are in
-//! hexadecimal. `arrive` has a frame, `deliver` the pieces of a stream, `feed` bytes for the decoder
-//! alone, and `take` the room of its buffer, whose bytes were 238.
+//! hexadecimal. `arrive` has a frame, `deliver` the pieces of a stream, `stream` one that is cut as
+//! the run says, `feed` bytes for the decoder alone, and `take` the room of its buffer, whose bytes
+//! were 238. `each` asks on every channel.
 use lc_frame::{Channel, Decoded, StreamDecoder, decode};
-use lc_peer::{Config, Peer, Refusal, Violation};
+use lc_peer::{Config, Delivery, Peer, Refusal, Violation};
 use std::alloc::Global;
 use std::fmt::Debug;
 use std::process::Abort;
@@ -11,6 +12,15 @@ use std::test::Fail;
 /// A peer on which nothing has happened.
 pub fn peer(alloc: Global, capacities: [u32; 7], slots: u32) -> Result<Peer, Fail> {
     Ok(Peer::new(alloc, Config { capacities, slots })?)
+}
+
+/// Where a stream is cut.
+#[derive(Clone, Copy)]
+pub enum Cut {
+    /// Behind so many bytes, if it has more.
+    Behind(usize),
+    /// Behind each byte.
+    Everywhere,
 }
 
 /// A peer with the decoder of the stream that comes to it.
@@ -53,24 +63,56 @@ fn arrive(alloc: Global, peer: &mut Peer, digits: &str) -> Result<Result<(), Vio
     }
 }
 
-// The pieces are delivered in turn, up to the one at which it stops. What was done altogether, and
-// how many bytes are held after it.
-fn deliver(alloc: Global, side: &mut Side, pieces: &str) -> Result<String, Fail> {
-    let mut taken = 0_usize;
-    let mut frames = 0_u64;
-    let mut stop = None;
-    for digits in pieces.split(' ') {
-        let piece = bytes(alloc, digits)?;
-        let delivery = side.peer.deliver(&mut side.decoder, &piece);
-        taken = taken.saturating_add(delivery.taken);
-        frames = frames.saturating_add(delivery.frames);
-        stop = delivery.stop;
-        if stop.is_some() {
-            break;
-        }
+const NOTHING: Delivery = Delivery {
+    taken: 0,
+    frames: 0,
+    stop: None,
+};
+
+// What deliveries did together with one piece more, which comes unless they stopped.
+fn and_then(did: Delivery, side: &mut Side, piece: &[u8]) -> Delivery {
+    if did.stop.is_some() {
+        return did;
     }
+    let next = side.peer.deliver(&mut side.decoder, piece);
+    Delivery {
+        taken: did.taken.saturating_add(next.taken),
+        frames: did.frames.saturating_add(next.frames),
+        stop: next.stop,
+    }
+}
+
+// What deliveries did, and how many bytes are held after them.
+fn delivered(alloc: Global, did: Delivery, side: &Side) -> Result<String, Fail> {
+    let (taken, frames, stop) = (did.taken, did.frames, did.stop);
     let held = side.decoder.held();
     Ok(format!(in alloc; "taken {taken} frames {frames} {stop:?} held {held}")?)
+}
+
+fn deliver(alloc: Global, side: &mut Side, pieces: &str) -> Result<String, Fail> {
+    let mut did = NOTHING;
+    for digits in pieces.split(' ') {
+        did = and_then(did, side, &bytes(alloc, digits)?);
+    }
+    delivered(alloc, did, side)
+}
+
+fn stream(alloc: Global, side: &mut Side, cut: Cut, digits: &str) -> Result<String, Fail> {
+    let bytes = bytes(alloc, digits)?;
+    let mut did = NOTHING;
+    match cut {
+        Cut::Behind(count) => {
+            let (first, rest) = bytes.split_at(count.min(bytes.len()));
+            did = and_then(did, side, first);
+            did = and_then(did, side, rest);
+        }
+        Cut::Everywhere => {
+            for piece in bytes.chunks(1) {
+                did = and_then(did, side, piece);
+            }
+        }
+    }
+    delivered(alloc, did, side)
 }
 
 // What an own call answers, which names a channel and a number.
@@ -127,17 +169,31 @@ fn on_channel(
     }
 }
 
+// What all channels answer alike.
+fn each(alloc: Global, peer: &mut Peer, verb: &str) -> Result<String, Fail> {
+    let first = on_channel(alloc, peer, verb, Channel::ReconciliationChannel, "0")?;
+    for channel in (1..7).filter_map(Channel::from_number) {
+        let other = on_channel(alloc, peer, verb, channel, "0")?;
+        if other.as_str() != first.as_str() {
+            Err("two channels differ")?;
+        }
+    }
+    Ok(first)
+}
+
 // What the call of a line answers.
-fn answer(alloc: Global, side: &mut Side, call: &str) -> Result<String, Fail> {
+fn answer(alloc: Global, side: &mut Side, cut: Cut, call: &str) -> Result<String, Fail> {
     let (verb, rest) = call.split_once(' ').unwrap_or((call, ""));
     let (first, last) = rest.split_once(' ').unwrap_or((rest, "0"));
     match verb {
         "arrive" => text(alloc, &arrive(alloc, &mut side.peer, first)?),
         "deliver" => deliver(alloc, side, rest),
+        "stream" => stream(alloc, side, cut, first),
         "feed" => text(alloc, &side.decoder.feed(&bytes(alloc, first)?)),
         "out" => text(alloc, &side.peer.next_out()),
         "waiting" => text(alloc, &side.peer.waiting()),
         "frame" => text(alloc, &side.peer.waiting_frame(first.parse::<usize>()?)),
+        "each" => each(alloc, &mut side.peer, first),
         _ => on_channel(alloc, &mut side.peer, verb, channel(first)?, last),
     }
 }
@@ -158,10 +214,21 @@ pub fn answers(rt: &impl Abort, call: &str, got: &String, want: &str) {
 
 /// A new peer answers each line of a script as it says.
 pub fn run(rt: &impl Abort, alloc: Global, slots: u32, script: &str) -> Result<(), Fail> {
+    run_cut(rt, alloc, slots, Cut::Everywhere, script)
+}
+
+/// The same, and streams are cut so.
+pub fn run_cut(
+    rt: &impl Abort,
+    alloc: Global,
+    slots: u32,
+    cut: Cut,
+    script: &str,
+) -> Result<(), Fail> {
     let mut side = Side::new(alloc, slots)?;
     for line in script.lines() {
         let (call, want) = call_of(line)?;
-        let got = answer(alloc, &mut side, call)?;
+        let got = answer(alloc, &mut side, cut, call)?;
         answers(rt, call, &got, want);
     }
     Ok(())
