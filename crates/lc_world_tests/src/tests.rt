@@ -1,7 +1,4 @@
 //! The subjects of the tests, and the comparisons that all of them make.
-mod books;
-mod restored;
-mod texts;
 mod worlds;
 
 use std::alloc::Global;

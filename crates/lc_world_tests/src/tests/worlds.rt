@@ -260,3 +260,11 @@ impl Subject for Capacities {
 fn a_capacity_is_1_to_2_to_the_24(rt: HostRuntime) -> Result<(), Fail> {
     answers(&rt, rt.alloc(), &mut Capacities, CAPACITIES)
 }
+
+#[test]
+fn no_world_has_its_text(rt: HostRuntime) -> Result<(), Fail> {
+    let found = format!(in rt.alloc(); "{}, {}", NewFault::BadCapacity, NewFault::OutOfMemory)?;
+    let wanted = "the capacity is not 1 to 2^24, out of memory";
+    same(&rt, "errors", found.as_str(), wanted);
+    Ok(())
+}

@@ -1,7 +1,6 @@
-//! The numbers and the texts of refusals and violations, and why there is no world.
+//! The numbers and the texts of refusals and violations.
 use super::same;
 use lc_book::{Refusal, Violation};
-use lc_world::NewFault;
 use std::alloc::{AllocError, Global};
 use std::fmt::Display;
 use std::process::Abort;
@@ -113,13 +112,5 @@ fn violations_have_their_numbers_and_texts(rt: HostRuntime) -> Result<(), Fail> 
     for (violation, wanted) in VIOLATIONS {
         reads(&rt, rt.alloc(), violation.number(), &violation, wanted)?;
     }
-    Ok(())
-}
-
-#[test]
-fn no_world_has_its_text(rt: HostRuntime) -> Result<(), Fail> {
-    let found = format!(in rt.alloc(); "{}, {}", NewFault::BadCapacity, NewFault::OutOfMemory)?;
-    let wanted = "the capacity is not 1 to 2^24, out of memory";
-    same(&rt, "errors", found.as_str(), wanted);
     Ok(())
 }
