@@ -1,4 +1,4 @@
-//! The kinds of test.
+//! The kinds of test, and the one comparison that all of them make.
 mod answers;
 mod bad_lines;
 mod bodies;
@@ -9,3 +9,10 @@ mod failures;
 mod sessions;
 mod streams;
 mod transcript;
+
+use std::process::Abort;
+
+/// Fails where a text is not the one that is wanted, and names what was compared.
+fn same(rt: &impl Abort, what: &str, found: &str, wanted: &str) {
+    assert_eq!(rt; found, wanted, "{what}");
+}

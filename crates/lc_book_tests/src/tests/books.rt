@@ -1,6 +1,6 @@
 //! Sequences of calls at a client's and a server's book of one channel, as frames would carry them.
+use super::{Subject, answers};
 use lc_book::{ClientBook, ClientParts, Refusal, ServerBook, ServerParts, Violation};
-use lc_cases::{Subject, answers};
 use lc_frame::{MAX_AMOUNT, MAX_BODY, MAX_TOTAL};
 use std::alloc::{AllocError, Global};
 use std::test::Fail;

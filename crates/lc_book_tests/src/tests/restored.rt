@@ -1,7 +1,7 @@
 //! Books that are made of their fields, and which fields make none.
 use super::books::{shown_client, shown_server};
+use super::same;
 use lc_book::{ClientBook, ClientParts, ServerBook, ServerParts};
-use lc_cases::same;
 use std::test::Fail;
 
 const TWO_24: u32 = 16_777_216;

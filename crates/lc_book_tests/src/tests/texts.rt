@@ -1,6 +1,6 @@
 //! The numbers and the texts of refusals and violations.
+use super::same;
 use lc_book::{Refusal, Violation};
-use lc_cases::same;
 use std::alloc::{AllocError, Global};
 use std::fmt::Display;
 use std::process::Abort;

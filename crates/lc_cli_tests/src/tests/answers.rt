@@ -1,5 +1,5 @@
 //! The lines of the answers that no session gives, and of all others with the largest number.
-use lc_cases::same;
+use super::same;
 use lc_cli::write_answer;
 use lc_world::{Answer, Refusal, Violation};
 use std::alloc::Global;

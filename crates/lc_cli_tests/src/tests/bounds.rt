@@ -1,7 +1,7 @@
 //! Inputs about the longest length, 16,777,216 bytes. What `frames` prints of them is only counted.
 use super::devices::Repeated;
+use super::same;
 use super::transcript::Run;
-use lc_cases::same;
 use std::str;
 use std::test::Fail;
 

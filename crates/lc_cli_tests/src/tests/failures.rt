@@ -1,7 +1,7 @@
 //! Devices that fail at each call in turn.
 use super::devices::{ShortReader, ShortWriter};
+use super::same;
 use super::transcript::arguments;
-use lc_cases::same;
 use lc_cli::run;
 use std::alloc::Global;
 use std::io::{Read, Write};

@@ -4,7 +4,7 @@
 //! of standard input, and `x ` bytes of it in hexadecimal; `> ` begins a line of standard output,
 //! `! ` one of standard error, and `= ` the exit status.
 use super::devices::ShortReader;
-use lc_cases::same;
+use super::same;
 use lc_cli::run;
 use std::alloc::{AllocError, Global};
 use std::env::Args;

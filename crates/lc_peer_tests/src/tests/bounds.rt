@@ -1,7 +1,6 @@
 //! Bounds of peers, and the calls that take memory.
 use crate::tests::inbox::inbox;
-use crate::tests::script::peer;
-use lc_cases::same;
+use crate::tests::script::{answers, peer};
 use lc_frame::{Channel, FrameRef};
 use lc_peer::{Config, Peer, Refusal, Take};
 use std::alloc::Global;
@@ -36,7 +35,7 @@ fn fault(alloc: Global, capacities: [u32; 7], slots: u32) -> Result<String, Fail
 fn peers_of_other_bounds(rt: HostRuntime) -> Result<(), Fail> {
     for (capacities, slots, want) in FAULTS {
         let got = fault(rt.alloc(), capacities, slots)?;
-        same(&rt, "new", got.as_str(), want);
+        answers(&rt, "new", &got, want);
     }
     let mut widest = [16_777_216; 7];
     widest[0] = 1;

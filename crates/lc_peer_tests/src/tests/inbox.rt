@@ -1,6 +1,5 @@
 //! A script of calls on an inbox by itself.
-use crate::tests::script::{bytes, call_of, text};
-use lc_cases::same;
+use crate::tests::script::{answers, bytes, call_of, text};
 use lc_frame::{Decoded, FrameRef, decode};
 use lc_peer::{Inbox, Refusal, Violation};
 use std::alloc::Global;
@@ -91,14 +90,18 @@ fn fault(alloc: Global, capacity: u32) -> Result<String, Fail> {
 #[test]
 fn worked_calls(rt: HostRuntime) -> Result<(), Fail> {
     for capacity in [0, 16_777_217] {
-        let got = fault(rt.alloc(), capacity)?;
-        same(&rt, "new", got.as_str(), "Some(BadCapacity)");
+        answers(
+            &rt,
+            "new",
+            &fault(rt.alloc(), capacity)?,
+            "Some(BadCapacity)",
+        );
     }
     let mut inbox = inbox(rt.alloc(), 8)?;
     for line in CALLS.lines() {
         let (call, want) = call_of(line)?;
         let got = answer(rt.alloc(), &mut inbox, call)?;
-        same(&rt, call, got.as_str(), want);
+        answers(&rt, call, &got, want);
     }
     Ok(())
 }

@@ -2,7 +2,6 @@
 //! hexadecimal. `arrive` has a frame, `deliver` the pieces of a stream, `stream` one that is cut as
 //! the run says, `feed` bytes for the decoder alone, and `take` the room of its buffer, whose bytes
 //! were 238. `each` asks on every channel.
-use lc_cases::same;
 use lc_frame::{Channel, Decoded, StreamDecoder, decode};
 use lc_peer::{Config, Delivery, Peer, Refusal, Violation};
 use std::alloc::Global;
@@ -208,6 +207,11 @@ pub fn call_of(line: &str) -> Result<(&str, &str), Fail> {
     )
 }
 
+/// A call answers what is wanted.
+pub fn answers(rt: &impl Abort, call: &str, got: &String, want: &str) {
+    assert_eq!(rt; got.as_str(), want, "{call}");
+}
+
 /// A new peer answers each line of a script as it says.
 pub fn run(rt: &impl Abort, alloc: Global, slots: u32, script: &str) -> Result<(), Fail> {
     run_cut(rt, alloc, slots, Cut::Everywhere, script)
@@ -225,7 +229,7 @@ pub fn run_cut(
     for line in script.lines() {
         let (call, want) = call_of(line)?;
         let got = answer(alloc, &mut side, cut, call)?;
-        same(rt, call, got.as_str(), want);
+        answers(rt, call, &got, want);
     }
     Ok(())
 }

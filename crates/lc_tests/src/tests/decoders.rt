@@ -1,6 +1,6 @@
 //! Streams that are fed in pieces.
 use super::frames::{bytes_of, frame_in};
-use lc_cases::{Subject, answers, same};
+use super::{Subject, answers, same};
 use lc_frame::{Channel, FrameRef, StreamDecoder};
 use std::alloc::{AllocError, Global};
 use std::test::Fail;
@@ -74,17 +74,12 @@ const STOPS: &str = "21 00 00 00 05 17 => 5 0 None
 21 => 0 0 Some(BadTag)
 ";
 
-// A decoder that is fed each piece twice.
-#[derive(Drop)]
-struct Twice(StreamDecoder);
-
-impl Subject for Twice {
+impl Subject for StreamDecoder {
     fn answer(&mut self, alloc: Global, digits: &str) -> Result<String, Fail> {
         let piece = bytes_of(alloc, digits)?;
-        let first = self.0.feed(piece.as_slice());
-        let second = self.0.feed(piece.as_slice());
-        let answer = format!(in alloc; "{first} {second} {:?}", self.0.fault())?;
-        self.0.clear();
+        let (first, second) = (self.feed(piece.as_slice()), self.feed(piece.as_slice()));
+        let answer = format!(in alloc; "{first} {second} {:?}", self.fault())?;
+        self.clear();
         Ok(answer)
     }
 }
@@ -92,7 +87,7 @@ impl Subject for Twice {
 // A decoder takes nothing while a frame stands, and nothing ever again behind a fault.
 #[test]
 fn what_stands_stops_the_feed(rt: HostRuntime) -> Result<(), Fail> {
-    let mut decoder = Twice(StreamDecoder::new(rt.alloc())?);
+    let mut decoder = StreamDecoder::new(rt.alloc())?;
     answers(&rt, rt.alloc(), &mut decoder, STOPS)
 }
 

@@ -1,5 +1,5 @@
 //! Frames and their bytes, both ways, owned and borrowed.
-use lc_cases::{Subject, answers, same};
+use super::{Subject, answers, same};
 use lc_frame::{Channel, Decoded, Frame, FrameRef, decode};
 use std::alloc::{AllocError, Global};
 use std::process::Abort;

@@ -1,5 +1,5 @@
 //! The numbers and the texts of faults, and the text of a buffer that is too small.
-use lc_cases::same;
+use super::same;
 use lc_frame::{BufferTooSmall, FrameFault};
 use std::alloc::{AllocError, Global};
 use std::fmt::Display;

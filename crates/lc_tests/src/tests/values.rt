@@ -1,5 +1,5 @@
 //! Channels, bodies, frames that are not valid, and slices with and without room.
-use lc_cases::same;
+use super::same;
 use lc_frame::{Body, Channel, Frame, FrameRef, MAX_AMOUNT, MAX_BODY, MAX_FRAME, MAX_TOTAL};
 use std::alloc::{AllocError, Global};
 use std::test::Fail;

@@ -1,5 +1,5 @@
 //! Worked sequences of events at two peers, on one channel, and the books that they leave.
-use lc_cases::{Subject, answers, same};
+use super::{Subject, answers, same};
 use lc_frame::{Body, Channel, MAX_FRAME};
 use lc_world::{Act, Answer, Event, NewFault, Side, World, run};
 use std::alloc::{AllocError, Global};
