@@ -1,4 +1,4 @@
-pub mod Seven
+pub mod Made
 pub mod Feeds
 pub mod Deliveries
 pub mod Bounded

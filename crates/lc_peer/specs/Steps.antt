@@ -6,7 +6,6 @@ use Rattle.lc_frame.specs.Frame.{IsValid}
 use Rattle.lc_frame.specs.Encoding.{encoding, FaultStands}
 use Rattle.lc_frame.specs.Decoded.{IsOpen}
 use Rattle.lc_book.specs.declared.fault.Violation.{Violation}
-use Rattle.lc_peer.specs.declared.delivery.Stop.{Stop}
 use Rattle.lc_peer.specs.declared.delivery.Stop.TheVariants.{Fault, Violated}
 use Rattle.lc_peer.specs.declared.delivery.Step.{Step}
 use Rattle.lc_peer.specs.declared.delivery.Step.TheVariants.{Arrived, Open, Stopped}

@@ -58,13 +58,9 @@ pub(crate) fn new_channels(
     requires { length capacities ≡ 7 }
     ensures { IfOk result (λ states. states ≡ map new_channel capacities) }
 {
-    Ok([
-        new_channel(alloc, capacities[0])?,
-        new_channel(alloc, capacities[1])?,
-        new_channel(alloc, capacities[2])?,
-        new_channel(alloc, capacities[3])?,
-        new_channel(alloc, capacities[4])?,
-        new_channel(alloc, capacities[5])?,
-        new_channel(alloc, capacities[6])?,
-    ])
+    capacities.try_map(
+        |capacity: u32| -> Result<ChannelState, NewFault>
+            ensures { IfOk result (λ state. state ≡ new_channel capacity) }
+        { new_channel(alloc, capacity) },
+    )
 }

@@ -68,26 +68,31 @@ impl Opening {
         Ok(LaneEnd { queue, pass, lane })
     }
 
+    // The ends of the next four lanes.
+    fn four_lanes(&mut self, lane: u8) -> Result<(LaneEnd, LaneEnd, LaneEnd, LaneEnd), AllocError>
+        requires { (self.old.next ≡ lane) × (lane < 11) }
+        ensures ends { IfOk result (λ ends. (ends.0 ≡ new_end self.old.queue lane) × (ends.1 ≡ new_end self.old.queue (lane + 1)) × (ends.2 ≡ new_end self.old.queue (lane + 2)) × (ends.3 ≡ new_end self.old.queue (lane + 3))) }
+        ensures next { IfOk result (λ _. self.new ≡ record self.old { next = lane + 4 }) }
+    {
+        Ok((
+            self.next_lane(lane)?,
+            self.next_lane(lane + 1)?,
+            self.next_lane(lane + 2)?,
+            self.next_lane(lane + 3)?,
+        ))
+    }
+
     // The ends of all lanes.
     fn ends(&mut self, first: LaneEnd) -> Result<[LaneEnd; 14], AllocError>
         requires { (self.old.next ≡ 1) × (first ≡ new_end self.old.queue 0) }
         ensures { IfOk result (λ ends. (ends ≡ new_ends self.old.queue) × (self.new ≡ record self.old { next = 14 })) }
     {
+        let (e1, e2, e3, e4) = self.four_lanes(1)?;
+        let (e5, e6, e7, e8) = self.four_lanes(5)?;
+        let (e9, e10, e11, e12) = self.four_lanes(9)?;
+        let last = self.next_lane(13)?;
         Ok([
-            first,
-            self.next_lane(1)?,
-            self.next_lane(2)?,
-            self.next_lane(3)?,
-            self.next_lane(4)?,
-            self.next_lane(5)?,
-            self.next_lane(6)?,
-            self.next_lane(7)?,
-            self.next_lane(8)?,
-            self.next_lane(9)?,
-            self.next_lane(10)?,
-            self.next_lane(11)?,
-            self.next_lane(12)?,
-            self.next_lane(13)?,
+            first, e1, e2, e3, e4, e5, e6, e7, e8, e9, e10, e11, e12, last,
         ])
     }
 

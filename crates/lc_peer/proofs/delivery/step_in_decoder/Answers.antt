@@ -1,9 +1,9 @@
-use Rattle.std.proofs.Common.{◌≡◌, ◌++◌, [], ℕ, List, length, take, refl, sym, ap, subst, ◌∙◌}
-use Rattle.std.proofs.lemmas.List.{append-nil, take_all}
+use Rattle.std.proofs.Common.{[], refl, sym, ◌∙◌}
+use Rattle.std.proofs.lemmas.List.{append-nil}
 use Rattle.lc_frame.specs.Decoded.{IsOpen}
 use Rattle.lc_frame.specs.FrameRef.{frame_of}
 use Rattle.lc_peer.proofs.Feeds.{Feeds, all_open, ends, shortest_fault}
-use Rattle.lc_peer.proofs.Deliveries.{one_lawful, one_unlawful, one_arrives, one_stays}
+use Rattle.lc_peer.proofs.Deliveries.{one_lawful, one_arrives}
 use Rattle.lc_peer.proofs.delivery.step_in_decoder.Goals as goal
 
 pub returns-in-Ok : goal.returns-in-Ok

@@ -1,8 +1,7 @@
-use Rattle.std.proofs.Common.{◌≡◌, ◌++◌, [], ℕ, ◌<◌, ◌≤◌, List, length, take, refl, sym, ap, subst, ◌∙◌}
+use Rattle.std.proofs.Common.{◌≡◌, ◌++◌, [], ℕ, List, take, refl, sym, ap, subst, ◌∙◌}
 use Rattle.lc_frame.specs.Decoded.{IsOpen}
-use Rattle.lc_frame.specs.Encoding.{FaultStands}
 use Rattle.lc_frame.specs.FrameRef.{frame_of}
-use Rattle.lc_peer.proofs.Feeds.{Feeds, from_nothing, takes_all, grown, holds_fault, shortest_fault, takes_frame, holds_frame}
+use Rattle.lc_peer.proofs.Feeds.{from_nothing, takes_all, grown, holds_fault, shortest_fault, holds_frame}
 use Rattle.lc_peer.proofs.Deliveries.{one_lawful, one_unlawful, one_arrives, one_stays, front_of, front_fits}
 use Rattle.lc_peer.proofs.delivery.step_in_piece.Goals as goal
 

@@ -1,4 +1,4 @@
-use Rattle.std.proofs.Common.{◌≡◌, ℕ, ◌+◌, ◌-◌, length}
+use Rattle.std.proofs.Common.{◌+◌, ◌-◌, length}
 use Rattle.lc_peer.proofs.Deliveries.{SoFar}
 use Rattle.lc_peer.proofs.peer.Peer.deliver.Given as goal
 
