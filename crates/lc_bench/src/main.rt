@@ -57,20 +57,35 @@ fn frame_of(rt: &HostRuntime, len: usize) -> io::Result<Frame> {
     Ok(Frame::Send { channel, body })
 }
 
+fn measure_frame(rt: &HostRuntime, plan: &Plan, name: &str, frame: &Frame) -> io::Result<()> {
+    for operation in OPERATIONS {
+        measure(rt, plan, operation, name, frame)?;
+    }
+    Ok(())
+}
+
+fn measure_frames(rt: &HostRuntime, plan: &Plan) -> io::Result<()> {
+    for (name, len) in FRAMES {
+        let frame = frame_of(rt, len)?;
+        measure_frame(rt, plan, name, &frame)?;
+    }
+    Ok(())
+}
+
+fn measure_messages(rt: &HostRuntime, plan: &Plan) -> io::Result<()> {
+    for (name, len) in MESSAGES {
+        measure_ring(rt, plan, name, len as usize)?;
+    }
+    for (name, len) in MESSAGES {
+        measure_peers(rt, plan, name, len)?;
+    }
+    Ok(())
+}
+
 fn main(rt: HostRuntime) -> io::Result<()> {
     let plan = Plan::from_environment(&rt)?;
-    for (name, len) in FRAMES {
-        let frame = frame_of(&rt, len)?;
-        for operation in OPERATIONS {
-            measure(&rt, &plan, operation, name, &frame)?;
-        }
-    }
-    for (name, len) in MESSAGES {
-        measure_ring(&rt, &plan, name, len as usize)?;
-    }
-    for (name, len) in MESSAGES {
-        measure_peers(&rt, &plan, name, len)?;
-    }
+    measure_frames(&rt, &plan)?;
+    measure_messages(&rt, &plan)?;
     measure_queues(rt, &rt, &plan)?;
     measure_credits(&rt, &plan)
 }

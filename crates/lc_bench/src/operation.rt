@@ -12,7 +12,7 @@ const WALK: usize = 256 * 1024;
 const PIECE: usize = 512;
 
 /// A call that is measured.
-#[derive(Clone, Copy, Debug, PartialEq, Eq)]
+#[derive(Clone, Copy, PartialEq, Eq)]
 pub enum Operation {
     EncodeInto,
     EncodeToSlice,

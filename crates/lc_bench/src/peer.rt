@@ -19,15 +19,26 @@ const WIRE: usize = 70_000;
 const CHANNEL: Channel = Channel::DataChannel;
 
 // A peer, and what it holds for both streams.
-#[derive(Drop)]
 struct Side {
     peer: Peer,
     outgo: Outgo,
     intake: Intake,
 }
 
+impl Drop for Side {
+    fn drop(self) {
+        let Side {
+            peer: _,
+            outgo: _,
+            intake: _,
+        } = self;
+    }
+}
+
 impl Side {
     fn new(alloc: Global) -> io::Result<Side> {
+        let outgo = Outgo::new(alloc)?;
+        let intake = Intake::new(alloc)?;
         let config = Config {
             capacities: [CAPACITY; 7],
             slots: SLOTS,
@@ -37,8 +48,8 @@ impl Side {
         };
         Ok(Side {
             peer,
-            outgo: Outgo::new(alloc)?,
-            intake: Intake::new(alloc)?,
+            outgo,
+            intake,
         })
     }
 }

@@ -2,7 +2,7 @@
 use std::{env, io};
 
 /// How often a figure is taken where nothing else is asked for.
-const REPS: usize = 3;
+const REPS: u64 = 3;
 
 /// What is to be done, by the arguments and the environment.
 #[derive(Drop)]
@@ -12,35 +12,36 @@ pub struct Plan {
     /// Run so many turns of each figure, and time nothing.
     pub fixed: Option<u64>,
     /// Repetitions of each figure.
-    pub reps: usize,
+    pub reps: u64,
     /// What the names of the figures begin with.
     pub prefix: String,
+}
+
+// The number in a variable of the environment.
+fn number(rt: &HostRuntime, variable: &str) -> Option<u64> {
+    match env::var(rt, variable) {
+        Ok(text) => text.parse::<u64>().ok(),
+        Err(_) => None,
+    }
 }
 
 impl Plan {
     /// The plan of this process.
     pub fn from_environment(rt: &HostRuntime) -> io::Result<Plan> {
+        let arguments = env::args(rt)?.skip(1);
         let mut listing = false;
         let mut prefix = String::new(rt.alloc());
-        for argument in env::args(rt)?.skip(1) {
+        for argument in arguments {
             if argument.as_str() == "list" {
                 listing = true;
             } else {
                 prefix = argument;
             }
         }
-        let fixed = match env::var(rt, "BENCH_FIXED") {
-            Ok(text) => text.parse::<u64>().ok(),
-            Err(_) => None,
-        };
-        let reps = match env::var(rt, "BENCH_REPS") {
-            Ok(text) => text.parse::<usize>().unwrap_or(REPS).max(1),
-            Err(_) => REPS,
-        };
         Ok(Plan {
             listing,
-            fixed,
-            reps,
+            fixed: number(rt, "BENCH_FIXED"),
+            reps: number(rt, "BENCH_REPS").unwrap_or(REPS).max(1),
             prefix,
         })
     }

@@ -21,19 +21,15 @@ impl Receiver {
     pub fn new(alloc: Global, room: u32) -> io::Result<Receiver> {
         let mut capacities = [1; 7];
         capacities[usize::from(CHANNEL.number())] = room;
-        let Ok(peer) = Peer::new(
-            alloc,
-            Config {
-                capacities,
-                slots: 2,
-            },
-        ) else {
+        let config = Config {
+            capacities,
+            slots: 2,
+        };
+        let decoder = StreamDecoder::new(alloc)?;
+        let Ok(peer) = Peer::new(alloc, config) else {
             return Err(io::Error::other("no peer was made"));
         };
-        let mut receiver = Receiver {
-            peer,
-            decoder: StreamDecoder::new(alloc)?,
-        };
+        let mut receiver = Receiver { peer, decoder };
         receiver.promise(room);
         Ok(receiver)
     }

@@ -20,14 +20,12 @@ struct Passage {
 impl Passage {
     // `None` where there is no ring.
     fn new(alloc: Global, len: usize) -> Result<Option<Passage>, AllocError> {
-        let Ok(ring) = RecvRing::new(alloc, CAPACITY) else {
-            return Ok(None);
-        };
-        Ok(Some(Passage {
-            ring,
-            body: vec![in alloc; 0x5a_u8; len]?,
-            buffer: vec![in alloc; 0u8; len]?,
-        }))
+        let body = vec![in alloc; 0x5a_u8; len]?;
+        let buffer = vec![in alloc; 0u8; len]?;
+        match RecvRing::new(alloc, CAPACITY) {
+            Ok(ring) => Ok(Some(Passage { ring, body, buffer })),
+            Err(_) => Ok(None),
+        }
     }
 }
 

@@ -46,12 +46,15 @@ fn make_lanes(alloc: Global, slots: u32) -> &'static str {
 fn main(rt: HostRuntime) -> io::Result<()> {
     let mut arguments = env::args(&rt)?.skip(1);
     let what = arguments.next().unwrap_or(String::new(rt.alloc()));
-    let count = arguments.next().and_then(|text| text.parse::<u32>().ok());
-    let count = count.unwrap_or(0);
-    match what.as_str() {
-        "queue" => println!(rt; "queue: {}", run_queue(rt, rt.alloc(), count)),
-        "credits" => println!(rt; "credits: {}", run_credits(&rt, rt.alloc(), count)),
-        "lanes" => println!(rt; "lanes: {}", make_lanes(rt.alloc(), count)),
-        _ => println!(rt; "usage: lc_threads queue FRAMES, credits ROUNDS or lanes SLOTS"),
-    }
+    let count = match arguments.next() {
+        Some(text) => text.parse::<u32>().unwrap_or(0),
+        None => 0,
+    };
+    let answer = match what.as_str() {
+        "queue" => run_queue(rt, rt.alloc(), count),
+        "credits" => run_credits(&rt, rt.alloc(), count),
+        "lanes" => make_lanes(rt.alloc(), count),
+        _ => return println!(rt; "usage: lc_threads queue FRAMES, credits ROUNDS or lanes SLOTS"),
+    };
+    println!(rt; "{what}: {answer}")
 }
