@@ -54,70 +54,102 @@ impl Link {
     }
 }
 
-// Takes what waits, and issues as much again.
-fn take_all(rt: &impl Abort, side: &mut Side, taken: &mut Vec<u8>) -> Result<(), Fail> {
+// How many bytes a message has, each of which is its number.
+fn length(number: u8) -> usize {
+    1 + usize::from(number % 16)
+}
+
+fn send(rt: &impl Abort, side: &mut Side, number: u8) {
+    let bytes = [number; 16];
+    let body = bytes.get(..length(number)).unwrap_or(&[]);
+    assert_eq!(rt; side.peer.send(Channel::DataChannel, body), Ok(()));
+}
+
+// Takes the message of this number, if it is there, and issues as much again.
+fn take(rt: &impl Abort, side: &mut Side, number: u8) -> bool {
     let mut buffer = [0; 16];
-    for _ in 0..MESSAGES {
-        let Ok(Take::Took(len)) = side.peer.take_into(Channel::DataChannel, &mut buffer) else {
-            return Ok(());
-        };
-        taken.extend_from_slice(buffer.get(..len).unwrap_or(&[]))?;
-        let amount = u32::try_from(len).unwrap_or(0);
-        assert_eq!(rt; side.peer.issue(Channel::DataChannel, amount), Ok(()));
+    let Ok(Take::Took(len)) = side.peer.take_into(Channel::DataChannel, &mut buffer) else {
+        return false;
+    };
+    let bytes = [number; 16];
+    assert_eq!(rt; buffer.get(..len), bytes.get(..length(number)));
+    let amount = u32::try_from(len).unwrap_or(0);
+    assert_eq!(rt; side.peer.issue(Channel::DataChannel, amount), Ok(()));
+    true
+}
+
+// Takes what waits, and gives the number of the next message.
+fn take_all(rt: &impl Abort, side: &mut Side, next: u8) -> u8 {
+    for number in next..MESSAGES {
+        if !take(rt, side, number) {
+            return number;
+        }
     }
-    Ok(())
+    MESSAGES
 }
 
 // Twenty messages go from one side to another, which issues as it takes, and all that was sent is
 // taken.
+fn messages_go(rt: &impl Abort, client: &mut Side, server: &mut Side, mut link: Link) -> Link {
+    assert_eq!(rt; server.peer.issue(Channel::DataChannel, 32), Ok(()));
+    let mut taken = 0;
+    for number in 0..MESSAGES {
+        link = link.write(server).read(client);
+        send(rt, client, number);
+        if number % 2 == 1 || number > 12 {
+            link = link.write(client).read(server);
+            taken = take_all(rt, server, taken);
+        }
+    }
+    assert_eq!(rt; taken, MESSAGES);
+    link
+}
+
 fn session(rt: &impl Abort, alloc: Global, writing: Plan, reading: Plan) -> Result<Link, Fail> {
-    let mut client = Side::new(alloc, 32, 32)?;
-    let mut server = Side::new(alloc, 32, 32)?;
-    let mut link = Link {
+    let link = Link {
         writing,
         reading,
         pipe: pipe(alloc, &[])?,
         failed: 0,
         empty: 0,
     };
-    let (mut sent, mut taken) = (Vec::new(alloc), Vec::new(alloc));
-    assert_eq!(rt; server.peer.issue(Channel::DataChannel, 32), Ok(()));
-    for number in 0..MESSAGES {
-        link = link.write(&mut server).read(&mut client);
-        let body = vec![in alloc; number; 1 + usize::from(number % 16)]?;
-        assert_eq!(rt; client.peer.send(Channel::DataChannel, &body), Ok(()));
-        sent.extend_from_slice(&body)?;
-        if number % 2 == 1 || number > 12 {
-            link = link.write(&mut client).read(&mut server);
-            take_all(rt, &mut server, &mut taken)?;
+    let mut client = Side::new(alloc, 32, 32)?;
+    let mut server = Side::new(alloc, 32, 32)?;
+    Ok(messages_go(rt, &mut client, &mut server, link))
+}
+
+fn each_write_fails(rt: &impl Abort, alloc: Global, odd: Odd, faults: u32) -> Result<(), Fail> {
+    let ends = u32::from(odd == Odd::Moves(0));
+    for at in 1..100 {
+        let link = session(rt, alloc, Plan::odd(odd, at), Plan::whole())?;
+        if link.writing.calls < at {
+            break;
         }
+        assert_eq!(rt;
+            (link.failed, link.empty),
+            (faults, ends),
+            "write {at} {odd:?}"
+        );
     }
-    assert_eq!(rt; taken.as_slice(), sent.as_slice());
-    Ok(link)
+    Ok(())
+}
+
+fn each_read_fails(rt: &impl Abort, alloc: Global, odd: Odd, faults: u32) -> Result<(), Fail> {
+    for at in 1..100 {
+        let link = session(rt, alloc, Plan::whole(), Plan::odd(odd, at))?;
+        if link.reading.calls < at {
+            break;
+        }
+        assert_eq!(rt; link.failed, faults, "read {at} {odd:?}");
+    }
+    Ok(())
 }
 
 #[test]
 fn each_call_fails_in_turn(rt: HostRuntime) -> Result<(), Fail> {
-    for (odd, faults) in [(Odd::Fails, 1), (Odd::Moves(1), 0), (Odd::Moves(0), 0)] {
-        for at in 1..100 {
-            let link = session(&rt, rt.alloc(), Plan::odd(odd, at), Plan::whole())?;
-            if link.writing.calls < at {
-                break;
-            }
-            assert_eq!(rt; link.failed, faults, "write {at} {odd:?}");
-            assert_eq!(rt;
-                link.empty,
-                u32::from(odd == Odd::Moves(0)),
-                "write {at} {odd:?}"
-            );
-        }
-        for at in 1..100 {
-            let link = session(&rt, rt.alloc(), Plan::whole(), Plan::odd(odd, at))?;
-            if link.reading.calls < at {
-                break;
-            }
-            assert_eq!(rt; link.failed, faults, "read {at} {odd:?}");
-        }
+    for &(odd, faults) in &[(Odd::Fails, 1), (Odd::Moves(1), 0), (Odd::Moves(0), 0)] {
+        each_write_fails(&rt, rt.alloc(), odd, faults)?;
+        each_read_fails(&rt, rt.alloc(), odd, faults)?;
     }
     Ok(())
 }

@@ -117,13 +117,26 @@ fn cut_at(alloc: Global, own: &str, cut: usize, end: &str, state: &str) -> Resul
     )?)
 }
 
+// A stream comes to new sides, and its first read gives each count of its bytes in turn.
+fn cut_anywhere(
+    rt: &impl Abort,
+    alloc: Global,
+    own: &str,
+    bytes: &str,
+    end: &str,
+    state: &str,
+) -> Result<(), Fail> {
+    for before in 0..bytes.len() / 2 {
+        let script = cut_at(alloc, own, before + 1, end, state)?;
+        run(rt, alloc, bytes, script.as_str())?;
+    }
+    Ok(())
+}
+
 #[test]
 fn streams_cut_anywhere(rt: HostRuntime) -> Result<(), Fail> {
-    for (own, bytes, end, state) in STREAMS {
-        for before in 0..bytes.len() / 2 {
-            let script = cut_at(rt.alloc(), own, before + 1, end, state)?;
-            run(&rt, rt.alloc(), bytes, script.as_str())?;
-        }
+    for &(own, bytes, end, state) in &STREAMS {
+        cut_anywhere(&rt, rt.alloc(), own, bytes, end, state)?;
     }
     Ok(())
 }
@@ -143,7 +156,7 @@ fn is_bounded(rt: &impl Abort, peer: &mut Peer, channel: Channel) {
     assert!(rt; buffered.saturating_add(outstanding) <= 8);
     let mut taken = 0u64;
     let mut buffer = [0; 8];
-    for _ in 0..=8 {
+    for _ in 0..9 {
         match peer.take_into(channel, &mut buffer) {
             Ok(Take::Took(len)) => taken = taken.saturating_add(len as u64),
             _ => break,
@@ -152,22 +165,35 @@ fn is_bounded(rt: &impl Abort, peer: &mut Peer, channel: Channel) {
     assert_eq!(rt; taken, buffered);
 }
 
+fn issue_all(rt: &impl Abort, peer: &mut Peer) {
+    for channel in (0..7).filter_map(Channel::from_number) {
+        assert_eq!(rt; peer.issue(channel, 8), Ok(()));
+    }
+}
+
+fn all_are_bounded(rt: &impl Abort, peer: &mut Peer) {
+    for channel in (0..7).filter_map(Channel::from_number) {
+        is_bounded(rt, peer, channel);
+    }
+}
+
+fn any_bytes(state: &mut u64) -> [u8; 64] {
+    let mut bytes = [0; 64];
+    for byte in &mut bytes {
+        *byte = next_byte(state);
+    }
+    bytes
+}
+
 #[test]
 fn streams_of_any_bytes(rt: HostRuntime) -> Result<(), Fail> {
     let mut state = 1;
     for _ in 0..10_000 {
+        let pipe = pipe(rt.alloc(), &any_bytes(&mut state))?;
         let mut side = Side::new(rt.alloc(), 8, 7)?;
-        for channel in (0..7).filter_map(Channel::from_number) {
-            assert_eq!(rt; side.peer.issue(channel, 8), Ok(()));
-        }
-        let mut bytes = [0; 64];
-        for byte in &mut bytes {
-            *byte = next_byte(&mut state);
-        }
-        let _ = side.read(Plan::whole(), pipe(rt.alloc(), &bytes)?, 10);
-        for channel in (0..7).filter_map(Channel::from_number) {
-            is_bounded(&rt, &mut side.peer, channel);
-        }
+        issue_all(&rt, &mut side.peer);
+        let _ = side.read(Plan::whole(), pipe, 10);
+        all_are_bounded(&rt, &mut side.peer);
     }
     Ok(())
 }
