@@ -1,6 +1,6 @@
 //! A session whose devices fail, stop short or move nothing at each of their calls in turn.
 use crate::tests::devices::{Odd, Pipe, Plan};
-use crate::tests::side::{Side, pipe};
+use crate::tests::side::Side;
 use lc_driver::{ReadEnd, WriteFault};
 use lc_frame::Channel;
 use lc_peer::Take;
@@ -106,50 +106,76 @@ fn messages_go(rt: &impl Abort, client: &mut Side, server: &mut Side, mut link: 
 }
 
 fn session(rt: &impl Abort, alloc: Global, writing: Plan, reading: Plan) -> Result<Link, Fail> {
+    let mut client = Side::new(alloc, 32, 32)?;
+    let mut server = Side::new(alloc, 32, 32)?;
     let link = Link {
         writing,
         reading,
-        pipe: pipe(alloc, &[])?,
+        pipe: Pipe {
+            bytes: Vec::new(alloc),
+            read: 0,
+        },
         failed: 0,
         empty: 0,
     };
-    let mut client = Side::new(alloc, 32, 32)?;
-    let mut server = Side::new(alloc, 32, 32)?;
     Ok(messages_go(rt, &mut client, &mut server, link))
 }
 
-fn each_write_fails(rt: &impl Abort, alloc: Global, odd: Odd, faults: u32) -> Result<(), Fail> {
-    let ends = u32::from(odd == Odd::Moves(0));
-    for at in 1..100 {
-        let link = session(rt, alloc, Plan::odd(odd, at), Plan::whole())?;
-        if link.writing.calls < at {
-            break;
-        }
-        assert_eq!(rt;
-            (link.failed, link.empty),
-            (faults, ends),
-            "write {at} {odd:?}"
-        );
+/// Of each device and what it does at one call: how many calls tell of a failure and of a write that
+/// took nothing.
+const ODD_CALLS: [(&str, Odd, (u32, u32)); 6] = [
+    ("write", Odd::Fails, (1, 0)),
+    ("write", Odd::Moves(1), (0, 0)),
+    ("write", Odd::Moves(0), (0, 1)),
+    ("read", Odd::Fails, (1, 0)),
+    ("read", Odd::Moves(1), (0, 0)),
+    ("read", Odd::Moves(0), (0, 0)),
+];
+
+// The plans of a session whose writer or reader does something else at one call.
+fn plans(device: &str, odd: Plan) -> (Plan, Plan) {
+    if device == "write" {
+        (odd, Plan::whole())
+    } else {
+        (Plan::whole(), odd)
     }
-    Ok(())
 }
 
-fn each_read_fails(rt: &impl Abort, alloc: Global, odd: Odd, faults: u32) -> Result<(), Fail> {
+// Whether a session came to that call, of which it tells as is wanted.
+fn was_odd(rt: &impl Abort, link: &Link, device: &str, at: u64, wanted: (u32, u32)) -> bool {
+    let plan = if device == "write" {
+        link.writing
+    } else {
+        link.reading
+    };
+    if plan.calls < at {
+        return false;
+    }
+    assert_eq!(rt; (link.failed, link.empty), wanted, "{device} {plan:?}");
+    true
+}
+
+fn each_is_odd(
+    rt: &impl Abort,
+    alloc: Global,
+    device: &str,
+    odd: Odd,
+    wanted: (u32, u32),
+) -> Result<(), Fail> {
     for at in 1..100 {
-        let link = session(rt, alloc, Plan::whole(), Plan::odd(odd, at))?;
-        if link.reading.calls < at {
+        let (writing, reading) = plans(device, Plan::odd(odd, at));
+        let link = session(rt, alloc, writing, reading)?;
+        if !was_odd(rt, &link, device, at, wanted) {
             break;
         }
-        assert_eq!(rt; link.failed, faults, "read {at} {odd:?}");
     }
     Ok(())
 }
 
 #[test]
 fn each_call_fails_in_turn(rt: HostRuntime) -> Result<(), Fail> {
-    for &(odd, faults) in &[(Odd::Fails, 1), (Odd::Moves(1), 0), (Odd::Moves(0), 0)] {
-        each_write_fails(&rt, rt.alloc(), odd, faults)?;
-        each_read_fails(&rt, rt.alloc(), odd, faults)?;
+    for &(device, odd, wanted) in &ODD_CALLS {
+        each_is_odd(&rt, rt.alloc(), device, odd, wanted)?;
     }
     Ok(())
 }

@@ -11,20 +11,20 @@ use std::test::Fail;
 /// Of each stream: an own call before it, its bytes, how the reading ends, and what stands then.
 const STREAMS: [(&str, &str, &str, &str); 13] = [
     (
-        "issue 1 1 => Ok(())",
+        "issue 1 1 => Ok(())\n",
         "1100026162",
         "Violated(NotGuaranteed)",
         "server 1 => outstanding 1 buffered 0 None
         take 1 => Ok(Empty)",
     ),
     (
-        "issue 1 4 => Ok(())",
+        "issue 1 4 => Ok(())\n",
         "5100000000000000011100026162",
         "Violated(SentPastLimit)",
         "server 1 => outstanding 4 buffered 0 Some(1)",
     ),
     (
-        "issue 1 4 => Ok(())",
+        "issue 1 4 => Ok(())\n",
         "3100000005",
         "Violated(AbsolvedTooMuch)",
         "server 1 => outstanding 4 buffered 0 None",
@@ -54,7 +54,7 @@ const STREAMS: [(&str, &str, &str, &str); 13] = [
         "client 1 => held 0 Some(5)",
     ),
     (
-        "issue 1 1 => Ok(())",
+        "issue 1 1 => Ok(())\n",
         "5100000000000000011100026162",
         "Violated(NotGuaranteed)",
         "server 1 => outstanding 1 buffered 0 Some(1)",
@@ -81,7 +81,7 @@ const STREAMS: [(&str, &str, &str, &str); 13] = [
         server 0 => outstanding 0 buffered 0 None",
     ),
     (
-        "issue 1 8 => Ok(())",
+        "issue 1 8 => Ok(())\n",
         "11000261621100",
         "Truncated",
         "server 1 => outstanding 6 buffered 2 None
@@ -109,8 +109,7 @@ fn without_reads(end: &str) -> &str {
 fn cut_at(alloc: Global, own: &str, cut: usize, end: &str, state: &str) -> Result<String, Fail> {
     let last = without_reads(end);
     Ok(format!(in alloc;
-        "{own}
-        read 10 all {cut} 1 => {end}
+        "{own}read 10 all {cut} 1 => {end}
         {state}
         read 10 all => {end}
         read 0 all => {last}"

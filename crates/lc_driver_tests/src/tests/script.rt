@@ -9,76 +9,65 @@ use std::mem::replace;
 use std::process::Abort;
 use std::test::Fail;
 
-fn number(word: &str) -> Result<u64, Fail> {
-    Ok(word.parse::<u64>().ok().ok_or("a number")?)
+fn number(word: &str) -> Option<u64> {
+    word.parse::<u64>().ok()
 }
 
-fn channel(word: &str) -> Result<Channel, Fail> {
-    let number = word.parse::<u8>().ok();
-    Ok(
-        number
-            .and_then(Channel::from_number)
-            .ok_or("a channel's number")?,
-    )
+fn channel(word: &str) -> Option<Channel> {
+    Channel::from_number(word.parse::<u8>().ok()?)
 }
 
 // What a device does at one of its calls: `fails` or the most bytes that it moves, and the number of
 // the call.
-fn odd_plan(text: &str) -> Result<Plan, Fail> {
+fn odd_plan(text: &str) -> Option<Plan> {
     let (what, at) = text.split_once(' ').unwrap_or((text, "0"));
     let odd = if what == "fails" {
         Odd::Fails
     } else {
         Odd::Moves(number(what)? as usize)
     };
-    Ok(Plan::odd(odd, number(at)?))
+    Some(Plan::odd(odd, number(at)?))
 }
 
 // The most bytes of a call, or `all`, and what happens at one call, if anything does.
-fn plan_of(text: &str) -> Result<Plan, Fail> {
+fn plan_of(text: &str) -> Option<Plan> {
     let (most, odd) = text.split_once(' ').unwrap_or((text, "fails"));
     let mut plan = odd_plan(odd)?;
     if most != "all" {
         plan.most = number(most)? as usize;
     }
-    Ok(plan)
+    Some(plan)
 }
 
 // What the first message of a channel is.
-fn take(alloc: Global, peer: &mut Peer, at: Channel) -> Result<String, Fail> {
+fn take(alloc: Global, peer: &mut Peer, at: Channel) -> Option<String> {
     let mut buffer = [0; 64];
     match peer.take_into(at, &mut buffer) {
-        Ok(Take::Took(len)) => Ok(hex::encode(alloc, buffer.get(..len as usize).unwrap_or(&[]))?),
-        other => Ok(format!(in alloc; "{other:?}")?),
+        Ok(Take::Took(len)) => hex::encode(alloc, buffer.get(..len as usize).unwrap_or(&[])).ok(),
+        other => format!(in alloc; "{other:?}").ok(),
     }
 }
 
-fn write(alloc: Global, side: &mut Side, plan: &str) -> Result<String, Fail> {
-    let (answer, writer) = side.write(plan_of(plan)?, pipe(alloc, &[])?);
-    let bytes = hex::encode(alloc, &writer.pipe.bytes)?;
+fn write(alloc: Global, side: &mut Side, plan: &str) -> Option<String> {
+    let (answer, writer) = side.write(plan_of(plan)?, pipe(alloc, &[]).ok()?);
+    let bytes = hex::encode(alloc, &writer.pipe.bytes).ok()?;
     let calls = writer.plan.calls;
     let (pending, waiting) = (side.outgo.pending(), side.peer.waiting());
-    Ok(format!(in alloc; "{answer:?} {bytes} calls {calls} pending {pending} waiting {waiting}")?)
+    format!(in alloc; "{answer:?} {bytes} calls {calls} pending {pending} waiting {waiting}").ok()
 }
 
 // What an own call answers.
-fn own(
-    alloc: Global,
-    peer: &mut Peer,
-    verb: &str,
-    at: Channel,
-    last: &str,
-) -> Result<String, Fail> {
+fn own(alloc: Global, peer: &mut Peer, verb: &str, at: Channel, last: &str) -> Option<String> {
     let answer = match verb {
-        "issue" => peer.issue(at, last.parse::<u32>().ok().ok_or("an amount")?),
-        "send" => peer.send(at, &hex::decode(alloc, last)?),
-        _ => Err("no such call")?,
+        "issue" => peer.issue(at, last.parse::<u32>().ok()?),
+        "send" => peer.send(at, &hex::decode(alloc, last).ok()?),
+        _ => return None,
     };
-    Ok(format!(in alloc; "{answer:?}")?)
+    format!(in alloc; "{answer:?}").ok()
 }
 
 // What a call on a channel answers.
-fn on_channel(alloc: Global, peer: &mut Peer, verb: &str, rest: &str) -> Result<String, Fail> {
+fn on_channel(alloc: Global, peer: &mut Peer, verb: &str, rest: &str) -> Option<String> {
     let (first, last) = rest.split_once(' ').unwrap_or((rest, ""));
     let at = channel(first)?;
     match verb {
@@ -90,7 +79,7 @@ fn on_channel(alloc: Global, peer: &mut Peer, verb: &str, rest: &str) -> Result<
 }
 
 // What the call of a line answers. The input is kept from one read to the next.
-fn answer(alloc: Global, side: &mut Side, input: &mut Pipe, call: &str) -> Result<String, Fail> {
+fn answer(alloc: Global, side: &mut Side, input: &mut Pipe, call: &str) -> Option<String> {
     let (verb, rest) = call.split_once(' ').unwrap_or((call, ""));
     match verb {
         "write" => write(alloc, side, rest),
@@ -108,22 +97,22 @@ fn answers(
     line: &str,
 ) -> Result<(), Fail> {
     let (call, want) = line.split_once(" => ").ok_or("a call and an answer")?;
-    let got = answer(alloc, side, input, call)?;
+    let got = answer(alloc, side, input, call).ok_or("an answer")?;
     assert_eq!(rt; got.as_str(), want, "{call}");
     Ok(())
 }
 
-fn client(alloc: Global, peer: &Peer, at: Channel) -> Result<String, Fail> {
+fn client(alloc: Global, peer: &Peer, at: Channel) -> Option<String> {
     let book = peer.client(at);
     let (held, left) = (book.held(), book.receive_left());
-    Ok(format!(in alloc; "held {held} {left:?}")?)
+    format!(in alloc; "held {held} {left:?}").ok()
 }
 
-fn server(alloc: Global, peer: &Peer, at: Channel) -> Result<String, Fail> {
+fn server(alloc: Global, peer: &Peer, at: Channel) -> Option<String> {
     let book = peer.server(at);
     let (outstanding, buffered) = (book.outstanding(), book.buffered());
     let left = book.send_left();
-    Ok(format!(in alloc; "outstanding {outstanding} buffered {buffered} {left:?}")?)
+    format!(in alloc; "outstanding {outstanding} buffered {buffered} {left:?}").ok()
 }
 
 // How a reading ends, and how many reads it made. What it leaves of the input stays there.
@@ -149,13 +138,13 @@ fn read(
     input: &mut Pipe,
     verb: &str,
     rest: &str,
-) -> Result<String, Fail> {
-    let (max_reads, plan) = rest.split_once(' ').ok_or("a number and a plan")?;
+) -> Option<String> {
+    let (max_reads, plan) = rest.split_once(' ')?;
     let (end, calls) = read_on(alloc, side, input, plan_of(plan)?, number(max_reads)?);
     if verb == "count" {
-        return Ok(format!(in alloc; "{end:?} calls {calls}")?);
+        return format!(in alloc; "{end:?} calls {calls}").ok();
     }
-    Ok(format!(in alloc; "{end:?}")?)
+    format!(in alloc; "{end:?}").ok()
 }
 
 /// A new side, whose input are the bytes of these digits, answers each line of a script as it says.
@@ -165,7 +154,7 @@ pub fn run(rt: &impl Abort, alloc: Global, digits: &str, script: &str) -> Result
         read: 0,
     };
     let mut side = Side::new(alloc, 8, 4)?;
-    for line in script.lines().filter(|line| !line.is_empty()) {
+    for line in script.lines() {
         answers(rt, alloc, &mut side, &mut input, line.trim())?;
     }
     Ok(())
