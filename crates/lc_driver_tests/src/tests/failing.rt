@@ -65,6 +65,10 @@ fn send(rt: &impl Abort, side: &mut Side, number: u8) {
     assert_eq!(rt; side.peer.send(Channel::DataChannel, body), Ok(()));
 }
 
+fn issue(rt: &impl Abort, side: &mut Side, amount: u32) {
+    assert_eq!(rt; side.peer.issue(Channel::DataChannel, amount), Ok(()));
+}
+
 // Takes the message of this number, if it is there, and issues as much again.
 fn take(rt: &impl Abort, side: &mut Side, number: u8) -> bool {
     let mut buffer = [0; 16];
@@ -73,8 +77,7 @@ fn take(rt: &impl Abort, side: &mut Side, number: u8) -> bool {
     };
     let bytes = [number; 16];
     assert_eq!(rt; buffer.get(..len), bytes.get(..length(number)));
-    let amount = u32::try_from(len).unwrap_or(0);
-    assert_eq!(rt; side.peer.issue(Channel::DataChannel, amount), Ok(()));
+    issue(rt, side, u32::try_from(len).unwrap_or(0));
     true
 }
 
@@ -91,7 +94,7 @@ fn take_all(rt: &impl Abort, side: &mut Side, next: u8) -> u8 {
 // Twenty messages go from one side to another, which issues as it takes, and all that was sent is
 // taken.
 fn messages_go(rt: &impl Abort, client: &mut Side, server: &mut Side, mut link: Link) -> Link {
-    assert_eq!(rt; server.peer.issue(Channel::DataChannel, 32), Ok(()));
+    issue(rt, server, 32);
     let mut taken = 0;
     for number in 0..MESSAGES {
         link = link.write(server).read(client);

@@ -148,11 +148,8 @@ fn next_byte(state: &mut u64) -> u8 {
     state.to_be_bytes()[0]
 }
 
-// Whatever came, there is room for what may still come, and what is buffered can be taken.
-fn is_bounded(rt: &impl Abort, peer: &mut Peer, channel: Channel) {
-    let book = peer.server(channel);
-    let (buffered, outstanding) = (book.buffered(), book.outstanding());
-    assert!(rt; buffered.saturating_add(outstanding) <= 8);
+// Takes all messages, and gives how many bytes they had.
+fn take_all(peer: &mut Peer, channel: Channel) -> u64 {
     let mut taken = 0u64;
     let mut buffer = [0; 8];
     for _ in 0..9 {
@@ -161,7 +158,15 @@ fn is_bounded(rt: &impl Abort, peer: &mut Peer, channel: Channel) {
             _ => break,
         }
     }
-    assert_eq!(rt; taken, buffered);
+    taken
+}
+
+// Whatever came, there is room for what may still come, and what is buffered can be taken.
+fn is_bounded(rt: &impl Abort, peer: &mut Peer, channel: Channel) {
+    let book = peer.server(channel);
+    let (buffered, outstanding) = (book.buffered(), book.outstanding());
+    assert!(rt; buffered.saturating_add(outstanding) <= 8);
+    assert_eq!(rt; take_all(peer, channel), buffered);
 }
 
 fn issue_all(rt: &impl Abort, peer: &mut Peer) {

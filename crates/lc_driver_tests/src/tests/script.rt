@@ -147,6 +147,20 @@ fn read(
     format!(in alloc; "{end:?}").ok()
 }
 
+// The calls of a script, in turn.
+fn go_on(
+    rt: &impl Abort,
+    alloc: Global,
+    side: &mut Side,
+    input: &mut Pipe,
+    script: &str,
+) -> Result<(), Fail> {
+    for line in script.lines() {
+        answers(rt, alloc, side, input, line.trim())?;
+    }
+    Ok(())
+}
+
 /// A new side, whose input are the bytes of these digits, answers each line of a script as it says.
 pub fn run(rt: &impl Abort, alloc: Global, digits: &str, script: &str) -> Result<(), Fail> {
     let mut input = Pipe {
@@ -154,8 +168,5 @@ pub fn run(rt: &impl Abort, alloc: Global, digits: &str, script: &str) -> Result
         read: 0,
     };
     let mut side = Side::new(alloc, 8, 4)?;
-    for line in script.lines() {
-        answers(rt, alloc, &mut side, &mut input, line.trim())?;
-    }
-    Ok(())
+    go_on(rt, alloc, &mut side, &mut input, script)
 }
