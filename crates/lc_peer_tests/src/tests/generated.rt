@@ -114,15 +114,9 @@ fn at_server(rt: &impl Abort, rng: &mut Pcg32, peer: &mut Peer, channel: Channel
             }
         }
         _ => {
-            let body = [done.coming; 9];
-            if arrives(
-                rt,
-                peer,
-                FrameRef::Send {
-                    channel,
-                    body: &body[..n as usize],
-                },
-            ) {
+            let bytes = [done.coming; 9];
+            let body = &bytes[..n as usize];
+            if arrives(rt, peer, FrameRef::Send { channel, body }) {
                 done.arrived = done.arrived.wrapping_add(u64::from(n));
                 done.coming = done.coming.wrapping_add(1);
             }
