@@ -1,6 +1,6 @@
 //! A session whose devices fail, stop short or move nothing at each of their calls in turn.
 use crate::tests::devices::{Odd, Pipe, Plan};
-use crate::tests::side::{Side, pipe};
+use crate::tests::side::Side;
 use lc_driver::{ReadEnd, WriteFault};
 use lc_frame::Channel;
 use lc_peer::Take;
@@ -54,70 +54,131 @@ impl Link {
     }
 }
 
-// Takes what waits, and issues as much again.
-fn take_all(rt: &impl Abort, side: &mut Side, taken: &mut Vec<u8>) -> Result<(), Fail> {
+// How many bytes a message has, each of which is its number.
+fn length(number: u8) -> usize {
+    1 + usize::from(number % 16)
+}
+
+fn send(rt: &impl Abort, side: &mut Side, number: u8) {
+    let bytes = [number; 16];
+    let body = bytes.get(..length(number)).unwrap_or(&[]);
+    assert_eq!(rt; side.peer.send(Channel::DataChannel, body), Ok(()));
+}
+
+fn issue(rt: &impl Abort, side: &mut Side, amount: u32) {
+    assert_eq!(rt; side.peer.issue(Channel::DataChannel, amount), Ok(()));
+}
+
+// Takes the message of this number, if it is there, and issues as much again.
+fn take(rt: &impl Abort, side: &mut Side, number: u8) -> bool {
     let mut buffer = [0; 16];
-    for _ in 0..MESSAGES {
-        let Ok(Take::Took(len)) = side.peer.take_into(Channel::DataChannel, &mut buffer) else {
-            return Ok(());
-        };
-        taken.extend_from_slice(buffer.get(..len).unwrap_or(&[]))?;
-        let amount = u32::try_from(len).unwrap_or(0);
-        assert_eq!(rt; side.peer.issue(Channel::DataChannel, amount), Ok(()));
+    let Ok(Take::Took(len)) = side.peer.take_into(Channel::DataChannel, &mut buffer) else {
+        return false;
+    };
+    let bytes = [number; 16];
+    assert_eq!(rt; buffer.get(..len), bytes.get(..length(number)));
+    issue(rt, side, u32::try_from(len).unwrap_or(0));
+    true
+}
+
+// Takes what waits, and gives the number of the next message.
+fn take_all(rt: &impl Abort, side: &mut Side, next: u8) -> u8 {
+    for number in next..MESSAGES {
+        if !take(rt, side, number) {
+            return number;
+        }
     }
-    Ok(())
+    MESSAGES
 }
 
 // Twenty messages go from one side to another, which issues as it takes, and all that was sent is
 // taken.
+fn messages_go(rt: &impl Abort, client: &mut Side, server: &mut Side, mut link: Link) -> Link {
+    issue(rt, server, 32);
+    let mut taken = 0;
+    for number in 0..MESSAGES {
+        link = link.write(server).read(client);
+        send(rt, client, number);
+        if number % 2 == 1 || number > 12 {
+            link = link.write(client).read(server);
+            taken = take_all(rt, server, taken);
+        }
+    }
+    assert_eq!(rt; taken, MESSAGES);
+    link
+}
+
 fn session(rt: &impl Abort, alloc: Global, writing: Plan, reading: Plan) -> Result<Link, Fail> {
     let mut client = Side::new(alloc, 32, 32)?;
     let mut server = Side::new(alloc, 32, 32)?;
-    let mut link = Link {
+    let link = Link {
         writing,
         reading,
-        pipe: pipe(alloc, &[])?,
+        pipe: Pipe {
+            bytes: Vec::new(alloc),
+            read: 0,
+        },
         failed: 0,
         empty: 0,
     };
-    let (mut sent, mut taken) = (Vec::new(alloc), Vec::new(alloc));
-    assert_eq!(rt; server.peer.issue(Channel::DataChannel, 32), Ok(()));
-    for number in 0..MESSAGES {
-        link = link.write(&mut server).read(&mut client);
-        let body = vec![in alloc; number; 1 + usize::from(number % 16)]?;
-        assert_eq!(rt; client.peer.send(Channel::DataChannel, &body), Ok(()));
-        sent.extend_from_slice(&body)?;
-        if number % 2 == 1 || number > 12 {
-            link = link.write(&mut client).read(&mut server);
-            take_all(rt, &mut server, &mut taken)?;
+    Ok(messages_go(rt, &mut client, &mut server, link))
+}
+
+/// Of each device and what it does at one call: how many calls tell of a failure and of a write that
+/// took nothing.
+const ODD_CALLS: [(&str, Odd, (u32, u32)); 6] = [
+    ("write", Odd::Fails, (1, 0)),
+    ("write", Odd::Moves(1), (0, 0)),
+    ("write", Odd::Moves(0), (0, 1)),
+    ("read", Odd::Fails, (1, 0)),
+    ("read", Odd::Moves(1), (0, 0)),
+    ("read", Odd::Moves(0), (0, 0)),
+];
+
+// The plans of a session whose writer or reader does something else at one call.
+fn plans(device: &str, odd: Plan) -> (Plan, Plan) {
+    if device == "write" {
+        (odd, Plan::whole())
+    } else {
+        (Plan::whole(), odd)
+    }
+}
+
+// Whether a session came to that call, of which it tells as is wanted.
+fn was_odd(rt: &impl Abort, link: &Link, device: &str, at: u64, wanted: (u32, u32)) -> bool {
+    let plan = if device == "write" {
+        link.writing
+    } else {
+        link.reading
+    };
+    if plan.calls < at {
+        return false;
+    }
+    assert_eq!(rt; (link.failed, link.empty), wanted, "{device} {plan:?}");
+    true
+}
+
+fn each_is_odd(
+    rt: &impl Abort,
+    alloc: Global,
+    device: &str,
+    odd: Odd,
+    wanted: (u32, u32),
+) -> Result<(), Fail> {
+    for at in 1..100 {
+        let (writing, reading) = plans(device, Plan::odd(odd, at));
+        let link = session(rt, alloc, writing, reading)?;
+        if !was_odd(rt, &link, device, at, wanted) {
+            break;
         }
     }
-    assert_eq!(rt; taken.as_slice(), sent.as_slice());
-    Ok(link)
+    Ok(())
 }
 
 #[test]
 fn each_call_fails_in_turn(rt: HostRuntime) -> Result<(), Fail> {
-    for (odd, faults) in [(Odd::Fails, 1), (Odd::Moves(1), 0), (Odd::Moves(0), 0)] {
-        for at in 1..100 {
-            let link = session(&rt, rt.alloc(), Plan::odd(odd, at), Plan::whole())?;
-            if link.writing.calls < at {
-                break;
-            }
-            assert_eq!(rt; link.failed, faults, "write {at} {odd:?}");
-            assert_eq!(rt;
-                link.empty,
-                u32::from(odd == Odd::Moves(0)),
-                "write {at} {odd:?}"
-            );
-        }
-        for at in 1..100 {
-            let link = session(&rt, rt.alloc(), Plan::whole(), Plan::odd(odd, at))?;
-            if link.reading.calls < at {
-                break;
-            }
-            assert_eq!(rt; link.failed, faults, "read {at} {odd:?}");
-        }
+    for &(device, odd, wanted) in &ODD_CALLS {
+        each_is_odd(&rt, rt.alloc(), device, odd, wanted)?;
     }
     Ok(())
 }

@@ -1,114 +1,172 @@
 //! Scripts of calls on one side of a session: a call a line, and behind `=>` what it answers.
-use crate::tests::devices::{Odd, Plan};
+use crate::tests::devices::{Odd, Pipe, Plan};
 use crate::tests::side::{Side, pipe};
+use lc_driver::ReadEnd;
 use lc_frame::Channel;
 use lc_peer::{Peer, Take};
 use std::alloc::Global;
+use std::mem::replace;
 use std::process::Abort;
 use std::test::Fail;
 
-fn channel(word: &str) -> Result<Channel, Fail> {
-    let number = word.parse::<u8>()?;
-    Ok(Channel::from_number(number).ok_or("a channel's number")?)
+fn number(word: &str) -> Option<u64> {
+    word.parse::<u64>().ok()
 }
 
-// The most bytes of a call, or `all`; where one call does something else, `fails` or the most that
-// it moves, and its number.
-fn plan_of(text: &str) -> Result<Plan, Fail> {
-    let mut words = text.split(' ');
-    let mut plan = Plan::whole();
-    let most = words.next().unwrap_or("all");
-    if most != "all" {
-        plan.most = most.parse::<usize>()?;
-    }
-    let Some(odd) = words.next() else {
-        return Ok(plan);
+fn channel(word: &str) -> Option<Channel> {
+    Channel::from_number(word.parse::<u8>().ok()?)
+}
+
+// What a device does at one of its calls: `fails` or the most bytes that it moves, and the number of
+// the call.
+fn odd_plan(text: &str) -> Option<Plan> {
+    let (what, at) = text.split_once(' ').unwrap_or((text, "0"));
+    let odd = if what == "fails" {
+        Odd::Fails
+    } else {
+        Odd::Moves(number(what)? as usize)
     };
-    if odd != "fails" {
-        plan.odd = Odd::Moves(odd.parse::<usize>()?);
+    Some(Plan::odd(odd, number(at)?))
+}
+
+// The most bytes of a call, or `all`, and what happens at one call, if anything does.
+fn plan_of(text: &str) -> Option<Plan> {
+    let (most, odd) = text.split_once(' ').unwrap_or((text, "fails"));
+    let mut plan = odd_plan(odd)?;
+    if most != "all" {
+        plan.most = number(most)? as usize;
     }
-    plan.at = words.next().unwrap_or("0").parse::<u64>()?;
-    Ok(plan)
+    Some(plan)
 }
 
 // What the first message of a channel is.
-fn take(alloc: Global, peer: &mut Peer, at: Channel) -> Result<String, Fail> {
+fn take(alloc: Global, peer: &mut Peer, at: Channel) -> Option<String> {
     let mut buffer = [0; 64];
     match peer.take_into(at, &mut buffer) {
-        Ok(Take::Took(len)) => Ok(hex::encode(alloc, buffer.get(..len as usize).unwrap_or(&[]))?),
-        other => Ok(format!(in alloc; "{other:?}")?),
+        Ok(Take::Took(len)) => hex::encode(alloc, buffer.get(..len as usize).unwrap_or(&[])).ok(),
+        other => format!(in alloc; "{other:?}").ok(),
     }
 }
 
-fn write(alloc: Global, side: &mut Side, plan: &str) -> Result<String, Fail> {
-    let (answer, writer) = side.write(plan_of(plan)?, pipe(alloc, &[])?);
-    let bytes = hex::encode(alloc, &writer.pipe.bytes)?;
+fn write(alloc: Global, side: &mut Side, plan: &str) -> Option<String> {
+    let (answer, writer) = side.write(plan_of(plan)?, pipe(alloc, &[]).ok()?);
+    let bytes = hex::encode(alloc, &writer.pipe.bytes).ok()?;
     let calls = writer.plan.calls;
     let (pending, waiting) = (side.outgo.pending(), side.peer.waiting());
-    Ok(format!(in alloc; "{answer:?} {bytes} calls {calls} pending {pending} waiting {waiting}")?)
+    format!(in alloc; "{answer:?} {bytes} calls {calls} pending {pending} waiting {waiting}").ok()
+}
+
+// What an own call answers.
+fn own(alloc: Global, peer: &mut Peer, verb: &str, at: Channel, last: &str) -> Option<String> {
+    let answer = match verb {
+        "issue" => peer.issue(at, last.parse::<u32>().ok()?),
+        "send" => peer.send(at, &hex::decode(alloc, last).ok()?),
+        _ => return None,
+    };
+    format!(in alloc; "{answer:?}").ok()
+}
+
+// What a call on a channel answers.
+fn on_channel(alloc: Global, peer: &mut Peer, verb: &str, rest: &str) -> Option<String> {
+    let (first, last) = rest.split_once(' ').unwrap_or((rest, ""));
+    let at = channel(first)?;
+    match verb {
+        "take" => take(alloc, peer, at),
+        "client" => client(alloc, peer, at),
+        "server" => server(alloc, peer, at),
+        _ => own(alloc, peer, verb, at, last),
+    }
 }
 
 // What the call of a line answers. The input is kept from one read to the next.
-fn answer(alloc: Global, side: &mut Side, input: &mut Vec<u8>, call: &str) -> Result<String, Fail> {
+fn answer(alloc: Global, side: &mut Side, input: &mut Pipe, call: &str) -> Option<String> {
     let (verb, rest) = call.split_once(' ').unwrap_or((call, ""));
-    let (first, last) = rest.split_once(' ').unwrap_or((rest, "0"));
-    let answer = match verb {
-        "issue" => side.peer.issue(channel(first)?, last.parse::<u32>()?),
-        "send" => side.peer.send(channel(first)?, &hex::decode(alloc, last)?),
-        "take" => return take(alloc, &mut side.peer, channel(first)?),
-        "write" => return write(alloc, side, rest),
-        "read" | "count" => {
-            return read(alloc, side, input, verb, first.parse::<u64>()?, last);
-        }
-        "client" => return client(alloc, &side.peer, channel(first)?),
-        "server" => return server(alloc, &side.peer, channel(first)?),
-        _ => Err("no such call")?,
-    };
-    Ok(format!(in alloc; "{answer:?}")?)
+    match verb {
+        "write" => write(alloc, side, rest),
+        "read" | "count" => read(alloc, side, input, verb, rest),
+        _ => on_channel(alloc, &mut side.peer, verb, rest),
+    }
 }
 
-fn client(alloc: Global, peer: &Peer, at: Channel) -> Result<String, Fail> {
+// The call of a line answers what stands behind it.
+fn answers(
+    rt: &impl Abort,
+    alloc: Global,
+    side: &mut Side,
+    input: &mut Pipe,
+    line: &str,
+) -> Result<(), Fail> {
+    let (call, want) = line.split_once(" => ").ok_or("a call and an answer")?;
+    let got = answer(alloc, side, input, call).ok_or("an answer")?;
+    assert_eq!(rt; got.as_str(), want, "{call}");
+    Ok(())
+}
+
+fn client(alloc: Global, peer: &Peer, at: Channel) -> Option<String> {
     let book = peer.client(at);
     let (held, left) = (book.held(), book.receive_left());
-    Ok(format!(in alloc; "held {held} {left:?}")?)
+    format!(in alloc; "held {held} {left:?}").ok()
 }
 
-fn server(alloc: Global, peer: &Peer, at: Channel) -> Result<String, Fail> {
+fn server(alloc: Global, peer: &Peer, at: Channel) -> Option<String> {
     let book = peer.server(at);
     let (outstanding, buffered) = (book.outstanding(), book.buffered());
     let left = book.send_left();
-    Ok(format!(in alloc; "outstanding {outstanding} buffered {buffered} {left:?}")?)
+    format!(in alloc; "outstanding {outstanding} buffered {buffered} {left:?}").ok()
+}
+
+// How a reading ends, and how many reads it made. What it leaves of the input stays there.
+fn read_on(
+    alloc: Global,
+    side: &mut Side,
+    input: &mut Pipe,
+    plan: Plan,
+    max_reads: u64,
+) -> (ReadEnd, u64) {
+    let empty = Pipe {
+        bytes: Vec::new(alloc),
+        read: 0,
+    };
+    let (end, reader) = side.read(plan, replace(input, empty), max_reads);
+    *input = reader.pipe;
+    (end, reader.plan.calls)
 }
 
 fn read(
     alloc: Global,
     side: &mut Side,
-    input: &mut Vec<u8>,
+    input: &mut Pipe,
     verb: &str,
-    max_reads: u64,
-    plan: &str,
-) -> Result<String, Fail> {
-    let (end, reader) = side.read(plan_of(plan)?, pipe(alloc, input)?, max_reads);
-    let rest = reader.pipe.bytes.get(reader.pipe.read..).unwrap_or(&[]);
-    *input = Vec::from_slice(alloc, rest)?;
-    let calls = reader.plan.calls;
+    rest: &str,
+) -> Option<String> {
+    let (max_reads, plan) = rest.split_once(' ')?;
+    let (end, calls) = read_on(alloc, side, input, plan_of(plan)?, number(max_reads)?);
     if verb == "count" {
-        return Ok(format!(in alloc; "{end:?} calls {calls}")?);
+        return format!(in alloc; "{end:?} calls {calls}").ok();
     }
-    Ok(format!(in alloc; "{end:?}")?)
+    format!(in alloc; "{end:?}").ok()
+}
+
+// The calls of a script, in turn.
+fn go_on(
+    rt: &impl Abort,
+    alloc: Global,
+    side: &mut Side,
+    input: &mut Pipe,
+    script: &str,
+) -> Result<(), Fail> {
+    for line in script.lines() {
+        answers(rt, alloc, side, input, line.trim())?;
+    }
+    Ok(())
 }
 
 /// A new side, whose input are the bytes of these digits, answers each line of a script as it says.
 pub fn run(rt: &impl Abort, alloc: Global, digits: &str, script: &str) -> Result<(), Fail> {
+    let mut input = Pipe {
+        bytes: hex::decode(alloc, digits)?,
+        read: 0,
+    };
     let mut side = Side::new(alloc, 8, 4)?;
-    let mut input = hex::decode(alloc, digits)?;
-    for line in script.lines().filter(|line| !line.is_empty()) {
-        let (call, want) = line
-            .trim()
-            .split_once(" => ")
-            .ok_or("a call and an answer")?;
-        let got = answer(alloc, &mut side, &mut input, call)?;
-        assert_eq!(rt; got.as_str(), want, "{call}");
-    }
-    Ok(())
+    go_on(rt, alloc, &mut side, &mut input, script)
 }

@@ -20,10 +20,13 @@ impl Side {
             capacities: [capacity; 7],
             slots,
         };
+        let outgo = Outgo::new(alloc)?;
+        let intake = Intake::new(alloc)?;
+        let peer = Peer::new(alloc, config)?;
         Ok(Side {
-            peer: Peer::new(alloc, config)?,
-            outgo: Outgo::new(alloc)?,
-            intake: Intake::new(alloc)?,
+            peer,
+            outgo,
+            intake,
         })
     }
 

@@ -5,6 +5,7 @@ use crate::tests::side::{Side, pipe};
 use lc_driver::{Counted, CountedRead, CountedWrite, Failures, ReadEnd};
 use lc_frame::Channel;
 use std::io::{Read, Write};
+use std::process::Abort;
 use std::test::Fail;
 
 /// A Send of `hi` and an Issue of 5 on channel 1, and a LimitReceiving of 10 on channel 0.
@@ -76,48 +77,68 @@ const WORKED: [(&str, &str); 8] = [
 
 #[test]
 fn worked_calls(rt: HostRuntime) -> Result<(), Fail> {
-    for (input, script) in WORKED {
+    for &(input, script) in &WORKED {
         run(&rt, rt.alloc(), input, script)?;
     }
     Ok(())
 }
 
-// Of each call at which a write fails: how many bytes are pending after it, and how many frames
-// wait.
-const LEFT_AFTER: [(usize, usize); 10] = [
-    (0, 2),
-    (4, 1),
-    (3, 1),
-    (2, 1),
-    (1, 1),
-    (0, 1),
-    (4, 0),
-    (3, 0),
-    (2, 0),
-    (1, 0),
+/// An Issue of 5 on channel 1 and one of 3 on channel 2, and a write of them that fails at each of their
+/// bytes in turn.
+const FAILED_WRITES: [&str; 10] = [
+    "issue 1 5 => Ok(())
+    issue 2 3 => Ok(())
+    write 1 fails 1 => Err(Failed { written: 0 })  calls 1 pending 0 waiting 2
+    write all => Ok(10) 21000000052200000003 calls 1 pending 0 waiting 0",
+    "issue 1 5 => Ok(())
+    issue 2 3 => Ok(())
+    write 1 fails 2 => Err(Failed { written: 1 }) 21 calls 2 pending 4 waiting 1
+    write all => Ok(9) 000000052200000003 calls 1 pending 0 waiting 0",
+    "issue 1 5 => Ok(())
+    issue 2 3 => Ok(())
+    write 1 fails 3 => Err(Failed { written: 2 }) 2100 calls 3 pending 3 waiting 1
+    write all => Ok(8) 0000052200000003 calls 1 pending 0 waiting 0",
+    "issue 1 5 => Ok(())
+    issue 2 3 => Ok(())
+    write 1 fails 4 => Err(Failed { written: 3 }) 210000 calls 4 pending 2 waiting 1
+    write all => Ok(7) 00052200000003 calls 1 pending 0 waiting 0",
+    "issue 1 5 => Ok(())
+    issue 2 3 => Ok(())
+    write 1 fails 5 => Err(Failed { written: 4 }) 21000000 calls 5 pending 1 waiting 1
+    write all => Ok(6) 052200000003 calls 1 pending 0 waiting 0",
+    "issue 1 5 => Ok(())
+    issue 2 3 => Ok(())
+    write 1 fails 6 => Err(Failed { written: 5 }) 2100000005 calls 6 pending 0 waiting 1
+    write all => Ok(5) 2200000003 calls 1 pending 0 waiting 0",
+    "issue 1 5 => Ok(())
+    issue 2 3 => Ok(())
+    write 1 fails 7 => Err(Failed { written: 6 }) 210000000522 calls 7 pending 4 waiting 0
+    write all => Ok(4) 00000003 calls 1 pending 0 waiting 0",
+    "issue 1 5 => Ok(())
+    issue 2 3 => Ok(())
+    write 1 fails 8 => Err(Failed { written: 7 }) 21000000052200 calls 8 pending 3 waiting 0
+    write all => Ok(3) 000003 calls 1 pending 0 waiting 0",
+    "issue 1 5 => Ok(())
+    issue 2 3 => Ok(())
+    write 1 fails 9 => Err(Failed { written: 8 }) 2100000005220000 calls 9 pending 2 waiting 0
+    write all => Ok(2) 0003 calls 1 pending 0 waiting 0",
+    "issue 1 5 => Ok(())
+    issue 2 3 => Ok(())
+    write 1 fails 10 => Err(Failed { written: 9 }) 210000000522000000 calls 10 pending 1 waiting 0
+    write all => Ok(1) 03 calls 1 pending 0 waiting 0",
 ];
 
 #[test]
 fn a_write_fails_at_each_byte(rt: HostRuntime) -> Result<(), Fail> {
-    let text = "21000000052200000003";
-    for (written, (pending, waiting)) in LEFT_AFTER.into_iter().enumerate() {
-        let (first, rest) = text.split_at_checked(2 * written).ok_or("a digit")?;
-        let call = written.saturating_add(1);
-        let left = text.len().saturating_sub(2 * written) / 2;
-        let script = format!(in rt.alloc();
-            "issue 1 5 => Ok(())
-            issue 2 3 => Ok(())
-            write 1 fails {call} => Err(Failed {{ written: {written} }}) {first} calls {call} pending {pending} waiting {waiting}
-            write all => Ok({left}) {rest} calls 1 pending 0 waiting 0"
-        )?;
-        run(&rt, rt.alloc(), "", script.as_str())?;
+    for script in &FAILED_WRITES {
+        run(&rt, rt.alloc(), "", script)?;
     }
     Ok(())
 }
 
 #[test]
 fn a_read_fails_at_each_byte(rt: HostRuntime) -> Result<(), Fail> {
-    for call in 1..=20 {
+    for call in 1..21 {
         let script = format!(in rt.alloc();
             "issue 1 2 => Ok(())
             count 30 1 fails {call} => ReadFailed calls {call}
@@ -132,52 +153,84 @@ fn a_read_fails_at_each_byte(rt: HostRuntime) -> Result<(), Fail> {
     Ok(())
 }
 
+// So many bytes went through a device at a call, or it failed; and so many failures and ends were
+// counted.
+fn counts(
+    rt: &impl Abort,
+    device: &impl Failures,
+    went: Option<usize>,
+    wanted: (Option<usize>, u64, u64),
+) {
+    assert_eq!(rt; (went, device.failures(), device.ends()), wanted);
+}
+
+// A writer fails at its second call and at each flush.
+fn a_writer_fails(rt: &impl Abort, pipe: Pipe) -> Pipe {
+    let plan = Plan::odd(Odd::Fails, 2);
+    let mut writer = Counted::new(PipeWriter { plan, pipe });
+    let wrote = writer.write_counted(b"ab").ok();
+    counts(rt, &writer, wrote, (Some(2), 0, 0));
+    let wrote = writer.write(b"cd").ok();
+    counts(rt, &writer, wrote, (None, 1, 0));
+    let wrote = writer.write(b"").ok();
+    counts(rt, &writer, wrote, (Some(0), 1, 0));
+    let flushed = writer.flush().ok().map(|()| 0);
+    counts(rt, &writer, flushed, (None, 2, 0));
+    writer.into_inner().pipe
+}
+
+// A writer takes nothing at its first call.
+fn a_writer_ends(rt: &impl Abort, pipe: Pipe) -> Pipe {
+    let plan = Plan::odd(Odd::Moves(0), 1);
+    let mut writer = Counted::new(PipeWriter { plan, pipe });
+    let wrote = writer.write(b"cd").ok();
+    counts(rt, &writer, wrote, (Some(0), 0, 1));
+    writer.into_inner().pipe
+}
+
+// A reader ends at its second call and fails at its third.
+fn a_reader_ends_and_fails(rt: &impl Abort, pipe: Pipe) {
+    let plan = Plan::odd(Odd::Fails, 3);
+    let mut reader = Counted::new(PipeReader { plan, pipe });
+    let mut buffer = [7; 4];
+    let read = reader.read_counted(&mut buffer).ok();
+    counts(rt, &reader, read, (Some(2), 0, 0));
+    assert_eq!(rt; buffer, [b'a', b'b', 7, 7]);
+    let read = reader.read(&mut buffer).ok();
+    counts(rt, &reader, read, (Some(0), 0, 1));
+    let read = reader.read(&mut buffer).ok();
+    counts(rt, &reader, read, (None, 1, 1));
+    let read = reader.read(&mut []).ok();
+    counts(rt, &reader, read, (Some(0), 1, 1));
+}
+
 #[test]
 fn a_device_counts(rt: HostRuntime) -> Result<(), Fail> {
-    let alloc = rt.alloc();
-    let mut writer = Counted::new(PipeWriter {
-        plan: Plan::odd(Odd::Fails, 2),
-        pipe: pipe(alloc, &[])?,
-    });
-    assert_eq!(rt; writer.write_counted(b"ab").ok(), Some(2));
-    assert!(rt; writer.write(b"cd").is_err());
-    assert_eq!(rt; writer.write(b"").ok(), Some(0));
-    assert_eq!(rt; (writer.failures(), writer.ends()), (1, 0));
-    assert!(rt; writer.flush().is_err());
-    assert_eq!(rt; (writer.failures(), writer.ends()), (2, 0));
-    let mut writer = Counted::new(PipeWriter {
-        plan: Plan::odd(Odd::Moves(0), 1),
-        pipe: writer.into_inner().pipe,
-    });
-    assert_eq!(rt; writer.write(b"cd").ok(), Some(0));
-    assert_eq!(rt; (writer.failures(), writer.ends()), (0, 1));
-    let mut reader = Counted::new(PipeReader {
-        plan: Plan::odd(Odd::Fails, 3),
-        pipe: writer.into_inner().pipe,
-    });
-    let mut buffer = [7; 4];
-    assert_eq!(rt; reader.read_counted(&mut buffer).ok(), Some(2));
-    assert_eq!(rt; buffer, [b'a', b'b', 7, 7]);
-    assert_eq!(rt; reader.read(&mut buffer).ok(), Some(0));
-    assert!(rt; reader.read(&mut buffer).is_err());
-    assert_eq!(rt; reader.read(&mut []).ok(), Some(0));
-    assert_eq!(rt; (reader.failures(), reader.ends()), (1, 1));
+    let empty = pipe(rt.alloc(), &[])?;
+    let written = a_writer_fails(&rt, empty);
+    a_reader_ends_and_fails(&rt, a_writer_ends(&rt, written));
     Ok(())
+}
+
+// What waits goes out, and what comes arrives.
+fn moves(rt: &impl Abort, side: &mut Side, empty: Pipe, full: Pipe) {
+    let issued = side.peer.issue(Channel::DataChannel, 5);
+    let wrote = side.write(Plan::whole(), empty).0;
+    let end = side.read(Plan::whole(), full, 10).0;
+    let held = side.peer.client(Channel::DataChannel).held();
+    let wanted = (Ok(()), Ok(5), ReadEnd::Clean, 5);
+    assert_eq!(rt; (issued, wrote, end, held), wanted);
 }
 
 // A side asks for memory where it is made, and no write and no read asks for any.
 #[test]
 fn memory_is_asked_for_where_they_are_made(rt: HostRuntime) -> Result<(), Fail> {
-    let alloc = rt.alloc();
     let empty = Pipe {
-        bytes: Vec::with_capacity(alloc, 32)?,
+        bytes: Vec::with_capacity(rt.alloc(), 32)?,
         read: 0,
     };
-    let full = pipe(alloc, &[0x21, 0, 0, 0, 5])?;
-    let mut side = Side::new(alloc, 8, 2)?;
-    assert_eq!(rt; side.peer.issue(Channel::DataChannel, 5), Ok(()));
-    assert_eq!(rt; side.write(Plan::whole(), empty).0, Ok(5));
-    assert_eq!(rt; side.read(Plan::whole(), full, 10).0, ReadEnd::Clean);
-    assert_eq!(rt; side.peer.client(Channel::DataChannel).held(), 5);
+    let full = pipe(rt.alloc(), &[0x21, 0, 0, 0, 5])?;
+    let mut side = Side::new(rt.alloc(), 8, 2)?;
+    moves(&rt, &mut side, empty, full);
     Ok(())
 }

@@ -24,23 +24,26 @@ const FAULTS: [([u32; 7], u32, &str); 4] = [
 ];
 
 // Why there is no peer.
-fn fault(alloc: Global, capacities: [u32; 7], slots: u32) -> Result<String, Fail> {
-    match Peer::new(alloc, Config { capacities, slots }).err() {
-        Some(fault) => Ok(format!(in alloc; "{fault:?}: {fault}")?),
-        None => Err("there is a peer")?,
-    }
+fn fault(alloc: Global, capacities: [u32; 7], slots: u32) -> Option<String> {
+    let fault = Peer::new(alloc, Config { capacities, slots }).err()?;
+    format!(in alloc; "{fault:?}: {fault}").ok()
 }
 
 #[test]
 fn peers_of_other_bounds(rt: HostRuntime) -> Result<(), Fail> {
-    for (capacities, slots, want) in FAULTS {
-        let got = fault(rt.alloc(), capacities, slots)?;
+    for &(capacities, slots, want) in &FAULTS {
+        let got = fault(rt.alloc(), capacities, slots).ok_or("a fault")?;
         answers(&rt, "new", &got, want);
     }
+    Ok(())
+}
+
+#[test]
+fn the_widest_peer(rt: HostRuntime) -> Result<(), Fail> {
     let mut widest = [16_777_216; 7];
     widest[0] = 1;
-    let mut peer = peer(rt.alloc(), widest, 65_536)?;
     let long = vec![in rt.alloc(); 7_u8; 65_536]?;
+    let mut peer = peer(rt.alloc(), widest, 65_536)?;
     let sent = peer.send(Channel::DataChannel, &long);
     let issued = peer.issue(Channel::DataChannel, 16_777_216);
     assert_eq!(rt; (sent, issued), (Err(Refusal::BodyTooLong), Ok(())));
@@ -51,26 +54,42 @@ fn arrives(rt: &impl Abort, peer: &mut Peer, frame: FrameRef<'_>) {
     assert!(rt; frame.is_valid() && peer.arrive(frame).is_ok());
 }
 
+// Whether five guarantees that came and are to be given back let a message be sent. A send that gets
+// no memory changes nothing.
+fn sends(rt: &impl Abort, peer: &mut Peer) -> bool {
+    let channel = Channel::DataChannel;
+    arrives(rt, peer, FrameRef::Issue { channel, amount: 5 });
+    arrives(rt, peer, FrameRef::Plead { channel, target: 0 });
+    let sent = peer.send(channel, b"hi");
+    if sent != Err(Refusal::OutOfMemory) {
+        assert_eq!(rt; sent, Ok(()));
+        return true;
+    }
+    let left = (peer.client(channel).held(), peer.waiting());
+    assert_eq!(rt; (left, peer.send(channel, b"hi")), ((5, 0), Ok(())));
+    false
+}
+
+// What comes behind the message asks for no memory.
+fn goes_on(rt: &impl Abort, peer: &mut Peer) {
+    let channel = Channel::DataChannel;
+    let issued = peer.issue(channel, 8);
+    let honoured = peer.honour(channel);
+    let body = b"hello";
+    arrives(rt, peer, FrameRef::Send { channel, body });
+    let popped = peer.pop(channel);
+    let done = (issued, honoured, popped, peer.waiting());
+    assert_eq!(rt; done, (Ok(()), Ok(Some(3)), Take::Took(5), 3));
+}
+
 // Every request for memory can be refused here in turn.
 #[test]
 fn memory_is_asked_for_by_three_calls(rt: HostRuntime) -> Result<(), Fail> {
-    let channel = Channel::DataChannel;
-    let _inbox = inbox(rt.alloc(), 8)?;
+    let _ = inbox(rt.alloc(), 8)?;
     let mut peer = peer(rt.alloc(), [8; 7], 4)?;
-    arrives(&rt, &mut peer, FrameRef::Issue { channel, amount: 5 });
-    arrives(&rt, &mut peer, FrameRef::Plead { channel, target: 0 });
-    let sent = peer.send(channel, b"hi");
-    if sent == Err(Refusal::OutOfMemory) {
-        let left = (peer.client(channel).held(), peer.waiting());
-        assert_eq!(rt; (left, peer.send(channel, b"hi")), ((5, 0), Ok(())));
+    if !sends(&rt, &mut peer) {
         return Err("a send was refused and changed nothing")?;
     }
-    let issued = peer.issue(channel, 8);
-    let honoured = peer.honour(channel);
-    assert_eq!(rt; (sent, issued, honoured), (Ok(()), Ok(()), Ok(Some(3))));
-    let body = b"hello";
-    arrives(&rt, &mut peer, FrameRef::Send { channel, body });
-    let popped = peer.pop(channel);
-    assert_eq!(rt; (popped, peer.waiting()), (Take::Took(5), 3));
+    goes_on(&rt, &mut peer);
     Ok(())
 }

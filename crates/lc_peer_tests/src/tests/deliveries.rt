@@ -58,7 +58,7 @@ const WORKED: [&str; 7] = [
 
 #[test]
 fn worked_deliveries(rt: HostRuntime) -> Result<(), Fail> {
-    for script in WORKED {
+    for script in &WORKED {
         run(&rt, rt.alloc(), 4, script)?;
     }
     Ok(())
@@ -174,7 +174,7 @@ const LONGEST: usize = 18;
 
 // A stream comes to new peers whole, cut in two behind each of its bytes, and byte by byte.
 fn cut_anywhere(rt: &impl Abort, alloc: Global, script: &str) -> Result<(), Fail> {
-    for count in 0..=LONGEST {
+    for count in 0..LONGEST + 1 {
         run_cut(rt, alloc, 4, Cut::Behind(count), script)?;
     }
     run_cut(rt, alloc, 4, Cut::Everywhere, script)
@@ -182,7 +182,7 @@ fn cut_anywhere(rt: &impl Abort, alloc: Global, script: &str) -> Result<(), Fail
 
 #[test]
 fn hostile_streams(rt: HostRuntime) -> Result<(), Fail> {
-    for script in HOSTILE {
+    for script in &HOSTILE {
         cut_anywhere(&rt, rt.alloc(), script)?;
     }
     Ok(())

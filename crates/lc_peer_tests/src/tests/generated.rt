@@ -114,15 +114,9 @@ fn at_server(rt: &impl Abort, rng: &mut Pcg32, peer: &mut Peer, channel: Channel
             }
         }
         _ => {
-            let body = [done.coming; 9];
-            if arrives(
-                rt,
-                peer,
-                FrameRef::Send {
-                    channel,
-                    body: &body[..n as usize],
-                },
-            ) {
+            let bytes = [done.coming; 9];
+            let body = &bytes[..n as usize];
+            if arrives(rt, peer, FrameRef::Send { channel, body }) {
                 done.arrived = done.arrived.wrapping_add(u64::from(n));
                 done.coming = done.coming.wrapping_add(1);
             }
@@ -130,22 +124,27 @@ fn at_server(rt: &impl Abort, rng: &mut Pcg32, peer: &mut Peer, channel: Channel
     }
 }
 
-// A message is taken, or a frame goes out.
-fn takes(rt: &impl Abort, rng: &mut Pcg32, peer: &mut Peer, channel: Channel, done: &mut Done) {
+// A message is taken, which is the next that came.
+fn takes(rt: &impl Abort, peer: &mut Peer, channel: Channel, done: &mut Done) {
     let mut buffer = [0; 8];
+    let took = peer.take_into(channel, &mut buffer);
+    assert!(rt; took.is_ok(), "a message is longer than its ring");
+    let Ok(Take::Took(len)) = took else {
+        assert_eq!(rt; done.going, done.coming);
+        return;
+    };
+    let want = [done.going; 8];
+    assert!(rt; len <= 8 && buffer[..len] == want[..len]);
+    done.taken = done.taken.wrapping_add(len as u64);
+    done.going = done.going.wrapping_add(1);
+}
+
+// A message is taken, or a frame goes out.
+fn goes(rt: &impl Abort, rng: &mut Pcg32, peer: &mut Peer, channel: Channel, done: &mut Done) {
     if below(rng, 3) == 0 {
         let _frame = peer.next_out();
-        return;
-    }
-    match peer.take_into(channel, &mut buffer) {
-        Ok(Take::Took(len)) => {
-            let want = [done.going; 8];
-            assert!(rt; len <= 8 && buffer[..len] == want[..len]);
-            done.taken = done.taken.wrapping_add(len as u64);
-            done.going = done.going.wrapping_add(1);
-        }
-        Ok(Take::Empty) | Ok(Take::Ended) => assert_eq!(rt; done.going, done.coming),
-        Err(_) => assert!(rt; false, "a message is longer than its ring"),
+    } else {
+        takes(rt, peer, channel, done);
     }
 }
 
@@ -185,7 +184,7 @@ fn goes_on(rt: &impl Abort, rng: &mut Pcg32, peer: &mut Peer) -> Result<(), Fail
             1 => as_server(rng, peer, channel, &mut done),
             2 => at_client(rt, rng, peer, channel, &mut done),
             3 => at_server(rt, rng, peer, channel, &mut done),
-            _ => takes(rt, rng, peer, channel, &mut done),
+            _ => goes(rt, rng, peer, channel, &mut done),
         }
         is_balanced(rt, peer, channel, &done);
         all[usize::from(number)] = done;
@@ -211,19 +210,25 @@ fn next_byte(state: &mut u64) -> u8 {
     state.to_be_bytes()[0]
 }
 
-// Whatever came, there is room for what may still come, and what is buffered can be taken.
-fn is_bounded(rt: &impl Abort, peer: &mut Peer, channel: Channel) -> u64 {
-    let book = peer.server(channel);
-    let (buffered, outstanding) = (book.buffered(), book.outstanding());
-    assert!(rt; buffered.saturating_add(outstanding) <= 8);
+// Takes all messages, and gives how many bytes they had.
+fn take_all(peer: &mut Peer, channel: Channel) -> u64 {
     let mut taken = 0u64;
     let mut buffer = [0; 8];
-    for _ in 0..=8 {
+    for _ in 0..9 {
         match peer.take_into(channel, &mut buffer) {
             Ok(Take::Took(len)) => taken = taken.saturating_add(len as u64),
             _ => break,
         }
     }
+    taken
+}
+
+// Whatever came, there is room for what may still come, and what is buffered can be taken.
+fn is_bounded(rt: &impl Abort, peer: &mut Peer, channel: Channel) -> u64 {
+    let book = peer.server(channel);
+    let (buffered, outstanding) = (book.buffered(), book.outstanding());
+    assert!(rt; buffered.saturating_add(outstanding) <= 8);
+    let taken = take_all(peer, channel);
     assert_eq!(rt; taken, buffered);
     taken
 }

@@ -3,7 +3,7 @@
 //! the run says, `feed` bytes for the decoder alone, and `take` the room of its buffer, whose bytes
 //! were 238. `each` asks on every channel.
 use lc_frame::{Channel, Decoded, StreamDecoder, decode};
-use lc_peer::{Config, Delivery, Peer, Refusal, Violation};
+use lc_peer::{Config, Delivery, Peer};
 use std::alloc::Global;
 use std::fmt::Debug;
 use std::process::Abort;
@@ -33,33 +33,31 @@ pub struct Side {
 impl Side {
     /// A new peer with rings of 8 bytes.
     pub fn new(alloc: Global, slots: u32) -> Result<Side, Fail> {
-        let peer = peer(alloc, [8; 7], slots)?;
         let decoder = StreamDecoder::new(alloc)?;
+        let peer = peer(alloc, [8; 7], slots)?;
         Ok(Side { peer, decoder })
     }
 }
 
 /// What a value is written as.
-pub fn text<T: Debug>(alloc: Global, value: &T) -> Result<String, Fail> {
-    Ok(format!(in alloc; "{value:?}")?)
+pub fn text<T: Debug>(alloc: Global, value: &T) -> Option<String> {
+    format!(in alloc; "{value:?}").ok()
 }
 
 /// The bytes of these digits; `-` is no byte.
-pub fn bytes(alloc: Global, digits: &str) -> Result<Vec<u8>, Fail> {
-    Ok(hex::decode(alloc, if digits == "-" { "" } else { digits })?)
+pub fn bytes(alloc: Global, digits: &str) -> Option<Vec<u8>> {
+    hex::decode(alloc, if digits == "-" { "" } else { digits }).ok()
 }
 
-fn channel(word: &str) -> Result<Channel, Fail> {
-    let number = word.parse::<u8>()?;
-    Ok(Channel::from_number(number).ok_or("a channel's number")?)
+fn channel(word: &str) -> Option<Channel> {
+    Channel::from_number(word.parse::<u8>().ok()?)
 }
 
-fn arrive(alloc: Global, peer: &mut Peer, digits: &str) -> Result<Result<(), Violation>, Fail> {
+fn arrive(alloc: Global, peer: &mut Peer, digits: &str) -> Option<String> {
     let bytes = bytes(alloc, digits)?;
     match decode(&bytes) {
-        Decoded::Whole { frame, used: _ } => Ok(peer.arrive(frame)),
-        Decoded::More => Err("a part of a frame")?,
-        Decoded::Fault(fault) => Err(fault)?,
+        Decoded::Whole { frame, used: _ } => text(alloc, &peer.arrive(frame)),
+        _ => None,
     }
 }
 
@@ -83,13 +81,13 @@ fn and_then(did: Delivery, side: &mut Side, piece: &[u8]) -> Delivery {
 }
 
 // What deliveries did, and how many bytes are held after them.
-fn delivered(alloc: Global, did: Delivery, side: &Side) -> Result<String, Fail> {
+fn delivered(alloc: Global, did: Delivery, side: &Side) -> Option<String> {
     let (taken, frames, stop) = (did.taken, did.frames, did.stop);
     let held = side.decoder.held();
-    Ok(format!(in alloc; "taken {taken} frames {frames} {stop:?} held {held}")?)
+    format!(in alloc; "taken {taken} frames {frames} {stop:?} held {held}").ok()
 }
 
-fn deliver(alloc: Global, side: &mut Side, pieces: &str) -> Result<String, Fail> {
+fn deliver(alloc: Global, side: &mut Side, pieces: &str) -> Option<String> {
     let mut did = NOTHING;
     for digits in pieces.split(' ') {
         did = and_then(did, side, &bytes(alloc, digits)?);
@@ -97,7 +95,7 @@ fn deliver(alloc: Global, side: &mut Side, pieces: &str) -> Result<String, Fail>
     delivered(alloc, did, side)
 }
 
-fn stream(alloc: Global, side: &mut Side, cut: Cut, digits: &str) -> Result<String, Fail> {
+fn stream(alloc: Global, side: &mut Side, cut: Cut, digits: &str) -> Option<String> {
     let bytes = bytes(alloc, digits)?;
     let mut did = NOTHING;
     match cut {
@@ -115,38 +113,50 @@ fn stream(alloc: Global, side: &mut Side, cut: Cut, digits: &str) -> Result<Stri
     delivered(alloc, did, side)
 }
 
+fn feed(alloc: Global, decoder: &mut StreamDecoder, digits: &str) -> Option<String> {
+    let bytes = bytes(alloc, digits)?;
+    text(alloc, &decoder.feed(&bytes))
+}
+
+fn send(alloc: Global, peer: &mut Peer, at: Channel, digits: &str) -> Option<String> {
+    let body = bytes(alloc, digits)?;
+    text(alloc, &peer.send(at, &body))
+}
+
 // What an own call answers, which names a channel and a number.
-fn own(peer: &mut Peer, verb: &str, channel: Channel, n: u64) -> Result<Result<(), Refusal>, Fail> {
+fn own(alloc: Global, peer: &mut Peer, verb: &str, at: Channel, word: &str) -> Option<String> {
+    let n = word.parse::<u64>().ok()?;
     let amount = u32::try_from(n).unwrap_or(u32::MAX);
-    match verb {
-        "absolve" => Ok(peer.absolve(channel, amount)),
-        "limit-sending" => Ok(peer.limit_sending(channel, n)),
-        "issue" => Ok(peer.issue(channel, amount)),
-        "plead" => Ok(peer.plead(channel, amount)),
-        "limit-receiving" => Ok(peer.limit_receiving(channel, n)),
-        _ => Err("no such call")?,
-    }
+    let answer = match verb {
+        "absolve" => peer.absolve(at, amount),
+        "limit-sending" => peer.limit_sending(at, n),
+        "issue" => peer.issue(at, amount),
+        "plead" => peer.plead(at, amount),
+        "limit-receiving" => peer.limit_receiving(at, n),
+        _ => return None,
+    };
+    text(alloc, &answer)
 }
 
 // A take into a buffer of so many bytes, and the buffer after it.
-fn take(alloc: Global, peer: &mut Peer, channel: Channel, room: usize) -> Result<String, Fail> {
-    let mut buffer = vec![in alloc; 0xee_u8; room]?;
+fn take(alloc: Global, peer: &mut Peer, channel: Channel, room: &str) -> Option<String> {
+    let mut buffer = vec![in alloc; 0xee_u8; room.parse::<usize>().ok()?].ok()?;
     let took = peer.take_into(channel, &mut buffer);
-    Ok(format!(in alloc; "{took:?} {buffer:?}")?)
+    format!(in alloc; "{took:?} {buffer:?}").ok()
 }
 
-fn client(alloc: Global, peer: &Peer, channel: Channel) -> Result<String, Fail> {
+fn client(alloc: Global, peer: &Peer, channel: Channel) -> Option<String> {
     let book = peer.client(channel);
     let (held, asked) = (book.held(), book.asked());
     let (sending, receiving) = (book.send_left(), book.receive_left());
-    Ok(format!(in alloc; "{held} {asked:?} {sending:?} {receiving:?}")?)
+    format!(in alloc; "{held} {asked:?} {sending:?} {receiving:?}").ok()
 }
 
-fn server(alloc: Global, peer: &Peer, channel: Channel) -> Result<String, Fail> {
+fn server(alloc: Global, peer: &Peer, channel: Channel) -> Option<String> {
     let book = peer.server(channel);
     let (outstanding, buffered, room) = (book.outstanding(), book.buffered(), book.room());
     let (sending, receiving) = (book.send_left(), book.receive_left());
-    Ok(format!(in alloc; "{outstanding} {buffered} {room} {sending:?} {receiving:?}")?)
+    format!(in alloc; "{outstanding} {buffered} {room} {sending:?} {receiving:?}").ok()
 }
 
 // What a call on a channel answers.
@@ -156,45 +166,57 @@ fn on_channel(
     verb: &str,
     at: Channel,
     last: &str,
-) -> Result<String, Fail> {
+) -> Option<String> {
     match verb {
-        "send" => text(alloc, &peer.send(at, &bytes(alloc, last)?)),
+        "send" => send(alloc, peer, at, last),
         "honour" => text(alloc, &peer.honour(at)),
         "front" => text(alloc, &peer.front(at)),
         "pop" => text(alloc, &peer.pop(at)),
-        "take" => take(alloc, peer, at, last.parse::<usize>()?),
+        "take" => take(alloc, peer, at, last),
         "client" => client(alloc, peer, at),
         "server" => server(alloc, peer, at),
-        _ => text(alloc, &own(peer, verb, at, last.parse::<u64>()?)?),
+        _ => own(alloc, peer, verb, at, last),
     }
 }
 
 // What all channels answer alike.
-fn each(alloc: Global, peer: &mut Peer, verb: &str) -> Result<String, Fail> {
+fn each(alloc: Global, peer: &mut Peer, verb: &str) -> Option<String> {
     let first = on_channel(alloc, peer, verb, Channel::ReconciliationChannel, "0")?;
     for channel in (1..7).filter_map(Channel::from_number) {
         let other = on_channel(alloc, peer, verb, channel, "0")?;
         if other.as_str() != first.as_str() {
-            Err("two channels differ")?;
+            return text(alloc, &"two channels differ");
         }
     }
-    Ok(first)
+    Some(first)
+}
+
+fn waiting_frame(alloc: Global, peer: &Peer, place: &str) -> Option<String> {
+    let place = place.parse::<usize>().ok()?;
+    text(alloc, &peer.waiting_frame(place))
+}
+
+// What a call on a peer answers.
+fn on_peer(alloc: Global, peer: &mut Peer, verb: &str, rest: &str) -> Option<String> {
+    let (first, last) = rest.split_once(' ').unwrap_or((rest, "0"));
+    match verb {
+        "arrive" => arrive(alloc, peer, first),
+        "out" => text(alloc, &peer.next_out()),
+        "waiting" => text(alloc, &peer.waiting()),
+        "frame" => waiting_frame(alloc, peer, first),
+        "each" => each(alloc, peer, first),
+        _ => on_channel(alloc, peer, verb, channel(first)?, last),
+    }
 }
 
 // What the call of a line answers.
-fn answer(alloc: Global, side: &mut Side, cut: Cut, call: &str) -> Result<String, Fail> {
+fn answer(alloc: Global, side: &mut Side, cut: Cut, call: &str) -> Option<String> {
     let (verb, rest) = call.split_once(' ').unwrap_or((call, ""));
-    let (first, last) = rest.split_once(' ').unwrap_or((rest, "0"));
     match verb {
-        "arrive" => text(alloc, &arrive(alloc, &mut side.peer, first)?),
         "deliver" => deliver(alloc, side, rest),
-        "stream" => stream(alloc, side, cut, first),
-        "feed" => text(alloc, &side.decoder.feed(&bytes(alloc, first)?)),
-        "out" => text(alloc, &side.peer.next_out()),
-        "waiting" => text(alloc, &side.peer.waiting()),
-        "frame" => text(alloc, &side.peer.waiting_frame(first.parse::<usize>()?)),
-        "each" => each(alloc, &mut side.peer, first),
-        _ => on_channel(alloc, &mut side.peer, verb, channel(first)?, last),
+        "stream" => stream(alloc, side, cut, rest),
+        "feed" => feed(alloc, &mut side.decoder, rest),
+        _ => on_peer(alloc, &mut side.peer, verb, rest),
     }
 }
 
@@ -212,6 +234,20 @@ pub fn answers(rt: &impl Abort, call: &str, got: &String, want: &str) {
     assert_eq!(rt; got.as_str(), want, "{call}");
 }
 
+// The call of a line answers what stands behind it.
+fn line_answers(
+    rt: &impl Abort,
+    alloc: Global,
+    side: &mut Side,
+    cut: Cut,
+    line: &str,
+) -> Result<(), Fail> {
+    let (call, want) = call_of(line)?;
+    let got = answer(alloc, side, cut, call).ok_or("an answer")?;
+    answers(rt, call, &got, want);
+    Ok(())
+}
+
 /// A new peer answers each line of a script as it says.
 pub fn run(rt: &impl Abort, alloc: Global, slots: u32, script: &str) -> Result<(), Fail> {
     run_cut(rt, alloc, slots, Cut::Everywhere, script)
@@ -227,9 +263,7 @@ pub fn run_cut(
 ) -> Result<(), Fail> {
     let mut side = Side::new(alloc, slots)?;
     for line in script.lines() {
-        let (call, want) = call_of(line)?;
-        let got = answer(alloc, &mut side, cut, call)?;
-        answers(rt, call, &got, want);
+        line_answers(rt, alloc, &mut side, cut, line)?;
     }
     Ok(())
 }

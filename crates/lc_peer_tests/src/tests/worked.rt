@@ -98,7 +98,7 @@ const WORKED: [(u32, &str); 6] = [
 
 #[test]
 fn worked_calls(rt: HostRuntime) -> Result<(), Fail> {
-    for (slots, script) in WORKED {
+    for &(slots, script) in &WORKED {
         run(&rt, rt.alloc(), slots, script)?;
     }
     Ok(())
@@ -139,7 +139,7 @@ const BROKEN: [&str; 9] = [
 
 #[test]
 fn frames_that_break_the_rules(rt: HostRuntime) -> Result<(), Fail> {
-    for script in BROKEN {
+    for script in &BROKEN {
         run(&rt, rt.alloc(), 4, script)?;
     }
     Ok(())
