@@ -1,5 +1,5 @@
 //! The line of each answer.
-use crate::output::write_hex;
+use crate::output::write_hex_line;
 use lc_world::{Answer, Refusal};
 use std::io;
 use std::io::Write;
@@ -21,8 +21,7 @@ pub fn write_answer<W: Write>(answer: &Answer, out: &mut W) -> io::Result<()> {
         }
         Answer::Took(body) => {
             out.write_all(b"took ")?;
-            write_hex(body.as_slice(), out)?;
-            out.write_all(b"\n")
+            write_hex_line(body.as_slice(), out)
         }
         Answer::Empty => out.write_all(b"empty\n"),
         Answer::Ended => out.write_all(b"ended\n"),
@@ -30,27 +29,30 @@ pub fn write_answer<W: Write>(answer: &Answer, out: &mut W) -> io::Result<()> {
     }
 }
 
-// A refusal that was judged against a number shows it.
 fn write_refusal<W: Write>(refusal: Refusal, out: &mut W) -> io::Result<()> {
     let number = refusal.number();
+    match judged_against(refusal) {
+        Some((name, value)) => writeln!(out, "refused {number} {name} {value}"),
+        None => writeln!(out, "refused {number}"),
+    }
+}
+
+// The number that a refusal was judged against, with its name.
+fn judged_against(refusal: Refusal) -> Option<(&'static str, u64)> {
     match refusal {
         Refusal::PastSendLimit { left }
         | Refusal::LimitRaised { left }
-        | Refusal::PastReceiveLimit { left } => writeln!(out, "refused {number} left {left}"),
-        Refusal::NoGuarantee { held } | Refusal::NotHeld { held } => {
-            writeln!(out, "refused {number} held {held}")
-        }
-        Refusal::NoRoom { room } => writeln!(out, "refused {number} room {room}"),
-        Refusal::NothingToAsk { outstanding } => {
-            writeln!(out, "refused {number} outstanding {outstanding}")
-        }
-        Refusal::BufferTooSmall { need } => writeln!(out, "refused {number} need {need}"),
+        | Refusal::PastReceiveLimit { left } => Some(("left", left)),
+        Refusal::NoGuarantee { held } | Refusal::NotHeld { held } => Some(("held", held)),
+        Refusal::NoRoom { room } => Some(("room", room)),
+        Refusal::NothingToAsk { outstanding } => Some(("outstanding", outstanding)),
+        Refusal::BufferTooSmall { need } => Some(("need", need as u64)),
         Refusal::EmptyBody
         | Refusal::BodyTooLong
         | Refusal::ZeroAmount
         | Refusal::BoundTooLarge
         | Refusal::TotalReached
         | Refusal::QueueFull
-        | Refusal::OutOfMemory => writeln!(out, "refused {number}"),
+        | Refusal::OutOfMemory => None,
     }
 }

@@ -27,7 +27,7 @@ pub fn run<R: Read, W: Write, E: Write>(
 }
 
 // What the program is asked to do.
-#[derive(Clone, Copy, Debug)]
+#[derive(Clone, Copy)]
 enum Command {
     // Replay a script, with receiving rings of so many bytes.
     Replay { capacity: u32 },

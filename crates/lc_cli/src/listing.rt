@@ -4,7 +4,7 @@ ghost use Rattle.lc_frame.specs.Decoded.{IsOpen};
 
 use crate::fault::{Fault, Status};
 use crate::input::{MAX_INPUT, PIECE};
-use crate::output::write_hex;
+use crate::output::write_hex_line;
 use lc_frame::{FrameFault, FrameRef, StreamDecoder};
 use std::alloc::{AllocError, Global};
 use std::io;
@@ -41,18 +41,18 @@ fn print_frames<R: Read, W: Write>(alloc: Global, input: &mut R, out: &mut W) ->
 // Writes the frame's line, with its line feed. Takes no memory.
 fn write_frame<W: Write>(frame: &FrameRef<'_>, out: &mut W) -> io::Result<()> {
     let number = frame.channel().number();
-    match frame {
+    let (word, value) = match frame {
         FrameRef::Send { body, .. } => {
             write!(out, "send {number} ")?;
-            write_hex(body, out)?;
-            out.write_all(b"\n")
+            return write_hex_line(body, out);
         }
-        FrameRef::Issue { amount, .. } => writeln!(out, "issue {number} {amount}"),
-        FrameRef::Absolve { amount, .. } => writeln!(out, "absolve {number} {amount}"),
-        FrameRef::Plead { target, .. } => writeln!(out, "plead {number} {target}"),
-        FrameRef::LimitSending { bound, .. } => writeln!(out, "limit-sending {number} {bound}"),
-        FrameRef::LimitReceiving { bound, .. } => writeln!(out, "limit-receiving {number} {bound}"),
-    }
+        FrameRef::Issue { amount, .. } => ("issue", u64::from(*amount)),
+        FrameRef::Absolve { amount, .. } => ("absolve", u64::from(*amount)),
+        FrameRef::Plead { target, .. } => ("plead", u64::from(*target)),
+        FrameRef::LimitSending { bound, .. } => ("limit-sending", *bound),
+        FrameRef::LimitReceiving { bound, .. } => ("limit-receiving", *bound),
+    };
+    writeln!(out, "{word} {number} {value}")
 }
 
 // How far a stream has been read.

@@ -10,8 +10,8 @@ use std::io::Write;
 // cleared, for each message.
 const PIECE: usize = 256;
 
-/// Writes the bytes in lower case hexadecimal. Takes no memory.
-pub fn write_hex<W: Write>(bytes: &[u8], out: &mut W) -> io::Result<()>
+// Writes the bytes in lower case hexadecimal. Takes no memory.
+fn write_hex<W: Write>(bytes: &[u8], out: &mut W) -> io::Result<()>
     ensures { OnOk result (Appends (W.contents out.old) (W.contents out.new) (encode_lower bytes.now)) }
 {
     let mut digits = [0u8; 2 * PIECE];
@@ -26,4 +26,10 @@ pub fn write_hex<W: Write>(bytes: &[u8], out: &mut W) -> io::Result<()>
         rest = others;
     }
     Ok(())
+}
+
+/// Writes the bytes in lower case hexadecimal, and a line feed. Takes no memory.
+pub fn write_hex_line<W: Write>(bytes: &[u8], out: &mut W) -> io::Result<()> {
+    write_hex(bytes, out)?;
+    out.write_all(b"\n")
 }

@@ -11,7 +11,7 @@ use std::str;
 use std::str::Split;
 
 // Why a line gives no event.
-#[derive(Clone, Copy, Debug, PartialEq, Eq)]
+#[derive(Clone, Copy)]
 enum LineFault {
     Bad,
     OutOfMemory,

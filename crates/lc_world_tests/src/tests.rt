@@ -1,4 +1,7 @@
 //! The subjects of the tests, and the comparisons that all of them make.
+mod books;
+mod restored;
+mod texts;
 mod worlds;
 
 use std::alloc::Global;

@@ -69,16 +69,18 @@ const VIOLATIONS: [(Violation, &str); 8] = [
 
 #[test]
 fn refusals_have_their_lines(rt: HostRuntime) -> Result<(), Fail> {
-    for (refusal, wanted) in REFUSALS {
-        is_written(&rt, rt.alloc(), &Answer::Refused(refusal), wanted)?;
+    for (refusal, wanted) in &REFUSALS {
+        let answer = Answer::Refused(*refusal);
+        is_written(&rt, rt.alloc(), &answer, wanted)?;
     }
     Ok(())
 }
 
 #[test]
 fn violations_have_their_lines(rt: HostRuntime) -> Result<(), Fail> {
-    for (violation, wanted) in VIOLATIONS {
-        is_written(&rt, rt.alloc(), &Answer::Violated(violation), wanted)?;
+    for (violation, wanted) in &VIOLATIONS {
+        let answer = Answer::Violated(*violation);
+        is_written(&rt, rt.alloc(), &answer, wanted)?;
     }
     Ok(())
 }

@@ -1,7 +1,8 @@
 //! What is no line of a script, and how the first such line is named.
 use super::devices::ShortReader;
-use super::transcript::{Run, run_as_shown};
-use std::alloc::Global;
+use super::same;
+use super::transcript::{run_as_shown, shown};
+use std::alloc::{AllocError, Global};
 use std::process::Abort;
 use std::test::Fail;
 
@@ -118,14 +119,20 @@ A deliver 4294967296
 A deliver 1 1
 A delivers 1";
 
+// The line before is good, and yet nothing is printed.
+fn is_refused(rt: &impl Abort, alloc: Global, line: &str) -> Result<(), Fail> {
+    let script = format!(in alloc; "B issue 1 5\n{line}\nA arrive\n")?;
+    let mut input = ShortReader::new(script.as_bytes(), 16);
+    let found = shown(alloc, "lcmux replay 8", &mut input)?;
+    let wanted = "! lcmux: line 2: bad script line\n= 2\n";
+    same(rt, line, found.as_str(), wanted);
+    Ok(())
+}
+
 #[test]
 fn bad_lines_are_refused(rt: HostRuntime) -> Result<(), Fail> {
     for line in BAD_LINES.split('\n') {
-        // The line before is good, and yet nothing is printed.
-        let script = format!(in rt.alloc(); "B issue 1 5\n{line}\nA arrive\n")?;
-        let mut input = ShortReader::new(script.as_bytes(), 16);
-        let run = Run::new(rt.alloc(), "lcmux replay 8", &mut input)?;
-        run.check(&rt, line, "", "lcmux: line 2: bad script line\n", "2")?;
+        is_refused(&rt, rt.alloc(), line)?;
     }
     Ok(())
 }
@@ -151,18 +158,24 @@ fn the_first_bad_line_is_named(rt: HostRuntime) -> Result<(), Fail> {
 }
 
 // The bad line has no line feed.
-fn is_named(rt: &impl Abort, alloc: Global, number: u32) -> Result<(), Fail> {
+fn late_line(alloc: Global, number: u32) -> Result<Vec<u8>, AllocError> {
     let mut script = vec![in alloc; b'\n'; number as usize]?;
     script.pop();
     script.push(b'x')?;
-    let run = Run::new(alloc, "lcmux replay 8", &mut script.as_slice())?;
-    let wanted = format!(in alloc; "lcmux: line {number}: bad script line\n")?;
-    run.check(rt, "a late line", "", wanted.as_str(), "2")
+    Ok(script)
+}
+
+fn is_named(rt: &impl Abort, alloc: Global, number: u32) -> Result<(), Fail> {
+    let script = late_line(alloc, number)?;
+    let found = shown(alloc, "lcmux replay 8", &mut script.as_slice())?;
+    let wanted = format!(in alloc; "! lcmux: line {number}: bad script line\n= 2\n")?;
+    same(rt, "a late line", found.as_str(), wanted.as_str());
+    Ok(())
 }
 
 #[test]
 fn a_late_line_has_its_number(rt: HostRuntime) -> Result<(), Fail> {
-    for number in [9, 10, 255, 256, 257, 300, 9_999, 65_535, 65_536, 65_537] {
+    for &number in &[9, 10, 255, 256, 257, 300, 9_999, 65_535, 65_536, 65_537] {
         is_named(&rt, rt.alloc(), number)?;
     }
     Ok(())

@@ -1,5 +1,6 @@
 //! Bodies whose lengths lie about those of the blocks in which digits are printed, and the longest.
-use super::transcript::Run;
+use super::same;
+use super::transcript::shown;
 use std::alloc::{AllocError, Global};
 use std::process::Abort;
 use std::test::Fail;
@@ -29,14 +30,27 @@ impl Digits {
 
 // A message of this length in a stream, and a frame behind it.
 fn is_listed(rt: &impl Abort, alloc: Global, length: u16, digits: &str) -> Result<(), Fail> {
+    let stream = stream(alloc, length, digits)?;
+    let found = shown(alloc, "lcmux frames", &mut stream.as_slice())?;
+    let wanted = format!(in alloc; "> send 6 {digits}\n> issue 1 5\n= 0\n")?;
+    same(rt, "a body in a stream", found.as_str(), wanted.as_str());
+    Ok(())
+}
+
+fn stream(alloc: Global, length: u16, digits: &str) -> Result<Vec<u8>, Fail> {
     let stream = format!(in alloc; "16{length:04x}{digits}2100000005")?;
-    let stream = hex::decode(alloc, stream.as_str())?;
-    let run = Run::new(alloc, "lcmux frames", &mut stream.as_slice())?;
-    let wanted = format!(in alloc; "send 6 {digits}\nissue 1 5\n")?;
-    run.check(rt, "a body in a stream", wanted.as_str(), "", "0")
+    Ok(hex::decode(alloc, stream.as_str())?)
 }
 
 // A message that is a byte too long for a limit of this length, and one that is not.
+fn is_replayed(rt: &impl Abort, alloc: Global, length: u16, digits: &Digits) -> Result<(), Fail> {
+    let script = script(alloc, length, digits.upper.as_str())?;
+    let found = shown(alloc, "lcmux replay 70000", &mut script.as_bytes())?;
+    let wanted = replayed(alloc, length, digits.lower.as_str())?;
+    same(rt, "a body in a script", found.as_str(), wanted.as_str());
+    Ok(())
+}
+
 fn script(alloc: Global, length: u16, digits: &str) -> Result<String, AllocError> {
     format!(in alloc;
         "B issue 0 70000\nA arrive\nA limit-sending 0 {length}\nA send 0 {digits}00\nA send 0 {digits}\nB arrive\nB arrive\nB take 0\n"
@@ -45,7 +59,9 @@ fn script(alloc: Global, length: u16, digits: &str) -> Result<String, AllocError
 
 fn replayed(alloc: Global, length: u16, digits: &str) -> Result<String, AllocError> {
     let refused = longer(alloc, length)?;
-    format!(in alloc; "ok\narrived\nok\n{refused}\nok\narrived\narrived\ntook {digits}\n")
+    format!(in alloc;
+        "> ok\n> arrived\n> ok\n> {refused}\n> ok\n> arrived\n> arrived\n> took {digits}\n= 0\n"
+    )
 }
 
 // How a body is refused that is a byte longer than a limit of this length.
@@ -56,15 +72,16 @@ fn longer(alloc: Global, length: u16) -> Result<String, AllocError> {
     }
 }
 
+fn is_whole(rt: &impl Abort, alloc: Global, length: u16) -> Result<(), Fail> {
+    let digits = Digits::new(alloc, length)?;
+    is_listed(rt, alloc, length, digits.lower.as_str())?;
+    is_replayed(rt, alloc, length, &digits)
+}
+
 #[test]
 fn long_bodies_are_whole(rt: HostRuntime) -> Result<(), Fail> {
-    for length in LENGTHS {
-        let digits = Digits::new(rt.alloc(), length)?;
-        is_listed(&rt, rt.alloc(), length, digits.lower.as_str())?;
-        let script = script(rt.alloc(), length, digits.upper.as_str())?;
-        let wanted = replayed(rt.alloc(), length, digits.lower.as_str())?;
-        let run = Run::new(rt.alloc(), "lcmux replay 70000", &mut script.as_bytes())?;
-        run.check(&rt, "a body in a script", wanted.as_str(), "", "0")?;
+    for &length in &LENGTHS {
+        is_whole(&rt, rt.alloc(), length)?;
     }
     Ok(())
 }

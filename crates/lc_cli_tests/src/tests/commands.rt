@@ -1,13 +1,14 @@
 //! Command lines: those that name a command, and the usage line for all others.
 use super::devices::ShortReader;
-use super::transcript::{Run, run_as_shown};
+use super::same;
+use super::transcript::{run_as_shown, shown, shown_with};
 use std::alloc::Global;
 use std::io;
 use std::io::ErrorKind;
 use std::process::Abort;
 use std::test::Fail;
 
-const USAGE: &str = "lcmux: usage: lcmux replay CAPACITY, lcmux frames, lcmux loopback N\n";
+const USAGE: &str = "! lcmux: usage: lcmux replay CAPACITY, lcmux frames, lcmux loopback N\n= 2\n";
 
 // Capacities at their ends.
 const COMMANDS: &str = "$ lcmux replay 1
@@ -83,13 +84,16 @@ fn commands_are_run(rt: HostRuntime) -> Result<(), Fail> {
     run_as_shown(&rt, rt.alloc(), COMMANDS)
 }
 
+// Nothing is read.
+fn unread() -> ShortReader<'static> {
+    ShortReader::failing(b"B issue 1 5\n", 100, 1)
+}
+
 #[test]
 fn what_names_no_command_is_answered_by_the_usage(rt: HostRuntime) -> Result<(), Fail> {
     for command in NO_COMMANDS.split('\n') {
-        // Nothing is read.
-        let mut input = ShortReader::failing(b"B issue 1 5\n", 100, 1);
-        let run = Run::new(rt.alloc(), command, &mut input)?;
-        run.check(&rt, command, "", USAGE, "2")?;
+        let found = shown(rt.alloc(), command, &mut unread())?;
+        same(&rt, command, found.as_str(), USAGE);
     }
     Ok(())
 }
@@ -99,17 +103,17 @@ fn without_arguments(
     rt: &impl Abort,
     alloc: Global,
     kind: ErrorKind,
-    err: &str,
-    status: &str,
+    wanted: &str,
 ) -> Result<(), Fail> {
-    let mut input = ShortReader::failing(b"B issue 1 5\n", 100, 1);
-    let run = Run::with(alloc, Err(io::Error::from(kind)), &mut input)?;
-    run.check(rt, "no arguments", "", err, status)
+    let arguments = Err(io::Error::from(kind));
+    let found = shown_with(alloc, arguments, &mut unread())?;
+    same(rt, "no arguments", found.as_str(), wanted);
+    Ok(())
 }
 
 #[test]
 fn arguments_that_are_not_text_name_no_command(rt: HostRuntime) -> Result<(), Fail> {
-    without_arguments(&rt, rt.alloc(), ErrorKind::InvalidData, USAGE, "2")?;
-    let full = "lcmux: out of memory\n";
-    without_arguments(&rt, rt.alloc(), ErrorKind::OutOfMemory, full, "1")
+    without_arguments(&rt, rt.alloc(), ErrorKind::InvalidData, USAGE)?;
+    let full = "! lcmux: out of memory\n= 1\n";
+    without_arguments(&rt, rt.alloc(), ErrorKind::OutOfMemory, full)
 }

@@ -1,9 +1,9 @@
 //! Devices that fail at each call in turn.
 use super::devices::{ShortReader, ShortWriter};
 use super::same;
-use super::transcript::arguments;
+use super::transcript::{arguments, end};
 use lc_cli::run;
-use std::alloc::Global;
+use std::alloc::{AllocError, Global};
 use std::io::{Read, Write};
 use std::process::Abort;
 use std::str;
@@ -32,35 +32,54 @@ const LISTED: Case = Case {
     command: "lcmux frames",
     input: STREAM,
     printed: LINES,
-    end: "0 ",
+    end: "= 0\n",
 };
 
 const REPLAYED: Case = Case {
     command: "lcmux replay 8",
     input: SCRIPT,
     printed: ANSWERS,
-    end: "0 ",
+    end: "= 0\n",
 };
 
 const FAULT_FOUND: Case = Case {
     command: "lcmux frames",
     input: FAULTY,
     printed: "issue 1 5\n",
-    end: "2 lcmux: F1 in the frame at byte 5\n",
+    end: "! lcmux: F1 in the frame at byte 5\n= 2\n",
 };
 
-const WRITE_FAILED: &str = "1 lcmux: write failed\n";
+const WRITE_FAILED: &str = "! lcmux: write failed\n= 1\n";
 
-// What a run says on standard error, behind its status.
+impl Case {
+    // How the case ends, with this writer.
+    fn end<W: Write>(&self, alloc: Global, out: &mut W) -> Result<String, Fail> {
+        ended(alloc, self.command, &mut &*self.input, out)
+    }
+
+    // Compares what was written, and how the case ended.
+    fn check(&self, rt: &impl Abort, out: &ShortWriter, found: &str) -> Result<(), Fail> {
+        let written = str::from_utf8(out.written.as_slice())?;
+        let (printed, end) = if out.has_failed() {
+            (front(self.printed, written.len()), WRITE_FAILED)
+        } else {
+            (self.printed, self.end)
+        };
+        same(rt, self.command, found, end);
+        same(rt, self.command, written, printed);
+        Ok(())
+    }
+}
+
+// How a command line ends, with these devices.
 fn ended<R: Read, W: Write>(
     alloc: Global,
     command: &str,
     input: &mut R,
     out: &mut W,
 ) -> Result<String, Fail> {
-    let mut err = Vec::new(alloc);
-    let status = run(alloc, Ok(arguments(alloc, command)?), input, out, &mut err);
-    Ok(format!(in alloc; "{status} {}", str::from_utf8(err.as_slice())?)?)
+    let arguments = arguments(alloc, command)?;
+    end(alloc, Ok(arguments), input, out)
 }
 
 // So many bytes of a text, or all of it.
@@ -74,31 +93,14 @@ fn front(text: &str, len: usize) -> &str {
 // One call of the writer fails, where the run makes so many.
 fn fails_at(rt: &impl Abort, alloc: Global, case: &Case, call: u32) -> Result<(), Fail> {
     let mut out = ShortWriter::new(alloc, call);
-    let found = ended(alloc, case.command, &mut &*case.input, &mut out)?;
-    let (printed, end) = if out.has_failed() {
-        (front(case.printed, out.written.len()), WRITE_FAILED)
-    } else {
-        (case.printed, case.end)
-    };
-    same(rt, case.command, found.as_str(), end);
-    same(
-        rt,
-        case.command,
-        str::from_utf8(out.written.as_slice())?,
-        printed,
-    );
-    Ok(())
+    let found = case.end(alloc, &mut out)?;
+    case.check(rt, &out, found.as_str())
 }
 
 // There is room for four bytes.
 fn has_no_room(rt: &impl Abort, alloc: Global, case: &Case) -> Result<(), Fail> {
     let mut room = [0u8; 4];
-    let found = ended(
-        alloc,
-        case.command,
-        &mut &*case.input,
-        &mut room.as_mut_slice(),
-    )?;
+    let found = case.end(alloc, &mut room.as_mut_slice())?;
     same(rt, case.command, found.as_str(), WRITE_FAILED);
     Ok(())
 }
@@ -140,7 +142,7 @@ fn read_fails(
 ) -> Result<(), Fail> {
     let mut out = Vec::new(alloc);
     let found = ended(alloc, command, &mut input, &mut out)?;
-    same(rt, command, found.as_str(), "1 lcmux: read failed\n");
+    same(rt, command, found.as_str(), "! lcmux: read failed\n= 1\n");
     same(rt, command, str::from_utf8(out.as_slice())?, printed);
     Ok(())
 }
@@ -148,11 +150,11 @@ fn read_fails(
 // The script's last read is its tenth, which finds the end.
 #[test]
 fn failed_reads_are_named(rt: HostRuntime) -> Result<(), Fail> {
-    for read in 0..=15 {
+    for read in 0..16 {
         let stream = ShortReader::failing(STREAM, 1, read + 1);
         read_fails(&rt, rt.alloc(), "lcmux frames", stream, listed(read))?;
     }
-    for read in 1..=10 {
+    for read in 1..11 {
         let script = ShortReader::failing(SCRIPT, 6, read);
         read_fails(&rt, rt.alloc(), "lcmux replay 8", script, "")?;
     }
@@ -166,25 +168,25 @@ fn frames_are_printed_before_a_read(rt: HostRuntime) -> Result<(), Fail> {
     let mut input = ShortReader::new(STREAM, 1);
     let mut out = ShortWriter::new(rt.alloc(), 6);
     let end = ended(rt.alloc(), "lcmux frames", &mut input, &mut out)?;
-    let found = format!(in rt.alloc(); "{} reads, {end}", input.reads)?;
-    same(
-        &rt,
-        "a live stream",
-        found.as_str(),
-        "5 reads, 1 lcmux: write failed\n",
-    );
+    same(&rt, "a live stream", end.as_str(), WRITE_FAILED);
+    let reads = format!(in rt.alloc(); "{}", input.reads)?;
+    same(&rt, "reads of a live stream", reads.as_str(), "5");
     Ok(())
 }
 
-// A bad input or no command, where a call of the writer of standard error fails.
-fn has_status_2(rt: &impl Abort, alloc: Global, command: &str, call: u32) -> Result<(), Fail> {
+// The status of a bad input or of no command, where a call of the writer of standard error fails.
+fn status(alloc: Global, command: &str, out: &mut Vec<u8>, call: u32) -> Result<u8, AllocError> {
     let arguments = arguments(alloc, command)?;
-    let mut out = Vec::new(alloc);
     let mut err = ShortWriter::new(alloc, call);
     let mut input = b"x".as_slice();
-    let status = run(alloc, Ok(arguments), &mut input, &mut out, &mut err);
-    let found = format!(in alloc; "{status} {:?}", out.as_slice())?;
-    same(rt, command, found.as_str(), "2 []");
+    Ok(run(alloc, Ok(arguments), &mut input, out, &mut err))
+}
+
+fn has_status_2(rt: &impl Abort, alloc: Global, command: &str, call: u32) -> Result<(), Fail> {
+    let mut out = Vec::new(alloc);
+    let status = status(alloc, command, &mut out, call)?;
+    let found = format!(in alloc; "{status}, {} bytes", out.len())?;
+    same(rt, command, found.as_str(), "2, 0 bytes");
     Ok(())
 }
 

@@ -514,7 +514,7 @@ $ lcmux replay 16777216
 
 #[test]
 fn answers_events(rt: HostRuntime) -> Result<(), Fail> {
-    for cases in [WORKED, LINES, CHANNELS, AMOUNTS, BOUNDS] {
+    for cases in &[WORKED, LINES, CHANNELS, AMOUNTS, BOUNDS] {
         run_as_shown(&rt, rt.alloc(), cases)?;
     }
     Ok(())

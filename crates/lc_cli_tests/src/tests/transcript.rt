@@ -8,63 +8,68 @@ use super::same;
 use lc_cli::run;
 use std::alloc::{AllocError, Global};
 use std::env::Args;
-use std::io::Read;
+use std::io::{Read, Write};
 use std::process::Abort;
 use std::test::Fail;
 use std::{io, str};
 
-/// Runs each case, with short reads and with long ones, and compares both streams and the status.
+/// Runs each case, and compares what it shows.
 pub fn run_as_shown(rt: &impl Abort, alloc: Global, cases: &str) -> Result<(), Fail> {
     for text in cases.split("\n$ ") {
-        let case = Case::parse(alloc, text)?;
-        case.run(rt, alloc, text, 1)?;
-        case.run(rt, alloc, text, 7)?;
-        case.run(rt, alloc, text, 70_000)?;
+        run_case(rt, alloc, text)?;
     }
     Ok(())
 }
 
-/// What a run leaves.
-#[derive(Drop)]
-pub struct Run {
-    pub out: Vec<u8>,
-    pub err: Vec<u8>,
-    pub status: String,
+// Runs a case, with short reads and with long ones.
+fn run_case(rt: &impl Abort, alloc: Global, text: &str) -> Result<(), Fail> {
+    let case = Case::parse(alloc, text)?;
+    case.run(rt, alloc, 1)?;
+    case.run(rt, alloc, 7)?;
+    case.run(rt, alloc, 70_000)
 }
 
-impl Run {
-    /// Runs a command line on an input.
-    pub fn new<R: Read>(alloc: Global, command: &str, input: &mut R) -> Result<Run, AllocError> {
-        let arguments = arguments(alloc, command)?;
-        Run::with(alloc, Ok(arguments), input)
-    }
+/// What a command line shows that is run on an input.
+pub fn shown<R: Read>(alloc: Global, command: &str, input: &mut R) -> Result<String, Fail> {
+    let arguments = arguments(alloc, command)?;
+    shown_with(alloc, Ok(arguments), input)
+}
 
-    /// Runs on these arguments.
-    pub fn with<R: Read>(
-        alloc: Global,
-        arguments: io::Result<Args>,
-        input: &mut R,
-    ) -> Result<Run, AllocError> {
-        let (mut out, mut err) = (Vec::new(alloc), Vec::new(alloc));
-        let status = run(alloc, arguments, input, &mut out, &mut err);
-        let status = format!(in alloc; "{status}")?;
-        Ok(Run { out, err, status })
-    }
+/// What a run with these arguments shows.
+pub fn shown_with<R: Read>(
+    alloc: Global,
+    arguments: io::Result<Args>,
+    input: &mut R,
+) -> Result<String, Fail> {
+    let mut out = Vec::new(alloc);
+    let end = end(alloc, arguments, input, &mut out)?;
+    let mut shown = String::new(alloc);
+    show(&mut shown, "> ", out.as_slice())?;
+    shown.push_str(end.as_str())?;
+    Ok(shown)
+}
 
-    /// Compares both streams and the status.
-    pub fn check(
-        &self,
-        rt: &impl Abort,
-        what: &str,
-        out: &str,
-        err: &str,
-        status: &str,
-    ) -> Result<(), Fail> {
-        same(rt, what, str::from_utf8(self.err.as_slice())?, err);
-        same(rt, what, str::from_utf8(self.out.as_slice())?, out);
-        same(rt, what, self.status.as_str(), status);
-        Ok(())
+/// How a run ends: its lines of standard error, and the status.
+pub fn end<R: Read, W: Write>(
+    alloc: Global,
+    arguments: io::Result<Args>,
+    input: &mut R,
+    out: &mut W,
+) -> Result<String, Fail> {
+    let mut err = Vec::new(alloc);
+    let status = run(alloc, arguments, input, out, &mut err);
+    let mut shown = String::new(alloc);
+    show(&mut shown, "! ", err.as_slice())?;
+    writeln!(shown, "= {status}")?;
+    Ok(shown)
+}
+
+// Writes each line of a stream behind its mark.
+fn show(shown: &mut String, mark: &str, stream: &[u8]) -> Result<(), Fail> {
+    for line in str::from_utf8(stream)?.split_inclusive('\n') {
+        write!(shown, "{mark}{line}")?;
     }
+    Ok(())
 }
 
 /// The arguments of a command line.
@@ -77,28 +82,24 @@ pub fn arguments(alloc: Global, command: &str) -> Result<Args, AllocError> {
     Ok(words.into_iter())
 }
 
-// What a run is given, and what it has to leave.
+// What a run is given, and what it has to show.
 #[derive(Drop)]
-struct Case {
-    command: String,
+struct Case<'a> {
+    text: &'a str,
+    command: &'a str,
     input: Vec<u8>,
-    out: String,
-    err: String,
-    status: String,
+    wanted: String,
 }
 
-impl Case {
-    fn parse(alloc: Global, text: &str) -> Result<Case, Fail> {
-        let mut case = Case {
-            command: String::new(alloc),
-            input: Vec::new(alloc),
-            out: String::new(alloc),
-            err: String::new(alloc),
-            status: String::new(alloc),
-        };
+impl<'a> Case<'a> {
+    fn parse(alloc: Global, text: &'a str) -> Result<Case<'a>, Fail> {
         let (command, lines) = text.split_once('\n').unwrap_or((text, ""));
-        let command = command.strip_prefix("$ ").unwrap_or(command);
-        case.command.push_str(command)?;
+        let mut case = Case {
+            text,
+            command: command.strip_prefix("$ ").unwrap_or(command),
+            input: Vec::new(alloc),
+            wanted: String::new(alloc),
+        };
         for line in lines.lines() {
             case.read_line(alloc, line)?;
         }
@@ -108,19 +109,11 @@ impl Case {
     fn read_line(&mut self, alloc: Global, line: &str) -> Result<(), Fail> {
         let (mark, rest) = line.split_once(' ').unwrap_or((line, ""));
         match mark {
-            "<" => self.read_text(rest)?,
+            "<" => writeln!(self.input, "{rest}")?,
             "x" => self.read_digits(alloc, rest)?,
-            ">" => writeln!(self.out, "{rest}")?,
-            "!" => writeln!(self.err, "{rest}")?,
-            "=" => self.status.push_str(rest)?,
-            _ => return Err(Fail::new("no line of a transcript")),
+            _ => writeln!(self.wanted, "{line}")?,
         }
         Ok(())
-    }
-
-    fn read_text(&mut self, text: &str) -> Result<(), AllocError> {
-        self.input.extend_from_slice(text.as_bytes())?;
-        self.input.extend_from_slice(b"\n")
     }
 
     fn read_digits(&mut self, alloc: Global, bytes: &str) -> Result<(), Fail> {
@@ -132,10 +125,10 @@ impl Case {
     }
 
     // Runs the case on reads of so many bytes.
-    fn run(&self, rt: &impl Abort, alloc: Global, text: &str, most: usize) -> Result<(), Fail> {
+    fn run(&self, rt: &impl Abort, alloc: Global, most: usize) -> Result<(), Fail> {
         let mut input = ShortReader::new(self.input.as_slice(), most);
-        let run = Run::new(alloc, self.command.as_str(), &mut input)?;
-        let (out, err) = (self.out.as_str(), self.err.as_str());
-        run.check(rt, text, out, err, self.status.as_str())
+        let found = shown(alloc, self.command, &mut input)?;
+        same(rt, self.text, found.as_str(), self.wanted.as_str());
+        Ok(())
     }
 }

@@ -34,8 +34,8 @@ fn reads<E: Display>(
 
 #[test]
 fn faults_have_their_numbers_and_texts(rt: HostRuntime) -> Result<(), Fail> {
-    for (fault, wanted) in FRAME_FAULTS {
-        reads(&rt, rt.alloc(), fault.number(), &fault, wanted)?;
+    for (fault, wanted) in &FRAME_FAULTS {
+        reads(&rt, rt.alloc(), fault.number(), fault, wanted)?;
     }
     Ok(())
 }

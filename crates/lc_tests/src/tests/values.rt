@@ -2,6 +2,7 @@
 use super::same;
 use lc_frame::{Body, Channel, Frame, FrameRef, MAX_AMOUNT, MAX_BODY, MAX_FRAME, MAX_TOTAL};
 use std::alloc::{AllocError, Global};
+use std::process::Abort;
 use std::test::Fail;
 
 // Each channel by its number, and the lanes of a client's frames on it and of a server's.
@@ -45,18 +46,28 @@ fn validity(alloc: Global, frame: FrameRef<'_>) -> Result<String, AllocError> {
     format!(in alloc; "{borrowed} {owned}")
 }
 
+fn is_not_valid(
+    rt: &impl Abort,
+    alloc: Global,
+    what: &str,
+    frame: FrameRef<'_>,
+) -> Result<(), AllocError> {
+    let found = validity(alloc, frame)?;
+    same(rt, what, found.as_str(), "false false");
+    Ok(())
+}
+
 #[test]
 fn frames_out_of_range_are_not_valid(rt: HostRuntime) -> Result<(), Fail> {
     let channel = Channel::DataChannel;
     let (target, bound) = (16_777_217, 4_611_686_018_427_387_905);
-    for frame in [
+    for frame in &[
         FrameRef::Send { channel, body: b"" },
         FrameRef::Plead { channel, target },
         FrameRef::LimitSending { channel, bound },
         FrameRef::LimitReceiving { channel, bound },
     ] {
-        let found = validity(rt.alloc(), frame)?;
-        same(&rt, "a frame", found.as_str(), "false false");
+        is_not_valid(&rt, rt.alloc(), "a frame", *frame)?;
     }
     Ok(())
 }
@@ -64,11 +75,13 @@ fn frames_out_of_range_are_not_valid(rt: HostRuntime) -> Result<(), Fail> {
 #[test]
 fn amounts_out_of_range_are_not_valid(rt: HostRuntime) -> Result<(), Fail> {
     let channel = Channel::DataChannel;
-    for amount in [0, 16_777_217, u32::MAX] {
-        let found = validity(rt.alloc(), FrameRef::Issue { channel, amount })?;
-        same(&rt, "an issue", found.as_str(), "false false");
-        let found = validity(rt.alloc(), FrameRef::Absolve { channel, amount })?;
-        same(&rt, "an absolve", found.as_str(), "false false");
+    for &amount in &[0, 16_777_217, u32::MAX] {
+        let (issue, absolve) = (
+            FrameRef::Issue { channel, amount },
+            FrameRef::Absolve { channel, amount },
+        );
+        is_not_valid(&rt, rt.alloc(), "an issue", issue)?;
+        is_not_valid(&rt, rt.alloc(), "an absolve", absolve)?;
     }
     Ok(())
 }

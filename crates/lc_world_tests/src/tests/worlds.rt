@@ -146,16 +146,22 @@ fn play(rt: &impl Abort, alloc: Global, capacity: u32, lines: &str) -> Result<St
     Ok(stepped)
 }
 
-fn rerun(alloc: Global, capacity: u32, events: &[Event]) -> Result<Ran, NewFault> {
-    let answers = run(alloc, capacity, events)?;
-    Ok(Ran(answers.into_iter()))
+// `run` answers these events so.
+fn run_answers(
+    rt: &impl Abort,
+    alloc: Global,
+    capacity: u32,
+    events: &[Event],
+    lines: &str,
+) -> Result<(), Fail> {
+    let mut ran = Ran(run(alloc, capacity, events)?.into_iter());
+    answers(rt, alloc, &mut ran, lines)
 }
 
 // A world answers these events so, and `run` does.
 fn are_answered(rt: &impl Abort, alloc: Global, capacity: u32, lines: &str) -> Result<(), Fail> {
     let stepped = play(rt, alloc, capacity, lines)?;
-    let mut ran = rerun(alloc, capacity, stepped.events.as_slice())?;
-    answers(rt, alloc, &mut ran, lines)
+    run_answers(rt, alloc, capacity, stepped.events.as_slice(), lines)
 }
 
 // A world in which the bytes of a frame that is to arrive come one by one.
@@ -228,12 +234,17 @@ fn books(alloc: Global, world: &World) -> Result<String, AllocError> {
     format!(in alloc; "{held} {spent} {absolved}, {outstanding} {buffered} {room}, {issued}")
 }
 
+// Compares the books of a world.
+fn has_books(rt: &impl Abort, alloc: Global, world: &World, wanted: &str) -> Result<(), Fail> {
+    let found = books(alloc, world)?;
+    same(rt, "books", found.as_str(), wanted);
+    Ok(())
+}
+
 #[test]
 fn events_leave_their_books(rt: HostRuntime) -> Result<(), Fail> {
     let stepped = play(&rt, rt.alloc(), 16, HONOURED)?;
-    let found = books(rt.alloc(), &stepped.world)?;
-    same(&rt, "books", found.as_str(), "2 5 3, 2 5 9, 0");
-    Ok(())
+    has_books(&rt, rt.alloc(), &stepped.world, "2 5 3, 2 5 9, 0")
 }
 
 // Why there is no world with rings of so many bytes, and no run.

@@ -101,16 +101,16 @@ fn reads<E: Display>(
 
 #[test]
 fn refusals_have_their_numbers_and_texts(rt: HostRuntime) -> Result<(), Fail> {
-    for (refusal, wanted) in REFUSALS {
-        reads(&rt, rt.alloc(), refusal.number(), &refusal, wanted)?;
+    for (refusal, wanted) in &REFUSALS {
+        reads(&rt, rt.alloc(), refusal.number(), refusal, wanted)?;
     }
     Ok(())
 }
 
 #[test]
 fn violations_have_their_numbers_and_texts(rt: HostRuntime) -> Result<(), Fail> {
-    for (violation, wanted) in VIOLATIONS {
-        reads(&rt, rt.alloc(), violation.number(), &violation, wanted)?;
+    for (violation, wanted) in &VIOLATIONS {
+        reads(&rt, rt.alloc(), violation.number(), violation, wanted)?;
     }
     Ok(())
 }

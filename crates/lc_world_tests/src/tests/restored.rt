@@ -235,8 +235,8 @@ fn made(is_some: bool) -> &'static str {
 
 #[test]
 fn broken_clients_are_none(rt: HostRuntime) -> Result<(), Fail> {
-    for (broken, parts) in BROKEN_CLIENTS {
-        let found = made(ClientBook::restore(parts).is_some());
+    for (broken, parts) in &BROKEN_CLIENTS {
+        let found = made(ClientBook::restore(*parts).is_some());
         same(&rt, broken, found, "no book");
     }
     Ok(())
@@ -244,8 +244,8 @@ fn broken_clients_are_none(rt: HostRuntime) -> Result<(), Fail> {
 
 #[test]
 fn broken_servers_are_none(rt: HostRuntime) -> Result<(), Fail> {
-    for (broken, parts) in BROKEN_SERVERS {
-        let found = made(ServerBook::restore(parts).is_some());
+    for (broken, parts) in &BROKEN_SERVERS {
+        let found = made(ServerBook::restore(*parts).is_some());
         same(&rt, broken, found, "no book");
     }
     Ok(())

@@ -270,7 +270,7 @@ issued 1 => Ok(())
 
 #[test]
 fn calls_have_their_answers(rt: HostRuntime) -> Result<(), Fail> {
-    for (capacity, calls) in [
+    for (capacity, calls) in &[
         (8, NO_GUARANTEES),
         (1, FULL_RING),
         (16, HONOURED),
@@ -281,7 +281,7 @@ fn calls_have_their_answers(rt: HostRuntime) -> Result<(), Fail> {
         (8, NEVER_RAISED),
         (8, LIMITED),
     ] {
-        let mut books = Books::new(capacity)?;
+        let mut books = Books::new(*capacity)?;
         answers(&rt, rt.alloc(), &mut books, calls)?;
     }
     let mut books = Books::near_the_end()?;
