@@ -4,11 +4,11 @@ ghost use Rattle.lc_cli.specs.declared.fault.Fault.TheVariants.{OutOfMemory};
 ghost use Rattle.lc_cli.specs.Fault.{code_of, status_of};
 
 use std::alloc::{AllocError, AllocFailed};
-use std::fmt;
 use std::io::Write;
+use thiserror::Error;
 
 /// How a run of the program ended.
-#[derive(Clone, Copy)]
+#[derive(Clone, Copy, Debug, PartialEq, Eq)]
 pub enum Status {
     /// All was done.
     Done,
@@ -28,35 +28,24 @@ impl Status {
 }
 
 /// Why a run fails. What is displayed is the line on standard error, without the program's name.
-#[derive(Clone, Copy)]
+#[derive(Clone, Copy, Debug, PartialEq, Eq, Error)]
 pub enum Fault {
+    #[error("usage: lcmux replay CAPACITY, lcmux frames, lcmux loopback N")]
     Usage,
     /// Lines are counted from 1, skipped ones too.
+    #[error("line {line}: bad script line")]
     BadLine { line: u64 },
     /// The fault's number, 1 to 4, and the place of the frame's first byte.
+    #[error("F{number} in the frame at byte {offset}")]
     BadFrame { number: u8, offset: usize },
+    #[error("input too long")]
     InputTooLong,
+    #[error("out of memory")]
     OutOfMemory,
+    #[error("read failed")]
     ReadFailed,
+    #[error("write failed")]
     WriteFailed,
-}
-
-impl fmt::Display for Fault {
-    fn fmt<W: fmt::Write>(&self, f: &mut fmt::Formatter<W>) -> fmt::Result {
-        match self {
-            Fault::Usage => {
-                f.write_str("usage: lcmux replay CAPACITY, lcmux frames, lcmux loopback N")
-            }
-            Fault::BadLine { line } => write!(f, "line {line}: bad script line"),
-            Fault::BadFrame { number, offset } => {
-                write!(f, "F{number} in the frame at byte {offset}")
-            }
-            Fault::InputTooLong => f.write_str("input too long"),
-            Fault::OutOfMemory => f.write_str("out of memory"),
-            Fault::ReadFailed => f.write_str("read failed"),
-            Fault::WriteFailed => f.write_str("write failed"),
-        }
-    }
 }
 
 impl Fault {
