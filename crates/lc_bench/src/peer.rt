@@ -19,20 +19,11 @@ const WIRE: usize = 70_000;
 const CHANNEL: Channel = Channel::DataChannel;
 
 // A peer, and what it holds for both streams.
+#[derive(Drop)]
 struct Side {
     peer: Peer,
     outgo: Outgo,
     intake: Intake,
-}
-
-impl Drop for Side {
-    fn drop(self) {
-        let Side {
-            peer: _,
-            outgo: _,
-            intake: _,
-        } = self;
-    }
 }
 
 impl Side {
