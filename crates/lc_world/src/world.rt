@@ -19,11 +19,21 @@ use std::marker::Model;
 
 /// Two peers, all of whose receiving rings have one capacity. Contracts see it as the state of
 /// both streams.
-#[derive(Drop)]
 pub struct World {
     alloc: Global,
     a: Endpoint,
     b: Endpoint,
+}
+
+// One call, wherever a world is dropped.
+impl Drop for World {
+    fn drop(self) {
+        let World {
+            alloc: _,
+            a: _,
+            b: _,
+        } = self;
+    }
 }
 
 impl Model for World {

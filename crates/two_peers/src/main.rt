@@ -35,26 +35,25 @@ fn carry(rt: &HostRuntime, from: &mut Side, to: &mut Side) -> Result<(), Error> 
     Ok(())
 }
 
-// On each of three channels a message goes from Alice to Bob, who promises room for it, takes it
-// and promises its room anew.
-fn exchange(rt: &HostRuntime, alice: &mut Side, bob: &mut Side) -> Result<(), Error> {
-    for at in [DataChannel, OverlapChannel, CapabilityChannel] {
-        bob.peer.issue(at, 8)?;
-        carry(rt, bob, alice)?;
-        alice.peer.send(at, b"hello")?;
-        carry(rt, alice, bob)?;
-        let mut buffer = [0; 64];
-        if let Take::Took(len) = bob.peer.take_into(at, &mut buffer)? {
-            println!(rt; "{at:?}: {len} bytes")?;
-            bob.peer.issue(at, len as u32)?;
-        }
-        carry(rt, bob, alice)?;
+// A message goes from Alice to Bob, who promises room for it, takes it and promises its room anew.
+fn exchange(rt: &HostRuntime, alice: &mut Side, bob: &mut Side, at: Channel) -> Result<(), Error> {
+    bob.peer.issue(at, 8)?;
+    carry(rt, bob, alice)?;
+    alice.peer.send(at, b"hello")?;
+    carry(rt, alice, bob)?;
+    let mut buffer = [0; 64];
+    if let Take::Took(len) = bob.peer.take_into(at, &mut buffer)? {
+        println!(rt; "{at:?}: {len} bytes")?;
+        bob.peer.issue(at, len as u32)?;
     }
-    Ok(())
+    carry(rt, bob, alice)
 }
 
 fn main(rt: HostRuntime) -> Result<(), Error> {
     let (mut alice, mut bob) = (new_side(&rt)?, new_side(&rt)?);
-    exchange(&rt, &mut alice, &mut bob)
+    for at in [DataChannel, OverlapChannel, CapabilityChannel] {
+        exchange(&rt, &mut alice, &mut bob, at)?;
+    }
+    Ok(())
 }
 // README: end
