@@ -1,4 +1,4 @@
-//! Tests of `lc_frame`: what no clause says. Their values come from worked examples of the format,
+//! Tests of `lc_frame` and `lc_ring`: what no clause says. Their values come from worked examples,
 //! written down as text.
 #![tactic(auto)]
 

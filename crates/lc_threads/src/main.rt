@@ -4,9 +4,8 @@
 //! there was memory.
 #![tactic(auto)]
 
-use lc_credit_tests::balances_agree;
 use lc_queue::{LanesFault, lanes};
-use lc_queue_tests::keeps_order;
+use lc_shared_tests::{balances_agree, keeps_order};
 use std::alloc::{AllocError, Global};
 use std::sync::Wait;
 use std::thread::Threads;

@@ -1,5 +1,0 @@
-//! Tests of `lc_ring`.
-#![tactic(auto)]
-
-#[cfg(test)]
-mod rings;
