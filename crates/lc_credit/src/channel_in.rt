@@ -25,12 +25,23 @@ pub(crate) const CREDIT: usize = 0;
 pub(crate) const ASKED: usize = 1;
 
 /// One channel's credit, as the thread that reads frames has it.
-#[derive(Drop)]
 pub(crate) struct ChannelIn {
     pub(crate) words: Arc<Words, Global>,
     pub(crate) seat: Seat<(), View>,
     pub(crate) received: u64,
     pub(crate) left: Option<u64>,
+}
+
+// One call, wherever a side is dropped.
+impl Drop for ChannelIn {
+    fn drop(self) {
+        let ChannelIn {
+            words: _,
+            seat: _,
+            received: _,
+            left: _,
+        } = self;
+    }
 }
 
 impl Model for ChannelIn {

@@ -108,7 +108,7 @@ further {held = held} {old = old} {new = new} {i = i} s y =
     }
 
 -- one read more, all of which was taken
-pub reads_on : {a b c : Option (List ℕ)} {held : List ℕ} {old p q : PeerState} {i : IntakeState} {turns : ℕ} (j : IntakeState) (y piece : List ℕ) (d : Delivery) → SoFar a b held old i p turns → Consumes b c y → piece ≡ y → 0 < length y → length y ≤ 512 → All (λ b. b < 256) y → Delivers p i.held piece q j.held d → d.stop ≡ None → j.stop ≡ d.stop → SoFar a c held old j q (turns + 1)
+pub reads_on : {a b c : Option (List ℕ)} {held : List ℕ} {old p q : PeerState} {i : IntakeState} {turns : ℕ} (j : IntakeState) (y piece : List ℕ) (d : Delivery) → SoFar a b held old i p turns → Consumes b c y → piece ≡ y → 0 < length y → length y ≤ 512 → All (λ b. b < 256) piece → Delivers p i.held piece q j.held d → d.stop ≡ None → j.stop ≡ d.stop → SoFar a c held old j q (turns + 1)
 reads_on {a} {b} {c} {held} {old} {p} {q} {i} {turns} j y piece d s consumed same more less fits delivers none stop =
     let took : TookAll (arrivals p (frames_of (i.held ++ piece))) (i.held ++ piece) piece j.held d.taken = subst (λ (o : Option Stop). StopsBy o (arrivals p (frames_of (i.held ++ piece))) (i.held ++ piece) piece j.held d.taken) none delivers.stop in
     let f = further s y in
@@ -118,7 +118,7 @@ reads_on {a} {b} {c} {held} {old} {p} {q} {i} {turns} j y piece d s consumed sam
       consumed = consumes_then a b c s.read y s.consumed consumed;
       few = omega (arith, s.few, less, length-append s.read y);
       some = omega (arith, s.some, more, length-append s.read y);
-      bytes = subst (λ (xs : List ℕ). All (λ b. b < 256) xs) (append_assoc held s.read y) (All-append (λ (b : ℕ). b < 256) (held ++ s.read) y s.bytes fits);
+      bytes = subst (λ (xs : List ℕ). All (λ b. b < 256) xs) (append_assoc held s.read y) (All-append (λ (b : ℕ). b < 256) (held ++ s.read) y s.bytes (subst (λ (xs : List ℕ). All (λ b. b < 256) xs) same fits));
       peer = delivers.peer ∙ ap (λ (r : Arrival). r.peer) given ∙ sym f.peer;
       lawful = f.violation ∙ ap (λ (r : Arrival). r.violation) (sym given) ∙ took.lawful;
       rest = took.rest ∙ ap (λ (xs : List ℕ). rest_of (i.held ++ xs)) same ∙ sym f.left;

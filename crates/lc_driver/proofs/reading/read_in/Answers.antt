@@ -1,9 +1,9 @@
-use Rattle.std.proofs.Common.{◌∙◌, ◌<◌, sym, refl, subst, arith, take, List, ℕ}
-use Rattle.std.specs.Prelude.{All}
+use Rattle.std.proofs.Common.{◌∙◌, sym, refl, subst, arith, take, ℕ}
+use Rattle.std.specs.Io.KnownBytes.{Consumes}
 use Rattle.lc_driver.specs.declared.reading.ReadEnd.{ReadEnd}
 use Rattle.lc_driver.specs.Reading.{Reads}
 use Rattle.lc_driver.proofs.Written.{count_stays}
-use Rattle.lc_driver.proofs.Arrived.{nothing_read, reads_on, reads_stop}
+use Rattle.lc_driver.proofs.Arrived.{nothing_read, reads_on, reads_stop, reads_end, reads_failed, reads_spent}
 use Rattle.lc_driver.proofs.reading.read_in.Goals as goal
 
 pub reads-init : goal.reads-init
@@ -24,7 +24,18 @@ pub reads-preserved : goal.reads-preserved
 reads-preserved g c =
     let at = c.reads.invariant in
     record {
-      so_far = reads_on c.deliver.new.self (take c.in-Ok.n c.read_counted.new.buf) _ c.deliver.result at.so_far c.in-Ok.ensures.bytes.0 c.split_at.ensures.front (omega (arith, c.in-Ok.ensures.bound.1, c.in-Ok.n-test.1)) (omega (arith, c.in-Ok.ensures.bound)) (subst (λ (xs : List ℕ). All (λ b. b < 256) xs) c.split_at.ensures.front c.deliver.ensures.bytes) c.deliver.ensures.delivers c.in-None-stop.is c.deliver.ensures.stop;
+      so_far = reads_on c.deliver.new.self (take c.in-Ok.n c.read_counted.new.buf) _ c.deliver.result at.so_far c.in-Ok.ensures.bytes.0 c.split_at.ensures.front (omega (arith, c.in-Ok.ensures.bound.1, c.in-Ok.n-test.1)) (omega (arith, c.in-Ok.ensures.bound)) c.deliver.ensures.bytes c.deliver.ensures.delivers c.in-None-stop.is c.deliver.ensures.stop;
       failed = c.in-Ok.ensures.counts.0 ∙ at.failed;
       ended = count_stays _ _ _ _ _ c.in-Ok.n-test.1 c.in-Ok.ensures.counts.1 ∙ at.ended;
     }
+
+pub returns-in-Ok-eq0-clause-reads : goal.returns-in-Ok-eq0-clause-reads
+returns-in-Ok-eq0-clause-reads g c = λ going.
+    let none = subst (λ (n : ℕ). Consumes (g.R.Read.remaining c.reads.reader) (g.R.Read.remaining c.read_counted.new.self) (take n c.read_counted.new.buf)) c.in-Ok-eq0.field-0-test c.in-Ok-eq0.ensures.bytes.0 in
+    reads_end c.args.max_reads c.end.result c.reads.invariant.so_far c.reads-test.true none c.end.ensures
+
+pub returns-in-Err-clause-reads : goal.returns-in-Err-clause-reads
+returns-in-Err-clause-reads g c = λ going. reads_failed c.args.max_reads c.reads.invariant.so_far c.reads-test.true c.in-Err.ensures.bytes
+
+pub returns-clause-reads : goal.returns-clause-reads
+returns-clause-reads g c = λ going. reads_spent c.args.max_reads c.reads.invariant.so_far (omega (arith, c.reads-test.false, c.reads.auto.counter-end))
