@@ -84,6 +84,10 @@ writes_then {a} {b} {c} {x} {y} {z} {p} {q} {r} {n} {m} k s t e = record {
 pub count_stays : (n asked before after more : ℕ) → (n ≡ 0 → ⊥) → after ≡ cond (eqb n 0 && ltb 0 asked) more before → after ≡ before
 count_stays n asked before after more some e = grind (arith, nat_tests)
 
+-- a call that was asked for some bytes and moved none counts one end
+pub count_ends : (n asked before after more : ℕ) → n ≡ 0 → 0 < asked → after ≡ cond (eqb n 0 && ltb 0 asked) more before → after ≡ more
+count_ends n asked before after more none some e = grind (arith, nat_tests)
+
 pub written_after : (fault : WriteFault) (before : ℕ) → fault_written (fault_after fault before) ≡ before + fault_written fault
 written_after (Failed n) before = refl
 written_after (Zero n) before = refl

@@ -1,5 +1,6 @@
 use Rattle.std.proofs.Common.{◌≤◌, ◌∙◌, arith, ap, length, length-drop, refl}
-use Rattle.lc_driver.proofs.Written.{writes_nothing, writes_then, one_write, count_stays}
+use Rattle.lc_driver.specs.Counts.{count_up}
+use Rattle.lc_driver.proofs.Written.{writes_nothing, writes_then, one_write, count_stays, count_ends}
 use Rattle.lc_driver.proofs.writing.write_joined.Goals as goal
 
 pub writes-init : goal.writes-init
@@ -26,3 +27,15 @@ writes-preserved g c =
       failed = wrote.counts.0 ∙ at.failed;
       ended = count_stays _ _ _ _ _ c.in-Ok.taken-test.1 wrote.counts.1 ∙ at.ended;
     }
+
+pub returns-in-Ok-eq0-clause-counts : goal.returns-in-Ok-eq0-clause-counts
+returns-in-Ok-eq0-clause-counts g c =
+    let at = c.writes.invariant in
+    let counts = c.in-Ok-eq0.ensures.counts in
+    (counts.0 ∙ at.failed, count_ends _ _ _ _ _ c.in-Ok-eq0.field-0-test (omega (arith, c.writes-test.true, c.pending-in-writes.ensures.value, ap length c.bytes.ensures.value)) counts.1 ∙ ap count_up at.ended)
+
+pub returns-in-Err-clause-counts : goal.returns-in-Err-clause-counts
+returns-in-Err-clause-counts g c =
+    let at = c.writes.invariant in
+    let counts = c.in-Err.ensures.counts in
+    (counts.0 ∙ ap count_up at.failed, counts.1 ∙ at.ended)
