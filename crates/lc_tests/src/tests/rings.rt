@@ -1,119 +1,243 @@
-//! Worked examples of receiving rings, and one call of each function.
+//! Calls on receiving rings, a call and its answer on each line, with bytes in hexadecimal. `front`
+//! shows the first message's length and its two slices, `take` has the bytes of its buffer and shows
+//! them after the call, and `turn` pushes a message and takes it. `fill` and `drain` push and pop
+//! messages of one byte.
+use super::{Subject, answers, same};
 use lc_frame::MAX_BODY;
-use lc_ring::{BufferTooSmall, Full, NewFault, RecvRing};
-use std::process::Abort;
+use lc_ring::{Full, NewFault, RecvRing};
+use std::alloc::Global;
+use std::fmt::Debug;
 use std::test::Fail;
 
-fn push(rt: &impl Abort, ring: &mut RecvRing, message: &[u8]) -> Result<(), Full> {
-    assert!(rt; !message.is_empty() && message.len() <= MAX_BODY);
-    ring.push(message)
+fn text<T: Debug>(alloc: Global, value: &T) -> Result<String, Fail> {
+    Ok(format!(in alloc; "{value:?}")?)
 }
 
-// The first message is this one. Behind it the buffer stays as it was.
-fn take(rt: &impl Abort, ring: &mut RecvRing, want: &[u8]) {
-    let mut buffer = [0xee_u8; 8];
-    assert!(rt; want.len() <= buffer.len());
-    assert_eq!(rt; ring.front_len(), Some(want.len()));
-    assert_eq!(rt; ring.take_into(&mut buffer), Ok(Some(want.len())));
-    let (message, rest) = buffer.split_at(want.len());
-    assert_eq!(rt; message, want);
-    assert!(rt; rest.iter().all(|byte| *byte == 0xee));
+fn push(alloc: Global, ring: &mut RecvRing, digits: &str) -> Result<String, Fail> {
+    let message = hex::decode(alloc, digits)?;
+    if message.is_empty() || message.len() > MAX_BODY {
+        return Err(Fail::new("no message"));
+    }
+    text(alloc, &ring.push(message.as_slice()))
 }
 
+fn front(alloc: Global, ring: &RecvRing) -> Result<String, Fail> {
+    let len = ring.front_len();
+    let Some((near, far)) = ring.front() else {
+        return text(alloc, &len);
+    };
+    let (near, far) = (hex::encode(alloc, near)?, hex::encode(alloc, far)?);
+    Ok(format!(in alloc; "{len:?} {near}|{far}")?)
+}
+
+fn take(alloc: Global, ring: &mut RecvRing, digits: &str) -> Result<String, Fail> {
+    let mut buffer = hex::decode(alloc, digits)?;
+    let taken = ring.take_into(&mut buffer);
+    let buffer = hex::encode(alloc, buffer)?;
+    Ok(format!(in alloc; "{taken:?} [{buffer}]")?)
+}
+
+fn turn(alloc: Global, ring: &mut RecvRing, digits: &str) -> Result<String, Fail> {
+    push(alloc, ring, digits)?;
+    let front = front(alloc, ring)?;
+    let taken = take(alloc, ring, "eeeeeeeeeeeeeeee")?;
+    Ok(format!(in alloc; "{front} {taken}")?)
+}
+
+// Pushes the bytes 0, 1 and so on: the first that is refused, and why.
+fn fill(ring: &mut RecvRing) -> Option<(u8, Full)> {
+    for byte in 0..=u8::MAX {
+        if let Err(full) = ring.push(&[byte]) {
+            return Some((byte, full));
+        }
+    }
+    None
+}
+
+// Whether this byte is the first message, which is popped then.
+fn is_first(ring: &mut RecvRing, byte: u8) -> bool {
+    ring.front() == Some((&[byte], &[])) && ring.pop() == Some(1)
+}
+
+// Pops the bytes 0, 1 and so on: the first that does not come.
+fn drain(ring: &mut RecvRing) -> Option<u8> {
+    for byte in 0..=u8::MAX {
+        if !is_first(ring, byte) {
+            return Some(byte);
+        }
+    }
+    None
+}
+
+impl Subject for RecvRing {
+    fn answer(&mut self, alloc: Global, call: &str) -> Result<String, Fail> {
+        let (verb, word) = call.split_once(' ').unwrap_or((call, ""));
+        match verb {
+            "push" => push(alloc, self, word),
+            "front" => front(alloc, self),
+            "take" => take(alloc, self, word),
+            "turn" => turn(alloc, self, word),
+            "pop" => text(alloc, &self.pop()),
+            "fill" => text(alloc, &fill(self)),
+            "drain" => text(alloc, &drain(self)),
+            _ => text(alloc, &(self.bytes(), self.free(), self.capacity())),
+        }
+    }
+}
+
+const FOUR_BYTES: &str = "push 010203 => Ok(())
+push 0405 => Err(Full { free: 1 })
+push 04 => Ok(())
+sizes => (4, 0, 4)
+front => Some(3) 010203|
+take eeeeeeeeeeeeeeee => Ok(Some(3)) [010203eeeeeeeeee]
+front => Some(1) 04|
+take eeeeeeeeeeeeeeee => Ok(Some(1)) [04eeeeeeeeeeeeee]
+front => None
+take => Ok(None) []
+sizes => (0, 4, 4)
+";
+
+#[test]
+fn messages_come_out_in_order(rt: HostRuntime) -> Result<(), Fail> {
+    let mut ring = RecvRing::new(rt.alloc(), 4)?;
+    answers(&rt, rt.alloc(), &mut ring, FOUR_BYTES)
+}
+
+// A push, one that is refused, and a take.
+fn called(ring: &mut RecvRing) -> Result<(), Fail> {
+    ring.push(b"\x01\x02\x03")?;
+    if ring.push(b"\x04\x05").is_ok() {
+        return Err(Fail::new("a ring of more than four bytes"));
+    }
+    ring.take_into(&mut [0; 4])?;
+    Ok(())
+}
+
+// Behind the memory of the ring, no call asks for any.
 #[test]
 fn a_ring_of_four_bytes(rt: HostRuntime) -> Result<(), Fail> {
     let mut ring = RecvRing::new(rt.alloc(), 4)?;
-    assert_eq!(rt; push(&rt, &mut ring, b"\x01\x02\x03"), Ok(()));
-    assert_eq!(rt; push(&rt, &mut ring, b"\x04\x05"), Err(Full { free: 1 }));
-    assert_eq!(rt; push(&rt, &mut ring, b"\x04"), Ok(()));
-    assert_eq!(rt; (ring.bytes(), ring.free(), ring.capacity()), (4, 0, 4));
-    take(&rt, &mut ring, b"\x01\x02\x03");
-    take(&rt, &mut ring, b"\x04");
-    assert_eq!(rt; ring.take_into(&mut []), Ok(None));
-    assert_eq!(rt; (ring.bytes(), ring.free(), ring.capacity()), (0, 4, 4));
-    Ok(())
+    called(&mut ring)
 }
+
+const SHORT: &str = "push 68656c6c6f => Ok(())
+take 07070707 => Err(BufferTooSmall { need: 5 }) [07070707]
+front => Some(5) 68656c6c6f|
+take eeeeeeeeeeeeeeee => Ok(Some(5)) [68656c6c6feeeeee]
+";
 
 #[test]
 fn a_short_buffer_changes_nothing(rt: HostRuntime) -> Result<(), Fail> {
     let mut ring = RecvRing::new(rt.alloc(), 8)?;
-    assert_eq!(rt; push(&rt, &mut ring, b"hello"), Ok(()));
-    let mut buffer = [7; 4];
-    assert_eq!(rt;
-        ring.take_into(&mut buffer),
-        Err(BufferTooSmall { need: 5 })
-    );
-    assert_eq!(rt; buffer, [7; 4]);
-    take(&rt, &mut ring, b"hello");
-    Ok(())
+    answers(&rt, rt.alloc(), &mut ring, SHORT)
 }
+
+// Behind each seventh byte the ring's memory ends.
+const TURNS: &str = "turn 61 => Some(1) 61| Ok(Some(1)) [61eeeeeeeeeeeeee]
+turn 6263 => Some(2) 6263| Ok(Some(2)) [6263eeeeeeeeeeee]
+turn 636465 => Some(3) 636465| Ok(Some(3)) [636465eeeeeeeeee]
+turn 64656667 => Some(4) 64|656667 Ok(Some(4)) [64656667eeeeeeee]
+turn 6162636465 => Some(5) 61626364|65 Ok(Some(5)) [6162636465eeeeee]
+turn 62 => Some(1) 62| Ok(Some(1)) [62eeeeeeeeeeeeee]
+turn 6364 => Some(2) 6364| Ok(Some(2)) [6364eeeeeeeeeeee]
+turn 646566 => Some(3) 646566| Ok(Some(3)) [646566eeeeeeeeee]
+turn 61626364 => Some(4) 61626364| Ok(Some(4)) [61626364eeeeeeee]
+turn 6263646566 => Some(5) 626364|6566 Ok(Some(5)) [6263646566eeeeee]
+turn 63 => Some(1) 63| Ok(Some(1)) [63eeeeeeeeeeeeee]
+turn 6465 => Some(2) 6465| Ok(Some(2)) [6465eeeeeeeeeeee]
+turn 616263 => Some(3) 6162|63 Ok(Some(3)) [616263eeeeeeeeee]
+turn 62636465 => Some(4) 62636465| Ok(Some(4)) [62636465eeeeeeee]
+turn 6364656667 => Some(5) 6364|656667 Ok(Some(5)) [6364656667eeeeee]
+turn 64 => Some(1) 64| Ok(Some(1)) [64eeeeeeeeeeeeee]
+turn 6162 => Some(2) 6162| Ok(Some(2)) [6162eeeeeeeeeeee]
+turn 626364 => Some(3) 62|6364 Ok(Some(3)) [626364eeeeeeeeee]
+turn 63646566 => Some(4) 63646566| Ok(Some(4)) [63646566eeeeeeee]
+turn 6465666768 => Some(5) 64|65666768 Ok(Some(5)) [6465666768eeeeee]
+turn 61 => Some(1) 61| Ok(Some(1)) [61eeeeeeeeeeeeee]
+turn 6263 => Some(2) 6263| Ok(Some(2)) [6263eeeeeeeeeeee]
+turn 636465 => Some(3) 636465| Ok(Some(3)) [636465eeeeeeeeee]
+turn 64656667 => Some(4) 64656667| Ok(Some(4)) [64656667eeeeeeee]
+turn 6162636465 => Some(5) 6162636465| Ok(Some(5)) [6162636465eeeeee]
+turn 62 => Some(1) 62| Ok(Some(1)) [62eeeeeeeeeeeeee]
+turn 6364 => Some(2) 63|64 Ok(Some(2)) [6364eeeeeeeeeeee]
+turn 646566 => Some(3) 646566| Ok(Some(3)) [646566eeeeeeeeee]
+turn 61626364 => Some(4) 616263|64 Ok(Some(4)) [61626364eeeeeeee]
+turn 6263646566 => Some(5) 6263646566| Ok(Some(5)) [6263646566eeeeee]
+turn 63 => Some(1) 63| Ok(Some(1)) [63eeeeeeeeeeeeee]
+turn 6465 => Some(2) 6465| Ok(Some(2)) [6465eeeeeeeeeeee]
+turn 616263 => Some(3) 616263| Ok(Some(3)) [616263eeeeeeeeee]
+turn 62636465 => Some(4) 6263|6465 Ok(Some(4)) [62636465eeeeeeee]
+turn 6364656667 => Some(5) 6364656667| Ok(Some(5)) [6364656667eeeeee]
+turn 64 => Some(1) 64| Ok(Some(1)) [64eeeeeeeeeeeeee]
+turn 6162 => Some(2) 6162| Ok(Some(2)) [6162eeeeeeeeeeee]
+turn 626364 => Some(3) 626364| Ok(Some(3)) [626364eeeeeeeeee]
+turn 63646566 => Some(4) 63|646566 Ok(Some(4)) [63646566eeeeeeee]
+turn 6465666768 => Some(5) 64656667|68 Ok(Some(5)) [6465666768eeeeee]
+";
 
 #[test]
 fn messages_go_round_the_end(rt: HostRuntime) -> Result<(), Fail> {
     let mut ring = RecvRing::new(rt.alloc(), 7)?;
-    let text = b"abcdefgh";
-    let mut start = 0;
-    for turn in 0..40_usize {
-        let message = &text[turn % 4..turn % 4 + 1 + turn % 5];
-        assert_eq!(rt; push(&rt, &mut ring, message), Ok(()));
-        let (near, far) = ring.front().ok_or("a message")?;
-        assert_eq!(rt;
-            near.len(),
-            message.len().min(7_usize.saturating_sub(start))
-        );
-        assert!(rt; message.starts_with(near) && message.ends_with(far));
-        assert_eq!(rt; near.len() + far.len(), message.len());
-        start = start.wrapping_add(message.len()) % 7;
-        take(&rt, &mut ring, message);
-    }
-    Ok(())
+    answers(&rt, rt.alloc(), &mut ring, TURNS)
 }
+
+const ONES: &str = "fill => Some((200, Full { free: 0 }))
+push 00 => Err(Full { free: 0 })
+drain => Some(200)
+pop => None
+front => None
+";
 
 #[test]
 fn a_full_ring_of_messages_of_one_byte(rt: HostRuntime) -> Result<(), Fail> {
     let mut ring = RecvRing::new(rt.alloc(), 200)?;
-    for byte in 0..200_u8 {
-        assert_eq!(rt; push(&rt, &mut ring, &[byte]), Ok(()));
+    answers(&rt, rt.alloc(), &mut ring, ONES)
+}
+
+// Capacities, and what there is of a ring: what a push of the longest message answers, then a take,
+// and whether it takes the same.
+const CAPACITIES: &str = "0 => BadCapacity
+1 => (Err(Full { free: 1 }), Ok(None), false)
+65534 => (Err(Full { free: 65534 }), Ok(None), false)
+65535 => (Ok(()), Ok(Some(65535)), true)
+16777216 => (Ok(()), Ok(Some(65535)), true)
+16777217 => BadCapacity
+4294967295 => BadCapacity
+";
+
+fn longest(alloc: Global, ring: &mut RecvRing) -> Result<String, Fail> {
+    let mut bytes = vec![in alloc; 0x5a_u8; MAX_BODY]?;
+    let pushed = ring.push(bytes.as_slice());
+    bytes.fill(0);
+    let taken = ring.take_into(&mut bytes);
+    let is_same = bytes.iter().all(|byte| *byte == 0x5a);
+    text(alloc, &(pushed, taken, is_same))
+}
+
+#[derive(Drop)]
+struct Capacities;
+
+impl Subject for Capacities {
+    fn answer(&mut self, alloc: Global, capacity: &str) -> Result<String, Fail> {
+        match RecvRing::new(alloc, capacity.parse()?) {
+            Ok(mut ring) => longest(alloc, &mut ring),
+            Err(fault) => text(alloc, &fault),
+        }
     }
-    assert_eq!(rt; push(&rt, &mut ring, &[0]), Err(Full { free: 0 }));
-    for byte in 0..200_u8 {
-        let (near, far) = ring.front().ok_or("a message")?;
-        assert_eq!(rt; (near, far.len()), (&[byte][..], 0));
-        assert_eq!(rt; ring.pop(), Some(1));
-    }
-    assert_eq!(rt; ring.pop(), None);
-    assert!(rt; ring.front().is_none());
-    assert_eq!(rt; ring.front_len(), None);
-    Ok(())
 }
 
 #[test]
 fn a_ring_has_1_to_2_to_the_24_bytes(rt: HostRuntime) -> Result<(), Fail> {
-    for capacity in [0, 16_777_217, 4_294_967_295] {
-        assert_eq!(rt;
-            RecvRing::new(rt.alloc(), capacity).err(),
-            Some(NewFault::BadCapacity)
-        );
-    }
-    let message = vec![in rt.alloc(); 0x5a_u8; MAX_BODY]?;
-    let mut buffer = vec![in rt.alloc(); 0_u8; MAX_BODY]?;
-    for capacity in [65_535, 16_777_216] {
-        let mut ring = RecvRing::new(rt.alloc(), capacity)?;
-        assert_eq!(rt; push(&rt, &mut ring, &message), Ok(()));
-        assert_eq!(rt; ring.take_into(&mut buffer), Ok(Some(65_535)));
-        assert!(rt; buffer == message);
-    }
-    Ok(())
+    answers(&rt, rt.alloc(), &mut Capacities, CAPACITIES)
 }
 
 #[test]
 fn errors_have_texts(rt: HostRuntime) -> Result<(), Fail> {
     let full = Full { free: 1 };
     let (bad, memory) = (NewFault::BadCapacity, NewFault::OutOfMemory);
-    let text = format!(in rt.alloc(); "{full}, {bad}, {memory}")?;
-    assert_eq!(rt;
-        text.as_str(),
-        "the ring has room for 1 bytes, the capacity is not 1 to 2^24, out of memory"
-    );
+    let found = format!(in rt.alloc(); "{full}, {bad}, {memory}")?;
+    let wanted = "the ring has room for 1 bytes, the capacity is not 1 to 2^24, out of memory";
+    same(&rt, "errors", found.as_str(), wanted);
     Ok(())
 }
