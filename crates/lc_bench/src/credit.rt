@@ -130,9 +130,6 @@ impl Turns for Word {
 }
 
 fn measure<T: Turns>(rt: &HostRuntime, plan: &Plan, name: &str, subject: &mut T) -> io::Result<()> {
-    if !plan.wants(name) {
-        return Ok(());
-    }
     let figure = Figure {
         name,
         things: "calls",

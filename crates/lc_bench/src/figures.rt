@@ -1,7 +1,5 @@
 //! How a figure is taken and printed.
-use crate::operation::{Operation, Walk};
 use crate::plan::Plan;
-use lc_frame::Frame;
 use std::io;
 use std::num::nearest_u64_to_f64;
 use std::time::{Duration, Instant};
@@ -28,8 +26,11 @@ pub struct Figure<'a> {
 }
 
 impl Figure<'_> {
-    /// Prints the figure, its names, or what a turn has, as the plan says.
+    /// Prints the figure, its names, what a turn has, or nothing, as the plan says.
     pub fn take<T: Turns>(&self, rt: &HostRuntime, plan: &Plan, subject: &mut T) -> io::Result<()> {
+        if !plan.wants(self.name) {
+            return Ok(());
+        }
         if plan.listing {
             return self.list(rt);
         }
@@ -111,47 +112,4 @@ fn seconds<T: Turns>(rt: &HostRuntime, plan: &Plan, subject: &mut T) -> io::Resu
         taken.push(time(rt, subject, turns)?)?;
     }
     middle(taken, turns)
-}
-
-// An operation over a walk.
-#[derive(Drop)]
-struct Walking<'a, 'b> {
-    walk: &'a mut Walk<'b>,
-    operation: Operation,
-}
-
-impl Turns for Walking<'_, '_> {
-    fn run(&mut self, turns: u64, sum: &mut u64) -> io::Result<()> {
-        self.walk.run(self.operation, turns, sum)
-    }
-}
-
-/// Takes the figures of one operation at one frame.
-pub fn measure(
-    rt: &HostRuntime,
-    plan: &Plan,
-    operation: Operation,
-    subject: &str,
-    frame: &Frame,
-) -> io::Result<()> {
-    let name = format!(in rt.alloc(); "{}.{subject}", operation.name())?;
-    if !plan.wants(name.as_str()) {
-        return Ok(());
-    }
-    let Some(mut walk) = Walk::new(rt.alloc(), frame)? else {
-        return Ok(());
-    };
-    // A body that is lent is not touched, so its bytes per second would say nothing.
-    let has_bytes = operation != Operation::Decode || frame.encoded_len() < 100;
-    let figure = Figure {
-        name: name.as_str(),
-        things: "frames",
-        count: walk.frames(),
-        bytes: if has_bytes { Some(walk.bytes()) } else { None },
-    };
-    let mut walking = Walking {
-        walk: &mut walk,
-        operation,
-    };
-    figure.take(rt, plan, &mut walking)
 }

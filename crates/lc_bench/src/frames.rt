@@ -91,29 +91,18 @@ impl Outlet for Shared {
     }
 }
 
-// The ends of the first so many lanes that Issues have.
-fn issue_ends(
-    alloc: Global,
-    ends: [LaneEnd; 14],
-    count: usize,
-) -> Result<Vec<LaneEnd>, AllocError> {
-    let mut inlets = Vec::new(alloc);
-    for end in ends {
-        if end.lane() >= FIRST && inlets.len() < count {
-            inlets.push(end)?;
-        }
-    }
-    Ok(inlets)
-}
-
-/// The ends of so many lanes, and the drain, of a new queue.
+/// The ends of the first so many lanes that Issues have, and the drain, of a new queue.
 pub fn new_lanes(alloc: Global, count: usize) -> io::Result<(Vec<LaneEnd>, Drain)> {
     let Ok(parts) = lanes(alloc, SLOTS) else {
         return Err(io::Error::other("no queue was made"));
     };
-    let drain = parts.drain;
-    let inlets = issue_ends(alloc, parts.ends, count)?;
-    Ok((inlets, drain))
+    let mut inlets = Vec::new(alloc);
+    for end in parts.ends {
+        if end.lane() >= FIRST && inlets.len() < count {
+            inlets.push(end)?;
+        }
+    }
+    Ok((inlets, parts.drain))
 }
 
 /// The same of the kit's queue.

@@ -19,13 +19,12 @@ mod receiver;
 mod ring;
 
 use credit::measure_credits;
-use figures::measure;
 use lc_frame::{Body, Channel, Frame, MAX_BODY};
-use operation::Operation;
+use operation::{Operation, measure};
 use peer::measure_peers;
 use plan::Plan;
 use queue::measure_queues;
-use ring::measure_ring;
+use ring::measure_rings;
 use std::io;
 
 /// The frames that are measured: a name, and the length of the body in bytes; an Issue has none.
@@ -35,9 +34,6 @@ const FRAMES: [(&str, usize); 4] = [
     ("send1k", 1_024),
     ("send64k", MAX_BODY),
 ];
-
-/// The messages that are measured: a name, and the length in bytes.
-const MESSAGES: [(&str, u32); 3] = [("16", 16), ("1k", 1_024), ("60k", 61_440)];
 
 const OPERATIONS: [Operation; 6] = [
     Operation::EncodeInto,
@@ -58,26 +54,16 @@ fn frame_of(rt: &HostRuntime, len: usize) -> io::Result<Frame> {
 }
 
 fn measure_frame(rt: &HostRuntime, plan: &Plan, name: &str, frame: &Frame) -> io::Result<()> {
-    for operation in OPERATIONS {
-        measure(rt, plan, operation, name, frame)?;
+    for operation in &OPERATIONS {
+        measure(rt, plan, *operation, name, frame)?;
     }
     Ok(())
 }
 
 fn measure_frames(rt: &HostRuntime, plan: &Plan) -> io::Result<()> {
-    for (name, len) in FRAMES {
-        let frame = frame_of(rt, len)?;
+    for (name, len) in &FRAMES {
+        let frame = frame_of(rt, *len)?;
         measure_frame(rt, plan, name, &frame)?;
-    }
-    Ok(())
-}
-
-fn measure_messages(rt: &HostRuntime, plan: &Plan) -> io::Result<()> {
-    for (name, len) in MESSAGES {
-        measure_ring(rt, plan, name, len as usize)?;
-    }
-    for (name, len) in MESSAGES {
-        measure_peers(rt, plan, name, len)?;
     }
     Ok(())
 }
@@ -85,7 +71,8 @@ fn measure_messages(rt: &HostRuntime, plan: &Plan) -> io::Result<()> {
 fn main(rt: HostRuntime) -> io::Result<()> {
     let plan = Plan::from_environment(&rt)?;
     measure_frames(&rt, &plan)?;
-    measure_messages(&rt, &plan)?;
+    measure_rings(&rt, &plan)?;
+    measure_peers(&rt, &plan)?;
     measure_queues(rt, &rt, &plan)?;
     measure_credits(&rt, &plan)
 }

@@ -1,6 +1,8 @@
 //! What is measured.
 ghost use Rattle.lc_frame.specs.Frame.{IsValid};
 
+use crate::figures::{Figure, Turns};
+use crate::plan::Plan;
 use crate::receiver::Receiver;
 use lc_frame::{Channel, Decoded, Frame, FrameRef, StreamDecoder, decode};
 use std::alloc::{AllocError, Global};
@@ -12,7 +14,7 @@ const WALK: usize = 256 * 1024;
 const PIECE: usize = 512;
 
 /// A call that is measured.
-#[derive(Clone, Copy, PartialEq, Eq)]
+#[derive(Clone, Copy)]
 pub enum Operation {
     EncodeInto,
     EncodeToSlice,
@@ -36,9 +38,10 @@ impl Operation {
     }
 }
 
-/// One frame, and as many of it as a walk has, as bytes.
+// An operation over one frame, and over as many of it as a walk has, as bytes.
 #[derive(Drop)]
-pub struct Walk<'a> {
+struct Walk<'a> {
+    operation: Operation,
     frame: &'a Frame,
     count: usize,
     bytes: Vec<u8>,
@@ -50,17 +53,16 @@ pub struct Walk<'a> {
 }
 
 impl<'a> Walk<'a> {
-    /// The walk over a frame; `None` for a frame that is not valid.
-    pub fn new(alloc: Global, frame: &'a Frame) -> io::Result<Option<Walk<'a>>> {
+    // The walk over a frame, which has to be valid.
+    fn new(alloc: Global, operation: Operation, frame: &'a Frame) -> io::Result<Walk<'a>> {
         if !frame.is_valid() {
-            return Ok(None);
+            return Err(io::Error::other("a frame is not valid"));
         }
         let count = (WALK / frame.encoded_len().max(1)).max(1);
         let mut bytes = Vec::new(alloc);
-        for _ in 0..count {
-            frame.encode_into(&mut bytes)?;
-        }
-        Ok(Some(Walk {
+        encode_into(frame, count, &mut bytes)?;
+        Ok(Walk {
+            operation,
             frame,
             count,
             out: Vec::with_capacity(alloc, bytes.len())?,
@@ -69,22 +71,13 @@ impl<'a> Walk<'a> {
             decoder: StreamDecoder::new(alloc)?,
             receiver: Receiver::new(alloc, WALK as u32)?,
             alloc,
-        }))
+        })
     }
+}
 
-    /// The frames of a turn.
-    pub fn frames(&self) -> usize {
-        self.count
-    }
-
-    /// The bytes of a turn.
-    pub fn bytes(&self) -> usize {
-        self.bytes.len()
-    }
-
-    /// Runs so many turns of an operation. What it reads goes into the sum.
-    pub fn run(&mut self, operation: Operation, turns: u64, sum: &mut u64) -> io::Result<()> {
-        match operation {
+impl Turns for Walk<'_> {
+    fn run(&mut self, turns: u64, sum: &mut u64) -> io::Result<()> {
+        match self.operation {
             Operation::EncodeInto => {
                 encode_into_turns(self.frame, self.count, turns, &mut self.out)?;
             }
@@ -259,4 +252,29 @@ fn deliver_turns(
         *sum = sum.wrapping_add(frames);
     }
     Ok(())
+}
+
+/// Takes the figures of one operation at one frame.
+pub fn measure(
+    rt: &HostRuntime,
+    plan: &Plan,
+    operation: Operation,
+    subject: &str,
+    frame: &Frame,
+) -> io::Result<()> {
+    let name = format!(in rt.alloc(); "{}.{subject}", operation.name())?;
+    let mut walk = Walk::new(rt.alloc(), operation, frame)?;
+    // A body that is lent is not touched, so its bytes per second would say nothing.
+    let is_lent = matches!(operation, Operation::Decode) && frame.encoded_len() >= 100;
+    let figure = Figure {
+        name: name.as_str(),
+        things: "frames",
+        count: walk.count,
+        bytes: if is_lent {
+            None
+        } else {
+            Some(walk.bytes.len())
+        },
+    };
+    figure.take(rt, plan, &mut walk)
 }

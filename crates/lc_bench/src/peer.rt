@@ -16,14 +16,27 @@ const SLOTS: u32 = 4;
 /// The bytes that the wire has room for.
 const WIRE: usize = 70_000;
 
+/// The messages that are measured: the figure's name, and the length in bytes.
+const MESSAGES: [(&str, u32); 3] = [("peer.16", 16), ("peer.1k", 1_024), ("peer.60k", 61_440)];
+
 const CHANNEL: Channel = Channel::DataChannel;
 
 // A peer, and what it holds for both streams.
-#[derive(Drop)]
 struct Side {
     peer: Peer,
     outgo: Outgo,
     intake: Intake,
+}
+
+// One call, wherever a side is dropped.
+impl Drop for Side {
+    fn drop(self) {
+        let Side {
+            peer: _,
+            outgo: _,
+            intake: _,
+        } = self;
+    }
 }
 
 impl Side {
@@ -72,11 +85,11 @@ impl Exchange {
     fn new(alloc: Global, amount: u32) -> io::Result<Exchange> {
         let len = amount as usize;
         let mut exchange = Exchange {
-            client: Side::new(alloc)?,
-            server: Side::new(alloc)?,
             wire: Vec::with_capacity(alloc, WIRE)?,
             body: vec![in alloc; 0x5a_u8; len]?,
             buffer: vec![in alloc; 0u8; len]?,
+            client: Side::new(alloc)?,
+            server: Side::new(alloc)?,
             amount,
         };
         if exchange.promise() {
@@ -121,17 +134,16 @@ impl Turns for Exchange {
     }
 }
 
-/// Takes the figures of two peers and a message of this length.
-pub fn measure_peers(rt: &HostRuntime, plan: &Plan, subject: &str, len: u32) -> io::Result<()> {
-    let name = format!(in rt.alloc(); "peer.{subject}")?;
-    if !plan.wants(name.as_str()) {
-        return Ok(());
+/// Takes the figures of two peers and each message.
+pub fn measure_peers(rt: &HostRuntime, plan: &Plan) -> io::Result<()> {
+    for (name, len) in &MESSAGES {
+        let figure = Figure {
+            name,
+            things: "messages",
+            count: 1,
+            bytes: Some(*len as usize),
+        };
+        figure.take(rt, plan, &mut Exchange::new(rt.alloc(), *len)?)?;
     }
-    let figure = Figure {
-        name: name.as_str(),
-        things: "messages",
-        count: 1,
-        bytes: Some(len as usize),
-    };
-    figure.take(rt, plan, &mut Exchange::new(rt.alloc(), len)?)
+    Ok(())
 }

@@ -128,9 +128,6 @@ where
     let Some(inlet) = inlets.pop() else {
         return Ok(());
     };
-    if !plan.wants(name) {
-        return Ok(());
-    }
     let figure = Figure {
         name,
         things: "frames",

@@ -3,11 +3,14 @@ use crate::figures::{Figure, Turns};
 use crate::plan::Plan;
 use lc_frame::MAX_BODY;
 use lc_ring::RecvRing;
-use std::alloc::{AllocError, Global};
+use std::alloc::Global;
 use std::io;
 
 /// The bytes of the ring.
 const CAPACITY: u32 = 65_536;
+
+/// The messages that are measured: the figure's name, and the length in bytes.
+const MESSAGES: [(&str, usize); 3] = [("ring.16", 16), ("ring.1k", 1_024), ("ring.60k", 61_440)];
 
 // A ring, a message for it, and a buffer of the same length.
 #[derive(Drop)]
@@ -18,13 +21,12 @@ struct Passage {
 }
 
 impl Passage {
-    // `None` where there is no ring.
-    fn new(alloc: Global, len: usize) -> Result<Option<Passage>, AllocError> {
+    fn new(alloc: Global, len: usize) -> io::Result<Passage> {
         let body = vec![in alloc; 0x5a_u8; len]?;
         let buffer = vec![in alloc; 0u8; len]?;
         match RecvRing::new(alloc, CAPACITY) {
-            Ok(ring) => Ok(Some(Passage { ring, body, buffer })),
-            Err(_) => Ok(None),
+            Ok(ring) => Ok(Passage { ring, body, buffer }),
+            Err(_) => Err(io::Error::other("no ring was made")),
         }
     }
 }
@@ -51,20 +53,16 @@ fn pass(ring: &mut RecvRing, body: &[u8], buffer: &mut [u8], turns: u64, sum: &m
     }
 }
 
-/// Takes the figures of a ring and a message of this length.
-pub fn measure_ring(rt: &HostRuntime, plan: &Plan, subject: &str, len: usize) -> io::Result<()> {
-    let name = format!(in rt.alloc(); "ring.{subject}")?;
-    if !plan.wants(name.as_str()) {
-        return Ok(());
+/// Takes the figures of a ring and each message.
+pub fn measure_rings(rt: &HostRuntime, plan: &Plan) -> io::Result<()> {
+    for (name, len) in &MESSAGES {
+        let figure = Figure {
+            name,
+            things: "messages",
+            count: 1,
+            bytes: Some(*len),
+        };
+        figure.take(rt, plan, &mut Passage::new(rt.alloc(), *len)?)?;
     }
-    let Some(mut passage) = Passage::new(rt.alloc(), len)? else {
-        return Ok(());
-    };
-    let figure = Figure {
-        name: name.as_str(),
-        things: "messages",
-        count: 1,
-        bytes: Some(len),
-    };
-    figure.take(rt, plan, &mut passage)
+    Ok(())
 }
