@@ -5,14 +5,14 @@ use std::io;
 use std::io::{ErrorKind, Read, Write};
 
 /// What a device does at one of its calls: it fails, or moves so many bytes at most.
-#[derive(Clone, Copy, Debug)]
+#[derive(Clone, Copy)]
 pub enum Odd {
     Fails,
     Moves(usize),
 }
 
 /// How many bytes a call moves at most, and what happens at one call, counted from 1.
-#[derive(Clone, Copy, Debug)]
+#[derive(Clone, Copy)]
 pub struct Plan {
     pub most: usize,
     pub odd: Odd,

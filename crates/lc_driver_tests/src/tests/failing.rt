@@ -3,7 +3,7 @@ use crate::tests::devices::{Odd, Pipe, Plan};
 use crate::tests::side::Side;
 use lc_driver::{ReadEnd, WriteFault};
 use lc_frame::Channel;
-use lc_peer::Take;
+use lc_peer::{Peer, Take};
 use std::alloc::Global;
 use std::process::Abort;
 use std::test::Fail;
@@ -59,32 +59,32 @@ fn length(number: u8) -> usize {
     1 + usize::from(number % 16)
 }
 
-fn send(rt: &impl Abort, side: &mut Side, number: u8) {
+fn send(rt: &impl Abort, peer: &mut Peer, number: u8) {
     let bytes = [number; 16];
     let body = bytes.get(..length(number)).unwrap_or(&[]);
-    assert_eq!(rt; side.peer.send(Channel::DataChannel, body), Ok(()));
+    assert_eq!(rt; peer.send(Channel::DataChannel, body), Ok(()));
 }
 
-fn issue(rt: &impl Abort, side: &mut Side, amount: u32) {
-    assert_eq!(rt; side.peer.issue(Channel::DataChannel, amount), Ok(()));
+fn issue(rt: &impl Abort, peer: &mut Peer, amount: u32) {
+    assert_eq!(rt; peer.issue(Channel::DataChannel, amount), Ok(()));
 }
 
 // Takes the message of this number, if it is there, and issues as much again.
-fn take(rt: &impl Abort, side: &mut Side, number: u8) -> bool {
+fn take(rt: &impl Abort, peer: &mut Peer, number: u8) -> bool {
     let mut buffer = [0; 16];
-    let Ok(Take::Took(len)) = side.peer.take_into(Channel::DataChannel, &mut buffer) else {
+    let Ok(Take::Took(len)) = peer.take_into(Channel::DataChannel, &mut buffer) else {
         return false;
     };
     let bytes = [number; 16];
     assert_eq!(rt; buffer.get(..len), bytes.get(..length(number)));
-    issue(rt, side, u32::try_from(len).unwrap_or(0));
+    issue(rt, peer, u32::try_from(len).unwrap_or(0));
     true
 }
 
 // Takes what waits, and gives the number of the next message.
-fn take_all(rt: &impl Abort, side: &mut Side, next: u8) -> u8 {
+fn take_all(rt: &impl Abort, peer: &mut Peer, next: u8) -> u8 {
     for number in next..MESSAGES {
-        if !take(rt, side, number) {
+        if !take(rt, peer, number) {
             return number;
         }
     }
@@ -94,14 +94,14 @@ fn take_all(rt: &impl Abort, side: &mut Side, next: u8) -> u8 {
 // Twenty messages go from one side to another, which issues as it takes, and all that was sent is
 // taken.
 fn messages_go(rt: &impl Abort, client: &mut Side, server: &mut Side, mut link: Link) -> Link {
-    issue(rt, server, 32);
+    issue(rt, &mut server.peer, 32);
     let mut taken = 0;
     for number in 0..MESSAGES {
         link = link.write(server).read(client);
-        send(rt, client, number);
+        send(rt, &mut client.peer, number);
         if number % 2 == 1 || number > 12 {
             link = link.write(client).read(server);
-            taken = take_all(rt, server, taken);
+            taken = take_all(rt, &mut server.peer, taken);
         }
     }
     assert_eq!(rt; taken, MESSAGES);
@@ -154,7 +154,7 @@ fn was_odd(rt: &impl Abort, link: &Link, device: &str, at: u64, wanted: (u32, u3
     if plan.calls < at {
         return false;
     }
-    assert_eq!(rt; (link.failed, link.empty), wanted, "{device} {plan:?}");
+    assert_eq!(rt; (link.failed, link.empty), wanted, "{device} {at}");
     true
 }
 

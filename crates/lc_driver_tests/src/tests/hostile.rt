@@ -169,15 +169,26 @@ fn is_bounded(rt: &impl Abort, peer: &mut Peer, channel: Channel) {
     assert_eq!(rt; take_all(peer, channel), buffered);
 }
 
+/// All channels.
+const CHANNELS: [Channel; 7] = [
+    Channel::ReconciliationChannel,
+    Channel::DataChannel,
+    Channel::OverlapChannel,
+    Channel::CapabilityChannel,
+    Channel::AreaOfInterestChannel,
+    Channel::PayloadRequestChannel,
+    Channel::StaticTokenChannel,
+];
+
 fn issue_all(rt: &impl Abort, peer: &mut Peer) {
-    for channel in (0..7).filter_map(Channel::from_number) {
-        assert_eq!(rt; peer.issue(channel, 8), Ok(()));
+    for channel in &CHANNELS {
+        assert_eq!(rt; peer.issue(*channel, 8), Ok(()));
     }
 }
 
 fn all_are_bounded(rt: &impl Abort, peer: &mut Peer) {
-    for channel in (0..7).filter_map(Channel::from_number) {
-        is_bounded(rt, peer, channel);
+    for channel in &CHANNELS {
+        is_bounded(rt, peer, *channel);
     }
 }
 

@@ -88,20 +88,6 @@ fn answer(alloc: Global, side: &mut Side, input: &mut Pipe, call: &str) -> Optio
     }
 }
 
-// The call of a line answers what stands behind it.
-fn answers(
-    rt: &impl Abort,
-    alloc: Global,
-    side: &mut Side,
-    input: &mut Pipe,
-    line: &str,
-) -> Result<(), Fail> {
-    let (call, want) = line.split_once(" => ").ok_or("a call and an answer")?;
-    let got = answer(alloc, side, input, call).ok_or("an answer")?;
-    assert_eq!(rt; got.as_str(), want, "{call}");
-    Ok(())
-}
-
 fn client(alloc: Global, peer: &Peer, at: Channel) -> Option<String> {
     let book = peer.client(at);
     let (held, left) = (book.held(), book.receive_left());
@@ -141,14 +127,19 @@ fn read(
 ) -> Option<String> {
     let (max_reads, plan) = rest.split_once(' ')?;
     let (end, calls) = read_on(alloc, side, input, plan_of(plan)?, number(max_reads)?);
-    if verb == "count" {
-        return format!(in alloc; "{end:?} calls {calls}").ok();
+    match verb {
+        "count" => format!(in alloc; "{end:?} calls {calls}").ok(),
+        _ => format!(in alloc; "{end:?}").ok(),
     }
-    format!(in alloc; "{end:?}").ok()
 }
 
-// The calls of a script, in turn.
-fn go_on(
+// Fails where a text is not the one that is wanted, and names what was compared.
+fn same(rt: &impl Abort, what: &str, found: &str, wanted: &str) {
+    assert_eq!(rt; found, wanted, "{what}");
+}
+
+// Each call of a script, in turn, answers what stands behind it.
+fn answers(
     rt: &impl Abort,
     alloc: Global,
     side: &mut Side,
@@ -156,7 +147,9 @@ fn go_on(
     script: &str,
 ) -> Result<(), Fail> {
     for line in script.lines() {
-        answers(rt, alloc, side, input, line.trim())?;
+        let (call, wanted) = line.trim().split_once(" => ").ok_or("no answer")?;
+        let found = answer(alloc, side, input, call).ok_or("no such call")?;
+        same(rt, call, found.as_str(), wanted);
     }
     Ok(())
 }
@@ -168,5 +161,5 @@ pub fn run(rt: &impl Abort, alloc: Global, digits: &str, script: &str) -> Result
         read: 0,
     };
     let mut side = Side::new(alloc, 8, 4)?;
-    go_on(rt, alloc, &mut side, &mut input, script)
+    answers(rt, alloc, &mut side, &mut input, script)
 }
