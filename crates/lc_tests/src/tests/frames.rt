@@ -98,6 +98,10 @@ fn owned_is_written(alloc: Global, frame: &Frame, bytes: &[u8]) -> Result<bool, 
     Ok(out.as_slice() == bytes && used == bytes.len() && is_front(bytes, &slice))
 }
 
+fn other_bytes(alloc: Global) -> Result<String, Fail> {
+    Ok(format!(in alloc; "it is written with other bytes")?)
+}
+
 // What both forms of a frame answer.
 fn shown(
     alloc: Global,
@@ -109,7 +113,7 @@ fn shown(
     format!(in alloc; "lane {lane}, {channel:?}, {len} bytes, {frame:?}")
 }
 
-// Frames that are read, and written with the same bytes: other bytes are shown as 0 bytes.
+// Frames that are read, and written with the same bytes.
 #[derive(Drop)]
 struct Borrowed;
 
@@ -117,9 +121,11 @@ impl Subject for Borrowed {
     fn answer(&mut self, alloc: Global, digits: &str) -> Result<String, Fail> {
         let bytes = bytes_of(alloc, digits)?;
         let frame = frame_in(bytes.as_slice())?;
-        let is_written = is_written(alloc, frame, bytes.as_slice())?;
-        let len = if is_written { frame.encoded_len() } else { 0 };
-        Ok(shown(alloc, frame.lane(), frame.channel(), len, frame)?)
+        if !is_written(alloc, frame, bytes.as_slice())? {
+            return other_bytes(alloc);
+        }
+        let (lane, channel, len) = (frame.lane(), frame.channel(), frame.encoded_len());
+        Ok(shown(alloc, lane, channel, len, frame)?)
     }
 }
 
@@ -131,9 +137,11 @@ impl Subject for Owned {
     fn answer(&mut self, alloc: Global, digits: &str) -> Result<String, Fail> {
         let bytes = bytes_of(alloc, digits)?;
         let frame = frame_in(bytes.as_slice())?.to_frame(alloc)?;
-        let is_written = owned_is_written(alloc, &frame, bytes.as_slice())?;
-        let len = if is_written { frame.encoded_len() } else { 0 };
-        Ok(shown(alloc, frame.lane(), frame.channel(), len, frame.view())?)
+        if !owned_is_written(alloc, &frame, bytes.as_slice())? {
+            return other_bytes(alloc);
+        }
+        let (lane, channel, len) = (frame.lane(), frame.channel(), frame.encoded_len());
+        Ok(shown(alloc, lane, channel, len, frame.view())?)
     }
 }
 
