@@ -70,15 +70,18 @@ fn join_all(drain: &mut Drain, ends: [LaneEnd; 14])
     }
 }
 
+// The queue has no room for this frame.
+fn comes_back(rt: &(impl Wait + Abort), alloc: Global, end: &mut LaneEnd) -> Result<(), Fail> {
+    let frame = send(alloc, RECONCILIATION, b"a")?;
+    let same = send(alloc, RECONCILIATION, b"a")?;
+    assert_eq!(rt; push(rt, end, frame), Err(same));
+    Ok(())
+}
+
 #[test]
 fn a_full_queue_gives_the_frame_back(rt: HostRuntime) -> Result<(), Fail> {
     let mut parts = two_put(&rt, rt.alloc())?;
-    let back = push(
-        &rt,
-        &mut parts.ends[0],
-        send(rt.alloc(), RECONCILIATION, b"a")?,
-    );
-    assert_eq!(rt; back, Err(send(rt.alloc(), RECONCILIATION, b"a")?));
+    comes_back(&rt, rt.alloc(), &mut parts.ends[0])?;
     pop_two(&rt, rt.alloc(), &mut parts.drain)
 }
 
@@ -90,30 +93,38 @@ fn what_ended_lanes_put_is_popped(rt: HostRuntime) -> Result<(), Fail> {
     pop_two(&rt, rt.alloc(), &mut drain)
 }
 
+// How many of one frame more than there are slots are put.
+fn room(rt: &(impl Wait + Abort), slots: u32, end: &mut LaneEnd) -> u32 {
+    let mut room = 0u32;
+    for _ in 0..=slots {
+        let frame = Frame::Plead {
+            channel: Channel::StaticTokenChannel,
+            target: 0,
+        };
+        if push(rt, end, frame).is_ok() {
+            room = room.saturating_add(1);
+        }
+    }
+    room
+}
+
 #[test]
 fn a_queue_has_its_slots(rt: HostRuntime) -> Result<(), Fail> {
+    for slots in [1, 65_536] {
+        let mut parts = lanes(rt.alloc(), slots)?;
+        assert_eq!(rt; room(&rt, slots, &mut parts.ends[13]), slots);
+    }
+    Ok(())
+}
+
+#[test]
+fn no_queue_has_these_slots(rt: HostRuntime) {
     for slots in [0, 65_537, 4_294_967_295] {
         assert!(rt;
             matches!(lanes(rt.alloc(), slots), Err(LanesFault::BadSlots)),
             "{slots}"
         );
     }
-    for slots in [1, 65_536] {
-        let mut parts = lanes(rt.alloc(), slots)?;
-        let end = &mut parts.ends[13];
-        let mut room = 0u32;
-        for _ in 0..=slots {
-            let frame = Frame::Plead {
-                channel: Channel::StaticTokenChannel,
-                target: 0,
-            };
-            if push(&rt, end, frame).is_ok() {
-                room = room.saturating_add(1);
-            }
-        }
-        assert_eq!(rt; room, slots);
-    }
-    Ok(())
 }
 
 #[test]
