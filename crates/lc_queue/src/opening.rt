@@ -87,12 +87,12 @@ impl Opening {
         requires { (self.old.next ≡ 1) × (first ≡ new_end self.old.queue 0) }
         ensures { IfOk result (λ ends. (ends ≡ new_ends self.old.queue) × (self.new ≡ record self.old { next = 14 })) }
     {
-        let a = self.four_lanes(1)?;
-        let b = self.four_lanes(5)?;
-        let c = self.four_lanes(9)?;
+        let (e1, e2, e3, e4) = self.four_lanes(1)?;
+        let (e5, e6, e7, e8) = self.four_lanes(5)?;
+        let (e9, e10, e11, e12) = self.four_lanes(9)?;
         let last = self.next_lane(13)?;
         Ok([
-            first, a.0, a.1, a.2, a.3, b.0, b.1, b.2, b.3, c.0, c.1, c.2, c.3, last,
+            first, e1, e2, e3, e4, e5, e6, e7, e8, e9, e10, e11, e12, last,
         ])
     }
 
