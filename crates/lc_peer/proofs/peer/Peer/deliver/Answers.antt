@@ -1,4 +1,4 @@
-use Rattle.std.proofs.Common.{ℕ, ◌+◌, ◌<◌, List, ◌++◌, drop, Some, subst, arith}
+use Rattle.std.proofs.Common.{ℕ, ◌+◌, ◌<◌, List, ◌++◌, drop, Some, subst, arith, rules}
 use Rattle.std.specs.Prelude.{All}
 use Rattle.std.proofs.lemmas.List.{length-drop}
 use Rattle.lc_peer.specs.declared.delivery.Stop.{Stop}
@@ -9,6 +9,9 @@ use Rattle.lc_peer.specs.Steps.{Steps, FrameArrives, StaysOpen}
 use Rattle.lc_peer.specs.Deliveries.{Delivers}
 use Rattle.lc_peer.proofs.Deliveries.{SoFar, one_more, ends_open, ends_in_fault, ends_violated, all_bytes}
 use Rattle.lc_peer.proofs.peer.Peer.deliver.Goals as goal
+
+pub frames-init : goal.frames-init
+frames-init c = search rules
 
 pub frames-preserved : goal.frames-preserved
 frames-preserved c =

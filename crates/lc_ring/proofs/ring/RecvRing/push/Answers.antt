@@ -1,7 +1,10 @@
-use Rattle.std.proofs.Common.{sym, ap, ◌∙◌, arith}
+use Rattle.std.proofs.Common.{sym, ap, ◌∙◌, arith, rules}
 use Rattle.lc_ring.specs.Ring.{Ring, bytes, free, push}
 use Rattle.lc_ring.proofs.Cuts.{bytes-cut, bytes-push, push_is_kept, shown-push}
 use Rattle.lc_ring.proofs.ring.RecvRing.push.Goals as goal
+
+pub returns-then-message-free-clause-answer : goal.returns-then-message-free-clause-answer
+returns-then-message-free-clause-answer c = search rules
 
 pub invariant_of-self : goal.invariant_of-self
 invariant_of-self c =
