@@ -1,7 +1,39 @@
-//! One side of a session as a value.
+//! One side of a session as a value, and the one loop that goes over every script.
 mod bounds;
 mod deliveries;
 mod generated;
 mod inbox;
 mod script;
 mod worked;
+
+use std::alloc::Global;
+use std::process::Abort;
+use std::test::Fail;
+
+/// What the calls of a script are made on.
+trait Subject {
+    /// What a call answers, as text; `None` where there is no such call.
+    fn answer(&mut self, alloc: Global, call: &str) -> Option<String>;
+}
+
+/// Each call of a script, in turn, answers what stands behind it: a line is a call, ` => ` and its
+/// answer.
+fn answers<S: Subject>(
+    rt: &impl Abort,
+    alloc: Global,
+    subject: &mut S,
+    script: &str,
+) -> Result<(), Fail> {
+    for line in script.lines() {
+        let line = line.trim();
+        let (call, wanted) = line.split_once(" => ").ok_or("no answer")?;
+        let found = subject.answer(alloc, call).ok_or("no such call")?;
+        same(rt, line, found.as_str(), wanted);
+    }
+    Ok(())
+}
+
+/// Fails where a text is not the one that is wanted, and names what was compared.
+fn same(rt: &impl Abort, what: &str, found: &str, wanted: &str) {
+    assert_eq!(rt; found, wanted, "{what}");
+}

@@ -175,9 +175,9 @@ const LONGEST: usize = 18;
 // A stream comes to new peers whole, cut in two behind each of its bytes, and byte by byte.
 fn cut_anywhere(rt: &impl Abort, alloc: Global, script: &str) -> Result<(), Fail> {
     for count in 0..LONGEST + 1 {
-        run_cut(rt, alloc, 4, Cut::Behind(count), script)?;
+        run_cut(rt, alloc, Cut::Behind(count), script)?;
     }
-    run_cut(rt, alloc, 4, Cut::Everywhere, script)
+    run_cut(rt, alloc, Cut::Everywhere, script)
 }
 
 #[test]

@@ -1,9 +1,9 @@
 //! A script of calls on an inbox by itself.
-use crate::tests::script::{answers, bytes, call_of, text};
+use crate::tests::script::{bytes, text};
+use crate::tests::{Subject, answers, same};
 use lc_frame::{Decoded, FrameRef, decode};
 use lc_peer::{Inbox, Refusal, Violation};
 use std::alloc::Global;
-use std::process::Abort;
 use std::test::Fail;
 
 /// The calls on an inbox over a ring of 8 bytes, with what they answer.
@@ -74,24 +74,17 @@ fn with_number(alloc: Global, inbox: &mut Inbox, verb: &str, word: &str) -> Opti
     }
 }
 
-// What the call of a line answers.
-fn answer(alloc: Global, inbox: &mut Inbox, call: &str) -> Option<String> {
-    let (verb, word) = call.split_once(' ').unwrap_or((call, ""));
-    match verb {
-        "arrive" => text(alloc, &arrive(alloc, inbox, word)?),
-        "front" => text(alloc, &inbox.front()),
-        "pop" => text(alloc, &inbox.pop()),
-        "book" => book(alloc, inbox),
-        _ => with_number(alloc, inbox, verb, word),
+impl Subject for Inbox {
+    fn answer(&mut self, alloc: Global, call: &str) -> Option<String> {
+        let (verb, word) = call.split_once(' ').unwrap_or((call, ""));
+        match verb {
+            "arrive" => text(alloc, &arrive(alloc, self, word)?),
+            "front" => text(alloc, &self.front()),
+            "pop" => text(alloc, &self.pop()),
+            "book" => book(alloc, self),
+            _ => with_number(alloc, self, verb, word),
+        }
     }
-}
-
-// The call of a line answers what stands behind it.
-fn line_answers(rt: &impl Abort, alloc: Global, inbox: &mut Inbox, line: &str) -> Result<(), Fail> {
-    let (call, want) = call_of(line)?;
-    let got = answer(alloc, inbox, call).ok_or("an answer")?;
-    answers(rt, call, &got, want);
-    Ok(())
 }
 
 /// An inbox on which nothing has happened.
@@ -108,7 +101,7 @@ fn fault(alloc: Global, capacity: u32) -> Option<String> {
 fn no_inbox_has_these_capacities(rt: HostRuntime) -> Result<(), Fail> {
     for capacity in [0, 16_777_217] {
         let got = fault(rt.alloc(), capacity).ok_or("a fault")?;
-        answers(&rt, "new", &got, "Some(BadCapacity)");
+        same(&rt, "new", got.as_str(), "Some(BadCapacity)");
     }
     Ok(())
 }
@@ -116,8 +109,5 @@ fn no_inbox_has_these_capacities(rt: HostRuntime) -> Result<(), Fail> {
 #[test]
 fn worked_calls(rt: HostRuntime) -> Result<(), Fail> {
     let mut inbox = inbox(rt.alloc(), 8)?;
-    for line in CALLS.lines() {
-        line_answers(&rt, rt.alloc(), &mut inbox, line)?;
-    }
-    Ok(())
+    answers(&rt, rt.alloc(), &mut inbox, CALLS)
 }

@@ -2,6 +2,7 @@
 //! hexadecimal. `arrive` has a frame, `deliver` the pieces of a stream, `stream` one that is cut as
 //! the run says, `feed` bytes for the decoder alone, and `take` the room of its buffer, whose bytes
 //! were 238. `each` asks on every channel.
+use crate::tests::{Subject, answers};
 use lc_frame::{Channel, Decoded, StreamDecoder, decode};
 use lc_peer::{Config, Delivery, Peer};
 use std::alloc::Global;
@@ -23,11 +24,12 @@ pub enum Cut {
     Everywhere,
 }
 
-/// A peer with the decoder of the stream that comes to it.
+/// A peer with the decoder of the stream that comes to it, and where such a stream is cut.
 #[derive(Drop)]
 pub struct Side {
     pub peer: Peer,
     pub decoder: StreamDecoder,
+    cut: Cut,
 }
 
 impl Side {
@@ -35,7 +37,8 @@ impl Side {
     pub fn new(alloc: Global, slots: u32) -> Result<Side, Fail> {
         let decoder = StreamDecoder::new(alloc)?;
         let peer = peer(alloc, [8; 7], slots)?;
-        Ok(Side { peer, decoder })
+        let cut = Cut::Everywhere;
+        Ok(Side { peer, decoder, cut })
     }
 }
 
@@ -95,10 +98,10 @@ fn deliver(alloc: Global, side: &mut Side, pieces: &str) -> Option<String> {
     delivered(alloc, did, side)
 }
 
-fn stream(alloc: Global, side: &mut Side, cut: Cut, digits: &str) -> Option<String> {
+fn stream(alloc: Global, side: &mut Side, digits: &str) -> Option<String> {
     let bytes = bytes(alloc, digits)?;
     let mut did = NOTHING;
-    match cut {
+    match side.cut {
         Cut::Behind(count) => {
             let (first, rest) = bytes.split_at(count.min(bytes.len()));
             did = and_then(did, side, first);
@@ -209,61 +212,27 @@ fn on_peer(alloc: Global, peer: &mut Peer, verb: &str, rest: &str) -> Option<Str
     }
 }
 
-// What the call of a line answers.
-fn answer(alloc: Global, side: &mut Side, cut: Cut, call: &str) -> Option<String> {
-    let (verb, rest) = call.split_once(' ').unwrap_or((call, ""));
-    match verb {
-        "deliver" => deliver(alloc, side, rest),
-        "stream" => stream(alloc, side, cut, rest),
-        "feed" => feed(alloc, &mut side.decoder, rest),
-        _ => on_peer(alloc, &mut side.peer, verb, rest),
+impl Subject for Side {
+    fn answer(&mut self, alloc: Global, call: &str) -> Option<String> {
+        let (verb, rest) = call.split_once(' ').unwrap_or((call, ""));
+        match verb {
+            "deliver" => deliver(alloc, self, rest),
+            "stream" => stream(alloc, self, rest),
+            "feed" => feed(alloc, &mut self.decoder, rest),
+            _ => on_peer(alloc, &mut self.peer, verb, rest),
+        }
     }
-}
-
-/// The call of a line and what it answers.
-pub fn call_of(line: &str) -> Result<(&str, &str), Fail> {
-    Ok(
-        line.trim()
-            .split_once(" => ")
-            .ok_or("a call and its answer")?,
-    )
-}
-
-/// A call answers what is wanted.
-pub fn answers(rt: &impl Abort, call: &str, got: &String, want: &str) {
-    assert_eq!(rt; got.as_str(), want, "{call}");
-}
-
-// The call of a line answers what stands behind it.
-fn line_answers(
-    rt: &impl Abort,
-    alloc: Global,
-    side: &mut Side,
-    cut: Cut,
-    line: &str,
-) -> Result<(), Fail> {
-    let (call, want) = call_of(line)?;
-    let got = answer(alloc, side, cut, call).ok_or("an answer")?;
-    answers(rt, call, &got, want);
-    Ok(())
 }
 
 /// A new peer answers each line of a script as it says.
 pub fn run(rt: &impl Abort, alloc: Global, slots: u32, script: &str) -> Result<(), Fail> {
-    run_cut(rt, alloc, slots, Cut::Everywhere, script)
+    let mut side = Side::new(alloc, slots)?;
+    answers(rt, alloc, &mut side, script)
 }
 
 /// The same, and streams are cut so.
-pub fn run_cut(
-    rt: &impl Abort,
-    alloc: Global,
-    slots: u32,
-    cut: Cut,
-    script: &str,
-) -> Result<(), Fail> {
-    let mut side = Side::new(alloc, slots)?;
-    for line in script.lines() {
-        line_answers(rt, alloc, &mut side, cut, line)?;
-    }
-    Ok(())
+pub fn run_cut(rt: &impl Abort, alloc: Global, cut: Cut, script: &str) -> Result<(), Fail> {
+    let mut side = Side::new(alloc, 4)?;
+    side.cut = cut;
+    answers(rt, alloc, &mut side, script)
 }

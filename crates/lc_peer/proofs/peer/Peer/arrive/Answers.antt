@@ -1,6 +1,6 @@
-use Rattle.std.proofs.Common.{arith}
-use Rattle.std.proofs.lemmas.Grind.{common_steps}
+use Rattle.std.proofs.Common.{rules}
+use Rattle.std.proofs.lemmas.List.{get_or_read}
 use Rattle.lc_peer.proofs.peer.Peer.arrive.Goals as goal
 
-pub returns-clause-after : goal.returns-clause-after
-returns-clause-after c = grind (arith, common_steps)
+pub returns-clause-answer : goal.returns-clause-answer
+returns-clause-answer c = search (rules, get_or_read)

@@ -1,6 +1,6 @@
-use Rattle.std.proofs.Common.{arith}
-use Rattle.std.proofs.lemmas.Grind.{common_steps}
+use Rattle.std.proofs.Common.{rules}
+use Rattle.std.proofs.lemmas.List.{get_or_read}
 use Rattle.lc_peer.proofs.peer.Peer.front.Goals as goal
 
 pub returns : goal.returns
-returns c = grind (arith, common_steps)
+returns c = search (rules, get_or_read)
