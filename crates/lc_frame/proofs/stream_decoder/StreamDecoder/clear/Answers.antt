@@ -1,4 +1,4 @@
-use Rattle.std.proofs.Common.{ℕ, List, subst, sym, arith}
+use Rattle.std.proofs.Common.{ℕ, List, rules, subst, sym, arith}
 use Rattle.lc_frame.specs.Scan.{NeedsMore}
 use Rattle.lc_frame.proofs.Fronts.{nothing_yet}
 use Rattle.lc_frame.proofs.Pieces.{wants_no_frame, whole_stands, fault_no_frame}
@@ -15,3 +15,9 @@ returns-in-Whole-clause-other c = λ none. absurd (none _ (whole_stands _ _ _ c.
 
 pub returns-in-Fault-clause-whole : goal.returns-in-Fault-clause-whole
 returns-in-Fault-clause-whole c = λ f s. absurd (fault_no_frame _ _ _ c.self.invariant.1 c.self.view_is _ c.in-Fault.is f s)
+
+pub returns-in-Whole-clause-whole : goal.returns-in-Whole-clause-whole
+returns-in-Whole-clause-whole c = search rules
+
+pub returns-in-Fault-clause-other : goal.returns-in-Fault-clause-other
+returns-in-Fault-clause-other c = search rules
