@@ -81,9 +81,10 @@ impl Inbox {
         ensures value { result ≡ self.now.book }
         ensures kept { IsInbox self.now }
     {
+        let book = self.book;
         // The readers tell what every book and every ring keeps.
-        let (_room, _bytes) = (self.book.room(), self.ring.bytes());
-        self.book
+        let (_room, _bytes) = (book.room(), self.ring.bytes());
+        book
     }
 
     /// Takes over a book that came from this inbox and was changed by calls of the server's own.
