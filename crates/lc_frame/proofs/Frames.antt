@@ -1,5 +1,5 @@
 -- The frames of a list of bytes as they are computed: no matter by how many turns, and what Splits says.
-use Rattle.std.proofs.Common.{◌≡◌, ℕ, zero, suc, ◌+◌, ◌-◌, ◌≤◌, Bool, true, false, List, [], ◌∷◌, ◌++◌, length, take, drop, Option, Some, None, refl, sym, ap, ap₂, subst, ◌∙◌, append_assoc, arith}
+use Rattle.std.proofs.Common.{◌≡◌, ℕ, zero, suc, ◌+◌, ◌-◌, ◌≤◌, Bool, true, false, List, [], ◌∷◌, ◌++◌, length, take, drop, Option, Some, None, refl, sym, ap, ap₂, ◌∙◌, append_assoc, arith}
 use Rattle.std.specs.Prelude.{if◌then◌else◌, nat_lt, ⊤}
 use Rattle.std.specs.Int.{byte_len, from_be_bytes}
 use Rattle.std.specs.List.{flat_map, AllByRecursion}
@@ -9,7 +9,6 @@ use Rattle.std.proofs.lemmas.List.Concat.{flat_map-cons}
 use Rattle.lc_frame.specs.declared.channel.Channel.{Channel}
 use Rattle.lc_frame.specs.declared.kind.Kind.{Kind}
 use Rattle.lc_frame.specs.declared.frame.Frame.{Frame}
-use Rattle.lc_frame.specs.declared.head.Head.{Head}
 use Rattle.lc_frame.specs.declared.scan.Scan.{Scan}
 use Rattle.lc_frame.specs.declared.scan.Scan.TheVariants.{Whole, Fault, Needs}
 use Rattle.lc_frame.specs.Kind.{width_of, is_in_range, fault_of, body_len, header_len}
@@ -18,7 +17,7 @@ use Rattle.lc_frame.specs.Encoding.{encoding, FrameStands}
 use Rattle.lc_frame.specs.Scan.{frame_in, scan_body, scan_number, scan_tag, scan_of, Finds}
 use Rattle.lc_frame.specs.Splits.{Splits, first_frame, split_in, frames_of, rest_of}
 use Rattle.lc_frame.proofs.Bytes.{IsBytes, IsBytes-drop}
-use Rattle.lc_frame.proofs.Fronts.{head_of, length-encoding, stands_whole, frame_again, finds_of, nothing_yet}
+use Rattle.lc_frame.proofs.Fronts.{length-encoding, stands_whole, frame_again, finds_of, nothing_yet}
 use Rattle.lc_frame.proofs.SplitLaws.{behind}
 
 -- ---- a frame that a scan finds has a byte at least

@@ -1,4 +1,4 @@
-use Rattle.std.proofs.Common.{[], refl, subst, ◌++◌}
+use Rattle.std.proofs.Common.{rules, [], refl, subst, ◌++◌}
 use Rattle.std.specs.Io.KnownBytes.{Appends}
 use Rattle.std.proofs.KnownBytes.{Appends-nil}
 use Rattle.hex.specs.Hex.{encode_with}
@@ -17,3 +17,6 @@ loop-rest-preserved g c =
       split-parts _ front c.loop-rest.rest.now piece c.split_at.result.1.now _ whole c.split_at.ensures.front c.split_at.ensures.back,
       Appends-encoded _ _ _ front piece written (subst (Appends _ _) c.in-Ok.ensures.written c.in_ok-write_all.ensures.bytes),
     )
+
+pub loop-rest-smaller : goal.loop-rest-smaller
+loop-rest-smaller g c = search rules

@@ -1,4 +1,4 @@
-use Rattle.std.proofs.Common.{◌∙◌, sym, refl, subst, arith, take, ℕ}
+use Rattle.std.proofs.Common.{rules, ◌∙◌, sym, refl, subst, arith, take, ℕ}
 use Rattle.std.specs.Io.KnownBytes.{Consumes}
 use Rattle.lc_driver.specs.declared.reading.ReadEnd.{ReadEnd}
 use Rattle.lc_driver.specs.Reading.{Reads}
@@ -39,3 +39,6 @@ returns-in-Err-clause-reads g c = λ going. reads_failed c.args.max_reads c.read
 
 pub returns-clause-reads : goal.returns-clause-reads
 returns-clause-reads g c = λ going. reads_spent c.args.max_reads c.reads.invariant.so_far (omega (arith, c.reads-test.false, c.reads.auto.counter-end))
+
+pub reads-smaller : goal.reads-smaller
+reads-smaller g c = search rules

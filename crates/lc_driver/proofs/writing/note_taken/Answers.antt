@@ -1,4 +1,4 @@
-use Rattle.std.proofs.Common.{ap, arith, sym, ◌∙◌}
+use Rattle.std.proofs.Common.{rules, ap, arith, sym, ◌∙◌}
 use Rattle.lc_driver.proofs.Frames.{first_of}
 use Rattle.lc_driver.proofs.Written.{goes_on}
 use Rattle.lc_peer.specs.Peer.{PeerState}
@@ -26,3 +26,6 @@ frames-preserved c =
     let first = first_of c.frames.peer.waiting c.in-Some.frame (sym c.in-Some.is ∙ out.value) in
     let step = goes_on c.args.outgo.now.pending c.args.begun c.args.taken c.frames.end c.encoded_len-end.result c.args.peer.now c.frames.peer c.next_out.new.self c.in-Some.frame c.requires.ahead.within c.requires.within c.frames-test.true (record { ahead = at.ahead; gone = at.gone }) (first ∙ ap (λ (ws : List Frame). c.in-Some.frame ∷ ws) (sym (ap (λ (p : PeerState). p.waiting) out.after))) out.after c.encoded_len-end.ensures.value in
     record { ahead = step.ahead; gone = step.gone }
+
+pub frames-smaller : goal.frames-smaller
+frames-smaller c = search rules

@@ -12,6 +12,13 @@ writes-init g c = record {
   ended = refl;
 }
 
+pub writes-smaller : goal.writes-smaller
+writes-smaller g c =
+    let wrote = c.in-Ok.ensures in
+    let given = c.bytes.ensures.value in
+    let len = ap length c.note_taken-begun.ensures.advanced ∙ length-drop c.in-Ok.taken c.writes.outgo.pending in
+    omega (arith, len, wrote.bound, ap length given, c.in-Ok.taken-test.1, c.writes-test.true)
+
 pub writes-preserved : goal.writes-preserved
 writes-preserved g c =
     let at = c.writes.invariant in

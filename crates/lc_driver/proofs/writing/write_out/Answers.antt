@@ -16,6 +16,12 @@ batches-init g c =
       ended = refl;
     }
 
+pub batches-smaller : goal.batches-smaller
+batches-smaller g c =
+    let start : take c.pending-rest.result c.join_waiting.new.outgo.pending ≡ c.batches.outgo.pending = ap (λ (n : ℕ). take n c.join_waiting.new.outgo.pending) c.pending-rest.ensures.value ∙ c.join_waiting.ensures.begun in
+    let wrote = subst (λ (x : List ℕ). Writes (g.W.Write.contents c.batches.writer) (g.W.Write.contents c.write_joined.new.writer) x c.batches.peer c.write_joined.new.outgo.pending c.write_joined.new.peer c.in-Ok.n) start c.in-Ok.ensures.writes in
+    omega (arith, text_left wrote, c.in-Ok.ensures.all.1, c.if-pending-eq0.false, c.pending.ensures.value)
+
 pub batches-preserved : goal.batches-preserved
 batches-preserved g c =
     let at = c.batches.invariant in

@@ -1,4 +1,4 @@
-use Rattle.std.proofs.Common.{◌≡◌, ◌+◌, sym, length, ap, subst, length-drop, arith}
+use Rattle.std.proofs.Common.{rules, ◌≡◌, ◌+◌, sym, length, ap, subst, length-drop, arith}
 use Rattle.std.proofs.lemmas.Bool.{eqb-true}
 use Rattle.lc_frame.specs.declared.progress.Progress.{Progress}
 use Rattle.lc_frame.specs.Progress.{Holds, Takes}
@@ -42,3 +42,6 @@ returns-in-Fault-clause-step c =
     let step = c.advance-step.ensures.step in
     let new = c.advance-step.new.buffer.items in
     takes_further _ _ _ _ _ at.held at.left _ _ _ at.within at.shortest step (λ lt. known_fault _ new (subst (λ (p : Progress). Holds p new) c.in-Fault.is step.knows))
+
+pub steps-smaller : goal.steps-smaller
+steps-smaller c = search rules

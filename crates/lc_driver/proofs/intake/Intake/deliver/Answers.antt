@@ -7,3 +7,6 @@ returns-clause-bytes c = λ k d less. subst (λ (n : ℕ). n < 256) (get_or_defa
 
 pub invariant_of-self : goal.invariant_of-self
 invariant_of-self c = search rules
+
+pub returns-clause-stop : goal.returns-clause-stop
+returns-clause-stop c = search rules

@@ -13,6 +13,9 @@ use Rattle.lc_peer.proofs.peer.Peer.deliver.Goals as goal
 pub frames-init : goal.frames-init
 frames-init c = search rules
 
+pub frames-smaller : goal.frames-smaller
+frames-smaller c = search rules
+
 pub frames-preserved : goal.frames-preserved
 frames-preserved c =
     let a : FrameArrives c.frames.self c.frames.decoder.bytes (drop c.frames.taken c.args.piece.now) c.go_on.new.peer c.go_on.new.decoder.bytes c.in-Arrived.count = subst (λ (xs : List ℕ). FrameArrives c.frames.self c.frames.decoder.bytes xs c.go_on.new.peer c.go_on.new.decoder.bytes c.in-Arrived.count) c.split_at.ensures.back c.in-Arrived.ensures in
