@@ -12,7 +12,8 @@ mod transcript;
 
 use std::process::Abort;
 
-/// Fails where a text is not the one that is wanted, and names what was compared.
-fn same(rt: &impl Abort, what: &str, found: &str, wanted: &str) {
-    assert_eq!(rt; found, wanted, "{what}");
+/// Fails where there is no text, or not the one that is wanted, and names what was compared.
+fn same(rt: &impl Abort, what: &str, found: Option<String>, wanted: &str) {
+    let found = found.as_deref().unwrap_or("nothing");
+    assert!(rt; found == wanted, "{what}: {found}, not {wanted}");
 }

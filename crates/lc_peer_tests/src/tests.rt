@@ -6,9 +6,20 @@ mod inbox;
 mod script;
 mod worked;
 
+use lc_frame::Channel;
 use std::alloc::Global;
 use std::process::Abort;
-use std::test::Fail;
+
+/// Every channel, by its number.
+const CHANNELS: [Channel; 7] = [
+    Channel::ReconciliationChannel,
+    Channel::DataChannel,
+    Channel::OverlapChannel,
+    Channel::CapabilityChannel,
+    Channel::AreaOfInterestChannel,
+    Channel::PayloadRequestChannel,
+    Channel::StaticTokenChannel,
+];
 
 /// What the calls of a script are made on.
 trait Subject {
@@ -18,22 +29,16 @@ trait Subject {
 
 /// Each call of a script, in turn, answers what stands behind it: a line is a call, ` => ` and its
 /// answer.
-fn answers<S: Subject>(
-    rt: &impl Abort,
-    alloc: Global,
-    subject: &mut S,
-    script: &str,
-) -> Result<(), Fail> {
+fn answers<S: Subject>(rt: &impl Abort, alloc: Global, subject: &mut S, script: &str) {
     for line in script.lines() {
         let line = line.trim();
-        let (call, wanted) = line.split_once(" => ").ok_or("no answer")?;
-        let found = subject.answer(alloc, call).ok_or("no such call")?;
-        same(rt, line, found.as_str(), wanted);
+        let (call, wanted) = line.split_once(" => ").unwrap_or((line, "an answer"));
+        same(rt, line, subject.answer(alloc, call), wanted);
     }
-    Ok(())
 }
 
-/// Fails where a text is not the one that is wanted, and names what was compared.
-fn same(rt: &impl Abort, what: &str, found: &str, wanted: &str) {
-    assert_eq!(rt; found, wanted, "{what}");
+/// Fails where there is no text, or not the one that is wanted, and names what was compared.
+fn same(rt: &impl Abort, what: &str, found: Option<String>, wanted: &str) {
+    let found = found.as_deref().unwrap_or("nothing");
+    assert!(rt; found == wanted, "{what}: {found}, not {wanted}");
 }

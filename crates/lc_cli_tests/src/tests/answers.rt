@@ -3,15 +3,11 @@ use super::same;
 use lc_cli::write_answer;
 use lc_world::{Answer, Refusal, Violation};
 use std::alloc::Global;
-use std::process::Abort;
-use std::str;
-use std::test::Fail;
 
-fn is_written(rt: &impl Abort, alloc: Global, answer: &Answer, wanted: &str) -> Result<(), Fail> {
+fn line(alloc: Global, answer: &Answer) -> Option<String> {
     let mut out = Vec::new(alloc);
-    write_answer(answer, &mut out)?;
-    same(rt, wanted, str::from_utf8(out.as_slice())?, wanted);
-    Ok(())
+    write_answer(answer, &mut out).ok()?;
+    String::from_utf8(out).ok()
 }
 
 const LARGEST: u64 = u64::MAX;
@@ -68,25 +64,24 @@ const VIOLATIONS: [(Violation, &str); 8] = [
 ];
 
 #[test]
-fn refusals_have_their_lines(rt: HostRuntime) -> Result<(), Fail> {
+fn refusals_have_their_lines(rt: HostRuntime) {
     for (refusal, wanted) in &REFUSALS {
         let answer = Answer::Refused(*refusal);
-        is_written(&rt, rt.alloc(), &answer, wanted)?;
+        same(&rt, wanted, line(rt.alloc(), &answer), wanted);
     }
-    Ok(())
 }
 
 #[test]
-fn violations_have_their_lines(rt: HostRuntime) -> Result<(), Fail> {
+fn violations_have_their_lines(rt: HostRuntime) {
     for (violation, wanted) in &VIOLATIONS {
         let answer = Answer::Violated(*violation);
-        is_written(&rt, rt.alloc(), &answer, wanted)?;
+        same(&rt, wanted, line(rt.alloc(), &answer), wanted);
     }
-    Ok(())
 }
 
 #[test]
-fn the_largest_amount_has_its_line(rt: HostRuntime) -> Result<(), Fail> {
+fn the_largest_amount_has_its_line(rt: HostRuntime) {
     let absolved = Answer::Absolved(u32::MAX);
-    is_written(&rt, rt.alloc(), &absolved, "absolved 4294967295\n")
+    let wanted = "absolved 4294967295\n";
+    same(&rt, wanted, line(rt.alloc(), &absolved), wanted);
 }

@@ -2,8 +2,7 @@
 use super::devices::ShortReader;
 use super::same;
 use super::transcript::{run_as_shown, shown};
-use std::alloc::{AllocError, Global};
-use std::process::Abort;
+use std::alloc::Global;
 use std::test::Fail;
 
 // Each is no line of a script.
@@ -119,22 +118,20 @@ A deliver 4294967296
 A deliver 1 1
 A delivers 1";
 
-// The line before is good, and yet nothing is printed.
-fn is_refused(rt: &impl Abort, alloc: Global, line: &str) -> Result<(), Fail> {
-    let script = format!(in alloc; "B issue 1 5\n{line}\nA arrive\n")?;
+// What a script shows whose second line this is. The line before is good, and yet nothing is
+// printed.
+fn shown_of(alloc: Global, line: &str) -> Option<String> {
+    let script = format!(in alloc; "B issue 1 5\n{line}\nA arrive\n").ok()?;
     let mut input = ShortReader::new(script.as_bytes(), 16);
-    let found = shown(alloc, "lcmux replay 8", &mut input)?;
-    let wanted = "! lcmux: line 2: bad script line\n= 2\n";
-    same(rt, line, found.as_str(), wanted);
-    Ok(())
+    shown(alloc, "lcmux replay 8", &mut input)
 }
 
 #[test]
-fn bad_lines_are_refused(rt: HostRuntime) -> Result<(), Fail> {
+fn bad_lines_are_refused(rt: HostRuntime) {
+    let wanted = "! lcmux: line 2: bad script line\n= 2\n";
     for line in BAD_LINES.split('\n') {
-        is_refused(&rt, rt.alloc(), line)?;
+        same(&rt, line, shown_of(rt.alloc(), line), wanted);
     }
-    Ok(())
 }
 
 // A line of bytes that are no text, and the first of several bad lines.
@@ -157,26 +154,20 @@ fn the_first_bad_line_is_named(rt: HostRuntime) -> Result<(), Fail> {
     run_as_shown(&rt, rt.alloc(), FIRST)
 }
 
-// The bad line has no line feed.
-fn late_line(alloc: Global, number: u32) -> Result<Vec<u8>, AllocError> {
-    let mut script = vec![in alloc; b'\n'; number as usize]?;
+// What a script shows whose only bad line is its last, which has this number and no line feed.
+fn late_line(alloc: Global, number: u32) -> Option<String> {
+    let mut script = vec![in alloc; b'\n'; number as usize].ok()?;
     script.pop();
-    script.push(b'x')?;
-    Ok(script)
-}
-
-fn is_named(rt: &impl Abort, alloc: Global, number: u32) -> Result<(), Fail> {
-    let script = late_line(alloc, number)?;
-    let found = shown(alloc, "lcmux replay 8", &mut script.as_slice())?;
-    let wanted = format!(in alloc; "! lcmux: line {number}: bad script line\n= 2\n")?;
-    same(rt, "a late line", found.as_str(), wanted.as_str());
-    Ok(())
+    script.push(b'x').ok()?;
+    shown(alloc, "lcmux replay 8", &mut script.as_slice())
 }
 
 #[test]
 fn a_late_line_has_its_number(rt: HostRuntime) -> Result<(), Fail> {
     for &number in &[9, 10, 255, 256, 257, 300, 9_999, 65_535, 65_536, 65_537] {
-        is_named(&rt, rt.alloc(), number)?;
+        let wanted = format!(in rt.alloc(); "! lcmux: line {number}: bad script line\n= 2\n")?;
+        let found = late_line(rt.alloc(), number);
+        same(&rt, "a late line", found, wanted.as_str());
     }
     Ok(())
 }

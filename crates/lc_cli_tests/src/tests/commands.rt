@@ -5,7 +5,6 @@ use super::transcript::{run_as_shown, shown, shown_with};
 use std::alloc::Global;
 use std::io;
 use std::io::ErrorKind;
-use std::process::Abort;
 use std::test::Fail;
 
 const USAGE: &str = "! lcmux: usage: lcmux replay CAPACITY, lcmux frames, lcmux loopback N\n= 2\n";
@@ -90,30 +89,23 @@ fn unread() -> ShortReader<'static> {
 }
 
 #[test]
-fn what_names_no_command_is_answered_by_the_usage(rt: HostRuntime) -> Result<(), Fail> {
+fn what_names_no_command_is_answered_by_the_usage(rt: HostRuntime) {
     for command in NO_COMMANDS.split('\n') {
-        let found = shown(rt.alloc(), command, &mut unread())?;
-        same(&rt, command, found.as_str(), USAGE);
+        let found = shown(rt.alloc(), command, &mut unread());
+        same(&rt, command, found, USAGE);
     }
-    Ok(())
 }
 
-// Arguments that could not be read, as the kit's `env::args` answers where one is no text.
-fn without_arguments(
-    rt: &impl Abort,
-    alloc: Global,
-    kind: ErrorKind,
-    wanted: &str,
-) -> Result<(), Fail> {
-    let arguments = Err(io::Error::from(kind));
-    let found = shown_with(alloc, arguments, &mut unread())?;
-    same(rt, "no arguments", found.as_str(), wanted);
-    Ok(())
+// What is shown of arguments that could not be read, as the kit's `env::args` answers where one is
+// no text.
+fn without_arguments(alloc: Global, kind: ErrorKind) -> Option<String> {
+    shown_with(alloc, Err(io::Error::from(kind)), &mut unread())
 }
 
 #[test]
-fn arguments_that_are_not_text_name_no_command(rt: HostRuntime) -> Result<(), Fail> {
-    without_arguments(&rt, rt.alloc(), ErrorKind::InvalidData, USAGE)?;
-    let full = "! lcmux: out of memory\n= 1\n";
-    without_arguments(&rt, rt.alloc(), ErrorKind::OutOfMemory, full)
+fn arguments_that_are_not_text_name_no_command(rt: HostRuntime) {
+    let found = without_arguments(rt.alloc(), ErrorKind::InvalidData);
+    same(&rt, "no text", found, USAGE);
+    let found = without_arguments(rt.alloc(), ErrorKind::OutOfMemory);
+    same(&rt, "no memory", found, "! lcmux: out of memory\n= 1\n");
 }

@@ -3,11 +3,9 @@ use super::devices::{ShortReader, ShortWriter};
 use super::same;
 use super::transcript::{arguments, end};
 use lc_cli::run;
-use std::alloc::{AllocError, Global};
+use std::alloc::Global;
 use std::io::{Read, Write};
 use std::process::Abort;
-use std::str;
-use std::test::Fail;
 
 const STREAM: &[u8] = b"\x21\x00\x00\x00\x05\x11\x00\x02hi\x41\x00\x00\x00\x00";
 
@@ -53,21 +51,20 @@ const WRITE_FAILED: &str = "! lcmux: write failed\n= 1\n";
 
 impl Case {
     // How the case ends, with this writer.
-    fn end<W: Write>(&self, alloc: Global, out: &mut W) -> Result<String, Fail> {
+    fn end<W: Write>(&self, alloc: Global, out: &mut W) -> Option<String> {
         ended(alloc, self.command, &mut &*self.input, out)
     }
 
     // Compares what was written, and how the case ended.
-    fn check(&self, rt: &impl Abort, out: &ShortWriter, found: &str) -> Result<(), Fail> {
-        let written = str::from_utf8(out.written.as_slice())?;
+    fn check(&self, rt: &impl Abort, out: ShortWriter, found: Option<String>) {
         let (printed, end) = if out.has_failed() {
-            (front(self.printed, written.len()), WRITE_FAILED)
+            (front(self.printed, out.written.len()), WRITE_FAILED)
         } else {
             (self.printed, self.end)
         };
         same(rt, self.command, found, end);
+        let written = String::from_utf8(out.written).ok();
         same(rt, self.command, written, printed);
-        Ok(())
     }
 }
 
@@ -77,9 +74,8 @@ fn ended<R: Read, W: Write>(
     command: &str,
     input: &mut R,
     out: &mut W,
-) -> Result<String, Fail> {
-    let arguments = arguments(alloc, command)?;
-    end(alloc, Ok(arguments), input, out)
+) -> Option<String> {
+    end(alloc, Ok(arguments(alloc, command)?), input, out)
 }
 
 // So many bytes of a text, or all of it.
@@ -91,35 +87,29 @@ fn front(text: &str, len: usize) -> &str {
 }
 
 // One call of the writer fails, where the run makes so many.
-fn fails_at(rt: &impl Abort, alloc: Global, case: &Case, call: u32) -> Result<(), Fail> {
+fn fails_at(rt: &impl Abort, alloc: Global, case: &Case, call: u32) {
     let mut out = ShortWriter::new(alloc, call);
-    let found = case.end(alloc, &mut out)?;
-    case.check(rt, &out, found.as_str())
+    let found = case.end(alloc, &mut out);
+    case.check(rt, out, found);
 }
 
-// There is room for four bytes.
-fn has_no_room(rt: &impl Abort, alloc: Global, case: &Case) -> Result<(), Fail> {
-    let mut room = [0u8; 4];
-    let found = case.end(alloc, &mut room.as_mut_slice())?;
-    same(rt, case.command, found.as_str(), WRITE_FAILED);
-    Ok(())
-}
-
-// A run makes fewer than fifty calls.
-fn writes_fail(rt: &impl Abort, alloc: Global, case: &Case) -> Result<(), Fail> {
+// A run makes fewer than fifty calls. Then there is room for four bytes alone.
+fn writes_fail(rt: &impl Abort, alloc: Global, case: &Case) {
     for call in 1..100 {
-        fails_at(rt, alloc, case, call)?;
+        fails_at(rt, alloc, case, call);
     }
-    has_no_room(rt, alloc, case)
+    let mut room = [0u8; 4];
+    let found = case.end(alloc, &mut room.as_mut_slice());
+    same(rt, case.command, found, WRITE_FAILED);
 }
 
 // Each write and each flush fails in turn: a failed write of the frames before a fault is met before
 // the fault.
 #[test]
-fn failed_writes_are_named(rt: HostRuntime) -> Result<(), Fail> {
-    writes_fail(&rt, rt.alloc(), &LISTED)?;
-    writes_fail(&rt, rt.alloc(), &REPLAYED)?;
-    writes_fail(&rt, rt.alloc(), &FAULT_FOUND)
+fn failed_writes_are_named(rt: HostRuntime) {
+    writes_fail(&rt, rt.alloc(), &LISTED);
+    writes_fail(&rt, rt.alloc(), &REPLAYED);
+    writes_fail(&rt, rt.alloc(), &FAULT_FOUND);
 }
 
 // What `frames` has printed when so many bytes were read.
@@ -139,63 +129,53 @@ fn read_fails(
     command: &str,
     mut input: ShortReader<'_>,
     printed: &str,
-) -> Result<(), Fail> {
+) {
     let mut out = Vec::new(alloc);
-    let found = ended(alloc, command, &mut input, &mut out)?;
-    same(rt, command, found.as_str(), "! lcmux: read failed\n= 1\n");
-    same(rt, command, str::from_utf8(out.as_slice())?, printed);
-    Ok(())
+    let found = ended(alloc, command, &mut input, &mut out);
+    same(rt, command, found, "! lcmux: read failed\n= 1\n");
+    same(rt, command, String::from_utf8(out).ok(), printed);
 }
 
 // The script's last read is its tenth, which finds the end.
 #[test]
-fn failed_reads_are_named(rt: HostRuntime) -> Result<(), Fail> {
+fn failed_reads_are_named(rt: HostRuntime) {
     for read in 0..16 {
         let stream = ShortReader::failing(STREAM, 1, read + 1);
-        read_fails(&rt, rt.alloc(), "lcmux frames", stream, listed(read))?;
+        read_fails(&rt, rt.alloc(), "lcmux frames", stream, listed(read));
     }
     for read in 1..11 {
         let script = ShortReader::failing(SCRIPT, 6, read);
-        read_fails(&rt, rt.alloc(), "lcmux replay 8", script, "")?;
+        read_fails(&rt, rt.alloc(), "lcmux replay 8", script, "");
     }
-    Ok(())
 }
 
 // A frame is printed when it is whole, before the next read: that may wait. Each of the first five
 // reads follows a flush, so that the sixth call of the writer is the first that writes.
 #[test]
-fn frames_are_printed_before_a_read(rt: HostRuntime) -> Result<(), Fail> {
+fn frames_are_printed_before_a_read(rt: HostRuntime) {
     let mut input = ShortReader::new(STREAM, 1);
     let mut out = ShortWriter::new(rt.alloc(), 6);
-    let end = ended(rt.alloc(), "lcmux frames", &mut input, &mut out)?;
-    same(&rt, "a live stream", end.as_str(), WRITE_FAILED);
-    let reads = format!(in rt.alloc(); "{}", input.reads)?;
-    same(&rt, "reads of a live stream", reads.as_str(), "5");
-    Ok(())
+    let found = ended(rt.alloc(), "lcmux frames", &mut input, &mut out);
+    same(&rt, "a live stream", found, WRITE_FAILED);
+    assert!(rt; input.reads == 5);
 }
 
-// The status of a bad input or of no command, where a call of the writer of standard error fails.
-fn status(alloc: Global, command: &str, out: &mut Vec<u8>, call: u32) -> Result<u8, AllocError> {
+// The status of a bad input or of no command, and how many bytes are printed, where a call of the
+// writer of standard error fails.
+fn status(alloc: Global, command: &str, call: u32) -> Option<String> {
     let arguments = arguments(alloc, command)?;
-    let mut err = ShortWriter::new(alloc, call);
+    let (mut out, mut err) = (Vec::new(alloc), ShortWriter::new(alloc, call));
     let mut input = b"x".as_slice();
-    Ok(run(alloc, Ok(arguments), &mut input, out, &mut err))
-}
-
-fn has_status_2(rt: &impl Abort, alloc: Global, command: &str, call: u32) -> Result<(), Fail> {
-    let mut out = Vec::new(alloc);
-    let status = status(alloc, command, &mut out, call)?;
-    let found = format!(in alloc; "{status}, {} bytes", out.len())?;
-    same(rt, command, found.as_str(), "2, 0 bytes");
-    Ok(())
+    let status = run(alloc, Ok(arguments), &mut input, &mut out, &mut err);
+    format!(in alloc; "{status}, {} bytes", out.len()).ok()
 }
 
 #[test]
-fn a_status_is_kept_without_its_line(rt: HostRuntime) -> Result<(), Fail> {
+fn a_status_is_kept_without_its_line(rt: HostRuntime) {
     for call in 1..4 {
-        has_status_2(&rt, rt.alloc(), "lcmux replay 8", call)?;
-        has_status_2(&rt, rt.alloc(), "lcmux frames", call)?;
-        has_status_2(&rt, rt.alloc(), "lcmux", call)?;
+        for command in ["lcmux replay 8", "lcmux frames", "lcmux"] {
+            let found = status(rt.alloc(), command, call);
+            same(&rt, command, found, "2, 0 bytes");
+        }
     }
-    Ok(())
 }

@@ -6,7 +6,7 @@
 use super::devices::ShortReader;
 use super::same;
 use lc_cli::run;
-use std::alloc::{AllocError, Global};
+use std::alloc::Global;
 use std::env::Args;
 use std::io::{Read, Write};
 use std::process::Abort;
@@ -16,23 +16,15 @@ use std::{io, str};
 /// Runs each case, and compares what it shows.
 pub fn run_as_shown(rt: &impl Abort, alloc: Global, cases: &str) -> Result<(), Fail> {
     for text in cases.split("\n$ ") {
-        run_case(rt, alloc, text)?;
+        let case = Case::parse(alloc, text).ok_or("no case")?;
+        case.run(rt, alloc);
     }
     Ok(())
 }
 
-// Runs a case, with short reads and with long ones.
-fn run_case(rt: &impl Abort, alloc: Global, text: &str) -> Result<(), Fail> {
-    let case = Case::parse(alloc, text)?;
-    case.run(rt, alloc, 1)?;
-    case.run(rt, alloc, 7)?;
-    case.run(rt, alloc, 70_000)
-}
-
 /// What a command line shows that is run on an input.
-pub fn shown<R: Read>(alloc: Global, command: &str, input: &mut R) -> Result<String, Fail> {
-    let arguments = arguments(alloc, command)?;
-    shown_with(alloc, Ok(arguments), input)
+pub fn shown<R: Read>(alloc: Global, command: &str, input: &mut R) -> Option<String> {
+    shown_with(alloc, Ok(arguments(alloc, command)?), input)
 }
 
 /// What a run with these arguments shows.
@@ -40,13 +32,13 @@ pub fn shown_with<R: Read>(
     alloc: Global,
     arguments: io::Result<Args>,
     input: &mut R,
-) -> Result<String, Fail> {
+) -> Option<String> {
     let mut out = Vec::new(alloc);
     let end = end(alloc, arguments, input, &mut out)?;
     let mut shown = String::new(alloc);
     show(&mut shown, "> ", out.as_slice())?;
-    shown.push_str(end.as_str())?;
-    Ok(shown)
+    shown.push_str(end.as_str()).ok()?;
+    Some(shown)
 }
 
 /// How a run ends: its lines of standard error, and the status.
@@ -55,31 +47,31 @@ pub fn end<R: Read, W: Write>(
     arguments: io::Result<Args>,
     input: &mut R,
     out: &mut W,
-) -> Result<String, Fail> {
+) -> Option<String> {
     let mut err = Vec::new(alloc);
     let status = run(alloc, arguments, input, out, &mut err);
     let mut shown = String::new(alloc);
     show(&mut shown, "! ", err.as_slice())?;
-    writeln!(shown, "= {status}")?;
-    Ok(shown)
+    writeln!(shown, "= {status}").ok()?;
+    Some(shown)
 }
 
 // Writes each line of a stream behind its mark.
-fn show(shown: &mut String, mark: &str, stream: &[u8]) -> Result<(), Fail> {
-    for line in str::from_utf8(stream)?.split_inclusive('\n') {
-        write!(shown, "{mark}{line}")?;
+fn show(shown: &mut String, mark: &str, stream: &[u8]) -> Option<()> {
+    for line in str::from_utf8(stream).ok()?.split_inclusive('\n') {
+        write!(shown, "{mark}{line}").ok()?;
     }
-    Ok(())
+    Some(())
 }
 
 /// The arguments of a command line.
-pub fn arguments(alloc: Global, command: &str) -> Result<Args, AllocError> {
+pub fn arguments(alloc: Global, command: &str) -> Option<Args> {
     let mut words = Vec::new(alloc);
     for word in command.split(' ') {
         let word = if word == "''" { "" } else { word };
-        words.push(String::from_str(alloc, word)?)?;
+        words.push(String::from_str(alloc, word).ok()?).ok()?;
     }
-    Ok(words.into_iter())
+    Some(words.into_iter())
 }
 
 // What a run is given, and what it has to show.
@@ -92,7 +84,7 @@ struct Case<'a> {
 }
 
 impl<'a> Case<'a> {
-    fn parse(alloc: Global, text: &'a str) -> Result<Case<'a>, Fail> {
+    fn parse(alloc: Global, text: &'a str) -> Option<Case<'a>> {
         let (command, lines) = text.split_once('\n').unwrap_or((text, ""));
         let mut case = Case {
             text,
@@ -103,32 +95,32 @@ impl<'a> Case<'a> {
         for line in lines.lines() {
             case.read_line(alloc, line)?;
         }
-        Ok(case)
+        Some(case)
     }
 
-    fn read_line(&mut self, alloc: Global, line: &str) -> Result<(), Fail> {
+    fn read_line(&mut self, alloc: Global, line: &str) -> Option<()> {
         let (mark, rest) = line.split_once(' ').unwrap_or((line, ""));
         match mark {
-            "<" => writeln!(self.input, "{rest}")?,
-            "x" => self.read_digits(alloc, rest)?,
-            _ => writeln!(self.wanted, "{line}")?,
+            "<" => writeln!(self.input, "{rest}").ok(),
+            "x" => self.read_digits(alloc, rest),
+            _ => writeln!(self.wanted, "{line}").ok(),
         }
-        Ok(())
     }
 
-    fn read_digits(&mut self, alloc: Global, bytes: &str) -> Result<(), Fail> {
+    fn read_digits(&mut self, alloc: Global, bytes: &str) -> Option<()> {
         for digits in bytes.split(' ') {
-            let byte = hex::decode(alloc, digits)?;
-            self.input.extend_from_slice(byte.as_slice())?;
+            let byte = hex::decode(alloc, digits).ok()?;
+            self.input.extend_from_slice(byte.as_slice()).ok()?;
         }
-        Ok(())
+        Some(())
     }
 
-    // Runs the case on reads of so many bytes.
-    fn run(&self, rt: &impl Abort, alloc: Global, most: usize) -> Result<(), Fail> {
-        let mut input = ShortReader::new(self.input.as_slice(), most);
-        let found = shown(alloc, self.command, &mut input)?;
-        same(rt, self.text, found.as_str(), self.wanted.as_str());
-        Ok(())
+    // Runs the case, with short reads and with long ones.
+    fn run(&self, rt: &impl Abort, alloc: Global) {
+        for most in [1, 7, 70_000] {
+            let mut input = ShortReader::new(self.input.as_slice(), most);
+            let found = shown(alloc, self.command, &mut input);
+            same(rt, self.text, found, self.wanted.as_str());
+        }
     }
 }

@@ -133,25 +133,19 @@ fn read(
     }
 }
 
-// Fails where a text is not the one that is wanted, and names what was compared.
-fn same(rt: &impl Abort, what: &str, found: &str, wanted: &str) {
-    assert_eq!(rt; found, wanted, "{what}");
+// Fails where there is no text, or not the one that is wanted, and names what was compared.
+fn same(rt: &impl Abort, what: &str, found: Option<String>, wanted: &str) {
+    let found = found.as_deref().unwrap_or("nothing");
+    assert!(rt; found == wanted, "{what}: {found}, not {wanted}");
 }
 
 // Each call of a script, in turn, answers what stands behind it.
-fn answers(
-    rt: &impl Abort,
-    alloc: Global,
-    side: &mut Side,
-    input: &mut Pipe,
-    script: &str,
-) -> Result<(), Fail> {
+fn answers(rt: &impl Abort, alloc: Global, side: &mut Side, input: &mut Pipe, script: &str) {
     for line in script.lines() {
-        let (call, wanted) = line.trim().split_once(" => ").ok_or("no answer")?;
-        let found = answer(alloc, side, input, call).ok_or("no such call")?;
-        same(rt, call, found.as_str(), wanted);
+        let line = line.trim();
+        let (call, wanted) = line.split_once(" => ").unwrap_or((line, "an answer"));
+        same(rt, call, answer(alloc, side, input, call), wanted);
     }
-    Ok(())
 }
 
 /// A new side, whose input are the bytes of these digits, answers each line of a script as it says.
@@ -161,5 +155,6 @@ pub fn run(rt: &impl Abort, alloc: Global, digits: &str, script: &str) -> Result
         read: 0,
     };
     let mut side = Side::new(alloc, 8, 4)?;
-    answers(rt, alloc, &mut side, &mut input, script)
+    answers(rt, alloc, &mut side, &mut input, script);
+    Ok(())
 }

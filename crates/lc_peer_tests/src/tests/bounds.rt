@@ -1,7 +1,7 @@
 //! Bounds of peers, and the calls that take memory.
 use crate::tests::inbox::inbox;
 use crate::tests::same;
-use crate::tests::script::peer;
+use crate::tests::script::{peer, text};
 use lc_frame::{Channel, FrameRef};
 use lc_peer::{Config, Peer, Refusal, Take};
 use std::alloc::Global;
@@ -31,12 +31,10 @@ fn fault(alloc: Global, capacities: [u32; 7], slots: u32) -> Option<String> {
 }
 
 #[test]
-fn peers_of_other_bounds(rt: HostRuntime) -> Result<(), Fail> {
+fn peers_of_other_bounds(rt: HostRuntime) {
     for &(capacities, slots, want) in &FAULTS {
-        let got = fault(rt.alloc(), capacities, slots).ok_or("a fault")?;
-        same(&rt, "new", got.as_str(), want);
+        same(&rt, "new", fault(rt.alloc(), capacities, slots), want);
     }
-    Ok(())
 }
 
 #[test]
@@ -47,7 +45,8 @@ fn the_widest_peer(rt: HostRuntime) -> Result<(), Fail> {
     let mut peer = peer(rt.alloc(), widest, 65_536)?;
     let sent = peer.send(Channel::DataChannel, &long);
     let issued = peer.issue(Channel::DataChannel, 16_777_216);
-    assert_eq!(rt; (sent, issued), (Err(Refusal::BodyTooLong), Ok(())));
+    let answers = text(rt.alloc(), &(sent, issued));
+    same(&rt, "send, issue", answers, "(Err(BodyTooLong), Ok(()))");
     Ok(())
 }
 

@@ -1,6 +1,7 @@
 //! Peers to which generated calls, frames and bytes come.
 ghost use Rattle.std.specs.Prelude.{◌<◌};
 
+use crate::tests::CHANNELS;
 use crate::tests::script::Side;
 use lc_frame::{Channel, FrameRef};
 use lc_peer::{Peer, Take};
@@ -124,19 +125,21 @@ fn at_server(rt: &impl Abort, rng: &mut Pcg32, peer: &mut Peer, channel: Channel
     }
 }
 
-// A message is taken, which is the next that came.
-fn takes(rt: &impl Abort, peer: &mut Peer, channel: Channel, done: &mut Done) {
-    let mut buffer = [0; 8];
-    let took = peer.take_into(channel, &mut buffer);
-    assert!(rt; took.is_ok(), "a message is longer than its ring");
-    let Ok(Take::Took(len)) = took else {
-        assert_eq!(rt; done.going, done.coming);
-        return;
-    };
+// A message of so many bytes was taken, which is the next that came.
+fn took(rt: &impl Abort, buffer: &[u8], len: usize, done: &mut Done) {
     let want = [done.going; 8];
-    assert!(rt; len <= 8 && buffer[..len] == want[..len]);
+    assert!(rt; buffer.get(..len) == want.get(..len));
     done.taken = done.taken.wrapping_add(len as u64);
     done.going = done.going.wrapping_add(1);
+}
+
+// A message is taken, unless all that came were.
+fn takes(rt: &impl Abort, peer: &mut Peer, channel: Channel, done: &mut Done) {
+    let mut buffer = [0; 8];
+    match peer.take_into(channel, &mut buffer) {
+        Ok(Take::Took(len)) => took(rt, &buffer, len, done),
+        other => assert!(rt; other.is_ok() && done.going == done.coming),
+    }
 }
 
 // A message is taken, or a frame goes out.
@@ -160,25 +163,18 @@ fn is_balanced(rt: &impl Abort, peer: &Peer, channel: Channel, done: &Done) {
         .wrapping_sub(done.arrived)
         .wrapping_sub(done.given_up);
     let buffered = done.arrived.wrapping_sub(done.taken);
-    assert_eq!(rt;
-        [
-            client.held(),
-            client.received(),
-            server.outstanding(),
-            server.buffered()
-        ],
-        [held, done.received, outstanding, buffered]
-    );
+    assert!(rt; client.held() == held && client.received() == done.received);
+    assert!(rt; server.outstanding() == outstanding && server.buffered() == buffered);
     assert!(rt; server.outstanding() + server.buffered() <= 8 && peer.waiting() <= 4);
 }
 
 // A hundred calls, frames and takes on any channel.
-fn goes_on(rt: &impl Abort, rng: &mut Pcg32, peer: &mut Peer) -> Result<(), Fail> {
+fn goes_on(rt: &impl Abort, rng: &mut Pcg32, peer: &mut Peer) {
     let mut all = [Done::default(); 7];
     for _ in 0..100 {
-        let number = below(rng, 7).min(below(rng, 7)) as u8;
-        let channel = Channel::from_number(number).ok_or("a channel's number")?;
-        let mut done = all[usize::from(number)];
+        let number = below(rng, 7).min(below(rng, 7)) as usize;
+        let channel = CHANNELS[number];
+        let mut done = all[number];
         match below(rng, 5) {
             0 => as_client(rng, peer, channel, &mut done),
             1 => as_server(rng, peer, channel, &mut done),
@@ -187,9 +183,8 @@ fn goes_on(rt: &impl Abort, rng: &mut Pcg32, peer: &mut Peer) -> Result<(), Fail
             _ => goes(rt, rng, peer, channel, &mut done),
         }
         is_balanced(rt, peer, channel, &done);
-        all[usize::from(number)] = done;
+        all[number] = done;
     }
-    Ok(())
 }
 
 #[test]
@@ -197,7 +192,7 @@ fn calls_and_frames(rt: HostRuntime) -> Result<(), Fail> {
     let mut rng = Pcg32::new(42, 54);
     for _ in 0..10_000 {
         let mut side = Side::new(rt.alloc(), 4)?;
-        goes_on(&rt, &mut rng, &mut side.peer)?;
+        goes_on(&rt, &mut rng, &mut side.peer);
     }
     Ok(())
 }
@@ -229,7 +224,7 @@ fn is_bounded(rt: &impl Abort, peer: &mut Peer, channel: Channel) -> u64 {
     let (buffered, outstanding) = (book.buffered(), book.outstanding());
     assert!(rt; buffered.saturating_add(outstanding) <= 8);
     let taken = take_all(peer, channel);
-    assert_eq!(rt; taken, buffered);
+    assert!(rt; taken == buffered);
     taken
 }
 
@@ -258,13 +253,13 @@ fn changed_messages(state: &mut u64) -> [u8; 64] {
 
 // How many bytes of messages a new peer lets through that issued all that it may.
 fn let_through(rt: &impl Abort, side: &mut Side, first: &[u8], rest: &[u8]) -> u64 {
-    for channel in (0..7).filter_map(Channel::from_number) {
-        assert_eq!(rt; side.peer.issue(channel, 8), Ok(()));
+    for &channel in &CHANNELS {
+        assert!(rt; side.peer.issue(channel, 8).is_ok());
     }
     let _first = side.peer.deliver(&mut side.decoder, first);
     let _rest = side.peer.deliver(&mut side.decoder, rest);
     let mut came = 0u64;
-    for channel in (0..7).filter_map(Channel::from_number) {
+    for &channel in &CHANNELS {
         came = came.saturating_add(is_bounded(rt, &mut side.peer, channel));
     }
     came

@@ -11,9 +11,9 @@ const CALLS: &str = "pop => Empty
     issue 6 => Ok(())
     arrive 1000026869 => Ok(())
     arrive 10000568656c6c6f => Err(NotGuaranteed)
-    take 1 => Err(BufferTooSmall { need: 2 }) [238]
-    take 2 => Ok(Took(2)) [104, 105]
-    take 2 => Ok(Empty) [238, 238]
+    take 1 => (Err(BufferTooSmall { need: 2 }), [238])
+    take 2 => (Ok(Took(2)), [104, 105])
+    take 2 => (Ok(Empty), [238, 238])
     arrive 3000000005 => Err(AbsolvedTooMuch)
     arrive 3000000003 => Ok(())
     arrive 500000000000000001 => Ok(())
@@ -22,7 +22,7 @@ const CALLS: &str = "pop => Empty
     front => Some(([120], []))
     pop => Took(1)
     pop => Ended
-    book => 0 0 8";
+    book => (0, 0, 8)";
 
 // A frame for the server arrives.
 fn arrive(alloc: Global, inbox: &mut Inbox, digits: &str) -> Option<Result<(), Violation>> {
@@ -55,13 +55,12 @@ fn issue(inbox: &mut Inbox, n: u32) -> Result<(), Refusal> {
 fn take(alloc: Global, inbox: &mut Inbox, room: usize) -> Option<String> {
     let mut buffer = vec![in alloc; 0xee_u8; room].ok()?;
     let took = inbox.take_into(&mut buffer);
-    format!(in alloc; "{took:?} {buffer:?}").ok()
+    text(alloc, &(took, buffer))
 }
 
 fn book(alloc: Global, inbox: &Inbox) -> Option<String> {
     let book = inbox.book();
-    let (outstanding, buffered, room) = (book.outstanding(), book.buffered(), book.room());
-    format!(in alloc; "{outstanding} {buffered} {room}").ok()
+    text(alloc, &(book.outstanding(), book.buffered(), book.room()))
 }
 
 // What a call that names a number answers.
@@ -98,16 +97,15 @@ fn fault(alloc: Global, capacity: u32) -> Option<String> {
 }
 
 #[test]
-fn no_inbox_has_these_capacities(rt: HostRuntime) -> Result<(), Fail> {
+fn no_inbox_has_these_capacities(rt: HostRuntime) {
     for capacity in [0, 16_777_217] {
-        let got = fault(rt.alloc(), capacity).ok_or("a fault")?;
-        same(&rt, "new", got.as_str(), "Some(BadCapacity)");
+        same(&rt, "new", fault(rt.alloc(), capacity), "Some(BadCapacity)");
     }
-    Ok(())
 }
 
 #[test]
 fn worked_calls(rt: HostRuntime) -> Result<(), Fail> {
     let mut inbox = inbox(rt.alloc(), 8)?;
-    answers(&rt, rt.alloc(), &mut inbox, CALLS)
+    answers(&rt, rt.alloc(), &mut inbox, CALLS);
+    Ok(())
 }

@@ -2,7 +2,7 @@
 //! hexadecimal. `arrive` has a frame, `deliver` the pieces of a stream, `stream` one that is cut as
 //! the run says, `feed` bytes for the decoder alone, and `take` the room of its buffer, whose bytes
 //! were 238. `each` asks on every channel.
-use crate::tests::{Subject, answers};
+use crate::tests::{CHANNELS, Subject, answers};
 use lc_frame::{Channel, Decoded, StreamDecoder, decode};
 use lc_peer::{Config, Delivery, Peer};
 use std::alloc::Global;
@@ -145,21 +145,21 @@ fn own(alloc: Global, peer: &mut Peer, verb: &str, at: Channel, word: &str) -> O
 fn take(alloc: Global, peer: &mut Peer, channel: Channel, room: &str) -> Option<String> {
     let mut buffer = vec![in alloc; 0xee_u8; room.parse::<usize>().ok()?].ok()?;
     let took = peer.take_into(channel, &mut buffer);
-    format!(in alloc; "{took:?} {buffer:?}").ok()
+    text(alloc, &(took, buffer))
 }
 
 fn client(alloc: Global, peer: &Peer, channel: Channel) -> Option<String> {
     let book = peer.client(channel);
     let (held, asked) = (book.held(), book.asked());
     let (sending, receiving) = (book.send_left(), book.receive_left());
-    format!(in alloc; "{held} {asked:?} {sending:?} {receiving:?}").ok()
+    text(alloc, &(held, asked, sending, receiving))
 }
 
 fn server(alloc: Global, peer: &Peer, channel: Channel) -> Option<String> {
     let book = peer.server(channel);
     let (outstanding, buffered, room) = (book.outstanding(), book.buffered(), book.room());
     let (sending, receiving) = (book.send_left(), book.receive_left());
-    format!(in alloc; "{outstanding} {buffered} {room} {sending:?} {receiving:?}").ok()
+    text(alloc, &(outstanding, buffered, room, sending, receiving))
 }
 
 // What a call on a channel answers.
@@ -184,8 +184,8 @@ fn on_channel(
 
 // What all channels answer alike.
 fn each(alloc: Global, peer: &mut Peer, verb: &str) -> Option<String> {
-    let first = on_channel(alloc, peer, verb, Channel::ReconciliationChannel, "0")?;
-    for channel in (1..7).filter_map(Channel::from_number) {
+    let first = on_channel(alloc, peer, verb, CHANNELS[0], "0")?;
+    for &channel in &CHANNELS {
         let other = on_channel(alloc, peer, verb, channel, "0")?;
         if other.as_str() != first.as_str() {
             return text(alloc, &"two channels differ");
@@ -227,12 +227,14 @@ impl Subject for Side {
 /// A new peer answers each line of a script as it says.
 pub fn run(rt: &impl Abort, alloc: Global, slots: u32, script: &str) -> Result<(), Fail> {
     let mut side = Side::new(alloc, slots)?;
-    answers(rt, alloc, &mut side, script)
+    answers(rt, alloc, &mut side, script);
+    Ok(())
 }
 
 /// The same, and streams are cut so.
 pub fn run_cut(rt: &impl Abort, alloc: Global, cut: Cut, script: &str) -> Result<(), Fail> {
     let mut side = Side::new(alloc, 4)?;
     side.cut = cut;
-    answers(rt, alloc, &mut side, script)
+    answers(rt, alloc, &mut side, script);
+    Ok(())
 }

@@ -10,15 +10,15 @@ const WORKED: [(u32, &str); 6] = [
         front 1 => None
         arrive 1100026869 => Ok(())
         front 1 => Some(([104, 105], []))
-        take 1 1 => Err(BufferTooSmall { need: 2 }) [238]
-        take 1 3 => Ok(Took(2)) [104, 105, 238]
-        take 1 2 => Ok(Empty) [238, 238]",
+        take 1 1 => (Err(BufferTooSmall { need: 2 }), [238])
+        take 1 3 => (Ok(Took(2)), [104, 105, 238])
+        take 1 2 => (Ok(Empty), [238, 238])",
     ),
     (
         1,
         "issue 0 1 => Ok(())
         issue 0 1 => Err(QueueFull)
-        server 0 => 1 0 7 None None
+        server 0 => (1, 0, 7, None, None)
         out => Some(Issue { channel: ReconciliationChannel, amount: 1 })
         issue 0 1 => Ok(())",
     ),
@@ -29,10 +29,10 @@ const WORKED: [(u32, &str); 6] = [
         limit-sending 1 9 => Ok(())
         honour 0 => Err(QueueFull)
         send 0 6869 => Err(QueueFull)
-        client 0 => 5 Some(0) None None
+        client 0 => (5, Some(0), None, None)
         out => Some(LimitSending { channel: DataChannel, bound: 9 })
         honour 0 => Ok(Some(5))
-        client 0 => 0 None None None
+        client 0 => (0, None, None, None)
         out => Some(Absolve { channel: ReconciliationChannel, amount: 5 })
         out => None",
     ),
@@ -53,7 +53,7 @@ const WORKED: [(u32, &str); 6] = [
         plead 3 0 => Err(NothingToAsk { outstanding: 0 })
         limit-receiving 3 3 => Err(LimitRaised { left: 2 })
         honour 3 => Ok(None)
-        client 3 => 5 None None None
+        client 3 => (5, None, None, None)
         honour 3 => Ok(None)",
     ),
     // Frames wait in order, and can be looked at where they wait.
@@ -72,9 +72,9 @@ const WORKED: [(u32, &str); 6] = [
         out => Some(Send { channel: PayloadRequestChannel, body: Body { bytes: [97, 98, 99] } })
         frame 0 => Some(Absolve { channel: PayloadRequestChannel, amount: 2 })
         waiting => 3
-        client 5 => 3 None None None
-        client 4 => 0 None None None
-        server 6 => 3 0 5 None None",
+        client 5 => (3, None, None, None)
+        client 4 => (0, None, None, None)
+        server 6 => (3, 0, 5, None, None)",
     ),
     // A channel ends once what its client may send was taken.
     (
@@ -84,15 +84,15 @@ const WORKED: [(u32, &str); 6] = [
         pop 2 => Empty
         arrive 12000161 => Ok(())
         arrive 1200026263 => Ok(())
-        server 2 => 5 3 0 Some(0) None
+        server 2 => (5, 3, 0, Some(0), None)
         pop 2 => Took(1)
         front 2 => Some(([98, 99], []))
-        take 2 2 => Ok(Took(2)) [98, 99]
+        take 2 2 => (Ok(Took(2)), [98, 99])
         pop 2 => Ended
-        take 2 0 => Ok(Ended) []
+        take 2 0 => (Ok(Ended), [])
         arrive 12000161 => Err(SentPastLimit)
         arrive 3200000005 => Ok(())
-        server 2 => 0 0 8 Some(0) None",
+        server 2 => (0, 0, 8, Some(0), None)",
     ),
 ];
 
@@ -108,33 +108,33 @@ fn worked_calls(rt: HostRuntime) -> Result<(), Fail> {
 const BROKEN: [&str; 9] = [
     "issue 1 1 => Ok(())
     arrive 1100026162 => Err(NotGuaranteed)
-    server 1 => 1 0 7 None None",
+    server 1 => (1, 0, 7, None, None)",
     "issue 1 4 => Ok(())
     arrive 510000000000000001 => Ok(())
     arrive 1100026162 => Err(SentPastLimit)
-    server 1 => 4 0 4 Some(1) None",
+    server 1 => (4, 0, 4, Some(1), None)",
     "issue 1 4 => Ok(())
     arrive 3100000005 => Err(AbsolvedTooMuch)
-    server 1 => 4 0 4 None None",
+    server 1 => (4, 0, 4, None, None)",
     "arrive 510000000000000001 => Ok(())
     arrive 510000000000000002 => Err(SendLimitRaised)
-    server 1 => 0 0 8 Some(1) None",
+    server 1 => (0, 0, 8, Some(1), None)",
     "arrive 610000000000000000 => Ok(())
     arrive 2100000001 => Err(IssuedPastLimit)
-    client 1 => 0 None None Some(0)",
+    client 1 => (0, None, None, Some(0))",
     "arrive 2101000000 => Ok(())
     arrive 2100000001 => Err(TooManyGuarantees)
-    client 1 => 16777216 None None None",
+    client 1 => (16777216, None, None, None)",
     "arrive 610000000000000005 => Ok(())
     arrive 610000000000000006 => Err(ReceiveLimitRaised)
-    client 1 => 0 None None Some(5)",
+    client 1 => (0, None, None, Some(5))",
     "issue 1 1 => Ok(())
     arrive 510000000000000001 => Ok(())
     arrive 1100026162 => Err(NotGuaranteed)
-    server 1 => 1 0 7 Some(1) None",
+    server 1 => (1, 0, 7, Some(1), None)",
     "issue 1 8 => Ok(())
     arrive 1100026162 => Ok(())
-    server 1 => 6 2 0 None None",
+    server 1 => (6, 2, 0, None, None)",
 ];
 
 #[test]

@@ -1,10 +1,9 @@
 //! The numbers and the texts of faults, and the text of a buffer that is too small.
 use super::same;
 use lc_frame::{BufferTooSmall, FrameFault};
-use std::alloc::{AllocError, Global};
+use std::alloc::Global;
 use std::fmt::Display;
 use std::process::Abort;
-use std::test::Fail;
 
 const FRAME_FAULTS: [(FrameFault, &str); 4] = [
     (
@@ -20,30 +19,21 @@ const FRAME_FAULTS: [(FrameFault, &str); 4] = [
 ];
 
 // Compares a number and the text of its error.
-fn reads<E: Display>(
-    rt: &impl Abort,
-    alloc: Global,
-    number: u8,
-    error: &E,
-    wanted: &str,
-) -> Result<(), AllocError> {
-    let found = format!(in alloc; "{number} {error}")?;
-    same(rt, wanted, found.as_str(), wanted);
-    Ok(())
+fn reads<E: Display>(rt: &impl Abort, alloc: Global, number: u8, error: &E, wanted: &str) {
+    let found = format!(in alloc; "{number} {error}").ok();
+    same(rt, wanted, found, wanted);
 }
 
 #[test]
-fn faults_have_their_numbers_and_texts(rt: HostRuntime) -> Result<(), Fail> {
+fn faults_have_their_numbers_and_texts(rt: HostRuntime) {
     for (fault, wanted) in &FRAME_FAULTS {
-        reads(&rt, rt.alloc(), fault.number(), fault, wanted)?;
+        reads(&rt, rt.alloc(), fault.number(), fault, wanted);
     }
-    Ok(())
 }
 
 #[test]
-fn a_small_buffer_has_its_text(rt: HostRuntime) -> Result<(), Fail> {
-    let found = format!(in rt.alloc(); "{}", BufferTooSmall { need: 65_538 })?;
+fn a_small_buffer_has_its_text(rt: HostRuntime) {
+    let found = format!(in rt.alloc(); "{}", BufferTooSmall { need: 65_538 }).ok();
     let wanted = "the buffer is too small: 65538 bytes are needed";
-    same(&rt, "an error", found.as_str(), wanted);
-    Ok(())
+    same(&rt, "an error", found, wanted);
 }

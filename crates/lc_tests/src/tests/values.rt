@@ -1,5 +1,5 @@
 //! Channels, bodies, frames that are not valid, and slices with and without room.
-use super::same;
+use super::{same, text};
 use lc_frame::{Body, Channel, Frame, FrameRef, MAX_AMOUNT, MAX_BODY, MAX_FRAME, MAX_TOTAL};
 use std::alloc::{AllocError, Global};
 use std::process::Abort;
@@ -35,30 +35,22 @@ fn channels_have_numbers_and_lanes(rt: HostRuntime) -> Result<(), Fail> {
             writeln!(found, "{number}: {}", shown(rt.alloc(), channel)?)?;
         }
     }
-    same(&rt, "channels", found.as_str(), CHANNELS);
+    same(&rt, "channels", Some(found), CHANNELS);
     Ok(())
 }
 
 // Whether the frame is valid, borrowed and owned.
-fn validity(alloc: Global, frame: FrameRef<'_>) -> Result<String, AllocError> {
-    let owned = frame.to_frame(alloc)?;
-    let (borrowed, owned) = (frame.is_valid(), owned.is_valid());
-    format!(in alloc; "{borrowed} {owned}")
+fn validity(alloc: Global, frame: FrameRef<'_>) -> Option<String> {
+    let owned = frame.to_frame(alloc).ok()?;
+    text(alloc, &(frame.is_valid(), owned.is_valid()))
 }
 
-fn is_not_valid(
-    rt: &impl Abort,
-    alloc: Global,
-    what: &str,
-    frame: FrameRef<'_>,
-) -> Result<(), AllocError> {
-    let found = validity(alloc, frame)?;
-    same(rt, what, found.as_str(), "false false");
-    Ok(())
+fn is_not_valid(rt: &impl Abort, alloc: Global, what: &str, frame: FrameRef<'_>) {
+    same(rt, what, validity(alloc, frame), "(false, false)");
 }
 
 #[test]
-fn frames_out_of_range_are_not_valid(rt: HostRuntime) -> Result<(), Fail> {
+fn frames_out_of_range_are_not_valid(rt: HostRuntime) {
     let channel = Channel::DataChannel;
     let (target, bound) = (16_777_217, 4_611_686_018_427_387_905);
     for frame in &[
@@ -67,23 +59,21 @@ fn frames_out_of_range_are_not_valid(rt: HostRuntime) -> Result<(), Fail> {
         FrameRef::LimitSending { channel, bound },
         FrameRef::LimitReceiving { channel, bound },
     ] {
-        is_not_valid(&rt, rt.alloc(), "a frame", *frame)?;
+        is_not_valid(&rt, rt.alloc(), "a frame", *frame);
     }
-    Ok(())
 }
 
 #[test]
-fn amounts_out_of_range_are_not_valid(rt: HostRuntime) -> Result<(), Fail> {
+fn amounts_out_of_range_are_not_valid(rt: HostRuntime) {
     let channel = Channel::DataChannel;
     for &amount in &[0, 16_777_217, u32::MAX] {
         let (issue, absolve) = (
             FrameRef::Issue { channel, amount },
             FrameRef::Absolve { channel, amount },
         );
-        is_not_valid(&rt, rt.alloc(), "an issue", issue)?;
-        is_not_valid(&rt, rt.alloc(), "an absolve", absolve)?;
+        is_not_valid(&rt, rt.alloc(), "an issue", issue);
+        is_not_valid(&rt, rt.alloc(), "an absolve", absolve);
     }
-    Ok(())
 }
 
 fn body(alloc: Global, bytes: &[u8]) -> Result<Body, AllocError> {
@@ -98,18 +88,18 @@ fn are_equal(alloc: Global, one: &[u8], other: &[u8]) -> Result<bool, AllocError
 fn bodies_are_equal_by_their_bytes(rt: HostRuntime) -> Result<(), Fail> {
     let is_equal = are_equal(rt.alloc(), &[1, 2, 3], &[1, 2, 3])?;
     let is_other = are_equal(rt.alloc(), &[1, 2, 3], &[1, 2, 4])?;
-    let found = format!(in rt.alloc(); "{is_equal} {is_other}")?;
-    same(&rt, "bodies", found.as_str(), "true false");
+    let found = text(rt.alloc(), &(is_equal, is_other));
+    same(&rt, "bodies", found, "(true, false)");
     Ok(())
 }
 
 #[test]
 fn bodies_are_their_bytes(rt: HostRuntime) -> Result<(), Fail> {
     let body = body(rt.alloc(), &[1, 2, 4])?;
-    let found = format!(in rt.alloc(); "{:?}", body.as_slice())?;
-    same(&rt, "bytes", found.as_str(), "[1, 2, 4]");
-    let found = format!(in rt.alloc(); "{:?}", body.into_vec())?;
-    same(&rt, "bytes", found.as_str(), "[1, 2, 4]");
+    let found = text(rt.alloc(), &body.as_slice());
+    same(&rt, "bytes", found, "[1, 2, 4]");
+    let found = text(rt.alloc(), &body.into_vec());
+    same(&rt, "bytes", found, "[1, 2, 4]");
     Ok(())
 }
 
@@ -125,14 +115,14 @@ fn frames_are_equal_by_their_fields(rt: HostRuntime) -> Result<(), Fail> {
         channel: Channel::DataChannel,
         amount: 3,
     };
-    let (is_equal, is_other) = (frame == message(rt.alloc())?, frame == issue);
-    let found = format!(in rt.alloc(); "{is_equal} {is_other}")?;
-    same(&rt, "frames", found.as_str(), "true false");
+    let is_equal = frame == message(rt.alloc())?;
+    let found = text(rt.alloc(), &(is_equal, frame == issue));
+    same(&rt, "frames", found, "(true, false)");
     Ok(())
 }
 
 #[test]
-fn a_slice_takes_a_frame_only_where_there_is_room(rt: HostRuntime) -> Result<(), Fail> {
+fn a_slice_takes_a_frame_only_where_there_is_room(rt: HostRuntime) {
     let frame = FrameRef::Issue {
         channel: Channel::DataChannel,
         amount: 5,
@@ -142,21 +132,15 @@ fn a_slice_takes_a_frame_only_where_there_is_room(rt: HostRuntime) -> Result<(),
         frame.encode_to_slice(&mut short),
         frame.encode_to_slice(&mut long),
     );
-    let found = format!(in rt.alloc(); "{answers:?} {short:?} {long:?}")?;
+    let found = text(rt.alloc(), &(answers, short, long));
     let wanted =
-        "(Err(BufferTooSmall { need: 5 }), Ok(5)) [170, 170, 170, 170] [33, 0, 0, 0, 5, 170]";
-    same(&rt, "slices", found.as_str(), wanted);
-    Ok(())
+        "((Err(BufferTooSmall { need: 5 }), Ok(5)), [170, 170, 170, 170], [33, 0, 0, 0, 5, 170])";
+    same(&rt, "slices", found, wanted);
 }
 
 #[test]
-fn the_limits_are_those_of_the_format(rt: HostRuntime) -> Result<(), Fail> {
-    let found = format!(in rt.alloc(); "{MAX_BODY} {MAX_AMOUNT} {MAX_TOTAL} {MAX_FRAME}")?;
-    same(
-        &rt,
-        "limits",
-        found.as_str(),
-        "65535 16777216 4611686018427387904 65538",
-    );
-    Ok(())
+fn the_limits_are_those_of_the_format(rt: HostRuntime) {
+    let found = text(rt.alloc(), &(MAX_BODY, MAX_AMOUNT, MAX_TOTAL, MAX_FRAME));
+    let wanted = "(65535, 16777216, 4611686018427387904, 65538)";
+    same(&rt, "limits", found, wanted);
 }

@@ -1,10 +1,9 @@
 //! The numbers and the texts of refusals and violations.
 use super::same;
 use lc_book::{Refusal, Violation};
-use std::alloc::{AllocError, Global};
+use std::alloc::Global;
 use std::fmt::Display;
 use std::process::Abort;
-use std::test::Fail;
 
 const REFUSALS: [(Refusal, &str); 15] = [
     (Refusal::EmptyBody, "1 the message is empty"),
@@ -87,30 +86,21 @@ const VIOLATIONS: [(Violation, &str); 8] = [
 ];
 
 // Compares a number and the text of its error.
-fn reads<E: Display>(
-    rt: &impl Abort,
-    alloc: Global,
-    number: u8,
-    error: &E,
-    wanted: &str,
-) -> Result<(), AllocError> {
-    let found = format!(in alloc; "{number} {error}")?;
-    same(rt, wanted, found.as_str(), wanted);
-    Ok(())
+fn reads<E: Display>(rt: &impl Abort, alloc: Global, number: u8, error: &E, wanted: &str) {
+    let found = format!(in alloc; "{number} {error}").ok();
+    same(rt, wanted, found, wanted);
 }
 
 #[test]
-fn refusals_have_their_numbers_and_texts(rt: HostRuntime) -> Result<(), Fail> {
+fn refusals_have_their_numbers_and_texts(rt: HostRuntime) {
     for (refusal, wanted) in &REFUSALS {
-        reads(&rt, rt.alloc(), refusal.number(), refusal, wanted)?;
+        reads(&rt, rt.alloc(), refusal.number(), refusal, wanted);
     }
-    Ok(())
 }
 
 #[test]
-fn violations_have_their_numbers_and_texts(rt: HostRuntime) -> Result<(), Fail> {
+fn violations_have_their_numbers_and_texts(rt: HostRuntime) {
     for (violation, wanted) in &VIOLATIONS {
-        reads(&rt, rt.alloc(), violation.number(), violation, wanted)?;
+        reads(&rt, rt.alloc(), violation.number(), violation, wanted);
     }
-    Ok(())
 }
