@@ -1,7 +1,7 @@
 //! The bytes of frames.
 ghost use Rattle.std.specs.Prelude.{◌≡◌, ◌≤◌, ◌<◌, ◌+◌, ◌∷◌, ◌++◌, length, drop, OnOk, OnErr, IfOk, IfErr, IsOk, vec_len, vec_capacity};
 ghost use Rattle.std.specs.Int.{w16, w32, w64, to_be_bytes};
-ghost use Rattle.lc_frame.specs.Kind.{max_frame};
+ghost use Rattle.lc_frame.specs.Kind.{max_body, max_frame};
 ghost use Rattle.lc_frame.specs.Frame.{IsValid};
 ghost use Rattle.lc_frame.specs.FrameRef.{frame_of};
 ghost use Rattle.lc_frame.specs.Encoding.{tag_of, encoding};
@@ -66,6 +66,21 @@ fn put(out: &mut [u8], bytes: &[u8])
     front.copy_from_slice(bytes);
 }
 
+// Appends the bytes of a message. A function of its own, so that what appends the short frames is
+// small enough to stand where it is called.
+#[inline(never)]
+fn append_message(tag: u8, body: &[u8], out: &mut Vec<u8>) -> Result<(), AllocError>
+    requires { length body.now ≤ max_body }
+    ensures ok { OnOk result (out.new.items ≡ out.old.items ++ (tag ∷ to_be_bytes w16 (length body.now)) ++ body.now) }
+    ensures err { OnErr result (out.new.items ≡ out.old.items) }
+    ensures room { vec_len out.old + (3 + length body.now) ≤ vec_capacity out.old → IsOk result }
+    ensures capacity { vec_capacity out.old ≤ vec_capacity out.new }
+{
+    out.reserve(SHORT + body.len())?;
+    out.extend_from_slice(&short(tag, body.len() as u16))?;
+    out.extend_from_slice(body)
+}
+
 impl FrameRef<'_> {
     /// How many bytes the frame has.
     #[inline]
@@ -78,7 +93,7 @@ impl FrameRef<'_> {
 
     /// Appends the bytes of a valid frame. On an error, which is want of memory, the vector holds
     /// what it held.
-    #[inline]
+    #[inline(always)]
     pub fn encode_into(&self, out: &mut Vec<u8>) -> Result<(), AllocError>
         requires { IsValid (frame_of self.now) }
         ensures ok { OnOk result (out.new.items ≡ out.old.items ++ encoding (frame_of self.now)) }
@@ -91,11 +106,7 @@ impl FrameRef<'_> {
         let channel = self.channel();
         let tag = tag(self.kind(), channel);
         match *self {
-            FrameRef::Send { body, .. } => {
-                out.reserve(SHORT + body.len())?;
-                out.extend_from_slice(&short(tag, body.len() as u16))?;
-                out.extend_from_slice(body)
-            }
+            FrameRef::Send { body, .. } => append_message(tag, body, out),
             FrameRef::Issue { amount, .. } | FrameRef::Absolve { amount, .. } => {
                 out.extend_from_slice(&word(tag, amount))
             }
