@@ -3,7 +3,7 @@ mod calls;
 mod play;
 mod queue;
 
-use crate::balances_agree;
+use lc_sharing::balances_agree;
 use std::test::Fail;
 
 #[test]

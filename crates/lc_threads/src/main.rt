@@ -5,7 +5,7 @@
 #![tactic(auto)]
 
 use lc_queue::{LanesFault, lanes};
-use lc_shared_tests::{balances_agree, keeps_order};
+use lc_sharing::{balances_agree, keeps_order};
 use std::alloc::{AllocError, Global};
 use std::sync::Wait;
 use std::thread::Threads;

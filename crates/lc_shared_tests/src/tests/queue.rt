@@ -3,9 +3,9 @@ ghost use Rattle.std.specs.Prelude.{IfOk};
 ghost use Rattle.std.specs.List.{All};
 ghost use Rattle.lc_queue.specs.Parts.{IsSame, IsSameEnd};
 
-use crate::keeps_order;
 use lc_frame::{Body, Channel, Frame};
 use lc_queue::{Drain, LaneEnd, Lanes, LanesFault, lanes};
+use lc_sharing::keeps_order;
 use std::alloc::Global;
 use std::process::Abort;
 use std::sync::Wait;
