@@ -18,6 +18,3 @@ returns-in-Fault-clause-whole c = λ f s. absurd (fault_no_frame _ _ _ c.self.in
 
 pub returns-in-Whole-clause-whole : goal.returns-in-Whole-clause-whole
 returns-in-Whole-clause-whole c = search rules
-
-pub returns-in-Fault-clause-other : goal.returns-in-Fault-clause-other
-returns-in-Fault-clause-other c = search rules
