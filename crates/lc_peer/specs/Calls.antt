@@ -35,7 +35,7 @@ queue_refusal p = if nat_lt (length p.waiting) p.slots then None else Some Queue
 abbrev pub refusal : PeerState → Frame → Option Refusal
 refusal p f = option_or (refusal_by_books p f) (queue_refusal p)
 
--- a send alone may also want memory, where its book has no refusal
+-- a send alone may also want memory, where its book has no refusal; it asks for it before it looks for a place
 abbrev pub IsSendAnswer : PeerState → Frame → Option Refusal → Type 0
 IsSendAnswer p f answer = (answer ≡ refusal p f) ⊎ ((refusal_by_books p f ≡ None) × (answer ≡ Some OutOfMemory))
 

@@ -63,7 +63,7 @@ fn note(book: &mut ServerBook, len: Option<usize>) -> Take
 impl Inbox {
     /// The inbox of a channel on which nothing has happened, over a ring of so many bytes.
     /// `BadCapacity` exactly where that is not 1 to 2^24, which is found before any memory is
-    /// taken. No other call takes any.
+    /// asked for. No other call asks for any.
     pub fn new(alloc: Global, capacity: u32) -> Result<Inbox, NewFault>
         ensures capacity { (result ≡ Err NewFault.BadCapacity) ↔ IsNoCapacity capacity }
         ensures value { IfOk result (λ inbox. inbox ≡ new_inbox capacity) }
@@ -87,7 +87,8 @@ impl Inbox {
         book
     }
 
-    /// Takes over a book that came from this inbox and was changed by calls of the server's own.
+    /// Takes over a book that came from this inbox and was changed by calls of the server's own. An
+    /// older copy with as many buffered bytes is taken over as well: what was counted since is lost.
     pub fn adopt(&mut self, book: ServerBook)
         requires capacity { book.capacity ≡ self.old.book.capacity }
         requires buffered { buffered book ≡ buffered self.old.book }

@@ -69,7 +69,7 @@ fn enqueue(waiting: &mut HeapCircularBuffer<Frame>, frame: Frame) -> Result<(), 
 impl Peer {
     /// A peer on which nothing has happened. Faults come in this order: the first channel whose
     /// ring would not have 1 to 2^24 bytes, slots outside 1 to 65,536, want of memory. The first two are found
-    /// before any memory is taken.
+    /// before any memory is asked for. No other call but `send` asks for any.
     pub fn new(alloc: Global, config: Config) -> Result<Peer, PeerFault>
         ensures answer { IsNewAnswer config (result_err result) }
         ensures value { IfOk result (λ peer. peer ≡ new_peer config) }
@@ -89,7 +89,7 @@ impl Peer {
     }
 
     /// A message of 1 to `MAX_BODY` bytes is sent. Refused by 1, 2, 3 and 4, by 14 where the copy of the body
-    /// gets no memory, and by 13, in this order.
+    /// gets no memory, and by 13, in this order: the copy is made before a place is looked for.
     pub fn send(&mut self, channel: Channel, body: &[u8]) -> Result<(), Refusal>
         ensures answer { IsSendAnswer self.old (Send channel body.now) (result_err result) }
         ensures after { self.new ≡ (if is_ok result then put self.old (Send channel body.now) else self.old) }

@@ -222,7 +222,8 @@ fn moves(rt: &impl Abort, side: &mut Side, empty: Pipe, full: Pipe) {
     assert_eq!(rt; (issued, wrote, end, held), wanted);
 }
 
-// A side asks for memory where it is made, and no write and no read asks for any.
+// A side asks for memory where it is made, and no write and no read asks for any: the last request
+// is the test's own.
 #[test]
 fn memory_is_asked_for_where_they_are_made(rt: HostRuntime) -> Result<(), Fail> {
     let empty = Pipe {
@@ -232,5 +233,6 @@ fn memory_is_asked_for_where_they_are_made(rt: HostRuntime) -> Result<(), Fail> 
     let full = pipe(rt.alloc(), &[0x21, 0, 0, 0, 5])?;
     let mut side = Side::new(rt.alloc(), 8, 2)?;
     moves(&rt, &mut side, empty, full);
+    let _: Vec<u8> = Vec::with_capacity(rt.alloc(), 1)?;
     Ok(())
 }

@@ -3,7 +3,7 @@ use crate::tests::inbox::inbox;
 use crate::tests::same;
 use crate::tests::script::{peer, text};
 use lc_frame::{Channel, FrameRef};
-use lc_peer::{Config, Peer, Refusal, Take};
+use lc_peer::{Config, Inbox, NewFault, Peer, PeerFault, Refusal, Take};
 use std::alloc::Global;
 use std::process::Abort;
 use std::test::Fail;
@@ -25,15 +25,19 @@ const FAULTS: [([u32; 7], u32, &str); 4] = [
 ];
 
 // Why there is no peer.
-fn fault(alloc: Global, capacities: [u32; 7], slots: u32) -> Option<String> {
-    let fault = Peer::new(alloc, Config { capacities, slots }).err()?;
+fn fault(alloc: Global, capacities: [u32; 7], slots: u32) -> Option<PeerFault> {
+    Peer::new(alloc, Config { capacities, slots }).err()
+}
+
+fn fault_text(alloc: Global, capacities: [u32; 7], slots: u32) -> Option<String> {
+    let fault = fault(alloc, capacities, slots)?;
     format!(in alloc; "{fault:?}: {fault}").ok()
 }
 
 #[test]
 fn peers_of_other_bounds(rt: HostRuntime) {
     for &(capacities, slots, want) in &FAULTS {
-        same(&rt, "new", fault(rt.alloc(), capacities, slots), want);
+        same(&rt, "new", fault_text(rt.alloc(), capacities, slots), want);
     }
 }
 
@@ -50,49 +54,118 @@ fn the_widest_peer(rt: HostRuntime) -> Result<(), Fail> {
     Ok(())
 }
 
+const CHANNEL: Channel = Channel::DataChannel;
+
+// Bad bounds are named before memory is asked for.
+fn are_bad(rt: &impl Abort, alloc: Global) {
+    let inbox = Inbox::new(alloc, 0).err();
+    let capacity = fault(alloc, [8, 8, 8, 8, 8, 8, 0], 7);
+    let slots = fault(alloc, [8; 7], 0);
+    let channel = Channel::StaticTokenChannel;
+    let bad = Some(PeerFault::BadCapacity { channel });
+    let wanted = (Some(NewFault::BadCapacity), bad, Some(PeerFault::BadSlots));
+    assert_eq!(rt; (inbox, capacity, slots), wanted);
+}
+
 fn arrives(rt: &impl Abort, peer: &mut Peer, frame: FrameRef<'_>) {
     assert!(rt; frame.is_valid() && peer.arrive(frame).is_ok());
 }
 
-// Whether five guarantees that came and are to be given back let a message be sent. A send that gets
-// no memory changes nothing.
+// Nine guarantees come, and the wish that four are left of them.
+fn invites(rt: &impl Abort, peer: &mut Peer) {
+    let (channel, amount, target) = (CHANNEL, 9, 4);
+    arrives(rt, peer, FrameRef::Issue { channel, amount });
+    arrives(rt, peer, FrameRef::Plead { channel, target });
+}
+
+// Whether a message is sent. A send that gets no memory changes nothing.
 fn sends(rt: &impl Abort, peer: &mut Peer) -> bool {
-    let channel = Channel::DataChannel;
-    arrives(rt, peer, FrameRef::Issue { channel, amount: 5 });
-    arrives(rt, peer, FrameRef::Plead { channel, target: 0 });
-    let sent = peer.send(channel, b"hi");
+    let sent = peer.send(CHANNEL, b"hi");
     if sent.is_ok() {
         return true;
     }
-    let left = (peer.client(channel).held(), peer.waiting());
-    let again = peer.send(channel, b"hi");
+    let left = (peer.client(CHANNEL).held(), peer.waiting());
+    let again = peer.send(CHANNEL, b"hi");
     assert_eq!(rt;
         (sent, left, again),
-        (Err(Refusal::OutOfMemory), (5, 0), Ok(()))
+        (Err(Refusal::OutOfMemory), (9, 0), Ok(()))
     );
     false
 }
 
-// What comes behind the message asks for no memory.
-fn goes_on(rt: &impl Abort, peer: &mut Peer) {
-    let channel = Channel::DataChannel;
-    let issued = peer.issue(channel, 8);
-    let honoured = peer.honour(channel);
-    let body = b"hello";
-    arrives(rt, peer, FrameRef::Send { channel, body });
-    let popped = peer.pop(channel);
-    let done = (issued, honoured, popped, peer.waiting());
-    assert_eq!(rt; done, (Ok(()), Ok(Some(3)), Take::Took(5), 3));
+// Every other own call puts its frame, and as many wait then as may.
+fn calls(rt: &impl Abort, peer: &mut Peer) {
+    let honoured = peer.honour(CHANNEL);
+    let absolved = peer.absolve(CHANNEL, 1);
+    let limited = peer.limit_sending(CHANNEL, 2);
+    let issued = peer.issue(CHANNEL, 8);
+    let pleaded = peer.plead(CHANNEL, 7);
+    let bounded = peer.limit_receiving(CHANNEL, 0);
+    assert_eq!(rt;
+        (honoured, absolved, limited),
+        (Ok(Some(3)), Ok(()), Ok(()))
+    );
+    assert_eq!(rt;
+        (issued, pleaded, bounded, peer.waiting()),
+        (Ok(()), Ok(()), Ok(()), 7)
+    );
 }
 
-// Every request for memory can be refused here in turn.
-#[test]
-fn memory_is_asked_for_by_three_calls(rt: HostRuntime) -> Result<(), Fail> {
-    let _ = inbox(rt.alloc(), 8)?;
-    let mut peer = peer(rt.alloc(), [8; 7], 4)?;
-    if !sends(&rt, &mut peer) {
+// Whether a send came so far that it found no place.
+fn finds_no_place(rt: &impl Abort, peer: &mut Peer) -> bool {
+    let sent = peer.send(CHANNEL, b"no");
+    let (full, memory) = (Err(Refusal::QueueFull), Err(Refusal::OutOfMemory));
+    assert!(rt; sent == full || sent == memory);
+    sent == full
+}
+
+// Two messages come, and every other frame.
+fn comes(rt: &impl Abort, peer: &mut Peer) {
+    let (channel, body) = (CHANNEL, b"hey");
+    arrives(rt, peer, FrameRef::Send { channel, body });
+    arrives(rt, peer, FrameRef::Send { channel, body });
+    let (amount, target, bound) = (1, 0, 0);
+    arrives(rt, peer, FrameRef::Absolve { channel, amount });
+    arrives(rt, peer, FrameRef::LimitSending { channel, bound });
+    arrives(rt, peer, FrameRef::Issue { channel, amount });
+    arrives(rt, peer, FrameRef::Plead { channel, target });
+    arrives(rt, peer, FrameRef::LimitReceiving { channel, bound });
+}
+
+// The messages are taken, and a frame goes out.
+fn goes(rt: &impl Abort, peer: &mut Peer) {
+    let fronts = peer.front(CHANNEL) == Some((b"hey", b""));
+    let took = peer.take_into(CHANNEL, &mut [0; 3]);
+    let popped = (peer.pop(CHANNEL), peer.pop(CHANNEL));
+    assert_eq!(rt; (fronts, took), (true, Ok(Take::Took(3))));
+    assert_eq!(rt; popped, (Take::Took(3), Take::Ended));
+    let lent = peer.waiting_frame(6).is_some();
+    let out = peer.next_out().is_some();
+    assert_eq!(rt; (lent, out, peer.waiting()), (true, true, 6));
+}
+
+// A call after the other. A send alone asks for memory, also where no frame more can wait.
+fn called(rt: &impl Abort, peer: &mut Peer) -> Result<(), Fail> {
+    invites(rt, peer);
+    if !sends(rt, peer) {
         return Err("a send was refused and changed nothing")?;
     }
-    goes_on(&rt, &mut peer);
+    calls(rt, peer);
+    if !finds_no_place(rt, peer) {
+        return Err("a send asked for memory before a place")?;
+    }
+    comes(rt, peer);
+    goes(rt, peer);
+    Ok(())
+}
+
+// Every request for memory can be refused here in turn; the last is the test's own.
+#[test]
+fn memory_is_asked_for_by_three_calls(rt: HostRuntime) -> Result<(), Fail> {
+    are_bad(&rt, rt.alloc());
+    let _ = inbox(rt.alloc(), 8)?;
+    let mut peer = peer(rt.alloc(), [8; 7], 7)?;
+    called(&rt, &mut peer)?;
+    let _: Vec<u8> = Vec::with_capacity(rt.alloc(), 1)?;
     Ok(())
 }

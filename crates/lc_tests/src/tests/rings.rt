@@ -6,6 +6,7 @@ use super::{Subject, answers, same, text};
 use lc_frame::MAX_BODY;
 use lc_ring::{Full, NewFault, RecvRing};
 use std::alloc::Global;
+use std::process::Abort;
 use std::test::Fail;
 
 fn push(alloc: Global, ring: &mut RecvRing, digits: &str) -> Option<String> {
@@ -111,11 +112,25 @@ fn called(ring: &mut RecvRing) -> Result<(), Fail> {
     Ok(())
 }
 
-// Behind the memory of the ring, no call asks for any.
+// A bad capacity is named before memory is asked for.
+fn is_bad(rt: &impl Abort, alloc: Global) {
+    let faults = (
+        RecvRing::new(alloc, 0).err(),
+        RecvRing::new(alloc, u32::MAX).err(),
+    );
+    let bad = Some(NewFault::BadCapacity);
+    assert_eq!(rt; faults, (bad, bad));
+}
+
+// Every request for memory can be refused here in turn: behind the ring's the last is the test's
+// own.
 #[test]
 fn a_ring_of_four_bytes(rt: HostRuntime) -> Result<(), Fail> {
+    is_bad(&rt, rt.alloc());
     let mut ring = RecvRing::new(rt.alloc(), 4)?;
-    called(&mut ring)
+    called(&mut ring)?;
+    let _: Vec<u8> = Vec::with_capacity(rt.alloc(), 1)?;
+    Ok(())
 }
 
 const SHORT: &str = "push 68656c6c6f => Ok(())
@@ -195,13 +210,13 @@ fn a_full_ring_of_messages_of_one_byte(rt: HostRuntime) -> Result<(), Fail> {
     Ok(())
 }
 
-// Capacities, and what there is of a ring: what a push of the longest message answers, then a take,
-// and whether it takes the same.
+// Capacities, and what there is of a ring: what a push of the longest message answers, how long the
+// slices of the first are then, what a take answers, and whether it takes the same.
 const CAPACITIES: &str = "0 => BadCapacity
-1 => (Err(Full { free: 1 }), Ok(None), false)
-65534 => (Err(Full { free: 65534 }), Ok(None), false)
-65535 => (Ok(()), Ok(Some(65535)), true)
-16777216 => (Ok(()), Ok(Some(65535)), true)
+1 => (Err(Full { free: 1 }), None, Ok(None), false)
+65534 => (Err(Full { free: 65534 }), None, Ok(None), false)
+65535 => (Ok(()), Some((65535, 0)), Ok(Some(65535)), true)
+16777216 => (Ok(()), Some((65535, 0)), Ok(Some(65535)), true)
 16777217 => BadCapacity
 4294967295 => BadCapacity
 ";
@@ -210,9 +225,10 @@ fn longest(alloc: Global, ring: &mut RecvRing) -> Option<String> {
     let mut bytes = vec![in alloc; 0x5a_u8; MAX_BODY].ok()?;
     let pushed = ring.push(bytes.as_slice());
     bytes.fill(0);
+    let lengths = ring.front().map(|(near, far)| (near.len(), far.len()));
     let taken = ring.take_into(&mut bytes);
     let is_same = bytes.iter().all(|byte| *byte == 0x5a);
-    text(alloc, &(pushed, taken, is_same))
+    text(alloc, &(pushed, lengths, taken, is_same))
 }
 
 #[derive(Drop)]
