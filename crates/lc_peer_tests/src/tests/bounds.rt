@@ -3,7 +3,7 @@ use crate::tests::inbox::inbox;
 use crate::tests::same;
 use crate::tests::script::{peer, text};
 use lc_frame::{Channel, FrameRef};
-use lc_peer::{Config, Inbox, NewFault, Peer, PeerFault, Refusal, Take};
+use lc_peer::{Config, Inbox, NewFault, Peer, PeerFault, Refusal, Take, Violation};
 use std::alloc::Global;
 use std::process::Abort;
 use std::test::Fail;
@@ -71,9 +71,11 @@ fn arrives(rt: &impl Abort, peer: &mut Peer, frame: FrameRef<'_>) {
     assert!(rt; frame.is_valid() && peer.arrive(frame).is_ok());
 }
 
-// Nine guarantees come, and the wish that four are left of them.
+// The book refuses a message. Then nine guarantees come, and the wish that four are left of them.
 fn invites(rt: &impl Abort, peer: &mut Peer) {
     let (channel, amount, target) = (CHANNEL, 9, 4);
+    let refused = peer.send(channel, b"hi");
+    assert!(rt; refused == Err(Refusal::NoGuarantee { held: 0 }));
     arrives(rt, peer, FrameRef::Issue { channel, amount });
     arrives(rt, peer, FrameRef::Plead { channel, target });
 }
@@ -119,6 +121,14 @@ fn finds_no_place(rt: &impl Abort, peer: &mut Peer) -> bool {
     sent == full
 }
 
+// A frame comes that breaks the rules.
+fn violates(rt: &impl Abort, peer: &mut Peer) {
+    let (channel, amount) = (CHANNEL, 9);
+    let frame = FrameRef::Absolve { channel, amount };
+    assert!(rt; frame.is_valid());
+    assert!(rt; peer.arrive(frame) == Err(Violation::AbsolvedTooMuch));
+}
+
 // Two messages come, and every other frame.
 fn comes(rt: &impl Abort, peer: &mut Peer) {
     let (channel, body) = (CHANNEL, b"hey");
@@ -135,8 +145,10 @@ fn comes(rt: &impl Abort, peer: &mut Peer) {
 // The messages are taken, and a frame goes out.
 fn goes(rt: &impl Abort, peer: &mut Peer) {
     let fronts = peer.front(CHANNEL) == Some((b"hey", b""));
+    let short = peer.take_into(CHANNEL, &mut [0; 2]);
     let took = peer.take_into(CHANNEL, &mut [0; 3]);
     let popped = (peer.pop(CHANNEL), peer.pop(CHANNEL));
+    assert!(rt; short == Err(Refusal::BufferTooSmall { need: 3 }));
     assert_eq!(rt; (fronts, took), (true, Ok(Take::Took(3))));
     assert_eq!(rt; popped, (Take::Took(3), Take::Ended));
     let lent = peer.waiting_frame(6).is_some();
@@ -144,7 +156,8 @@ fn goes(rt: &impl Abort, peer: &mut Peer) {
     assert_eq!(rt; (lent, out, peer.waiting()), (true, true, 6));
 }
 
-// A call after the other. A send alone asks for memory, also where no frame more can wait.
+// A call after the other. A send alone asks for memory, where its book lets it, also where no frame
+// more can wait.
 fn called(rt: &impl Abort, peer: &mut Peer) -> Result<(), Fail> {
     invites(rt, peer);
     if !sends(rt, peer) {
@@ -154,6 +167,7 @@ fn called(rt: &impl Abort, peer: &mut Peer) -> Result<(), Fail> {
     if !finds_no_place(rt, peer) {
         return Err("a send asked for memory before a place")?;
     }
+    violates(rt, peer);
     comes(rt, peer);
     goes(rt, peer);
     Ok(())
