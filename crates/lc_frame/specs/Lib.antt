@@ -1,5 +1,6 @@
 pub mod Channel
 pub mod Kind
+pub mod Bounds
 pub mod Frame
 pub mod FrameRef
 pub mod Stream

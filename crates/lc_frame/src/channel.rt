@@ -16,6 +16,17 @@ pub enum Channel {
 }
 
 impl Channel {
+    /// All channels, in the order of their numbers.
+    pub const ALL: [Channel; 7] = [
+        Channel::ReconciliationChannel,
+        Channel::DataChannel,
+        Channel::OverlapChannel,
+        Channel::CapabilityChannel,
+        Channel::AreaOfInterestChannel,
+        Channel::PayloadRequestChannel,
+        Channel::StaticTokenChannel,
+    ];
+
     /// The channel's number, 0 to 6.
     pub fn number(self) -> u8
         ensures value { result ≡ number_of self }
@@ -23,6 +34,14 @@ impl Channel {
         ensures inverse { channel_at result ≡ Some self }
     {
         self as u8
+    }
+
+    /// The channel's place in what is kept for each channel: its number.
+    pub fn index(self) -> usize
+        ensures value { result ≡ number_of self }
+        ensures range { result < 7 }
+    {
+        usize::from(self.number())
     }
 
     /// The channel of a number, `None` above 6.

@@ -3,6 +3,7 @@
 #![tactic(auto)]
 
 mod body;
+mod bounds;
 mod buffer_too_small;
 mod channel;
 mod decoded;
@@ -18,6 +19,7 @@ mod scan;
 mod stream_decoder;
 
 pub use body::Body;
+pub use bounds::{MAX_SLOTS, is_capacity, is_slots};
 pub use buffer_too_small::BufferTooSmall;
 pub use channel::Channel;
 pub use decoded::{Decoded, decode};
