@@ -1,16 +1,15 @@
--- Lemmas on histories: one entry more, what a side knows, and what its own entries add up to.
-use Rattle.std.proofs.Common.{◌≡◌, ℕ, ◌+◌, ◌≤◌, Bool, List, [], ◌∷◌, ◌++◌, Option, Some, None, sym, refl, ap, ◌∙◌, subst, arith, append_assoc, append-nil}
-use Rattle.std.specs.Prelude.{filter, sum, unwrap_or}
-use Rattle.std.specs.List.{filter_map, cons_option}
-use Rattle.std.proofs.lemmas.List.Elements.{filter-append, filter_map-append}
+-- Lemmas on histories of a credit: one entry more, and what a side's own entries add up to.
+use Rattle.std.proofs.Common.{◌≡◌, ℕ, ◌+◌, false, List, [], ◌∷◌, ◌++◌, Option, Some, None, refl, ap, ◌∙◌, arith}
+use Rattle.std.specs.Prelude.{sum, filter}
+use Rattle.std.specs.List.{filter_map, fold, cons_option}
+use Rattle.std.proofs.lemmas.List.Elements.{filter_map-append}
 use Rattle.std.proofs.lemmas.List.Sums.{sum_by-append, fold-append}
+use Rattle.lc_history.specs.History.{Knows}
+use Rattle.lc_history.proofs.Histories as histories
 use Rattle.lc_credit.specs.declared.history.Entry.{Entry}
 use Rattle.lc_credit.specs.declared.history.Entry.TheVariants.{Received, Used, Returned, Asked, Taken}
-use Rattle.lc_credit.specs.History.{received_of, used_of, returned_of, received, used, returned, waiting_after, waiting, IsHeld, MayFollow, IsHistoryAfter, IsHistory, is_incoming, is_outgoing, Knows, Makes, CoversEachUse}
-
--- an amount, where there is one
-abbrev pub amount : Option ℕ → ℕ
-amount o = unwrap_or o 0
+use Rattle.lc_credit.specs.History.{received_of, used_of, returned_of, received, used, returned, waiting_after, waiting, last_use_after, last_use, IsHeld, MayFollow, IsHistory, is_incoming, is_outgoing, Learns, Makes, CoversEachUse}
+use Rattle.lc_credit.specs.Rule.{amount}
 
 sum-append : (xs ys : List ℕ) → sum (xs ++ ys) ≡ sum xs + sum ys
 sum-append xs ys = sum_by-append (λ n. n) xs ys
@@ -19,13 +18,9 @@ sum-one : (o : Option ℕ) → sum (cons_option o []) ≡ amount o
 sum-one None = refl
 sum-one (Some n) = omega arith
 
--- the sums of lists that are put together, and with one entry more
-module _ (of : Entry → Option ℕ) where
-  total-append : (xs ys : List Entry) → sum (filter_map of (xs ++ ys)) ≡ sum (filter_map of xs) + sum (filter_map of ys)
-  total-append xs ys = rw (filter_map-append of xs ys) (sum-append (filter_map of xs) (filter_map of ys))
-
-  total-push : (xs : List Entry) (e : Entry) → sum (filter_map of (xs ++ e ∷ [])) ≡ sum (filter_map of xs) + amount (of e)
-  total-push xs e = total-append xs (e ∷ []) ∙ ap (λ n. sum (filter_map of xs) + n) (sum-one (of e))
+-- the sums of a list with one entry more
+total-push : (of : Entry → Option ℕ) (xs : List Entry) (e : Entry) → sum (filter_map of (xs ++ e ∷ [])) ≡ sum (filter_map of xs) + amount (of e)
+total-push of xs e = rw (filter_map-append of xs (e ∷ [])) (sum-append (filter_map of xs) (filter_map of (e ∷ [])) ∙ ap (λ n. sum (filter_map of xs) + n) (sum-one (of e)))
 
 pub received-push : (xs : List Entry) (e : Entry) → received (xs ++ e ∷ []) ≡ received xs + amount (received_of e)
 received-push = total-push received_of
@@ -39,64 +34,67 @@ returned-push = total-push returned_of
 pub waiting-push : (xs : List Entry) (e : Entry) → waiting (xs ++ e ∷ []) ≡ waiting_after (waiting xs) e
 waiting-push xs e = fold-append waiting_after None xs (e ∷ [])
 
--- the other side's entries add nothing to what a side counts
-no_received : (later : List Entry) → filter is_incoming later ≡ [] → received later ≡ 0
-no_received [] none = refl
-no_received (Received n ∷ later) none = absurd (cc)
-no_received (Used n ∷ later) none = no_received later none
-no_received (Returned n ∷ later) none = no_received later none
-no_received (Asked t ∷ later) none = absurd (cc)
-no_received (Taken t ∷ later) none = no_received later none
+pub last_use-push : (xs : List Entry) (e : Entry) → last_use (xs ++ e ∷ []) ≡ last_use_after (last_use xs) e
+last_use-push xs e = fold-append last_use_after None xs (e ∷ [])
 
-no_used : (later : List Entry) → filter is_outgoing later ≡ [] → used later ≡ 0
-no_used [] none = refl
-no_used (Received n ∷ later) none = no_used later none
-no_used (Used n ∷ later) none = absurd (cc)
-no_used (Returned n ∷ later) none = absurd (cc)
-no_used (Asked t ∷ later) none = no_used later none
-no_used (Taken t ∷ later) none = absurd (cc)
+pub history-push : (history : List Entry) (e : Entry) → MayFollow history e → IsHistory history → IsHistory (history ++ e ∷ [])
+history-push = histories.history-push MayFollow
 
-no_returned : (later : List Entry) → filter is_outgoing later ≡ [] → returned later ≡ 0
-no_returned [] none = refl
-no_returned (Received n ∷ later) none = no_returned later none
-no_returned (Used n ∷ later) none = absurd (cc)
-no_returned (Returned n ∷ later) none = absurd (cc)
-no_returned (Asked t ∷ later) none = no_returned later none
-no_returned (Taken t ∷ later) none = absurd (cc)
+-- the other side's entries carry nothing that a side counts
+received_is_incoming : (e : Entry) → is_incoming e ≡ false → received_of e ≡ None
+received_is_incoming (Received n) other = absurd (cc)
+received_is_incoming (Used n) other = refl
+received_is_incoming (Returned n) other = refl
+received_is_incoming (Asked target) other = refl
+received_is_incoming (Taken target) other = refl
+
+used_is_outgoing : (e : Entry) → is_outgoing e ≡ false → used_of e ≡ None
+used_is_outgoing (Received n) other = refl
+used_is_outgoing (Used n) other = absurd (cc)
+used_is_outgoing (Returned n) other = refl
+used_is_outgoing (Asked target) other = refl
+used_is_outgoing (Taken target) other = refl
+
+returned_is_outgoing : (e : Entry) → is_outgoing e ≡ false → returned_of e ≡ None
+returned_is_outgoing (Received n) other = refl
+returned_is_outgoing (Used n) other = refl
+returned_is_outgoing (Returned n) other = absurd (cc)
+returned_is_outgoing (Asked target) other = refl
+returned_is_outgoing (Taken target) other = refl
 
 -- what a side has seen has the sums of its own entries
 pub received_same : (seen history : List Entry) → Knows is_incoming seen history → received history ≡ received seen
-received_same seen history h = let put = total-append received_of seen h.later in let none = no_received h.later h.others in ap received h.begins ∙ omega arith
+received_same seen history h = ap sum (histories.known_same is_incoming received_of received_is_incoming seen history h)
 
 pub used_same : (seen history : List Entry) → Knows is_outgoing seen history → used history ≡ used seen
-used_same seen history h = let put = total-append used_of seen h.later in let none = no_used h.later h.others in ap used h.begins ∙ omega arith
+used_same seen history h = ap sum (histories.known_same is_outgoing used_of used_is_outgoing seen history h)
 
 pub returned_same : (seen history : List Entry) → Knows is_outgoing seen history → returned history ≡ returned seen
-returned_same seen history h = let put = total-append returned_of seen h.later in let none = no_returned h.later h.others in ap returned h.begins ∙ omega arith
+returned_same seen history h = ap sum (histories.known_same is_outgoing returned_of returned_is_outgoing seen history h)
 
--- what a side knows stays so when the other goes on, and is all where the side has seen all
-pub knows_more : (own : Entry → Bool) (seen history later : List Entry) → filter own later ≡ [] → Knows own seen history → Knows own seen (history ++ later)
-knows_more own seen history later others h =
-    record {
-      later = h.later ++ later;
-      begins = ap (λ (xs : List Entry). xs ++ later) h.begins ∙ append_assoc seen h.later later;
-      others = filter-append own h.later later ∙ (ap (λ (xs : List Entry). xs ++ filter own later) h.others ∙ others);
-    }
+no_use : (last : Option ℕ) (later : List Entry) → filter is_outgoing later ≡ [] → fold last_use_after last later ≡ last
+no_use last [] none = refl
+no_use last (Received n ∷ later) none = no_use last later none
+no_use last (Used n ∷ later) none = absurd (cc)
+no_use last (Returned n ∷ later) none = absurd (cc)
+no_use last (Asked target ∷ later) none = no_use last later none
+no_use last (Taken target ∷ later) none = absurd (cc)
 
-pub knows_all : (own : Entry → Bool) (history : List Entry) → Knows own history history
-knows_all own history = record { later = []; begins = sym (append-nil history); others = refl }
+pub last_use_same : (seen history : List Entry) → Knows is_outgoing seen history → last_use history ≡ last_use seen
+last_use_same seen history h = ap last_use h.begins ∙ (fold-append last_use_after None seen h.later ∙ no_use (last_use seen) h.later h.others)
 
-pub knows_through : (own : Entry → Bool) (seen between history : List Entry) → Knows own seen between → Knows own between history → Knows own seen history
-knows_through own seen between history h k = subst (Knows own seen) (sym k.begins) (knows_more own seen between k.later k.others h)
+-- what a side learns keeps its own sums
+pub learned_received : (old new : List Entry) → Learns is_incoming old new → received new ≡ received old
+learned_received old new h = received_same old new h.knows
 
--- a history with one entry more
-follows_after : (before history : List Entry) (e : Entry) → MayFollow (before ++ history) e → IsHistoryAfter before history → IsHistoryAfter before (history ++ e ∷ [])
-follows_after before [] e may legal = (subst (λ (xs : List Entry). MayFollow xs e) (append-nil before) may, tt)
-follows_after before (x ∷ history) e may legal =
-    (legal.0, follows_after (before ++ x ∷ []) history e (subst (λ (xs : List Entry). MayFollow xs e) (sym (append_assoc before (x ∷ []) history)) may) legal.1)
+pub learned_used : (old new : List Entry) → Learns is_outgoing old new → used new ≡ used old
+learned_used old new h = used_same old new h.knows
 
-pub history-push : (history : List Entry) (e : Entry) → MayFollow history e → IsHistory history → IsHistory (history ++ e ∷ [])
-history-push history e may legal = follows_after [] history e may legal
+pub learned_returned : (old new : List Entry) → Learns is_outgoing old new → returned new ≡ returned old
+learned_returned old new h = returned_same old new h.knows
+
+pub learned_last_use : (old new : List Entry) → Learns is_outgoing old new → last_use new ≡ last_use old
+learned_last_use old new h = last_use_same old new h.knows
 
 -- what a side has counted after an entry of its own
 pub made_received : (old new : List Entry) (e : Entry) → Makes is_incoming old e new → received new ≡ received old + amount (received_of e)
@@ -108,6 +106,9 @@ made_used old new e h = ap used h.last ∙ (used-push h.before e ∙ ap (λ n. n
 pub made_returned : (old new : List Entry) (e : Entry) → Makes is_outgoing old e new → returned new ≡ returned old + amount (returned_of e)
 made_returned old new e h = ap returned h.last ∙ (returned-push h.before e ∙ ap (λ n. n + amount (returned_of e)) (returned_same old h.before h.knows))
 
+pub made_last_use : (old new : List Entry) (e : Entry) → Makes is_outgoing old e new → last_use new ≡ last_use_after (last_use old) e
+made_last_use old new e h = ap last_use h.last ∙ (last_use-push h.before e ∙ ap (λ last. last_use_after last e) (last_use_same old h.before h.knows))
+
 -- what is held is what the one side received and the other does not use
 pub held_is : (history seen sent : List Entry) (word busy : ℕ) → Knows is_incoming seen history → Knows is_outgoing sent history → IsHeld word history → used sent ≡ returned sent + busy → word + busy ≡ received seen
 held_is history seen sent word busy knows knows_sent held is =
@@ -117,17 +118,5 @@ held_is history seen sent word busy knows knows_sent held is =
     omega arith
 
 -- each use in a history is covered
-covers_after : (start history before : List Entry) (n : ℕ) (later : List Entry) → IsHistoryAfter start history → history ≡ before ++ Used n ∷ later → used (start ++ before) + n ≤ received (start ++ before) + returned (start ++ before)
-covers_after start [] [] n later legal is = absurd (cc)
-covers_after start [] (x ∷ before) n later legal is = absurd (cc)
-covers_after start (e ∷ history) [] n later legal is =
-    let same : e ≡ Used n = cc in
-    subst (λ (xs : List Entry). used xs + n ≤ received xs + returned xs) (sym (append-nil start)) (subst (MayFollow start) same legal.0)
-covers_after start (e ∷ history) (x ∷ before) n later legal is =
-    let same : e ≡ x = cc in
-    let rest : history ≡ before ++ Used n ∷ later = cc in
-    let whole : (start ++ e ∷ []) ++ before ≡ start ++ x ∷ before = append_assoc start (e ∷ []) before ∙ ap (λ (y : Entry). start ++ y ∷ before) same in
-    subst (λ (xs : List Entry). used xs + n ≤ received xs + returned xs) whole (covers_after (start ++ e ∷ []) history before n later legal.1 rest)
-
 pub covers_each_use : (history : List Entry) → IsHistory history → CoversEachUse history
-covers_each_use history legal before n later is = covers_after [] history before n later legal is
+covers_each_use history legal before n later is = histories.follows_each MayFollow history before (Used n) later legal is

@@ -1,5 +1,6 @@
-mod Histories
+pub mod Histories
 mod Steps
 mod Seats
 mod Targets
-mod Channels
+mod Kept
+pub mod Channels

@@ -2,9 +2,10 @@
 use Rattle.std.proofs.Common.{◌≡◌, ◌⊎◌, ℕ, List, [], ◌∷◌, ◌++◌, Option, Some, None, sym, refl, ap, ◌∙◌, subst, ⊎_elim, inl, inr, append_assoc, append-nil}
 use Rattle.std.specs.List.{last_or}
 use Rattle.std.proofs.lemmas.List.Elements.{filter_map-append}
+use Rattle.lc_history.specs.History.{IsHistoryAfter}
 use Rattle.lc_credit.specs.declared.history.Entry.{Entry}
 use Rattle.lc_credit.specs.declared.history.Entry.TheVariants.{Received, Used, Returned, Asked, Taken}
-use Rattle.lc_credit.specs.History.{asked_of, taken_of, asked, taken, waiting, waiting_after, MayFollow, IsHistoryAfter, IsHistory}
+use Rattle.lc_credit.specs.History.{asked_of, taken_of, targets_asked, targets_taken, waiting, waiting_after, MayFollow, IsHistory}
 use Rattle.lc_credit.specs.Targets.{AreAmong, AreTakenInTurn}
 use Rattle.lc_credit.proofs.Histories.{waiting-push}
 
@@ -49,24 +50,24 @@ among_more (x ∷ xs) (y ∷ ys) zs h = ⊎_elim (λ (e : (x ≡ y) × AreAmong 
 record Since (history : List Entry) : Type 0 where
   old : List ℕ
   rest : List ℕ
-  all : asked history ≡ old ++ rest
-  among : AreAmong (taken history) old
-  ends : last (taken history) ≡ last old
+  all : targets_asked history ≡ old ++ rest
+  among : AreAmong (targets_taken history) old
+  ends : last (targets_taken history) ≡ last old
   waits : waiting history ≡ last rest
 
-taken-push : (history : List Entry) (e : Entry) → taken (history ++ e ∷ []) ≡ taken history ++ taken (e ∷ [])
+taken-push : (history : List Entry) (e : Entry) → targets_taken (history ++ e ∷ []) ≡ targets_taken history ++ targets_taken (e ∷ [])
 taken-push history e = filter_map-append taken_of history (e ∷ [])
 
-asked-push : (history : List Entry) (e : Entry) → asked (history ++ e ∷ []) ≡ asked history ++ asked (e ∷ [])
+asked-push : (history : List Entry) (e : Entry) → targets_asked (history ++ e ∷ []) ≡ targets_asked history ++ targets_asked (e ∷ [])
 asked-push history e = filter_map-append asked_of history (e ∷ [])
 
-since_same : (history : List Entry) (e : Entry) → asked (e ∷ []) ≡ [] → taken (e ∷ []) ≡ [] → waiting_after (waiting history) e ≡ waiting history → Since history → Since (history ++ e ∷ [])
+since_same : (history : List Entry) (e : Entry) → targets_asked (e ∷ []) ≡ [] → targets_taken (e ∷ []) ≡ [] → waiting_after (waiting history) e ≡ waiting history → Since history → Since (history ++ e ∷ [])
 since_same history e none none' same h =
-    let t : taken (history ++ e ∷ []) ≡ taken history = taken-push history e ∙ (ap (λ (xs : List ℕ). taken history ++ xs) none' ∙ append-nil (taken history)) in
+    let t : targets_taken (history ++ e ∷ []) ≡ targets_taken history = taken-push history e ∙ (ap (λ (xs : List ℕ). targets_taken history ++ xs) none' ∙ append-nil (targets_taken history)) in
     record {
       old = h.old;
       rest = h.rest;
-      all = asked-push history e ∙ (ap (λ (xs : List ℕ). asked history ++ xs) none ∙ (append-nil (asked history) ∙ h.all));
+      all = asked-push history e ∙ (ap (λ (xs : List ℕ). targets_asked history ++ xs) none ∙ (append-nil (targets_asked history) ∙ h.all));
       among = subst (λ (xs : List ℕ). AreAmong xs h.old) (sym t) h.among;
       ends = ap last t ∙ h.ends;
       waits = waiting-push history e ∙ (same ∙ h.waits);
@@ -77,7 +78,7 @@ since_push history (Received n) may h = since_same history (Received n) refl ref
 since_push history (Used n) may h = since_same history (Used n) refl refl refl h
 since_push history (Returned n) may h = since_same history (Returned n) refl refl refl h
 since_push history (Asked t) may h =
-    let same : taken (history ++ Asked t ∷ []) ≡ taken history = taken-push history (Asked t) ∙ append-nil (taken history) in
+    let same : targets_taken (history ++ Asked t ∷ []) ≡ targets_taken history = taken-push history (Asked t) ∙ append-nil (targets_taken history) in
     record {
       old = h.old;
       rest = h.rest ++ t ∷ [];
@@ -87,18 +88,18 @@ since_push history (Asked t) may h =
       waits = waiting-push history (Asked t) ∙ sym (last-push h.rest None t);
     }
 since_push history (Taken t) may h =
-    let now : taken (history ++ Taken t ∷ []) ≡ taken history ++ t ∷ [] = taken-push history (Taken t) in
+    let now : targets_taken (history ++ Taken t ∷ []) ≡ targets_taken history ++ t ∷ [] = taken-push history (Taken t) in
     let end : last h.rest ≡ Some t = sym h.waits ∙ may in
     record {
       old = h.old ++ h.rest;
       rest = [];
-      all = asked-push history (Taken t) ∙ (append-nil (asked history) ∙ (h.all ∙ sym (append-nil (h.old ++ h.rest))));
-      among = subst (λ (xs : List ℕ). AreAmong xs (h.old ++ h.rest)) (sym now) (among_push (taken history) h.old h.rest t h.among (last_among h.rest t end));
-      ends = ap last now ∙ (last-push (taken history) None t ∙ sym (last-append h.old h.rest None t end));
+      all = asked-push history (Taken t) ∙ (append-nil (targets_asked history) ∙ (h.all ∙ sym (append-nil (h.old ++ h.rest))));
+      among = subst (λ (xs : List ℕ). AreAmong xs (h.old ++ h.rest)) (sym now) (among_push (targets_taken history) h.old h.rest t h.among (last_among h.rest t end));
+      ends = ap last now ∙ (last-push (targets_taken history) None t ∙ sym (last-append h.old h.rest None t end));
       waits = waiting-push history (Taken t);
     }
 
-since_all : (before history : List Entry) → IsHistoryAfter before history → Since before → Since (before ++ history)
+since_all : (before history : List Entry) → IsHistoryAfter MayFollow before history → Since before → Since (before ++ history)
 since_all before [] legal h = subst Since (sym (append-nil before)) h
 since_all before (e ∷ history) legal h = subst Since (append_assoc before (e ∷ []) history) (since_all (before ++ e ∷ []) history legal.1 (since_push before e legal.0 h))
 
@@ -110,7 +111,7 @@ pub taken_in_turn : (history : List Entry) → IsHistory history → AreTakenInT
 taken_in_turn history legal =
     let h : Since history = since_all [] history legal (record { old = []; rest = []; all = refl; among = tt; ends = refl; waits = refl }) in
     record {
-      in_order = subst (AreAmong (taken history)) (sym h.all) (among_more (taken history) h.old h.rest h.among);
+      in_order = subst (AreAmong (targets_taken history)) (sym h.all) (among_more (targets_taken history) h.old h.rest h.among);
       waits = ⊎_elim (λ (e : last h.rest ≡ None). inl (h.waits ∙ e)) (λ (e : last h.rest ≡ last (h.old ++ h.rest)). inr (h.waits ∙ (e ∙ ap last (sym h.all)))) (waits_or h.old h.rest);
       none_waits = λ none. h.ends ∙ ap last (sym (h.all ∙ (ap (λ (xs : List ℕ). h.old ++ xs) (none_last h.rest (sym h.waits ∙ none)) ∙ append-nil h.old)));
     }

@@ -1,6 +1,7 @@
 -- The history of one channel's credit: what its two sides did, in one order, and when an entry may follow those before it. That guarantees are used only once they were received, and that a server may plead, is LCMUX's; that a use comes back where its frame was not put, and that of several pleads the last is answered, is this project's own.
-use Rattle.std.specs.Prelude.{◌≡◌, ℕ, ◌+◌, ◌≤◌, Bool, true, false, List, [], ◌∷◌, ◌++◌, filter, sum, Option, Some, None}
+use Rattle.std.specs.Prelude.{◌≡◌, ℕ, ◌+◌, ◌≤◌, Bool, true, false, List, ◌∷◌, ◌++◌, sum, Option, Some, None}
 use Rattle.std.specs.List.{filter_map, fold}
+use Rattle.lc_history.specs.History as histories
 use Rattle.lc_credit.specs.declared.history.Entry.{Entry}
 use Rattle.lc_credit.specs.declared.history.Entry.TheVariants.{Received, Used, Returned, Asked, Taken}
 
@@ -36,11 +37,11 @@ abbrev pub returned : List Entry → ℕ
 returned history = sum (filter_map returned_of history)
 
 -- the targets that were asked, and those that were taken, in order
-abbrev pub asked : List Entry → List ℕ
-asked history = filter_map asked_of history
+abbrev pub targets_asked : List Entry → List ℕ
+targets_asked history = filter_map asked_of history
 
-abbrev pub taken : List Entry → List ℕ
-taken history = filter_map taken_of history
+abbrev pub targets_taken : List Entry → List ℕ
+targets_taken history = filter_map taken_of history
 
 -- the target that waits: the one that was asked last, unless it was taken since
 abbrev pub waiting_after : Option ℕ → Entry → Option ℕ
@@ -51,24 +52,29 @@ waiting_after waiting e = waiting
 abbrev pub waiting : List Entry → Option ℕ
 waiting history = fold waiting_after None history
 
+-- the use that a return would undo: the last one, unless it was returned since
+abbrev pub last_use_after : Option ℕ → Entry → Option ℕ
+last_use_after last (Used n) = Some n
+last_use_after last (Returned n) = None
+last_use_after last e = last
+
+abbrev pub last_use : List Entry → Option ℕ
+last_use history = fold last_use_after None history
+
 -- what the credit word is after a history: what was received and is not in use
 abbrev pub IsHeld : ℕ → List Entry → Type 0
 IsHeld word history = word + used history ≡ received history + returned history
 
--- A use is covered: with it, what was used less what was returned is at most what was received before. What is returned was used. What is taken waits. An amount is received, and a target asked, at any time
+-- A use is covered: with it, what was used less what was returned is at most what was received before. What is returned is the last use, whole. What is taken waits. An amount is received, and a target asked, at any time
 abbrev pub MayFollow : List Entry → Entry → Type 0
 MayFollow history (Used n) = used history + n ≤ received history + returned history
-MayFollow history (Returned n) = returned history + n ≤ used history
+MayFollow history (Returned n) = last_use history ≡ Some n
 MayFollow history (Taken target) = waiting history ≡ Some target
 MayFollow history e = Unit {0}
 
 -- each entry may follow those before it
-abbrev pub IsHistoryAfter : List Entry → List Entry → Type 0
-IsHistoryAfter before [] = Unit {0}
-IsHistoryAfter before (e ∷ later) = MayFollow before e × IsHistoryAfter (before ++ e ∷ []) later
-
 abbrev pub IsHistory : List Entry → Type 0
-IsHistory history = IsHistoryAfter [] history
+IsHistory history = histories.IsHistory MayFollow history
 
 -- whose entry it is: the reading side's, or the sending end's
 abbrev pub is_incoming : Entry → Bool
@@ -82,23 +88,12 @@ is_outgoing (Returned n) = true
 is_outgoing (Taken target) = true
 is_outgoing e = false
 
--- what a side knows of the history: how it begins, with all entries of the side's own, since what came later is the other's
-pub record Knows (own : Entry → Bool) (seen history : List Entry) : Type 0 where
-  pub later : List Entry
-  pub begins : history ≡ seen ++ later
-  pub others : filter own later ≡ []
+-- a side has seen more of the history, without an entry of its own; and it has made an entry
+abbrev pub Learns : (Entry → Bool) → List Entry → List Entry → Type 0
+Learns own old new = histories.Learns MayFollow own old new
 
--- a side has seen more of the history, without an entry of its own
-pub record Learns (own : Entry → Bool) (old new : List Entry) : Type 0 where
-  pub knows : Knows own old new
-  pub legal : IsHistory new
-
--- a side has made an entry, behind what it had seen and what the other has done since
-pub record Makes (own : Entry → Bool) (old : List Entry) (e : Entry) (new : List Entry) : Type 0 where
-  pub before : List Entry
-  pub knows : Knows own old before
-  pub last : new ≡ before ++ e ∷ []
-  pub legal : IsHistory new
+abbrev pub Makes : (Entry → Bool) → List Entry → Entry → List Entry → Type 0
+Makes own old e new = histories.Makes MayFollow own old e new
 
 -- what a history says at each of its uses, as one fact
 abbrev pub CoversEachUse : List Entry → Type 0

@@ -3,6 +3,7 @@ use Rattle.std.specs.Prelude.{◌≡◌, ◌⊎◌, ℕ, ◌+◌, ◌-◌, ◌�
 use Rattle.std.specs.Option.{ForSome}
 use Rattle.atomic_table.specs.Seated.{TableId}
 use Rattle.lc_frame.specs.Kind.{max_amount, max_total}
+use Rattle.lc_history.specs.History.{Knows}
 use Rattle.lc_book.specs.Limit.{is_past, less}
 use Rattle.lc_book.specs.declared.fault.Refusal.{Refusal}
 use Rattle.lc_book.specs.declared.fault.Refusal.TheVariants.{NoGuarantee, NotHeld}
@@ -14,33 +15,35 @@ use Rattle.lc_credit.specs.declared.credit_out.Use.{Use}
 use Rattle.lc_credit.specs.declared.credit_out.Use.TheVariants.{Spend, Absolve}
 use Rattle.lc_credit.specs.declared.credit_out.Pending.{Pending}
 use Rattle.lc_credit.specs.declared.balance.Balance.{Balance}
-use Rattle.lc_credit.specs.History.{received, used, returned, IsHeld, IsHistory, is_incoming, is_outgoing, Knows, Learns, Makes}
+use Rattle.lc_credit.specs.History.{received, used, returned, last_use, IsHeld, IsHistory, is_incoming, is_outgoing, Learns, Makes}
 
 -- which credit it is: no two have the same
 abbrev pub CreditId : Type 0
 CreditId = TableId
 
--- the reading side: the history that it has seen, the sum of what it received, and what the server may still issue, None without a limit
+-- the reading side: the history that it has seen, how often it has loaded the credit word, the sum of what it received, and what the server may still issue, None without a limit
 pub record Incoming : Type 0 where
   pub credit : CreditId
   pub seen : List Entry
+  pub looks : ℕ
   pub received : ℕ
   pub left : Option ℕ
 
--- the sending end: the history that it has seen, the sums of what it spent and absolved, what left the word and is not counted yet, and a number that the word has at least: what the end loaded last, less what it used since, and with what it gave back
+-- the sending end: the history that it has seen, how often it has loaded the credit word or emptied the asked one, the sums of what it spent and absolved, what left the word and is not counted yet, and a number that the word has at least: what the end loaded last, less what it used since, and with what it gave back
 pub record Outgoing : Type 0 where
   pub credit : CreditId
   pub seen : List Entry
+  pub looks : ℕ
   pub spent : ℕ
   pub absolved : ℕ
   pub pending : Option Pending
   pub least : ℕ
 
 abbrev pub new_incoming : CreditId → Incoming
-new_incoming credit = record { credit = credit; seen = []; received = 0; left = None }
+new_incoming credit = record { credit = credit; seen = []; looks = 0; received = 0; left = None }
 
 abbrev pub new_outgoing : CreditId → Outgoing
-new_outgoing credit = record { credit = credit; seen = []; spent = 0; absolved = 0; pending = None; least = 0 }
+new_outgoing credit = record { credit = credit; seen = []; looks = 0; spent = 0; absolved = 0; pending = None; least = 0 }
 
 abbrev pub amount_of : Option Pending → ℕ
 amount_of None = 0
@@ -50,7 +53,7 @@ amount_of (Some p) = p.amount
 abbrev pub IsIdle : Outgoing → Type 0
 IsIdle o = o.pending ≡ None
 
--- what each side counted is what its entries add up to
+-- what each side counted is what its entries add up to, and what is pending is the last use, which did not come back
 pub record IsIncoming (i : Incoming) : Type 0 where
   pub counted : i.received ≡ received i.seen
   pub total : i.received ≤ max_total
@@ -59,13 +62,14 @@ pub record IsIncoming (i : Incoming) : Type 0 where
 pub record IsOutgoing (o : Outgoing) : Type 0 where
   pub counted : used o.seen ≡ returned o.seen + (o.spent + o.absolved + amount_of o.pending)
   pub total : o.spent + o.absolved + amount_of o.pending ≤ max_total
+  pub last : ForSome o.pending (λ p. last_use o.seen ≡ Some p.amount)
 
--- the reading side loaded the word, which is no more than what it received
+-- the reading side loaded the word in this very call, which is no more than what it received
 pub record LoadsIn (word : ℕ) (old new : Incoming) : Type 0 where
   pub learns : Learns is_incoming old.seen new.seen
   pub held : IsHeld word new.seen
   pub covered : word ≤ old.received
-  pub after : new ≡ record old { seen = new.seen }
+  pub after : new ≡ record old { seen = new.seen; looks = old.looks + 1 }
 
 -- an amount that arrives is within the limit; the word, as it was loaded, has room for it, and so has the sum of all; it is received
 pub record IsAdded (n : ℕ) (old new : Incoming) : Type 0 where
@@ -76,7 +80,7 @@ pub record IsAdded (n : ℕ) (old new : Incoming) : Type 0 where
   pub room : held + n ≤ max_amount
   pub total : old.received + n ≤ max_total
   pub makes : Makes is_incoming between.seen (Received n) new.seen
-  pub after : new ≡ record old { seen = new.seen; received = old.received + n; left = less old.left n }
+  pub after : new ≡ record between { seen = new.seen; received = old.received + n; left = less old.left n }
 
 -- the word, as it was loaded, has no room for the amount; and it has
 pub record HasNoRoom (n : ℕ) (old new : Incoming) : Type 0 where
@@ -111,12 +115,12 @@ pub record IsAsked (target : ℕ) (old new : Incoming) : Type 0 where
   pub makes : Makes is_incoming old.seen (Asked target) new.seen
   pub after : new ≡ record old { seen = new.seen }
 
--- the sending end loaded the word, which has what was known of it and more
+-- the sending end loaded the word in this very call, which has what was known of it and more
 pub record LoadsOut (word : ℕ) (old new : Outgoing) : Type 0 where
   pub learns : Learns is_outgoing old.seen new.seen
   pub held : IsHeld word new.seen
   pub least : old.least ≤ word
-  pub after : new ≡ record old { seen = new.seen; least = word }
+  pub after : new ≡ record old { seen = new.seen; looks = old.looks + 1; least = word }
 
 -- the word, as it was loaded, had enough, and was lowered; the amount is pending
 pub record IsUsed (kind : Use) (n : ℕ) (old new : Outgoing) : Type 0 where
@@ -125,7 +129,7 @@ pub record IsUsed (kind : Use) (n : ℕ) (old new : Outgoing) : Type 0 where
   pub loads : LoadsOut held old between
   pub enough : n ≤ held
   pub makes : Makes is_outgoing between.seen (Used n) new.seen
-  pub after : new ≡ record old { seen = new.seen; pending = Some (record { kind = kind; amount = n }); least = held - n }
+  pub after : new ≡ record between { seen = new.seen; pending = Some (record { kind = kind; amount = n }); least = held - n }
 
 -- why an amount is not spent, or not absolved: the number that the refusal carries is the word as it was loaded
 abbrev pub IsNotSpent : Refusal → ℕ → Outgoing → Outgoing → Type 0

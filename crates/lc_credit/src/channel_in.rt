@@ -5,20 +5,22 @@ ghost use Rattle.lc_book.specs.Limit.{is_past, less};
 ghost use Rattle.lc_book.specs.declared.fault.Violation.{Violation as AnyViolation};
 ghost use Rattle.lc_credit.specs.declared.history.Entry.TheVariants.{Received};
 ghost use Rattle.lc_credit.specs.History.{is_incoming, Makes};
-ghost use Rattle.lc_credit.specs.Sides.{IsIdle, LoadsIn, IsAdded, IsNotAdded, IsLimited, IsPastLimit, IsAsked, IsSettled};
+ghost use Rattle.lc_credit.specs.Sides.{IsIdle, IsIncoming, LoadsIn, IsAdded, IsNotAdded, IsLimited, IsPastLimit, IsAsked, IsSettled};
 
 use crate::balance::Balance;
 use crate::credit_out::CreditOut;
-use crate::rule::{AddReceived, CreditRule, LoadIn, LoadLast, StoreAsked, TwoSides, View};
+use crate::rule::{AddReceived, CreditKept, LoadIn, LoadLast, StoreAsked, TwoSides, View};
 use atomic_table::{Seat, Table};
 use lc_book::Violation;
 use lc_frame::{MAX_AMOUNT, MAX_TOTAL};
 use std::alloc::Global;
+use std::fmt;
+use std::fmt::{Debug, Formatter};
 use std::marker::Model;
 use std::sync::Arc;
 
-/// The credit word, and behind it the asked word.
-pub(crate) type Words = Table<(), View, (), CreditRule, Global>;
+/// The credit word and the asked word.
+pub(crate) type Words = Table<(), View, (), CreditKept, Global>;
 
 pub(crate) const CREDIT: usize = 0;
 
@@ -47,20 +49,30 @@ impl Drop for ChannelIn {
 impl Model for ChannelIn {
     ghost use Rattle.std.specs.Prelude.{◌≡◌};
     ghost use Rattle.std.specs.Arc.{arc_value};
-    ghost use Rattle.lc_credit.specs.Rule.{seen_of, IsReading};
+    ghost use Rattle.lc_credit.specs.Rule.{seen_of, looks_of, IsReading};
     ghost use Rattle.lc_credit.specs.Sides.{Incoming, IsIncoming};
 
     ghost Value = { Incoming };
 
-    ghost view = { λ c. record { credit = c.seat.table_id; seen = seen_of c.seat.me.0; received = c.received; left = c.left } };
+    ghost view = { λ c. record { credit = c.seat.table_id; seen = seen_of c.seat.me.0; looks = looks_of c.seat.me.0; received = c.received; left = c.left } };
 
-    ghost invariant = { λ c. (c.seat.table_id ≡ (arc_value c.words).shared.table_id) × (c.seat.table_id.words ≡ 2) × IsReading c.seat.me × IsIncoming (record { credit = c.seat.table_id; seen = seen_of c.seat.me.0; received = c.received; left = c.left }) };
+    ghost invariant = { λ c. (c.seat.table_id ≡ (arc_value c.words).shared.table_id) × (c.seat.table_id.words ≡ 2) × IsReading c.seat.me × IsIncoming (record { credit = c.seat.table_id; seen = seen_of c.seat.me.0; looks = looks_of c.seat.me.0; received = c.received; left = c.left }) };
+}
+
+impl Debug for ChannelIn {
+    fn fmt<W: fmt::Write>(&self, f: &mut Formatter<W>) -> fmt::Result {
+        f.debug_struct("ChannelIn")
+            .field("received", &self.received)
+            .field("left", &self.left)
+            .finish_non_exhaustive()
+    }
 }
 
 impl ChannelIn {
     // Loads the credit word.
     fn load(&mut self) -> u64
-        ensures { LoadsIn result self.old self.new }
+        ensures loads { LoadsIn result self.old self.new }
+        ensures kept { IsIncoming self.new }
     {
         self.words.shared.load::<LoadIn>(&mut self.seat, CREDIT)
     }
@@ -70,6 +82,7 @@ impl ChannelIn {
         requires within { is_past self.old.left n ≡ false }
         requires total { self.old.received + n ≤ max_total }
         ensures makes { Makes is_incoming self.old.seen (Received n) self.new.seen }
+        ensures kept { IsIncoming self.new }
         ensures after { self.new ≡ record self.old { seen = self.new.seen; received = self.old.received + n; left = less self.old.left n } }
     {
         let amount = u64::from(n);
@@ -87,6 +100,7 @@ impl ChannelIn {
         requires { n ≤ max_amount }
         ensures ok { OnOk result (IsAdded n self.old self.new) }
         ensures err { IfErr result (λ v. IsNotAdded v n self.old self.new) }
+        ensures kept { IsIncoming self.new }
         ensures same { self.new.credit ≡ self.old.credit }
     {
         let amount = u64::from(n);

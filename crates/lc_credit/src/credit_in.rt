@@ -1,9 +1,9 @@
 //! The reading side of the credits of seven channels.
-ghost use Rattle.std.specs.Prelude.{◌≡◌, ◌≤◌, OnOk, IfErr};
+ghost use Rattle.std.specs.Prelude.{◌≡◌, ◌≤◌, OnOk, IfErr, IsSomeAnd, slice_get};
 ghost use Rattle.lc_frame.specs.Channel.{number_of};
 ghost use Rattle.lc_frame.specs.Kind.{max_amount, max_total};
 ghost use Rattle.lc_book.specs.declared.fault.Violation.{Violation as AnyViolation};
-ghost use Rattle.lc_credit.specs.Sides.{IsAdded, IsNotAdded, IsLimited, IsPastLimit, IsAsked};
+ghost use Rattle.lc_credit.specs.Sides.{IsIncoming, IsAdded, IsNotAdded, IsLimited, IsPastLimit, IsAsked};
 ghost use Rattle.lc_credit.specs.Channels.{SameCredits, ChangesAt};
 
 use crate::channel_in::ChannelIn;
@@ -13,7 +13,7 @@ use std::marker::Model;
 
 /// The credits of seven channels, as the thread that reads frames has them: it adds what arrives.
 /// All numbers count bytes of messages.
-#[derive(Drop)]
+#[derive(Debug, Drop)]
 pub struct CreditIn {
     pub(crate) channels: [ChannelIn; 7],
 }
@@ -34,9 +34,10 @@ impl CreditIn {
         requires { n ≤ max_amount }
         ensures ok { OnOk result (ChangesAt (number_of channel) (IsAdded n) self.old self.new) }
         ensures err { IfErr result (λ v. ChangesAt (number_of channel) (IsNotAdded v n) self.old self.new) }
+        ensures kept { IsSomeAnd (slice_get self.new (number_of channel)) (λ i. IsIncoming i) }
         ensures same { SameCredits self.old self.new }
     {
-        let side = &mut self.channels[usize::from(channel.number())];
+        let side = &mut self.channels[channel.index()];
         side.add(n)
     }
 
@@ -48,7 +49,7 @@ impl CreditIn {
         ensures err { IfErr result (λ v. (v ≡ AnyViolation.ReceiveLimitRaised) × ChangesAt (number_of channel) (IsPastLimit bound) self.old self.new) }
         ensures same { SameCredits self.old self.new }
     {
-        let side = &mut self.channels[usize::from(channel.number())];
+        let side = &mut self.channels[channel.index()];
         side.receiving_limited(bound)
     }
 
@@ -59,7 +60,7 @@ impl CreditIn {
         ensures asked { ChangesAt (number_of channel) (IsAsked target) self.old self.new }
         ensures same { SameCredits self.old self.new }
     {
-        let side = &mut self.channels[usize::from(channel.number())];
+        let side = &mut self.channels[channel.index()];
         side.ask(target);
     }
 }

@@ -3,8 +3,9 @@ ghost use Rattle.std.specs.Prelude.{◌≡◌, ◌+◌, ◌-◌, ◌≤◌, ◌<
 ghost use Rattle.std.specs.Option.{option_map};
 ghost use Rattle.lc_frame.specs.Kind.{max_amount, max_total};
 ghost use Rattle.lc_credit.specs.declared.history.Entry.TheVariants.{Used, Returned, Taken};
-ghost use Rattle.lc_credit.specs.History.{is_outgoing, Learns, Makes, waiting};
-ghost use Rattle.lc_credit.specs.Sides.{IsIdle, LoadsOut, IsUsed, IsNotSpent, IsNotAbsolved, counted, given_back};
+ghost use Rattle.lc_credit.specs.History.{is_outgoing, last_use, Learns, Makes, waiting};
+ghost use Rattle.lc_credit.specs.Rule.{TakesOut};
+ghost use Rattle.lc_credit.specs.Sides.{IsIdle, IsOutgoing, LoadsOut, IsUsed, IsNotSpent, IsNotAbsolved, counted, given_back};
 ghost use Rattle.lc_credit.specs.Channels.{SameCredit};
 
 use crate::channel_in::{ASKED, CREDIT, Words};
@@ -13,6 +14,8 @@ use atomic_table::Seat;
 use lc_book::Refusal;
 use lc_frame::MAX_AMOUNT;
 use std::alloc::Global;
+use std::fmt;
+use std::fmt::{Debug, Formatter};
 use std::marker::Model;
 use std::sync::Arc;
 
@@ -48,14 +51,24 @@ pub struct CreditOut {
 impl Model for CreditOut {
     ghost use Rattle.std.specs.Prelude.{◌≡◌};
     ghost use Rattle.std.specs.Arc.{arc_value};
-    ghost use Rattle.lc_credit.specs.Rule.{seen_of, least_of, IsSending};
+    ghost use Rattle.lc_credit.specs.Rule.{seen_of, looks_of, least_of, IsSending};
     ghost use Rattle.lc_credit.specs.Sides.{Outgoing, IsOutgoing};
 
     ghost Value = { Outgoing };
 
-    ghost view = { λ c. record { credit = c.seat.table_id; seen = seen_of c.seat.me.0; spent = c.spent; absolved = c.absolved; pending = c.pending; least = least_of c.seat.me.0 } };
+    ghost view = { λ c. record { credit = c.seat.table_id; seen = seen_of c.seat.me.0; looks = looks_of c.seat.me.0; spent = c.spent; absolved = c.absolved; pending = c.pending; least = least_of c.seat.me.0 } };
 
-    ghost invariant = { λ c. (c.seat.table_id ≡ (arc_value c.words).shared.table_id) × (c.seat.table_id.words ≡ 2) × IsSending (least_of c.seat.me.0) c.seat.me × IsOutgoing (record { credit = c.seat.table_id; seen = seen_of c.seat.me.0; spent = c.spent; absolved = c.absolved; pending = c.pending; least = least_of c.seat.me.0 }) };
+    ghost invariant = { λ c. (c.seat.table_id ≡ (arc_value c.words).shared.table_id) × (c.seat.table_id.words ≡ 2) × IsSending (least_of c.seat.me.0) c.seat.me × IsOutgoing (record { credit = c.seat.table_id; seen = seen_of c.seat.me.0; looks = looks_of c.seat.me.0; spent = c.spent; absolved = c.absolved; pending = c.pending; least = least_of c.seat.me.0 }) };
+}
+
+impl Debug for CreditOut {
+    fn fmt<W: fmt::Write>(&self, f: &mut Formatter<W>) -> fmt::Result {
+        f.debug_struct("CreditOut")
+            .field("spent", &self.spent)
+            .field("absolved", &self.absolved)
+            .field("pending", &self.pending)
+            .finish_non_exhaustive()
+    }
 }
 
 impl CreditOut {
@@ -64,6 +77,7 @@ impl CreditOut {
     pub fn held(&mut self) -> u64
         ensures loads { LoadsOut result self.old self.new }
         ensures small { result ≤ max_total }
+        ensures kept { IsOutgoing self.new }
         ensures same { SameCredit self.old self.new }
     {
         self.words.shared.load::<LoadOut>(&mut self.seat, CREDIT)
@@ -82,6 +96,7 @@ impl CreditOut {
         requires idle { IsIdle self.old }
         requires enough { n ≤ self.old.least }
         ensures makes { Makes is_outgoing self.old.seen (Used n) self.new.seen }
+        ensures kept { IsOutgoing self.new }
         ensures after { self.new ≡ record self.old { seen = self.new.seen; pending = Some (record { kind = kind; amount = n }); least = self.old.least - n } }
     {
         let amount = u64::from(n);
@@ -98,6 +113,7 @@ impl CreditOut {
         requires idle { IsIdle self.old }
         ensures ok { OnOk result (IsUsed Use.Spend n self.old self.new) }
         ensures err { IfErr result (λ e. IsNotSpent e n self.old self.new) }
+        ensures kept { IsOutgoing self.new }
         ensures same { SameCredit self.old self.new }
     {
         let held = self.held();
@@ -116,6 +132,7 @@ impl CreditOut {
         ensures ok { OnOk result (IsUsed Use.Absolve n self.old self.new) }
         ensures small { OnOk result (n ≤ max_amount) }
         ensures err { IfErr result (λ e. IsNotAbsolved e n self.old self.new) }
+        ensures kept { IsOutgoing self.new }
         ensures same { SameCredit self.old self.new }
     {
         let held = self.held();
@@ -142,9 +159,10 @@ impl CreditOut {
         }
     }
 
-    /// The frame of what is pending was not put: it goes back into the credit.
+    /// The frame of what is pending was not put: it goes back into the credit, and the use is undone.
     pub fn give_back(&mut self)
         requires { IsSome self.old.pending }
+        ensures undoes { IfSome self.old.pending (λ p. last_use self.old.seen ≡ Some p.amount) }
         ensures makes { IfSome self.old.pending (λ p. Makes is_outgoing self.old.seen (Returned p.amount) self.new.seen) }
         ensures after { IfSome self.old.pending (λ p. self.new ≡ given_back p self.new.seen self.old) }
         ensures idle { IsIdle self.new }
@@ -159,18 +177,26 @@ impl CreditOut {
         self.pending = None;
     }
 
-    /// The target of the last plead, 0 to 2^24, where it was not taken yet.
+    // Empties the asked word. 0 says that nothing waited there, else it is the target and 1.
+    fn empty_asked(&mut self) -> u64
+        ensures takes { TakesOut result self.old.seen self.new.seen }
+        ensures small { result ≤ max_amount + 1 }
+        ensures after { self.new ≡ record self.old { seen = self.new.seen; looks = self.old.looks + 1 } }
+    {
+        self.words
+            .shared
+            .swap::<SwapAsked>(&mut self.seat, ASKED, 0)
+    }
+
+    /// The target of the last plead, 0 to 2^24, where it was not taken yet. Each call looks.
     pub fn take_asked(&mut self) -> Option<u32>
         ensures some { IfSome result (λ target. Makes is_outgoing self.old.seen (Taken target) self.new.seen) }
         ensures none { IfNone result (Learns is_outgoing self.old.seen self.new.seen × (waiting self.new.seen ≡ None)) }
         ensures small { IfSome result (λ target. target ≤ max_amount) }
-        ensures after { self.new ≡ record self.old { seen = self.new.seen } }
+        ensures after { self.new ≡ record self.old { seen = self.new.seen; looks = self.old.looks + 1 } }
         ensures same { SameCredit self.old self.new }
     {
-        let asked = self
-            .words
-            .shared
-            .swap::<SwapAsked>(&mut self.seat, ASKED, 0);
+        let asked = self.empty_asked();
         if asked == 0 {
             return None;
         }

@@ -12,7 +12,7 @@ use std::sync::Arc;
 
 /// The credits of seven channels, in parts for eight threads. `outgoing` has the end of each
 /// channel at the place of its number.
-#[derive(Drop)]
+#[derive(Debug, Drop)]
 pub struct CreditParts {
     /// For the thread that reads frames.
     pub incoming: CreditIn,

@@ -6,29 +6,32 @@ use crate::history::Entry;
 use atomic_table::{Join, Play, Split, TableRule};
 use std::collections::LinkedList;
 
-/// What a seat knows: how the history began. No value of it is made.
+/// What a seat knows: how the history began, and how often its side has looked at a word. Nothing but
+/// a step changes it, so a side that answers from memory is found out by the looks that are missing.
+/// No value of it is made.
 pub enum View {
     /// The seat of the reading side.
-    Reading(LinkedList<Entry>),
+    Reading(LinkedList<Entry>, u64),
     /// The seat of the sending end, and a number that the credit word has at least.
-    Sending(LinkedList<Entry>, u64),
-    /// The one seat of both sides, before they are parted and when they settle.
-    Both(LinkedList<Entry>, LinkedList<Entry>),
+    Sending(LinkedList<Entry>, u64, u64),
+    /// The one seat of both sides, before they are parted and when they settle: what the reading side
+    /// knows, and what the sending end has seen.
+    Both(LinkedList<Entry>, u64, LinkedList<Entry>),
     /// A seat that another has taken in.
     Closed,
 }
 
-/// The rule of the table.
-pub struct CreditRule;
+/// Both words are those that one history leaves, of which each side knows its part.
+pub struct CreditKept;
 
-impl TableRule<(), View, ()> for CreditRule {
+impl TableRule<(), View, ()> for CreditKept {
     ghost use Rattle.std.specs.Prelude.{[]};
     ghost use Rattle.lc_credit.specs.declared.rule.View.TheVariants.{Both};
-    ghost use Rattle.lc_credit.specs.Rule.{IsKept};
+    ghost use Rattle.lc_credit.specs.Rule.{KeepsCredit};
 
-    ghost holds = { λ _. IsKept };
+    ghost holds = { λ _. KeepsCredit };
 
-    ghost first = { λ _. Both [] [] };
+    ghost first = { λ _. Both [] 0 [] };
 }
 
 /// Both sides are parted, or come together.

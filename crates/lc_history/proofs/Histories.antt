@@ -29,6 +29,22 @@ follows_after {E} MayFollow before (x ∷ history) e may legal =
 pub history-push : {E : Type 0} (MayFollow : List E → E → Type 0) (history : List E) (e : E) → MayFollow history e → IsHistory MayFollow history → IsHistory MayFollow (history ++ e ∷ [])
 history-push MayFollow history e may legal = follows_after MayFollow [] history e may legal
 
+-- each entry of a history may follow those before it
+follows_from : {E : Type 0} (MayFollow : List E → E → Type 0) (start history before : List E) (e : E) (later : List E) → IsHistoryAfter MayFollow start history → history ≡ before ++ e ∷ later → MayFollow (start ++ before) e
+follows_from {E} MayFollow start [] [] e later legal is = absurd (cc)
+follows_from {E} MayFollow start [] (x ∷ before) e later legal is = absurd (cc)
+follows_from {E} MayFollow start (y ∷ history) [] e later legal is =
+    let same : y ≡ e = cc in
+    subst (λ (xs : List E). MayFollow xs e) (sym (append-nil start)) (subst (MayFollow start) same legal.0)
+follows_from {E} MayFollow start (y ∷ history) (x ∷ before) e later legal is =
+    let same : y ≡ x = cc in
+    let rest : history ≡ before ++ e ∷ later = cc in
+    let whole : (start ++ y ∷ []) ++ before ≡ start ++ x ∷ before = append_assoc start (y ∷ []) before ∙ ap (λ (z : E). start ++ z ∷ before) same in
+    subst (λ (xs : List E). MayFollow xs e) whole (follows_from MayFollow (start ++ y ∷ []) history before e later legal.1 rest)
+
+pub follows_each : {E : Type 0} (MayFollow : List E → E → Type 0) (history before : List E) (e : E) (later : List E) → IsHistory MayFollow history → history ≡ before ++ e ∷ later → MayFollow before e
+follows_each MayFollow history before e later legal is = follows_from MayFollow [] history before e later legal is
+
 -- what the entries of one kind carry, where none of the kind is the other side's: of a side's own entries no more come but those that it makes
 module _ {E X : Type 0} (own : E → Bool) (of : E → Option X) (mine : (e : E) → own e ≡ false → of e ≡ None) where
   other_entry : (e : E) (later : List E) (b : Bool) → own e ≡ b → cond b (e ∷ filter own later) (filter own later) ≡ [] → (own e ≡ false) × (filter own later ≡ [])

@@ -28,7 +28,7 @@ fn works(
         assert_eq!(rt; play(&mut parts, channel, *call), *answer, "call {place}");
     }
     let mut all = [NONE; 7];
-    all[usize::from(channel.number())] = balance;
+    all[channel.index()] = balance;
     assert_eq!(rt; balances(parts), Some(all));
     Ok(())
 }

@@ -48,7 +48,7 @@ pub fn play(parts: &mut CreditParts, channel: Channel, call: Call) -> Answer
             Answer::Done
         }
         _ => {
-            let end = &mut parts.outgoing[usize::from(channel.number())];
+            let end = &mut parts.outgoing[channel.index()];
             play_at(end, call)
         }
     }

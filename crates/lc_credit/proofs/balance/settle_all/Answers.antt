@@ -1,7 +1,8 @@
-use Rattle.std.proofs.Common.{rules, ◌≡◌, ◌++◌, ◌∷◌, [], map, length, sym, ap, ◌∙◌, slice_get, IfSome, arith, append_assoc, length-append, length-set}
+use Rattle.std.proofs.Common.{rules, ◌≡◌, ◌++◌, ◌∷◌, [], map, length, sym, ap, ◌∙◌, slice_get, IfSome, arith, append_assoc, append-nil, subst, length-append, length-set}
+use Rattle.std.proofs.lemmas.List.{nil_from_length}
 use Rattle.lc_credit.specs.Sides.{IsSettled}
 use Rattle.lc_credit.specs.Channels.{credit_out}
-use Rattle.lc_credit.proofs.Channels.{credit_at, before_end, settled_push}
+use Rattle.lc_credit.proofs.Channels.{credit_at, before_end, settled_push, settled_all, AreSettledSoFar}
 use Rattle.lc_credit.proofs.balance.settle_all.Goals as goal
 
 pub settle_at-requires-clause-matched : goal.settle_at-requires-clause-matched
@@ -26,3 +27,12 @@ loop-end-preserved c =
       settled = rw i.at (settled_push c.loop-end.yielded c.args.channels c.loop-end.balances c.in-Some.end c.settle_at.result (omega arith) (omega arith) i.settled this);
       rest = append_assoc c.loop-end.yielded (c.in-Some.end ∷ []) _ ∙ whole;
     }
+
+pub returns : goal.returns
+returns c =
+    let i = c.loop-end.invariant in
+    let all = sym (append-nil c.loop-end.yielded) ∙ (ap (λ r. c.loop-end.yielded ++ r) (sym (nil_from_length _ c.in-None.ensures.steps.0)) ∙ i.rest) in
+    let ends : length c.args.outgoing ≡ 7 = search rules in
+    let sides : length c.args.channels ≡ 7 = search rules in
+    let size : length c.loop-end.balances ≡ 7 = i.size in
+    settled_all _ _ _ (omega arith) (omega arith) (subst (λ xs. AreSettledSoFar c.args.channels xs c.loop-end.balances) all i.settled)

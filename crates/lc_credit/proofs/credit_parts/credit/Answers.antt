@@ -7,4 +7,4 @@ pub of_words-requires : goal.of_words-requires
 of_words-requires c = begins
 
 pub split_seat-seat_out-requires : goal.split_seat-seat_out-requires
-split_seat-seat_out-requires c = (search rules, search rules, may_split _ _ _ _ (ap (λ m. m.0) c.in_ok-table.ensures.4))
+split_seat-seat_out-requires c = (search rules, search rules, may_split _ _ _ _ _ (ap (λ m. m.0) c.in_ok-table.ensures.4))

@@ -1,6 +1,6 @@
 use Rattle.std.proofs.Common.{rules, arith, ◌∙◌}
 use Rattle.lc_credit.proofs.Histories.{made_received}
-use Rattle.lc_credit.proofs.Seats.{may_store_asked}
+use Rattle.lc_credit.proofs.Seats.{may_store_asked, reading_is}
 use Rattle.lc_credit.proofs.channel_in.ChannelIn.ask.Goals as goal
 
 pub store-requires : goal.store-requires
@@ -12,4 +12,4 @@ invariant_of-self c =
     let sum = made_received _ _ _ e.makes in
     let was = c.self.invariant.3 in
     let counted = was.counted in
-    (search rules, search rules, record { view = e.view; slots = e.slots ∙ c.self.invariant.2.slots }, record { counted = omega arith; total = was.total; bound = was.bound })
+    (search rules, search rules, record { view = reading_is _ _ e.view; slots = e.slots ∙ c.self.invariant.2.slots }, record { counted = omega arith; total = was.total; bound = was.bound })

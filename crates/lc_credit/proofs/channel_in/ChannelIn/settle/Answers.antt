@@ -1,22 +1,23 @@
 use Rattle.std.proofs.Common.{rules, arith, ap, subst, ◌∙◌}
-use Rattle.lc_credit.specs.History.{is_incoming, is_outgoing, Knows}
+use Rattle.lc_history.specs.History.{Knows}
+use Rattle.lc_credit.specs.History.{is_incoming, is_outgoing}
 use Rattle.lc_credit.specs.Sides.{amount_of}
 use Rattle.lc_credit.proofs.Histories.{held_is, received_same, used_same, returned_same}
 use Rattle.lc_credit.proofs.Seats.{may_join, may_load_last, may_split, together, last_of}
 use Rattle.lc_credit.proofs.channel_in.ChannelIn.settle.Goals as goal
 
 pub join_seat-requires : goal.join_seat-requires
-join_seat-requires c = (search rules, search rules, c.end.invariant.2.slots, search rules, may_join _ _ _ _ _ _ _ c.self.invariant.2.view c.end.invariant.2.view)
+join_seat-requires c = (search rules, search rules, c.end.invariant.2.slots, search rules, may_join _ _ _ _ _ _ _ _ _ c.self.invariant.2.view c.end.invariant.2.view)
 
 pub load-held-requires : goal.load-held-requires
-load-held-requires c = (search rules, search rules, may_load_last _ _ _ _ _ (together _ _ _ _ c.join_seat.ensures.2 c.self.invariant.2 c.end.invariant.2))
+load-held-requires c = (search rules, search rules, may_load_last _ _ _ _ _ _ (together _ _ _ _ c.join_seat.ensures.2 c.self.invariant.2 c.end.invariant.2))
 
 pub split_seat-requires : goal.split_seat-requires
-split_seat-requires c = (search rules, search rules, may_split _ _ _ _ (ap (λ m. m.0) (c.load-held.ensures.2.same ∙ together _ _ _ _ c.join_seat.ensures.2 c.self.invariant.2 c.end.invariant.2)))
+split_seat-requires c = (search rules, search rules, may_split _ _ _ _ _ (ap (λ m. m.0) (c.load-held.ensures.2.same ∙ together _ _ _ _ c.join_seat.ensures.2 c.self.invariant.2 c.end.invariant.2)))
 
 pub returns-clause-settled : goal.returns-clause-settled
 returns-clause-settled c =
-    let last = last_of _ _ _ _ _ _ (together _ _ _ _ c.join_seat.ensures.2 c.self.invariant.2 c.end.invariant.2) c.load-held.ensures.2 in
+    let last = last_of _ _ _ _ _ _ _ (together _ _ _ _ c.join_seat.ensures.2 c.self.invariant.2 c.end.invariant.2) c.load-held.ensures.2 in
     let idle = ap amount_of (ap (λ v. v.pending) c.end.view_is ∙ c.requires.idle) in
     let sum = held_is _ _ _ _ _ last.seen last.sent last.held c.end.invariant.3.counted in
     let counted = c.self.invariant.3.counted in
