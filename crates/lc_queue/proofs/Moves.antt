@@ -1,10 +1,11 @@
 -- Each step keeps the rule, and tells its pass what it says.
-use Rattle.std.proofs.Common.{◌≡◌, ◌≢◌, ◌⊎◌, ℕ, zero, suc, ◌+◌, ◌≤◌, ◌<◌, List, [], ◌∷◌, ◌++◌, length, set, sym, refl, ap, ◌∙◌, subst, ⊎_elim, inl, inr, append_assoc, length-append, arith}
+use Rattle.std.proofs.Common.{◌≡◌, ◌≢◌, ◌⊎◌, ℕ, zero, suc, ◌+◌, ◌≤◌, ◌<◌, ◌==◌, List, [], ◌∷◌, ◌++◌, length, set, sym, refl, ap, ◌∙◌, subst, ⊎_elim, inl, inr, append_assoc, length-append, arith}
 use Rattle.std.specs.List.{All}
+use Rattle.std.specs.Prelude.{Option as Opt, Some, None, MatchOption, IfSome}
 use mathlib.Core.Option.{Option, some, none, some-ne-none, some-injective}
 use lib.ListN.{get_elem?}
-use Rattle.std.proofs.lemmas.List.Elements.{All-nil, All-cons, All-head, All-tail, All-push, All-weaker}
-use Rattle.crossbeam_queue.specs.Fifo.{Pushes, Pops, Forks, Merges, Learns}
+use Rattle.std.proofs.lemmas.List.Elements.{All-nil, All-cons, All-head, All-tail, All-push, All-weaker, filter-append}
+use Rattle.crossbeam_queue.specs.Fifo.{Pushes, Pops, Forks, Merges, Learns, Held}
 use Rattle.crossbeam_queue.proofs.Lists.{at_set}
 use Rattle.lc_frame.specs.declared.frame.Frame.{Frame}
 use Rattle.lc_frame.specs.Frame.{lane_of, IsValid}
@@ -13,8 +14,9 @@ use Rattle.lc_queue.specs.declared.rule.JoinedLane.{JoinedLane}
 use Rattle.lc_queue.specs.declared.rule.View.{View}
 use Rattle.lc_queue.specs.declared.rule.View.TheVariants.{Lane, Drain, Spent}
 use Rattle.lc_queue.specs.Rule.{HasEnded, Fits, KeepsLanes}
-use Rattle.lc_queue.specs.Passes.{new_view, Puts, Sees, Takes, FindsEmpty, first_drain_cut, first_lane_cut, drain_cut, lane_cut, drain_joined}
-use Rattle.lc_queue.proofs.Seats.{Each, each_set, at_end, lane-here, lane-else, reseat, reseat-else, reseat-here, some_not_none, below}
+use Rattle.lc_queue.specs.Passes.{slots_of_view, popped_of, joined_of, new_view, Puts, FindsFull, Takes, FindsEmpty, first_drain_cut, first_lane_cut, drain_cut, lane_cut, drain_joined}
+use Rattle.lc_queue.specs.Parts.{IsBegun}
+use Rattle.lc_queue.proofs.Seats.{of_lane_shorter, Each, each_set, at_end, lane-here, lane-else, reseat, reseat-else, reseat-here, some_not_none, below}
 
 -- a new queue
 pub begins : KeepsLanes [] (new_view ∷ [])
@@ -43,7 +45,6 @@ puts n pass lane put f on good items views room h at =
     let w : View = Lane n lane (put ++ f ∷ []) in
     let all : List Frame = h.popped ++ items in
     let mine : Fits h.slots h.seat h.drain h.popped all pass v = h.each pass v at in
-    let told : n ≡ h.slots = mine.0 in
     let seated : h.seat (lane_of f) ≡ some pass = ap h.seat on ∙ mine.1 in
     let F : ℕ → View → Type 0 = Fits h.slots h.seat h.drain h.popped (all ++ f ∷ []) in
     let next : Each F (set views pass w) = each_set F views pass w (mine.0, mine.1, lane-here lane all f on ∙ ap (λ ys. ys ++ f ∷ []) mine.2) (λ j u apart e. grows h.slots h.seat h.drain h.popped all f pass seated j u apart (h.each j u e)) in (
@@ -57,17 +58,22 @@ puts n pass lane put f on good items views room h at =
         valid = All-push IsValid items f h.valid good;
         each = subst (λ now. Each (Fits h.slots h.seat h.drain h.popped now) (set views pass w)) (append_assoc h.popped items (f ∷ [])) next;
       },
-      (refl, (items, room, (h.popped, mine.2))),
+      refl,
     )
-
-pub sees : (n pass lane : ℕ) (put : List Frame) → Learns KeepsLanes pass (Lane n lane put) (Sees (Lane n lane put))
-sees n pass lane put items views h at = (h.popped, (h.each pass (Lane n lane put) at).2)
 
 -- what is popped is another list, and in all the same
 shifts : (slots : ℕ) (seat : ℕ → Option ℕ) (drain : ℕ) (popped now all : List Frame) (j : ℕ) (u : View) → j ≢ drain → Fits slots seat drain popped all j u → Fits slots seat drain now all j u
 shifts slots seat drain popped now all j (Lane n lane put) apart h = h
 shifts slots seat drain popped now all j (Drain n next taken joined) apart h = absurd (apart h.1)
 shifts slots seat drain popped now all j Spent apart h = tt
+
+-- what is queued behind a frame that is popped is the rest
+is_begun : (slots : ℕ) (taken : List Frame) (f : Frame) (items : List Frame) (l : JoinedLane) → length items < slots → of_lane l.lane (taken ++ f ∷ items) ≡ l.put → IsBegun slots (taken ++ f ∷ []) l
+is_begun slots taken f items l few is = (
+  of_lane l.lane items,
+  sym (filter-append (λ g. lane_of g == l.lane) (taken ++ f ∷ []) items) ∙ ap (λ fs. of_lane l.lane fs) (append_assoc taken (f ∷ []) items) ∙ is,
+  omega (arith, of_lane_shorter l.lane items),
+)
 
 pub takes : (n pass next : ℕ) (taken : List Frame) (joined : List JoinedLane) → Pops KeepsLanes pass (Drain n next taken joined) (Takes (Drain n next taken joined))
 takes n pass next taken joined f items views h at =
@@ -77,6 +83,8 @@ takes n pass next taken joined f items views h at =
     let mine : Fits h.slots h.seat h.drain h.popped all pass v = h.each pass v at in
     let now : List Frame = h.popped ++ f ∷ [] in
     let room : length (f ∷ items) ≤ h.slots = h.room in
+    let told : n ≡ h.slots = mine.0 in
+    let begun : (l : JoinedLane) → of_lane l.lane (taken ++ f ∷ items) ≡ l.put → IsBegun n (taken ++ f ∷ []) l = λ l is. is_begun n taken f items l (omega arith) is in
     let F : ℕ → View → Type 0 = Fits h.slots h.seat h.drain now all in
     let each : Each F (set views pass w) = each_set F views pass w (mine.0, mine.1, ap (λ ys. ys ++ f ∷ []) mine.2, mine.3, mine.4) (λ j u apart e. shifts h.slots h.seat h.drain h.popped now all j u (λ same. apart (same ∙ sym mine.1)) (h.each j u e)) in (
       w,
@@ -89,7 +97,7 @@ takes n pass next taken joined f items views h at =
         valid = All-tail IsValid f items h.valid;
         each = subst (λ list. Each (Fits h.slots h.seat h.drain now list) (set views pass w)) (sym (append_assoc h.popped (f ∷ []) items)) each;
       },
-      (refl, All-head IsValid f items h.valid),
+      (refl, All-head IsValid f items h.valid, All-weaker (HasEnded h.seat next all) (IsBegun n (taken ++ f ∷ [])) (λ l e. begun l (sym (ap (λ ys. of_lane l.lane (ys ++ f ∷ items)) mine.2) ∙ e.2)) joined mine.4),
     )
 
 pub finds_empty : (n pass next : ℕ) (taken : List Frame) (joined : List JoinedLane) → Learns KeepsLanes pass (Drain n next taken joined) (FindsEmpty (Drain n next taken joined))
@@ -183,11 +191,16 @@ merges n pass next taken joined other m lane put items views h at two at' =
     keeps slots seat drain popped all pass n next taken joined other m l put d t j Spent apart not f = tt
 
 -- the same of a view that is known to be one of these
-pub puts_as : (n slots pass lane : ℕ) (put : List Frame) (f : Frame) (v : View) → n ≡ slots → v ≡ Lane slots lane put → lane_of f ≡ lane → IsValid f → Pushes KeepsLanes n pass v f (Puts v f) × Learns KeepsLanes pass v (Sees v)
-puts_as n slots pass lane put f v all is on good = subst (λ (y : ℕ × View). Pushes KeepsLanes y.0 pass y.1 f (Puts y.1 f) × Learns KeepsLanes pass y.1 (Sees y.1)) (λ i. (sym all i, sym is i)) (puts slots pass lane put f on good, sees slots pass lane put)
+pub puts_as : (n slots pass lane : ℕ) (put : List Frame) (f : Frame) (v : View) → n ≡ slots → v ≡ Lane slots lane put → lane_of f ≡ lane → IsValid f → Pushes KeepsLanes n pass v f (Puts v f) × Learns KeepsLanes pass v (FindsFull v)
+puts_as n slots pass lane put f v all is on good = subst (λ (y : ℕ × View). Pushes KeepsLanes y.0 pass y.1 f (Puts y.1 f) × Learns KeepsLanes pass y.1 (FindsFull y.1)) (λ i. (sym all i, sym is i)) (puts slots pass lane put f on good, λ items views h at. tt)
 
 pub takes_as : (n pass next : ℕ) (taken : List Frame) (joined : List JoinedLane) (v : View) → v ≡ Drain n next taken joined → Pops KeepsLanes pass v (Takes v) × Learns KeepsLanes pass v (FindsEmpty v)
 takes_as n pass next taken joined v is = subst (λ (u : View). Pops KeepsLanes pass u (Takes u) × Learns KeepsLanes pass u (FindsEmpty u)) (sym is) (takes n pass next taken joined, finds_empty n pass next taken joined)
+
+-- what a pop that takes says of the lanes that were joined, by the view after it
+pub begun_as : (o : Opt Frame) (n : ℕ) (v w : View) → slots_of_view v ≡ n → MatchOption o ((w ≡ v) × Held 0 (FindsEmpty v)) (λ f. Takes v f w) → IfSome o (λ _. All (IsBegun n (popped_of w)) (joined_of w))
+begun_as (Some f) n v w same h = subst (λ (y : ℕ × View). All (IsBegun y.0 (popped_of y.1)) (joined_of y.1)) (λ i. (same i, sym h.0 i)) h.2
+begun_as None n v w same h = tt
 
 pub cuts_first_as : (slots pass : ℕ) (v : View) → v ≡ new_view → Forks KeepsLanes pass v (first_drain_cut slots v) (first_lane_cut slots v)
 cuts_first_as slots pass v is = subst (λ (u : View). Forks KeepsLanes pass u (first_drain_cut slots u) (first_lane_cut slots u)) (sym is) (cuts 0 slots pass 0 [] [] (omega arith) (inr refl))

@@ -1,5 +1,5 @@
 -- Lists of views, a frame more in a lane, and which pass has which lane.
-use Rattle.std.proofs.Common.{◌≡◌, ◌≢◌, ◌⊎◌, ℕ, zero, suc, ◌≤◌, ◌<◌, ◌==◌, Bool, cond, List, [], ◌∷◌, ◌++◌, length, set, sym, refl, ap, ◌∙◌, subst, ⊎_elim, inl, inr, append-nil, arith, eq-eqb, ne_eqb}
+use Rattle.std.proofs.Common.{◌≡◌, ◌≢◌, ◌⊎◌, ℕ, zero, suc, ◌≤◌, ◌<◌, ◌==◌, Bool, true, false, cond, List, [], ◌∷◌, ◌++◌, length, set, sym, refl, ap, ◌∙◌, subst, ⊎_elim, inl, inr, append-nil, arith, eq-eqb, ne_eqb}
 use mathlib.Core.Option.{Option, some, none, some-ne-none, some-injective}
 use lib.ListN.{get_elem?}
 use Rattle.std.proofs.lemmas.List.Elements.{filter-append}
@@ -15,6 +15,15 @@ lane-here lane all f on = filter-append (λ g. lane_of g == lane) all (f ∷ [])
 
 pub lane-else : (lane : ℕ) (all : List Frame) (f : Frame) → lane_of f ≢ lane → of_lane lane (all ++ f ∷ []) ≡ of_lane lane all
 lane-else lane all f off = filter-append (λ g. lane_of g == lane) all (f ∷ []) ∙ ap (λ (b : Bool). of_lane lane all ++ cond b (f ∷ []) []) (ne_eqb (lane_of f) lane off) ∙ append-nil (of_lane lane all)
+
+-- a lane has at most all frames
+pub of_lane_shorter : (lane : ℕ) (all : List Frame) → length (of_lane lane all) ≤ length all
+of_lane_shorter lane [] = omega arith
+of_lane_shorter lane (f ∷ fs) = shorter (lane_of f == lane) (of_lane_shorter lane fs)
+  where
+    shorter : (b : Bool) → length (of_lane lane fs) ≤ length fs → length (cond b (f ∷ of_lane lane fs) (of_lane lane fs)) ≤ length (f ∷ fs)
+    shorter true h = omega arith
+    shorter false h = omega arith
 
 -- the place of one view more
 pub at_end : (views : List View) (v u : View) (j : ℕ) → get_elem? (views ++ v ∷ []) j ≡ some u → (get_elem? views j ≡ some u) ⊎ ((j ≡ length views) × (v ≡ u))

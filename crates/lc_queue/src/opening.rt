@@ -1,8 +1,9 @@
 //! How a queue is made.
 ghost use Rattle.std.specs.Prelude.{◌≡◌, ◌+◌, ◌<◌, ◌≤◌, ◌↔◌, [], IfOk};
 ghost use Rattle.std.specs.List.{All};
+ghost use Rattle.lc_frame.specs.Bounds.{IsSlots};
 ghost use Rattle.lc_queue.specs.declared.fault.LanesFault.TheVariants.{BadSlots};
-ghost use Rattle.lc_queue.specs.Parts.{IsSame, IsSlots, slots_of, new_end, new_ends, new_outlet};
+ghost use Rattle.lc_queue.specs.Parts.{IsSame, slots_of, new_end, new_ends, new_outlet};
 
 use crate::drain::Drain;
 use crate::fault::LanesFault;
@@ -10,13 +11,10 @@ use crate::lane_end::LaneEnd;
 use crate::parts::Lanes;
 use crate::rule::{FirstLane, NextLane, Queue, Told, View};
 use crossbeam_queue::Pass;
-use lc_frame::Frame;
+use lc_frame::{Frame, is_slots};
 use std::alloc::{AllocError, Global};
 use std::marker::{Brand, Model};
 use std::sync::Arc;
-
-/// The most slots of a queue.
-pub const MAX_SLOTS: u32 = 65_536;
 
 // A queue that has no ends for the lanes from `next` on.
 #[derive(Drop)]
@@ -41,7 +39,7 @@ impl Model for Opening {
 }
 
 impl Opening {
-    // A new queue and the end of lane 0.
+    // A new queue and the end of lane 0. `N` names the slots in the types of the first cut.
     fn new<N: Told>(alloc: Global, slots: usize) -> Result<(Opening, LaneEnd), AllocError>
         requires some { 0 < slots }
         requires told { N.slots ≡ slots }
@@ -115,7 +113,7 @@ pub fn lanes(alloc: Global, slots: u32) -> Result<Lanes, LanesFault>
     ensures one { IfOk result (λ parts. All (λ end. IsSame parts.drain.queue end.queue) parts.ends) }
     ensures slots { IfOk result (λ parts. slots_of parts.drain.queue ≡ slots) }
 {
-    if slots < 1 || slots > MAX_SLOTS {
+    if !is_slots(slots) {
         return Err(LanesFault::BadSlots);
     }
     let (mut opening, first) = Opening::new::<Brand>(alloc, slots as usize)?;

@@ -3,7 +3,7 @@ use crate::drain::Drain;
 use crate::lane_end::LaneEnd;
 
 /// The parts of a new queue, each of which can go to a thread of its own.
-#[derive(Drop)]
+#[derive(Debug, Drop)]
 pub struct Lanes {
     /// The ends of the lanes 0 to 13, in order.
     pub ends: [LaneEnd; 14],

@@ -40,13 +40,16 @@ impl Protocol<Frame, View> for LanesKept {
     ghost first = { new_view };
 }
 
-/// How many slots a queue has, which its first two passes are told.
+/// How many slots a queue has. All new queues begin with one view, which can't name its slots: it is
+/// at the first cut that the passes are told them, by a type, so that the rule can say that no more
+/// is queued.
 pub trait Told {
     ghost use Rattle.std.specs.Prelude.{ℕ};
 
     ghost slots: { ℕ };
 }
 
+// A call that passes `Brand` picks the slots in its proof.
 impl Told for Brand {
     ghost slots = { 0 };
 }
@@ -97,9 +100,9 @@ impl Outcome<Frame, View> for Push {
 }
 
 impl Lesson<Frame, View> for Push {
-    ghost use Rattle.lc_queue.specs.Passes.{Sees};
+    ghost use Rattle.lc_queue.specs.Passes.{FindsFull};
 
-    ghost fact = { Sees };
+    ghost fact = { FindsFull };
 }
 
 /// A pop of the drain.
