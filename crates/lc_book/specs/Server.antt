@@ -1,7 +1,8 @@
 -- The server's book of one channel direction, and what each call on it refuses and leaves. Guarantees as promises of free buffer space, and pleading for their absolution, are LCMUX's; the order of refusals and the violations are this project's own.
 use Rattle.std.specs.Prelude.{◌≡◌, ℕ, ◌+◌, ◌-◌, ◌≤◌, ◌==◌, nat_lt, nat_le, if◌then◌else◌, Option, Some, None}
 use Rattle.std.specs.Option.{ForSome}
-use Rattle.lc_frame.specs.Kind.{max_amount, max_total}
+use Rattle.lc_frame.specs.Bounds.{IsCapacity}
+use Rattle.lc_frame.specs.Kind.{max_total}
 use Rattle.lc_book.specs.declared.server.ServerParts.{ServerParts}
 use Rattle.lc_book.specs.declared.fault.Refusal.{Refusal}
 use Rattle.lc_book.specs.declared.fault.Refusal.TheVariants.{ZeroAmount, PastReceiveLimit, NoRoom, NothingToAsk, TotalReached}
@@ -18,10 +19,6 @@ pub record Server : Type 0 where
   pub absolved : ℕ
   pub send_left : Option ℕ
   pub receive_left : Option ℕ
-
-pub record IsCapacity (capacity : ℕ) : Type 0 where
-  pub at_least : 1 ≤ capacity
-  pub at_most : capacity ≤ max_amount
 
 abbrev pub new_server : ℕ → Server
 new_server capacity = record { capacity = capacity; issued = 0; arrived = 0; taken = 0; absolved = 0; send_left = None; receive_left = None }
@@ -76,6 +73,12 @@ limit_server b bound = record b { receive_left = Some bound }
 -- a message was taken out of the ring
 abbrev pub note_taken : Server → ℕ → Server
 note_taken b len = record b { taken = b.taken + len }
+
+-- so many bytes that were buffered are room again, and what is outstanding is as it was
+pub record AreFreed (len : ℕ) (old new : Server) : Type 0 where
+  pub buffered_less : buffered new + len ≡ buffered old
+  pub room_more : room new ≡ room old + len
+  pub outstanding_same : outstanding new ≡ outstanding old
 
 -- what is wrong with a message that arrives, and what it leaves
 abbrev pub message_violation : Server → ℕ → Option Violation

@@ -1,13 +1,14 @@
 //! The server's book: guarantees issued, used up by messages and absolved, what is buffered, and both limits.
 ghost use Rattle.std.specs.Prelude.{◌≡◌, ◌≤◌, ◌<◌, ◌↔◌, ◌⊎◌, if◌then◌else◌, is_ok, IsSome, IfSome, IsTrue, OnOk, ◌+◌};
 ghost use Rattle.std.specs.Result.{result_err};
+ghost use Rattle.lc_frame.specs.Bounds.{IsCapacity};
 ghost use Rattle.lc_frame.specs.Kind.{max_body, max_amount, max_total};
 ghost use Rattle.lc_book.specs.Limit.{limit_refusal};
-ghost use Rattle.lc_book.specs.Server.{IsCapacity, IsServer, server_of_parts, new_server, outstanding, buffered, room, IsEnded, issue_refusal, issue, plead_refusal, limit_server, note_taken, message_violation, add_arrived, absolve_violation, add_absolved, send_limit_violation, note_send_limit};
+ghost use Rattle.lc_book.specs.Server.{IsServer, server_of_parts, new_server, outstanding, buffered, room, IsEnded, issue_refusal, issue, plead_refusal, limit_server, note_taken, AreFreed, message_violation, add_arrived, absolve_violation, add_absolved, send_limit_violation, note_send_limit};
 
 use crate::fault::{Refusal, Violation};
 use crate::limit::{is_bound, limited, take_from};
-use lc_frame::{MAX_AMOUNT, MAX_TOTAL};
+use lc_frame::{MAX_TOTAL, is_capacity};
 use std::marker::Model;
 
 /// The book of a channel direction at its server. All numbers count bytes of messages.
@@ -60,7 +61,7 @@ impl ServerBook {
         ensures valid { IsSome result ↔ IsCapacity capacity }
         ensures value { IfSome result (λ b. b ≡ new_server capacity) }
     {
-        if capacity == 0 || capacity > MAX_AMOUNT {
+        if !is_capacity(capacity) {
             return None;
         }
         Some(ServerBook {
@@ -91,7 +92,7 @@ impl ServerBook {
             send_left,
             receive_left,
         } = parts;
-        if capacity == 0 || capacity > MAX_AMOUNT || issued > MAX_TOTAL {
+        if !is_capacity(capacity) || issued > MAX_TOTAL {
             return None;
         }
         if arrived > issued || absolved > issued - arrived || taken > arrived {
@@ -233,7 +234,8 @@ impl ServerBook {
     /// A buffered message of `len` bytes was taken.
     pub fn note_taken(&mut self, len: u32)
         requires { len ≤ buffered self.old }
-        ensures { self.new ≡ note_taken self.old len }
+        ensures after { self.new ≡ note_taken self.old len }
+        ensures freed { AreFreed len self.old self.new }
     {
         self.taken += u64::from(len);
     }

@@ -26,7 +26,7 @@ use Rattle.lc_peer.specs.Peer.{PeerState, channel, server, new_channel, IsChanne
 use Rattle.lc_peer.specs.Arrivals.{violation, violation_at, channel_after_arrival, arrive, arrive_unless, arrivals}
 use Rattle.lc_peer.specs.Streams.{ArrivalsStayBounded}
 
--- no violation, so its condition does not hold, and none behind it
+-- no violation, so its condition does not hold, and none after it
 not_so : (b : Bool) (v : Violation) (rest : Option Violation) → (if b then Some v else rest) ≡ None → (b ≡ false) × (rest ≡ None)
 not_so true v rest e = absurd (let f = e in cc)
 not_so false v rest e = (refl, e)
@@ -101,8 +101,7 @@ inbox_keeps i body is e h =
     record {
       book = message_keeps i.book (length body) e h.book;
       ring = record {
-        at_least = h.ring.at_least;
-        at_most = h.ring.at_most;
+        capacity = h.ring.capacity;
         fits = omega (arith, more, h.agrees.capacity, h.agrees.bytes, h.book.fits, covered);
         each = each_push i.ring.messages body h.ring.each is;
       };

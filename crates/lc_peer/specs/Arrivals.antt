@@ -38,7 +38,7 @@ channel_after_arrival f s = record {
 abbrev pub arrive : PeerState → Frame → PeerState
 arrive p f = set_channel p (channel_of f) (channel_after_arrival f (channel p (channel_of f)))
 
--- what came of a list of frames: how many of them arrived, what they left, and the violation of the one behind them, if it stopped there
+-- what came of a list of frames: how many of them arrived, what they left, and the violation of the one after them, if it stopped there
 pub record Arrival : Type 0 where
   pub count : ℕ
   pub peer : PeerState
@@ -48,7 +48,7 @@ abbrev pub arrive_unless : PeerState → Option Violation → Arrival → Arriva
 arrive_unless p None later = record later { count = later.count + 1 }
 arrive_unless p (Some v) later = record { count = 0; peer = p; violation = Some v }
 
--- the frames arrive in order, up to the first that violates; that one and those behind it change nothing
+-- the frames arrive in order, up to the first that violates; that one and those after it change nothing
 abbrev pub arrivals : PeerState → List Frame → Arrival
 arrivals p [] = record { count = 0; peer = p; violation = None }
 arrivals p (f ∷ frames) = arrive_unless p (violation_at p f) (arrivals (arrive p f) frames)

@@ -1,9 +1,10 @@
 -- What the own calls of a peer answer and leave. A call is named by the frame that it would put; an honour has words of its own. Who may send, issue and absolve what is LCMUX's; the order of refusals is this project's own.
-use Rattle.std.specs.Prelude.{◌≡◌, ℕ, ◌⊎◌, nat_lt, if◌then◌else◌, List, [], ◌∷◌, ◌++◌, length, drop, slice_get, Option, Some, None}
+use Rattle.std.specs.Prelude.{◌≡◌, ℕ, ◌⊎◌, nat_lt, false, if◌then◌else◌, List, [], ◌∷◌, ◌++◌, length, drop, slice_get, Option, Some, None}
 use Rattle.std.specs.Option.{option_or}
 use Rattle.lc_frame.specs.declared.channel.Channel.{Channel}
 use Rattle.lc_frame.specs.declared.frame.Frame.{Frame}
 use Rattle.lc_frame.specs.declared.frame.Frame.TheVariants.{Send, Issue, Absolve, Plead, LimitSending, LimitReceiving}
+use Rattle.lc_frame.specs.Channel.{is_same}
 use Rattle.lc_frame.specs.Frame.{channel_of}
 use Rattle.lc_book.specs.declared.fault.Refusal.{Refusal}
 use Rattle.lc_book.specs.declared.fault.Refusal.TheVariants.{QueueFull, OutOfMemory}
@@ -12,7 +13,8 @@ use Rattle.lc_book.specs.Client.{Client, spend_refusal, absolve_refusal, amount_
 use Rattle.lc_book.specs.Server.{Server, issue_refusal, plead_refusal}
 use Rattle.lc_book.specs.Sums.{client_after_put, server_after_put}
 use Rattle.lc_peer.specs.declared.channel_state.ChannelState.{ChannelState}
-use Rattle.lc_peer.specs.Inbox.{take_first}
+use Rattle.lc_peer.specs.declared.inbox.Take.{Take}
+use Rattle.lc_peer.specs.Inbox.{take_first, Takes}
 use Rattle.lc_peer.specs.Peer.{PeerState, channel, client, inbox, server, set_channel}
 
 -- the first refusal of the books of a channel
@@ -70,6 +72,14 @@ put_honour p c = record (set_channel p c (channel_after_honour (channel p c))) {
 -- a take on the channel
 abbrev pub take_on : PeerState → Channel → PeerState
 take_on p c = set_channel p c (record (channel p c) { inbox = take_first (inbox p c) })
+
+-- what an answer says of a peer before a take on the channel and after it: of its inbox, and that nothing else changed
+pub record TakesOn (c : Channel) (take : Take) (old new : PeerState) : Type 0 where
+  pub inbox : Takes take (inbox old c) (inbox new c)
+  pub client : client new c ≡ client old c
+  pub elsewhere : (d : Channel) → is_same d c ≡ false → channel new d ≡ channel old d
+  pub waiting : new.waiting ≡ old.waiting
+  pub slots : new.slots ≡ old.slots
 
 -- the frame that goes out next, where one waits, and the peer without it
 abbrev pub next : PeerState → Option Frame

@@ -1,20 +1,13 @@
 -- What a peer is made of, and why there is none. All bounds are this project's own.
-use Rattle.std.specs.Prelude.{◌≡◌, ℕ, ◌+◌, ◌⊎◌, ◌&&◌, Bool, nat_le, if◌then◌else◌, List, [], ◌∷◌, map, Option, Some, None}
+use Rattle.std.specs.Prelude.{◌≡◌, ℕ, ◌+◌, ◌⊎◌, if◌then◌else◌, List, [], ◌∷◌, map, Option, Some, None}
 use Rattle.std.specs.Option.{option_map, option_or}
+use Rattle.lc_frame.specs.Bounds.{is_capacity, is_slots}
 use Rattle.lc_frame.specs.declared.channel.Channel.{Channel}
 use Rattle.lc_frame.specs.Channel.{channel_at}
-use Rattle.lc_frame.specs.Kind.{max_amount}
 use Rattle.lc_peer.specs.declared.config.Config.{Config}
 use Rattle.lc_peer.specs.declared.config.PeerFault.{PeerFault}
 use Rattle.lc_peer.specs.declared.config.PeerFault.TheVariants.{BadCapacity, BadSlots, OutOfMemory}
-use Rattle.lc_peer.specs.Peer.{PeerState, new_channel, max_slots}
-
--- a ring may have so many bytes; so many frames may wait
-abbrev pub is_capacity : ℕ → Bool
-is_capacity n = nat_le 1 n && nat_le n max_amount
-
-abbrev pub are_slots : ℕ → Bool
-are_slots n = nat_le 1 n && nat_le n max_slots
+use Rattle.lc_peer.specs.Peer.{PeerState, new_channel}
 
 -- the first channel, of those from a number on, whose ring may not have its capacity
 abbrev pub bad_from : ℕ → List ℕ → Option Channel
@@ -26,7 +19,7 @@ first_bad capacities = bad_from 0 capacities
 
 -- what is wrong with a configuration: capacities come before slots
 abbrev pub config_fault : Config → Option PeerFault
-config_fault config = option_or (option_map BadCapacity (first_bad config.capacities)) (if are_slots config.slots then None else Some BadSlots)
+config_fault config = option_or (option_map BadCapacity (first_bad config.capacities)) (if is_slots config.slots then None else Some BadSlots)
 
 -- a configuration without a fault may still want memory
 abbrev pub IsNewAnswer : Config → Option PeerFault → Type 0

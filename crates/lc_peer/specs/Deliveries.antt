@@ -20,14 +20,14 @@ pub record TookAll (a : Arrival) (bytes piece held : List ℕ) (taken : ℕ) : T
   pub rest : held ≡ rest_of bytes
   pub undecided : IsOpen held
 
--- the frame behind those that arrived violates the rules; it is held, and nothing behind it was taken
+-- the frame after those that arrived violates the rules; it is held, and nothing after it was taken
 pub record MetViolation (violation : Violation) (a : Arrival) (bytes held : List ℕ) : Type 0 where
   pub violates : a.violation ≡ Some violation
   pub frame : Frame
   pub next : slice_get (frames_of bytes) a.count ≡ Some frame
   pub whole : held ≡ encoding frame
 
--- behind the frames, which all arrived, stands a fault; as few bytes were taken as it takes to know it, and they are held
+-- after the frames, which all arrived, stands a fault; as few bytes were taken as it takes to know it, and they are held
 pub record MetFault (fault : FrameFault) (a : Arrival) (bytes held : List ℕ) (taken : ℕ) : Type 0 where
   pub lawful : a.violation ≡ None
   pub stands : FaultStands fault (rest_of bytes)
@@ -39,7 +39,7 @@ StopsBy None a bytes piece held taken = TookAll a bytes piece held taken
 StopsBy (Some (Violated violation)) a bytes piece held taken = MetViolation violation a bytes held
 StopsBy (Some (Fault fault)) a bytes piece held taken = MetFault fault a bytes held taken
 
--- a piece is delivered to a peer behind bytes that are held: the frames of both together arrive, in order, up to the first fault or violation; what was taken is the bytes of those that arrived, and what is held then
+-- a piece is delivered to a peer after bytes that are held: the frames of both together arrive, in order, up to the first fault or violation; what was taken is the bytes of those that arrived, and what is held then
 pub record Delivers (p : PeerState) (held piece : List ℕ) (p' : PeerState) (held' : List ℕ) (d : Delivery) : Type 0 where
   pub peer : p' ≡ (arrivals p (frames_of (held ++ piece))).peer
   pub frames : d.frames ≡ (arrivals p (frames_of (held ++ piece))).count

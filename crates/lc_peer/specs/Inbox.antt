@@ -1,9 +1,9 @@
 -- The receiving end of one channel: its server's book, the messages that wait to be taken, and what a take answers and leaves. That a server buffers what its guarantees promised is LCMUX's; what a take answers is this project's own.
-use Rattle.std.specs.Prelude.{◌≡◌, ℕ, zero, length, nat_lt, if◌then◌else◌, Option, Some, None}
+use Rattle.std.specs.Prelude.{◌≡◌, ℕ, zero, ◌+◌, [], length, nat_lt, if◌then◌else◌, Option, Some, None}
 use Rattle.std.specs.Option.{option_map}
 use Rattle.lc_book.specs.declared.fault.Refusal.{Refusal}
 use Rattle.lc_book.specs.declared.fault.Refusal.TheVariants.{BufferTooSmall}
-use Rattle.lc_book.specs.Server.{Server, IsServer, new_server, buffered, note_taken}
+use Rattle.lc_book.specs.Server.{Server, IsServer, new_server, buffered, IsEnded, note_taken, AreFreed}
 use Rattle.lc_ring.specs.Ring.{Ring, IsRing, IsLength, new_ring, bytes, front, pop}
 use Rattle.lc_peer.specs.declared.inbox.Take.{Take}
 use Rattle.lc_peer.specs.declared.inbox.Take.TheVariants.{Took, Empty, Ended}
@@ -31,13 +31,13 @@ abbrev pub none_waiting : Option ℕ → Take
 none_waiting (Some zero) = Ended
 none_waiting left = Empty
 
--- what a take answers, by the length of the first message
-abbrev pub taken : Server → Option ℕ → Take
-taken book None = none_waiting book.send_left
-taken book (Some len) = Took len
+-- what a take answers by the book and the length of the first message, where one waits
+abbrev pub answer_by_length : Server → Option ℕ → Take
+answer_by_length book None = none_waiting book.send_left
+answer_by_length book (Some len) = Took len
 
 abbrev pub take_answer : InboxState → Take
-take_answer i = taken i.book (option_map length (front i.ring))
+take_answer i = answer_by_length i.book (option_map length (front i.ring))
 
 -- a message that was taken has a length that messages have
 abbrev pub IsTake : Take → Type 0
@@ -60,3 +60,24 @@ too_long (Some len) room = if nat_lt room len then Some (BufferTooSmall len) els
 
 abbrev pub take_refusal : InboxState → ℕ → Option Refusal
 take_refusal i room = too_long (option_map length (front i.ring)) room
+
+-- a refusal of a take names the length of the message, which is one that messages have
+abbrev pub NamesLength : Refusal → Type 0
+NamesLength (BufferTooSmall need) = IsLength need
+NamesLength refusal = ⊥
+
+-- one message fewer waits, and its bytes are room again
+pub record TookOne (len : ℕ) (old new : InboxState) : Type 0 where
+  pub one_less : length new.ring.messages + 1 ≡ length old.ring.messages
+  pub freed : AreFreed len old.book new.book
+
+-- no message waits, and nothing changed
+pub record NoneWaits (old new : InboxState) : Type 0 where
+  pub none : new.ring.messages ≡ []
+  pub same : new ≡ old
+
+-- what an answer says of an inbox before the take and after it
+abbrev pub Takes : Take → InboxState → InboxState → Type 0
+Takes (Took len) old new = TookOne len old new
+Takes Empty old new = NoneWaits old new
+Takes Ended old new = NoneWaits old new × IsEnded new.book

@@ -1,6 +1,7 @@
 -- One side of a session as a value: the state of each channel in both directions, and the frames that wait to go out. Channels that run in both directions are LCMUX's; the list of frames and its bound are this project's own.
 use Rattle.std.specs.Prelude.{ℕ, ◌≤◌, List, length, slice_index_or, slice_set}
 use Rattle.std.specs.List.{AllByRecursion}
+use Rattle.lc_frame.specs.Bounds.{IsSlots}
 use Rattle.lc_frame.specs.declared.channel.Channel.{Channel}
 use Rattle.lc_frame.specs.declared.frame.Frame.{Frame}
 use Rattle.lc_frame.specs.Channel.{number_of}
@@ -42,13 +43,8 @@ pub record IsChannel (s : ChannelState) : Type 0 where
   pub client : IsClient s.client
   pub inbox : IsInbox s.inbox
 
--- how many frames may wait
-abbrev pub max_slots : ℕ
-max_slots = 65536
-
 -- what the waiting frames of every peer keep
 pub record AreWaiting (slots : ℕ) (frames : List Frame) : Type 0 where
-  pub at_least : 1 ≤ slots
-  pub at_most : slots ≤ max_slots
+  pub bound : IsSlots slots
   pub fit : length frames ≤ slots
   pub each : AllByRecursion IsValid frames

@@ -27,7 +27,7 @@ pub record IsChannelOf (capacity : ℕ) (c : Channel) (put arrived : List Frame)
 
 -- the end of a list
 abbrev pub IsEndOf : List Frame → List Frame → Type 0
-IsEndOf frames behind = (before : List Frame) × (frames ≡ before ++ behind)
+IsEndOf frames end = (before : List Frame) × (frames ≡ before ++ end)
 
 -- what was done with two streams: the frames that the peer put, those that arrived at it, and of each channel the capacity of its ring, how many messages were taken, and the plead that is kept
 pub record Streams : Type 0 where
@@ -91,7 +91,7 @@ pub record StaysBounded (capacity : ℕ) (s : ChannelState) : Type 0 where
 abbrev pub ArrivalsStayBounded : Type 0
 ArrivalsStayBounded = (p : PeerState) (frames : List Frame) (c : Channel) → IsChannel (channel p c) → AllByRecursion IsValid frames → StaysBounded (server p c).capacity (channel (arrivals p frames).peer c)
 
--- what came of some frames, counted behind others that arrived before
+-- what came of some frames, counted after so many that arrived before them
 abbrev pub behind : ℕ → Arrival → Arrival
 behind n later = record later { count = n + later.count }
 

@@ -12,7 +12,7 @@ use lc_frame::FrameRef;
 use lc_ring::NewFault;
 use std::alloc::Global;
 
-#[derive(Drop)]
+#[derive(Debug, Drop)]
 pub(crate) struct ChannelState {
     pub client: ClientBook,
     pub inbox: Inbox,

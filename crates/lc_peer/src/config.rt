@@ -3,11 +3,8 @@ ghost use Rattle.std.specs.Prelude.{◌≡◌, ◌≤◌, ◌↔◌, IsTrue};
 ghost use Rattle.lc_peer.specs.Config.{first_bad, config_fault};
 ghost use Rattle.std.specs.Result.{result_err};
 
-use lc_frame::{Channel, MAX_AMOUNT};
+use lc_frame::{Channel, is_capacity, is_slots};
 use thiserror::Error;
-
-/// The most frames that may wait to go out.
-pub const MAX_SLOTS: u32 = 65_536;
 
 /// The bounds of a peer.
 #[derive(Clone, Copy, Debug, PartialEq, Eq)]
@@ -38,7 +35,7 @@ fn first_bad(capacities: &[u32; 7]) -> Option<Channel>
 {
     let mut number = 0;
     for capacity in capacities {
-        if *capacity == 0 || *capacity > MAX_AMOUNT {
+        if !is_capacity(*capacity) {
             return Channel::from_number(number);
         }
         number += 1;
@@ -54,7 +51,7 @@ impl Config {
         if let Some(channel) = first_bad(&self.capacities) {
             return Err(PeerFault::BadCapacity { channel });
         }
-        if self.slots == 0 || self.slots > MAX_SLOTS {
+        if !is_slots(self.slots) {
             return Err(PeerFault::BadSlots);
         }
         Ok(())

@@ -10,13 +10,15 @@ use lc_frame::{Decoded, FrameFault, StreamDecoder, decode};
 /// Why a delivery stopped.
 #[derive(Clone, Copy, Debug, PartialEq, Eq)]
 pub enum Stop {
-    /// The bytes behind the frames that arrived are no frame, however they go on.
+    /// The bytes after the frames that arrived are no frame, however they go on: F1 to F3.
+    /// `FrameFault::Truncated` is never met here, since a stream that stops may still go on.
     Fault(FrameFault),
-    /// The frame behind those that arrived breaks the rules.
+    /// The frame after those that arrived breaks the rules.
     Violated(Violation),
 }
 
 /// What a delivery did.
+#[must_use]
 #[derive(Clone, Copy, Debug, PartialEq, Eq)]
 pub struct Delivery {
     /// How many bytes of the piece were taken: all of them unless it stopped.
@@ -88,7 +90,7 @@ impl Peer {
     ///
     /// After a fault every further call answers it and takes nothing. After a violation the frame
     /// stands in the decoder, and a further call judges it anew, by the books of that moment: so
-    /// who holds the peer ends the session there. Bytes of the piece behind those that were taken
+    /// who holds the peer ends the session there. Bytes of the piece after those that were taken
     /// are the caller's. An empty piece is lawful: a frame that stands in the decoder arrives.
     pub fn deliver(&mut self, decoder: &mut StreamDecoder, piece: &[u8]) -> Delivery
         ensures { Delivers self.old decoder.old.bytes piece.now self.new decoder.new.bytes result }

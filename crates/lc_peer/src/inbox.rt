@@ -1,11 +1,12 @@
 //! The receiving end of one channel.
-ghost use Rattle.std.specs.Prelude.{◌≡◌, ◌≤◌, ◌↔◌, ◌++◌, length, if◌then◌else◌, is_ok, Err, IfOk, IfSome};
+ghost use Rattle.std.specs.Prelude.{◌≡◌, ◌≤◌, ◌↔◌, ◌++◌, length, if◌then◌else◌, is_ok, Err, IfOk, IfErr, IfSome};
 ghost use Rattle.std.specs.Option.{option_map};
 ghost use Rattle.std.specs.Result.{result_err};
+ghost use Rattle.lc_frame.specs.Bounds.{IsCapacity};
 ghost use Rattle.lc_frame.specs.Kind.{max_body, max_amount, max_total};
-ghost use Rattle.lc_book.specs.Server.{buffered, message_violation, add_arrived, absolve_violation, add_absolved, send_limit_violation, note_send_limit};
-ghost use Rattle.lc_ring.specs.Ring.{IsNoCapacity, IsLength, push, front, with_front};
-ghost use Rattle.lc_peer.specs.Inbox.{new_inbox, IsInbox, IsTake, taken, note_front, take_answer, take_first, take_refusal};
+ghost use Rattle.lc_book.specs.Server.{buffered, AreFreed, message_violation, add_arrived, absolve_violation, add_absolved, send_limit_violation, note_send_limit};
+ghost use Rattle.lc_ring.specs.Ring.{IsLength, push, front, with_front};
+ghost use Rattle.lc_peer.specs.Inbox.{new_inbox, IsInbox, IsTake, answer_by_length, note_front, take_answer, take_first, take_refusal, NamesLength, Takes};
 
 use lc_book::{Refusal, ServerBook, Violation};
 use lc_frame::BufferTooSmall;
@@ -25,7 +26,7 @@ pub enum Take {
 }
 
 /// A server's book with the ring that holds what is buffered. Contracts see both.
-#[derive(Drop)]
+#[derive(Debug, Drop)]
 pub struct Inbox {
     book: ServerBook,
     ring: RecvRing,
@@ -45,8 +46,9 @@ impl Model for Inbox {
 fn note(book: &mut ServerBook, len: Option<usize>) -> Take
     requires { IfSome len (λ n. IsLength n × (n ≤ buffered book.old)) }
     ensures range { IsTake result }
-    ensures answer { result ≡ taken book.old len }
+    ensures answer { result ≡ answer_by_length book.old len }
     ensures after { book.new ≡ note_front book.old len }
+    ensures freed { IfSome len (λ n. AreFreed n book.old book.new) }
 {
     match len {
         Some(len) => {
@@ -65,7 +67,7 @@ impl Inbox {
     /// `BadCapacity` exactly where that is not 1 to 2^24, which is found before any memory is
     /// asked for. No other call asks for any.
     pub fn new(alloc: Global, capacity: u32) -> Result<Inbox, NewFault>
-        ensures capacity { (result ≡ Err NewFault.BadCapacity) ↔ IsNoCapacity capacity }
+        ensures capacity { (result ≡ Err NewFault.BadCapacity) ↔ ¬ IsCapacity capacity }
         ensures value { IfOk result (λ inbox. inbox ≡ new_inbox capacity) }
     {
         let ring = RecvRing::new(alloc, capacity)?;
@@ -152,6 +154,8 @@ impl Inbox {
         ensures range { IfOk result (λ take. IsTake take) }
         ensures value { IfOk result (λ take. take ≡ take_answer self.old) }
         ensures after { self.new ≡ (if is_ok result then take_first self.old else self.old) }
+        ensures takes { IfOk result (λ take. Takes take self.old self.new) }
+        ensures need { IfErr result NamesLength }
         ensures buffer { buffer.new ≡ (if is_ok result then with_front (front self.old.ring) buffer.old else buffer.old) }
     {
         match self.ring.take_into(buffer) {
@@ -175,6 +179,7 @@ impl Inbox {
         ensures range { IsTake result }
         ensures answer { result ≡ take_answer self.old }
         ensures after { self.new ≡ take_first self.old }
+        ensures takes { Takes result self.old self.new }
     {
         let len = self.ring.pop();
         note(&mut self.book, len)

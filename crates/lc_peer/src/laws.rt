@@ -18,7 +18,7 @@ pub fn arrivals_stay_bounded()
     ensures { ArrivalsStayBounded }
 {}
 
-/// Where all of one list of frames arrive, a longer list leaves what the rest of it leaves behind
+/// Where all of one list of frames arrive, a longer list leaves what the rest of it leaves after
 /// them.
 pub fn arrivals_go_on()
     ensures { ArrivalsGoOn }

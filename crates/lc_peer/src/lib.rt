@@ -9,7 +9,7 @@ mod inbox;
 pub mod laws;
 mod peer;
 
-pub use config::{Config, MAX_SLOTS, PeerFault};
+pub use config::{Config, PeerFault};
 pub use delivery::{Delivery, Stop};
 pub use inbox::{Inbox, Take};
 pub use lc_book::{Refusal, Violation};

@@ -1,18 +1,19 @@
 //! One side of a session.
-ghost use Rattle.std.specs.Prelude.{◌≡◌, ◌≤◌, ◌<◌, ◌↔◌, ◌++◌, [], ◌∷◌, length, if◌then◌else◌, is_ok, nat_lt, IfOk, IsSome, IfSome, slice_get, Some, None};
+ghost use Rattle.std.specs.Prelude.{◌≡◌, ◌≤◌, ◌<◌, ◌↔◌, ◌++◌, [], ◌∷◌, length, if◌then◌else◌, is_ok, nat_lt, IfOk, IfErr, IsSome, IfSome, slice_get, Some, None};
 ghost use Rattle.circular_buffer.specs.Buffer.{buffer};
 ghost use Rattle.lc_book.specs.declared.fault.Refusal.TheVariants.{QueueFull};
 ghost use Rattle.std.specs.Option.{option_map};
 ghost use Rattle.std.specs.Result.{result_err};
+ghost use Rattle.lc_frame.specs.Bounds.{max_slots};
 ghost use Rattle.lc_frame.specs.declared.frame.Frame.TheVariants.{Send, Issue, Absolve, Plead, LimitSending, LimitReceiving};
 ghost use Rattle.lc_frame.specs.FrameRef.{frame_of};
 ghost use Rattle.lc_frame.specs.Frame.{channel_of, IsValid};
 ghost use Rattle.lc_book.specs.Client.{IsClient};
 ghost use Rattle.lc_book.specs.Sums.{client_after_put, server_after_put};
 ghost use Rattle.lc_ring.specs.Ring.{front, with_front};
-ghost use Rattle.lc_peer.specs.Inbox.{IsInbox, IsTake, take_answer, take_refusal};
-ghost use Rattle.lc_peer.specs.Peer.{client, inbox, server, max_slots, AreWaiting};
-ghost use Rattle.lc_peer.specs.Calls.{refusal, queue_refusal, IsSendAnswer, put, due, honour_refusal, put_honour, take_on, next, without_next};
+ghost use Rattle.lc_peer.specs.Inbox.{IsInbox, IsTake, take_answer, take_refusal, NamesLength};
+ghost use Rattle.lc_peer.specs.Peer.{client, inbox, server, AreWaiting};
+ghost use Rattle.lc_peer.specs.Calls.{refusal, queue_refusal, IsSendAnswer, put, due, honour_refusal, put_honour, take_on, TakesOn, next, without_next};
 ghost use Rattle.lc_peer.specs.Arrivals.{arrivals};
 ghost use Rattle.lc_peer.specs.Config.{IsNewAnswer, new_peer};
 
@@ -26,6 +27,7 @@ use std::alloc::Global;
 use std::marker::Model;
 
 /// One side of a session as one value.
+#[derive(Debug)]
 pub struct Peer {
     alloc: Global,
     channels: [ChannelState; 7],
@@ -46,13 +48,13 @@ impl Drop for Peer {
 impl Model for Peer {
     ghost use Rattle.std.specs.Prelude.{◌≡◌, length};
     ghost use Rattle.lc_peer.specs.Peer.{PeerState, AreWaiting};
-    ghost use Rattle.lc_peer.specs.PeerFields.{IsKept};
+    ghost use Rattle.lc_peer.specs.PeerFields.{ArePeerFields};
 
     ghost Value = { PeerState };
 
     ghost view = { λ peer. record { channels = peer.channels; waiting = peer.waiting.items; slots = peer.waiting.capacity } };
 
-    ghost invariant = { λ peer. IsKept peer.channels peer.waiting };
+    ghost invariant = { λ peer. ArePeerFields peer.channels peer.waiting };
 }
 
 // Puts a frame last, where it may wait.
@@ -132,7 +134,7 @@ impl Peer {
             Some(amount) => enqueue(&mut self.waiting, Frame::Absolve { channel, amount })?,
             None => {}
         }
-        self.channels[usize::from(channel.number())].client = book;
+        self.channels[channel.index()].client = book;
         Ok(due)
     }
 
@@ -204,7 +206,7 @@ impl Peer {
         ensures answer { result_err result ≡ queue_refusal self.old }
         ensures after { self.new ≡ (if is_ok result then put self.old frame else self.old) }
     {
-        let at = usize::from(frame.channel().number());
+        let at = frame.channel().index();
         enqueue(&mut self.waiting, frame)?;
         let state = &mut self.channels[at];
         state.client = sending;
@@ -219,7 +221,7 @@ impl Peer {
         ensures answer { result_err result ≡ (arrivals self.old (frame_of frame.entry ∷ [])).violation }
         ensures after { self.new ≡ (arrivals self.old (frame_of frame.entry ∷ [])).peer }
     {
-        let at = usize::from(frame.channel().number());
+        let at = frame.channel().index();
         self.channels[at].arrive(frame)
     }
 
@@ -230,9 +232,11 @@ impl Peer {
         ensures range { IfOk result (λ take. IsTake take) }
         ensures value { IfOk result (λ take. take ≡ take_answer (inbox self.old channel)) }
         ensures after { self.new ≡ (if is_ok result then take_on self.old channel else self.old) }
+        ensures takes { IfOk result (λ take. TakesOn channel take self.old self.new) }
+        ensures need { IfErr result NamesLength }
         ensures buffer { buffer.new ≡ (if is_ok result then with_front (front (inbox self.old channel).ring) buffer.old else buffer.old) }
     {
-        let at = usize::from(channel.number());
+        let at = channel.index();
         self.channels[at].inbox.take_into(buffer)
     }
 
@@ -241,7 +245,7 @@ impl Peer {
     pub fn front(&self, channel: Channel) -> Option<(&[u8], &[u8])>
         ensures { option_map (λ parts. parts.0.now ++ parts.1.now) result ≡ front (inbox self.now channel).ring }
     {
-        self.channels[usize::from(channel.number())].inbox.front()
+        self.channels[channel.index()].inbox.front()
     }
 
     /// Takes the first message and drops it.
@@ -250,8 +254,9 @@ impl Peer {
         ensures range { IsTake result }
         ensures answer { result ≡ take_answer (inbox self.old channel) }
         ensures after { self.new ≡ take_on self.old channel }
+        ensures takes { TakesOn channel result self.old self.new }
     {
-        let at = usize::from(channel.number());
+        let at = channel.index();
         self.channels[at].inbox.pop()
     }
 
@@ -295,7 +300,7 @@ impl Peer {
         ensures value { result ≡ client self.now channel }
         ensures kept { IsClient result }
     {
-        let book = self.channels[usize::from(channel.number())].client;
+        let book = self.channels[channel.index()].client;
         // A reader tells what every book keeps.
         let _held = book.held();
         book
@@ -307,6 +312,6 @@ impl Peer {
         ensures value { result ≡ server self.now channel }
         ensures kept { IsInbox (inbox self.now channel) }
     {
-        self.channels[usize::from(channel.number())].inbox.book()
+        self.channels[channel.index()].inbox.book()
     }
 }

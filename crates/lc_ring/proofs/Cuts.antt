@@ -9,7 +9,7 @@ use Rattle.std.specs.Option.{option_map}
 use Rattle.circular_buffer.specs.Buffer.{keep_last, Buffer, buffer}
 use Rattle.lc_frame.specs.Kind.{max_body}
 use Rattle.lc_ring.specs.Ring.{Ring, IsLength, IsRing, bytes, front, push}
-use Rattle.lc_ring.specs.Cuts.{cut, IsCut, IsKept}
+use Rattle.lc_ring.specs.Cuts.{cut, IsCut, AreOneRing}
 
 abbrev ring_of : List (List ℕ) → ℕ → Ring
 ring_of messages capacity = record { messages = messages; capacity = capacity }
@@ -29,8 +29,8 @@ each-cut (n ∷ ns) bytes h =
     (record { at_least = omega (arith, len, h.0); at_most = omega (arith, len, h.1) }, each-cut ns (drop n bytes) h.3)
 
 -- what every ring keeps
-pub ring_is_kept : (ls bs : Buffer ℕ) → IsKept ls bs → IsRing (shown ls bs)
-ring_is_kept ls bs h = record { at_least = h.at_least; at_most = h.at_most; fits = omega (arith, bytes-cut ls.items bs.items h.is_cut, h.fits); each = each-cut ls.items bs.items h.is_cut }
+pub ring_is_kept : (ls bs : Buffer ℕ) → AreOneRing ls bs → IsRing (shown ls bs)
+ring_is_kept ls bs h = record { capacity = h.capacity; fits = omega (arith, bytes-cut ls.items bs.items h.is_cut, h.fits); each = each-cut ls.items bs.items h.is_cut }
 
 -- there are at most as many messages as bytes
 pub count_small : (ns bytes : List ℕ) → IsCut ns bytes → length ns ≤ length bytes
@@ -60,7 +60,7 @@ filled : (b b' : Buffer ℕ) (ys : List ℕ) (count : ℕ) → count ≡ min (le
 filled b b' ys count n e h = e ∙ ap (λ (xs : List ℕ). buffer (b.items ++ xs) b.capacity) (take_all count ys (omega (arith, n, h)))
 
 module _ (ls ls' bs bs' : Buffer ℕ) (m : List ℕ) (count : ℕ)
-    (keeps : IsKept ls bs)
+    (keeps : AreOneRing ls bs)
     (some : 1 ≤ length m) (short : length m ≤ max_body) (room : length m ≤ bs.capacity - length bs.items)
     (n : count ≡ min (length m) (bs.capacity - length bs.items))
     (e : bs' ≡ buffer (bs.items ++ take count m) bs.capacity)
@@ -72,21 +72,21 @@ module _ (ls ls' bs bs' : Buffer ℕ) (m : List ℕ) (count : ℕ)
   with_length = kept ls ls' (length m ∷ []) e' (omega (arith, count_small ls.items bs.items keeps.is_cut, keeps.same, keeps.fits, room, some))
 
   -- a ring that took a message in keeps what every ring keeps, and shows the message as its last
-  pub push_is_kept : IsKept ls' bs'
-  push_is_kept = rw (with_bytes, with_length) (record { is_cut = IsCut-push ls.items bs.items m some short keeps.is_cut; fits = omega (arith, length-append bs.items m, keeps.fits, room); same = keeps.same; at_least = keeps.at_least; at_most = keeps.at_most })
+  pub push_is_one : AreOneRing ls' bs'
+  push_is_one = rw (with_bytes, with_length) (record { is_cut = IsCut-push ls.items bs.items m some short keeps.is_cut; fits = omega (arith, length-append bs.items m, keeps.fits, room); same = keeps.same; capacity = keeps.capacity })
 
   pub shown-push : shown ls' bs' ≡ push (shown ls bs) m
   shown-push = rw (with_bytes, with_length) (ap (λ (ms : List (List ℕ)). ring_of ms bs.capacity) (cut-push ls.items bs.items m keeps.is_cut))
 
 -- the first length is that of the first message, and within what a message may have
-pub front-len : (ls bs : Buffer ℕ) → IsKept ls bs → slice_get ls.items 0 ≡ option_map length (front (shown ls bs))
+pub front-len : (ls bs : Buffer ℕ) → AreOneRing ls bs → slice_get ls.items 0 ≡ option_map length (front (shown ls bs))
 front-len ls bs h = go ls.items bs.items h.is_cut
   where
     go : (ns bytes : List ℕ) → IsCut ns bytes → slice_get ns 0 ≡ option_map length (slice_get (cut ns bytes) 0)
     go [] bytes h = refl
     go (n ∷ ns) bytes h = ap (λ (m : ℕ). Some m) (sym (length-take-le n bytes h.2))
 
-pub front_in_range : (ls bs : Buffer ℕ) (len : ℕ) → IsKept ls bs → Some len ≡ slice_get ls.items 0 → IsLength len × (len ≤ bytes (shown ls bs))
+pub front_in_range : (ls bs : Buffer ℕ) (len : ℕ) → AreOneRing ls bs → Some len ≡ slice_get ls.items 0 → IsLength len × (len ≤ bytes (shown ls bs))
 front_in_range ls bs len h e = rw (bytes-cut ls.items bs.items h.is_cut) (go ls.items bs.items h.is_cut e)
   where
     go : (ns bytes : List ℕ) → IsCut ns bytes → Some len ≡ slice_get ns 0 → IsLength len × (len ≤ length bytes)
@@ -95,9 +95,19 @@ front_in_range ls bs len h e = rw (bytes-cut ls.items bs.items h.is_cut) (go ls.
         let same : len ≡ n = cc in
         rw same (record { at_least = h.0; at_most = h.1 }, h.2)
 
+-- the first message, in two parts, has a length that messages have
+pub first_is_message : (r : Ring) (near far : List ℕ) → IsRing r → Some (near ++ far) ≡ front r → IsLength (length near + length far)
+first_is_message r near far h e = go r.messages h.each e
+  where
+    go : (ms : List (List ℕ)) → AllByRecursion (λ m. IsLength (length m)) ms → Some (near ++ far) ≡ slice_get ms 0 → IsLength (length near + length far)
+    go [] h e = absurd cc
+    go (m ∷ ms) h e =
+        let same : near ++ far ≡ m = cc in
+        record { at_least = omega (arith, length-append near far, ap length same, h.0.at_least); at_most = omega (arith, length-append near far, ap length same, h.0.at_most) }
+
 -- the first message is the bytes up to its length
 module _ (ls bs : Buffer ℕ) (len : ℕ) (near far : List ℕ)
-    (keeps : IsKept ls bs)
+    (keeps : AreOneRing ls bs)
     (n : Some len ≡ option_map length (front (shown ls bs)))
     (parts : near ++ far ≡ bs.items) where
   first : (front (shown ls bs) ≡ Some (take len bs.items)) × (len ≤ length bs.items)

@@ -1,18 +1,15 @@
 -- A receiving ring: the messages that wait, and the bytes that there is room for. That a channel's buffer is bounded, and counted in bytes of messages, is LCMUX's; its bounds, and what each call answers, are this project's own.
-use Rattle.std.specs.Prelude.{ℕ, ◌-◌, ◌<◌, ◌≤◌, ◌⊎◌, nat_lt, if◌then◌else◌, List, [], ◌∷◌, ◌++◌, length, drop, slice_get, Option, Some, None, Result, Ok, Err}
+use Rattle.std.specs.Prelude.{ℕ, ◌-◌, ◌≤◌, nat_lt, if◌then◌else◌, List, [], ◌∷◌, ◌++◌, length, drop, slice_get, Option, Some, None, Result, Ok, Err}
 use Rattle.std.specs.List.{AllByRecursion, sum_by}
 use Rattle.lc_frame.specs.declared.buffer_too_small.BufferTooSmall.{BufferTooSmall}
-use Rattle.lc_frame.specs.Kind.{max_body, max_amount}
+use Rattle.lc_frame.specs.Bounds.{IsCapacity}
+use Rattle.lc_frame.specs.Kind.{max_body}
 use Rattle.lc_ring.specs.declared.ring.Full.{Full}
 
 -- the messages that wait, the first first, and the bytes that there is room for
 pub record Ring : Type 0 where
   pub messages : List (List ℕ)
   pub capacity : ℕ
-
--- no ring has such a capacity
-abbrev pub IsNoCapacity : ℕ → Type 0
-IsNoCapacity capacity = (capacity < 1) ⊎ (max_amount < capacity)
 
 -- a ring in which nothing waits
 abbrev pub new_ring : ℕ → Ring
@@ -32,8 +29,7 @@ pub record IsLength (len : ℕ) : Type 0 where
 
 -- what every ring keeps: its capacity is one that a ring may have, its messages fit, and each of them is one
 pub record IsRing (r : Ring) : Type 0 where
-  pub at_least : 1 ≤ r.capacity
-  pub at_most : r.capacity ≤ max_amount
+  pub capacity : IsCapacity r.capacity
   pub fits : bytes r ≤ r.capacity
   pub each : AllByRecursion (λ message. IsLength (length message)) r.messages
 

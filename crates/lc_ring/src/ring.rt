@@ -1,12 +1,13 @@
 //! A bounded list of messages.
-ghost use Rattle.std.specs.Prelude.{◌≡◌, ◌+◌, ◌≤◌, ◌<◌, ◌↔◌, ◌⊎◌, ◌++◌, length, Err, IfOk, IfSome, OnOk, is_ok, if◌then◌else◌};
+ghost use Rattle.std.specs.Prelude.{◌≡◌, ◌+◌, ◌≤◌, ◌↔◌, ◌++◌, length, Err, IfOk, IfErr, IfSome, OnOk, is_ok, if◌then◌else◌};
 ghost use Rattle.std.specs.Option.{option_map};
 ghost use Rattle.std.specs.Result.{result_err};
-ghost use Rattle.lc_frame.specs.Kind.{max_body, max_amount};
-ghost use Rattle.lc_ring.specs.Ring.{IsNoCapacity, new_ring, IsLength, IsRing, bytes, free, push_refusal, push, front, pop, take_answer, with_front};
+ghost use Rattle.lc_frame.specs.Bounds.{IsCapacity};
+ghost use Rattle.lc_frame.specs.Kind.{max_body};
+ghost use Rattle.lc_ring.specs.Ring.{new_ring, IsLength, IsRing, bytes, free, push_refusal, push, front, pop, take_answer, with_front};
 
 use circular_buffer::HeapCircularBuffer;
-use lc_frame::{BufferTooSmall, MAX_AMOUNT};
+use lc_frame::{BufferTooSmall, is_capacity};
 use std::alloc::{AllocError, Global};
 use std::marker::Model;
 use thiserror::Error;
@@ -33,7 +34,7 @@ pub enum NewFault {
 /// The messages that came and were not taken yet, in order, in a ring of bytes. A message has 1 to
 /// `MAX_BODY` bytes, a ring has room for 1 to `MAX_AMOUNT`. Contracts see the list of the messages
 /// and the capacity.
-#[derive(Drop)]
+#[derive(Debug, Drop)]
 pub struct RecvRing {
     bytes: HeapCircularBuffer<u8>,
     lengths: HeapCircularBuffer<u32>,
@@ -41,21 +42,20 @@ pub struct RecvRing {
 
 impl Model for RecvRing {
     ghost use Rattle.std.specs.Prelude.{◌≡◌, ◌≤◌};
-    ghost use Rattle.lc_frame.specs.Kind.{max_amount};
     ghost use Rattle.lc_ring.specs.Ring.{Ring};
-    ghost use Rattle.lc_ring.specs.Cuts.{cut, IsCut, IsKept};
+    ghost use Rattle.lc_ring.specs.Cuts.{cut, AreOneRing};
 
     ghost Value = { Ring };
 
     ghost view = { λ ring. record { messages = cut ring.lengths.items ring.bytes.items; capacity = ring.bytes.capacity } };
 
-    ghost invariant = { λ ring. IsKept ring.lengths ring.bytes };
+    ghost invariant = { λ ring. AreOneRing ring.lengths ring.bytes };
 }
 
 // A ring of so many places for bytes, and as many for lengths, so that it holds as many messages of
 // one byte.
 fn with_room(alloc: Global, capacity: usize) -> Result<RecvRing, AllocError>
-    requires { (1 ≤ capacity) × (capacity ≤ max_amount) }
+    requires { IsCapacity capacity }
     ensures value { IfOk result (λ ring. ring ≡ new_ring capacity) }
 {
     Ok(RecvRing {
@@ -69,11 +69,11 @@ impl RecvRing {
     /// 2^24, which is found before any memory is taken. All the memory of the ring is taken here,
     /// and none of it is touched.
     pub fn new(alloc: Global, capacity: u32) -> Result<RecvRing, NewFault>
-        ensures capacity { (result ≡ Err NewFault.BadCapacity) ↔ IsNoCapacity capacity }
+        ensures capacity { (result ≡ Err NewFault.BadCapacity) ↔ ¬ IsCapacity capacity }
         ensures value { IfOk result (λ ring. ring ≡ new_ring capacity) }
         ensures kept { IfOk result IsRing }
     {
-        if capacity == 0 || capacity > MAX_AMOUNT {
+        if !is_capacity(capacity) {
             return Err(NewFault::BadCapacity);
         }
         match with_room(alloc, capacity as usize) {
@@ -178,8 +178,11 @@ impl RecvRing {
         ensures after { self.new ≡ (if is_ok result then pop self.old else self.old) }
         ensures buffer { buffer.new ≡ (if is_ok result then with_front (front self.old) buffer.old else buffer.old) }
         ensures range { IfOk result (λ taken. IfSome taken IsLength) }
+        ensures need { IfErr result (λ small. IsLength small.need) }
         ensures shrinks { IfOk result (λ taken. IfSome taken (λ len. bytes self.new + len ≡ bytes self.old)) }
     {
+        // A reader tells what every ring keeps.
+        let _bytes = self.bytes();
         let Some((near, far)) = self.front() else {
             return Ok(None);
         };
