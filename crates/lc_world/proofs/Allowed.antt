@@ -96,6 +96,7 @@ honour_allowed b n e = honour_at_most b.asked (held b) n e
 
 -- the frame of an answered event may be put
 pub put_is_allowed : (capacity : ℕ) (mine theirs : Line) (act : Act) (a : Answer) → IsAnswerOf capacity mine theirs act a → MayPutAny capacity mine theirs (frame_put act a)
+put_is_allowed capacity mine theirs act (Refused r) h = tt
 put_is_allowed capacity mine theirs (Send c body) Accepted h = spend_allowed (client_book c mine theirs) (length body) (judged_accepted _ (told _ _ _ h (λ e. cc)))
 put_is_allowed capacity mine theirs (Issue c amount) Accepted h = issue_allowed (server_book capacity c mine theirs) amount (judged_accepted _ (told _ _ _ h (λ e. cc)))
 put_is_allowed capacity mine theirs (Plead c target) Accepted h = tt

@@ -38,25 +38,25 @@ module _ (p new : PeerState) (free : queue_refusal p ≡ None) (r : Result (Unit
   right_is : (f : Frame) → result_err r ≡ refusal p f → answer ≡ judged (refusal_by_books p f)
   right_is f e = told ∙ ap judged (e ∙ by_books p f free)
 
-  abbrev Calls : Act → Channel → Type 0
-  Calls act c = Called p new c act answer
+  abbrev Calls : Act → Type 0
+  Calls act = Called p new act answer
 
-  issues : (c : Channel) (n : ℕ) → result_err r ≡ refusal p (frame.Issue c n) → Leaves p new (frame.Issue c n) r → Calls (Issue c n) c
+  issues : (c : Channel) (n : ℕ) → result_err r ≡ refusal p (frame.Issue c n) → Leaves p new (frame.Issue c n) r → Calls (Issue c n)
   issues c n e l = record { right = inl (right_is (frame.Issue c n) e); after = left p new (Issue c n) (frame.Issue c n) refl (λ e. refl) r answer told l }
 
-  pleads : (c : Channel) (n : ℕ) → result_err r ≡ refusal p (frame.Plead c n) → Leaves p new (frame.Plead c n) r → Calls (Plead c n) c
+  pleads : (c : Channel) (n : ℕ) → result_err r ≡ refusal p (frame.Plead c n) → Leaves p new (frame.Plead c n) r → Calls (Plead c n)
   pleads c n e l = record { right = inl (right_is (frame.Plead c n) e); after = left p new (Plead c n) (frame.Plead c n) refl (λ e. refl) r answer told l }
 
-  absolves : (c : Channel) (n : ℕ) → result_err r ≡ refusal p (frame.Absolve c n) → Leaves p new (frame.Absolve c n) r → Calls (Absolve c n) c
+  absolves : (c : Channel) (n : ℕ) → result_err r ≡ refusal p (frame.Absolve c n) → Leaves p new (frame.Absolve c n) r → Calls (Absolve c n)
   absolves c n e l = record { right = inl (right_is (frame.Absolve c n) e); after = left p new (Absolve c n) (frame.Absolve c n) refl (λ e. refl) r answer told l }
 
-  limits_sending : (c : Channel) (n : ℕ) → result_err r ≡ refusal p (frame.LimitSending c n) → Leaves p new (frame.LimitSending c n) r → Calls (LimitSending c n) c
+  limits_sending : (c : Channel) (n : ℕ) → result_err r ≡ refusal p (frame.LimitSending c n) → Leaves p new (frame.LimitSending c n) r → Calls (LimitSending c n)
   limits_sending c n e l = record { right = inl (right_is (frame.LimitSending c n) e); after = left p new (LimitSending c n) (frame.LimitSending c n) refl (λ e. refl) r answer told l }
 
-  limits_receiving : (c : Channel) (n : ℕ) → result_err r ≡ refusal p (frame.LimitReceiving c n) → Leaves p new (frame.LimitReceiving c n) r → Calls (LimitReceiving c n) c
+  limits_receiving : (c : Channel) (n : ℕ) → result_err r ≡ refusal p (frame.LimitReceiving c n) → Leaves p new (frame.LimitReceiving c n) r → Calls (LimitReceiving c n)
   limits_receiving c n e l = record { right = inl (right_is (frame.LimitReceiving c n) e); after = left p new (LimitReceiving c n) (frame.LimitReceiving c n) refl (λ e. refl) r answer told l }
 
-  sends : (c : Channel) (body : List ℕ) → IsSendAnswer p (frame.Send c body) (result_err r) → Leaves p new (frame.Send c body) r → Calls (Send c body) c
+  sends : (c : Channel) (body : List ℕ) → IsSendAnswer p (frame.Send c body) (result_err r) → Leaves p new (frame.Send c body) r → Calls (Send c body)
   sends c body h l =
       record {
         right = elim h [ inl e ↦ inl (right_is (frame.Send c body) e) | inr e ↦ inr (tt, told ∙ ap judged e.1) ];
@@ -65,29 +65,29 @@ module _ (p new : PeerState) (free : queue_refusal p ≡ None) (r : Result (Unit
 
   -- the same of the event as it is given, with its channel
   abbrev By : (Channel → Act) → Channel → Act → Type 0
-  By of c act = (d : Channel) → act ≡ of d → own_channel act ≡ Some c → own_channel (of d) ≡ Some d → Calls (of c) c → Calls act c
+  By of c act = (d : Channel) → act ≡ of d → own_channel act ≡ Some c → own_channel (of d) ≡ Some d → Calls (of c) → Calls act
 
   pub at_channel : (of : Channel → Act) (c : Channel) (act : Act) → By of c act
   at_channel of c act d e own mine h =
       let same : d ≡ c = some_same d c (sym mine ∙ (ap own_channel (sym e) ∙ own)) in
-      subst (λ (a : Act). Calls a c) (sym (e ∙ ap of same)) h
+      subst (λ (a : Act). Calls a) (sym (e ∙ ap of same)) h
 
-  pub issue_called : (act : Act) (c d : Channel) (n : ℕ) → act ≡ Issue d n → own_channel act ≡ Some c → result_err r ≡ refusal p (frame.Issue c n) → Leaves p new (frame.Issue c n) r → Calls act c
+  pub issue_called : (act : Act) (c d : Channel) (n : ℕ) → act ≡ Issue d n → own_channel act ≡ Some c → result_err r ≡ refusal p (frame.Issue c n) → Leaves p new (frame.Issue c n) r → Calls act
   issue_called act c d n e own a l = at_channel (λ x. Issue x n) c act d e own refl (issues c n a l)
 
-  pub plead_called : (act : Act) (c d : Channel) (n : ℕ) → act ≡ Plead d n → own_channel act ≡ Some c → result_err r ≡ refusal p (frame.Plead c n) → Leaves p new (frame.Plead c n) r → Calls act c
+  pub plead_called : (act : Act) (c d : Channel) (n : ℕ) → act ≡ Plead d n → own_channel act ≡ Some c → result_err r ≡ refusal p (frame.Plead c n) → Leaves p new (frame.Plead c n) r → Calls act
   plead_called act c d n e own a l = at_channel (λ x. Plead x n) c act d e own refl (pleads c n a l)
 
-  pub absolve_called : (act : Act) (c d : Channel) (n : ℕ) → act ≡ Absolve d n → own_channel act ≡ Some c → result_err r ≡ refusal p (frame.Absolve c n) → Leaves p new (frame.Absolve c n) r → Calls act c
+  pub absolve_called : (act : Act) (c d : Channel) (n : ℕ) → act ≡ Absolve d n → own_channel act ≡ Some c → result_err r ≡ refusal p (frame.Absolve c n) → Leaves p new (frame.Absolve c n) r → Calls act
   absolve_called act c d n e own a l = at_channel (λ x. Absolve x n) c act d e own refl (absolves c n a l)
 
-  pub limit_sending_called : (act : Act) (c d : Channel) (n : ℕ) → act ≡ LimitSending d n → own_channel act ≡ Some c → result_err r ≡ refusal p (frame.LimitSending c n) → Leaves p new (frame.LimitSending c n) r → Calls act c
+  pub limit_sending_called : (act : Act) (c d : Channel) (n : ℕ) → act ≡ LimitSending d n → own_channel act ≡ Some c → result_err r ≡ refusal p (frame.LimitSending c n) → Leaves p new (frame.LimitSending c n) r → Calls act
   limit_sending_called act c d n e own a l = at_channel (λ x. LimitSending x n) c act d e own refl (limits_sending c n a l)
 
-  pub limit_receiving_called : (act : Act) (c d : Channel) (n : ℕ) → act ≡ LimitReceiving d n → own_channel act ≡ Some c → result_err r ≡ refusal p (frame.LimitReceiving c n) → Leaves p new (frame.LimitReceiving c n) r → Calls act c
+  pub limit_receiving_called : (act : Act) (c d : Channel) (n : ℕ) → act ≡ LimitReceiving d n → own_channel act ≡ Some c → result_err r ≡ refusal p (frame.LimitReceiving c n) → Leaves p new (frame.LimitReceiving c n) r → Calls act
   limit_receiving_called act c d n e own a l = at_channel (λ x. LimitReceiving x n) c act d e own refl (limits_receiving c n a l)
 
-  pub send_called : (act : Act) (c d : Channel) (body : List ℕ) → act ≡ Send d body → own_channel act ≡ Some c → IsSendAnswer p (frame.Send c body) (result_err r) → Leaves p new (frame.Send c body) r → Calls act c
+  pub send_called : (act : Act) (c d : Channel) (body : List ℕ) → act ≡ Send d body → own_channel act ≡ Some c → IsSendAnswer p (frame.Send c body) (result_err r) → Leaves p new (frame.Send c body) r → Calls act
   send_called act c d body e own a l = at_channel (λ x. Send x body) c act d e own refl (sends c body a l)
 
 -- an honour
@@ -100,11 +100,11 @@ module _ (p new : PeerState) (free : queue_refusal p ≡ None) (c : Channel) whe
   after_honour None answer ea en = en ∙ ap (λ (a : Answer). after_call (Honour c) a p) (sym ea)
   after_honour (Some n) answer ea en = en ∙ ap (λ (a : Answer). after_call (Honour c) a p) (sym ea)
 
-  honours : (r : Result (Option ℕ) Refusal) (answer : Answer) → answer ≡ honour_answer r → result_err r ≡ honour_refusal p (due p c) → IfOk r (λ amount. amount ≡ due p c) → new ≡ (if is_ok r then put_honour p c else p) → Called p new c (Honour c) answer
+  honours : (r : Result (Option ℕ) Refusal) (answer : Answer) → answer ≡ honour_answer r → result_err r ≡ honour_refusal p (due p c) → IfOk r (λ amount. amount ≡ due p c) → new ≡ (if is_ok r then put_honour p c else p) → Called p new (Honour c) answer
   honours (Ok o) answer told e amount l = record { right = inl (told ∙ ap honoured amount); after = after_honour o answer told l }
   honours (Err r) answer told e amount l = absurd (let none : Some r ≡ None = e ∙ never_refused (due p c) in cc)
 
-  pub honour_called : (r : Result (Option ℕ) Refusal) (act : Act) (d : Channel) (answer : Answer) → act ≡ Honour d → own_channel act ≡ Some c → answer ≡ honour_answer r → result_err r ≡ honour_refusal p (due p c) → IfOk r (λ amount. amount ≡ due p c) → new ≡ (if is_ok r then put_honour p c else p) → Called p new c act answer
+  pub honour_called : (r : Result (Option ℕ) Refusal) (act : Act) (d : Channel) (answer : Answer) → act ≡ Honour d → own_channel act ≡ Some c → answer ≡ honour_answer r → result_err r ≡ honour_refusal p (due p c) → IfOk r (λ amount. amount ≡ due p c) → new ≡ (if is_ok r then put_honour p c else p) → Called p new act answer
   honour_called r act d answer ea own told e amount l =
       let same : d ≡ c = some_same d c (ap own_channel (sym ea) ∙ own) in
-      subst (λ (a : Act). Called p new c a answer) (sym (ea ∙ ap (λ (x : Channel). Honour x) same)) (honours r answer told e amount l)
+      subst (λ (a : Act). Called p new a answer) (sym (ea ∙ ap (λ (x : Channel). Honour x) same)) (honours r answer told e amount l)

@@ -10,15 +10,16 @@ use Rattle.lc_frame.specs.declared.channel.Channel.{Channel}
 use Rattle.lc_frame.specs.declared.frame.Frame.{Frame}
 use Rattle.lc_frame.specs.declared.frame.Frame.TheVariants as frame
 use Rattle.lc_frame.specs.Channel.{number_of}
-use Rattle.lc_frame.specs.Frame.{IsValid}
+use Rattle.lc_frame.specs.Frame.{channel_of, IsValid}
 use Rattle.lc_frame.specs.Encoding.{encoding}
 use Rattle.lc_frame.proofs.Channels.{cases_same, same_is_same, number_below, some_same}
+use Rattle.lc_book.specs.declared.fault.Refusal.{Refusal}
 use Rattle.lc_book.specs.declared.fault.Refusal.TheVariants.{OutOfMemory}
 use Rattle.lc_book.specs.Client.{Client, amount_to_absolve}
 use Rattle.lc_book.specs.Server.{Server}
 use Rattle.lc_peer.specs.Peer.{PeerState, channel, client, server}
 use Rattle.lc_frame.specs.StreamDecoder.{Held}
-use Rattle.lc_peer.specs.Calls.{put, due, absolvings, put_honour, next, without_next, queue_refusal}
+use Rattle.lc_peer.specs.Calls.{book_refusal, refusal_by_books, put, due, absolvings, put_honour, next, without_next, queue_refusal}
 use Rattle.lc_peer.specs.Streams.{IsChannelOf, IsEndOf, Streams, IsPeerOf, at, then_put, then_honours}
 use Rattle.lc_peer.proofs.StreamsKept.{calls_keep_streams}
 use Rattle.lc_world.specs.declared.endpoint.Endpoint.{Endpoint}
@@ -28,10 +29,10 @@ use Rattle.lc_world.specs.declared.event.Act.TheVariants.{Send, Issue, Plead, Ab
 use Rattle.lc_world.specs.declared.event.Answer.{Answer}
 use Rattle.lc_world.specs.declared.event.Answer.TheVariants.{Accepted, Absolved, NothingToAbsolve, Refused}
 use Rattle.lc_world.specs.State.{Line, stream, client_book, server_book, put_on, forget_on, size}
-use Rattle.lc_world.specs.Answers.{MayWantMemory, IsUnlessMemory, IsAnswerOf, answer_of, own_answer, honoured, frame_put, put_any, mine_after, theirs_after}
+use Rattle.lc_world.specs.Answers.{own_frame, judged, honoured, frame_put, MayWantMemory, IsUnlessMemory, IsAnswerOf, put_any, mine_after, theirs_after}
 use Rattle.lc_world.specs.Delivery.{bytes_of, delivered, HasBegun}
 use Rattle.lc_world.specs.Endpoint.{line_of, capacity_of, streams_of, of_lines, IsPeerBetween, IsEnd, IsLine, AreEnds, AreInStep, Acts}
-use Rattle.lc_world.specs.Calls.{with_next, own_channel, after_call, Called}
+use Rattle.lc_world.specs.Calls.{with_next, own_channel, after_call, IsCallAnswer, Called}
 use Rattle.lc_world.proofs.Streams.{stream-put}
 use Rattle.lc_world.proofs.Steps.{sound_step}
 use Rattle.lc_world.proofs.Bytes.{begun_within, begun_mine}
@@ -230,26 +231,26 @@ module _ (k : ℕ) (mine theirs : Line) where
   their_end act answer d e o begun h = reader_of_put k mine theirs e (frame_put act answer) begun h
 
   -- the answer is that of the books of its channel
-  abbrev SameAnswer : Act → Channel → Type 0
-  SameAnswer act d = answer_of k mine theirs act ≡ own_answer (client_book d mine theirs) (server_book k d mine theirs) act
+  module _ (p : PeerState) (h : IsPeerBetween k mine theirs p) where
+    refusal_is : (f : Frame) → refusal_by_books p f ≡ book_refusal (client_book (channel_of f) mine theirs) (server_book k (channel_of f) mine theirs) f
+    refusal_is f =
+        ap (λ (x : Client). book_refusal x (server p (channel_of f)) f) (client_is k mine theirs p h (channel_of f))
+        ∙ ap (λ (x : Server). book_refusal (client_book (channel_of f) mine theirs) x f) (server_is k mine theirs p h (channel_of f))
 
-  own_told : (act : Act) (d : Channel) → own_channel act ≡ Some d → SameAnswer act d
-  own_told Arrive d e = absurd (let f = e in cc)
-  own_told (Deliver count) d e = absurd (let f = e in cc)
-  own_told (Take c) d e = absurd (let f = e in cc)
-  own_told (Send c body) d e = subst (SameAnswer (Send c body)) (some_same c d e) refl
-  own_told (Issue c n) d e = subst (SameAnswer (Issue c n)) (some_same c d e) refl
-  own_told (Plead c n) d e = subst (SameAnswer (Plead c n)) (some_same c d e) refl
-  own_told (Absolve c n) d e = subst (SameAnswer (Absolve c n)) (some_same c d e) refl
-  own_told (Honour c) d e = subst (SameAnswer (Honour c)) (some_same c d e) refl
-  own_told (LimitSending c n) d e = subst (SameAnswer (LimitSending c n)) (some_same c d e) refl
-  own_told (LimitReceiving c n) d e = subst (SameAnswer (LimitReceiving c n)) (some_same c d e) refl
+    frame_right : (act : Act) (answer : Answer) (f : Frame) → IsUnlessMemory act (judged (refusal_by_books p f)) answer → IsUnlessMemory act (judged (book_refusal (client_book (channel_of f) mine theirs) (server_book k (channel_of f) mine theirs) f)) answer
+    frame_right act answer f r = subst (λ (o : Option Refusal). IsUnlessMemory act (judged o) answer) (refusal_is f) r
 
-  pub right_by_books : (p : PeerState) (act : Act) (answer : Answer) (d : Channel) → IsPeerBetween k mine theirs p → own_channel act ≡ Some d → IsUnlessMemory act (own_answer (client p d) (server p d) act) answer → IsAnswerOf k mine theirs act answer
-  right_by_books p act answer d h e r =
-      subst (λ (x : Answer). IsUnlessMemory act x answer) (sym (own_told act d e))
-      (subst (λ (x : Client). IsUnlessMemory act (own_answer x (server_book k d mine theirs) act) answer) (client_is k mine theirs p h d)
-      (subst (λ (x : Server). IsUnlessMemory act (own_answer (client p d) x act) answer) (server_is k mine theirs p h d) r))
+    pub right_by_books : (act : Act) (answer : Answer) (d : Channel) → own_channel act ≡ Some d → IsCallAnswer p act answer → IsAnswerOf k mine theirs act answer
+    right_by_books (Send c body) answer d e r = frame_right (Send c body) answer (frame.Send c body) r
+    right_by_books (Issue c n) answer d e r = frame_right (Issue c n) answer (frame.Issue c n) r
+    right_by_books (Plead c n) answer d e r = frame_right (Plead c n) answer (frame.Plead c n) r
+    right_by_books (Absolve c n) answer d e r = frame_right (Absolve c n) answer (frame.Absolve c n) r
+    right_by_books (LimitSending c n) answer d e r = frame_right (LimitSending c n) answer (frame.LimitSending c n) r
+    right_by_books (LimitReceiving c n) answer d e r = frame_right (LimitReceiving c n) answer (frame.LimitReceiving c n) r
+    right_by_books (Honour c) answer d e r = subst (λ (o : Option ℕ). IsUnlessMemory (Honour c) (honoured o) answer) (due_is k mine theirs p h c) r
+    right_by_books Arrive answer d e r = absurd (let f = e in cc)
+    right_by_books (Deliver count) answer d e r = absurd (let f = e in cc)
+    right_by_books (Take c) answer d e r = absurd (let f = e in cc)
 
 -- an own event at the first of two ends
 module _ (k : ℕ) (mine theirs : Line) (me peer : Endpoint) (h : AreEnds k mine theirs me peer) where
@@ -283,9 +284,9 @@ module _ (me peer : Endpoint) (h : AreInStep me peer) where
   slot_is_free = rw (between.one_slot, between.none_waits) refl
 
   -- the call that a Rust event makes, and what goes out after it
-  module _ (new : Endpoint) (act : Act) (answer : Answer) (d : Channel) (own : own_channel act ≡ Some d) (q : PeerState) (call : Called me.peer q d act answer) where
+  module _ (new : Endpoint) (act : Act) (answer : Answer) (d : Channel) (own : own_channel act ≡ Some d) (q : PeerState) (call : Called me.peer q act answer) where
     right_now : IsAnswerOf (capacity_of me) (line_of me peer) (line_of peer me) act answer
-    right_now = right_by_books (capacity_of me) (line_of me peer) (line_of peer me) me.peer act answer d between own call.right
+    right_now = right_by_books (capacity_of me) (line_of me peer) (line_of peer me) me.peer between act answer d own call.right
 
     goes_next : next q ≡ frame_put act answer
     goes_next = ap next call.after ∙ next_is (capacity_of me) (line_of me peer) (line_of peer me) act answer d me.peer own between right_now
@@ -319,18 +320,6 @@ module _ (me peer : Endpoint) (h : AreInStep me peer) where
   refused_leaves (Deliver count) p = refl
   refused_leaves (Take c) p = refl
 
-  nothing_put : (act : Act) → frame_put act (Refused OutOfMemory) ≡ None
-  nothing_put (Send c body) = refl
-  nothing_put (Issue c n) = refl
-  nothing_put (Plead c n) = refl
-  nothing_put (Absolve c n) = refl
-  nothing_put (Honour c) = refl
-  nothing_put (LimitSending c n) = refl
-  nothing_put (LimitReceiving c n) = refl
-  nothing_put Arrive = refl
-  nothing_put (Deliver count) = refl
-  nothing_put (Take c) = refl
-
   may_want : (act : Act) (d : Channel) (right : Answer) → own_channel act ≡ Some d → MayWantMemory act right
   may_want (Send c body) d right e = tt
   may_want (Issue c n) d right e = tt
@@ -349,9 +338,9 @@ module _ (me peer : Endpoint) (h : AreInStep me peer) where
   -- the stream got no room
   pub own_refused : (new : Endpoint) (act : Act) (d : Channel) → own_channel act ≡ Some d → new.peer ≡ me.peer → new.stream.items ≡ me.stream.items → new.delivered ≡ me.delivered → new.decoder ≡ me.decoder → Acts me peer new peer act (Refused OutOfMemory)
   own_refused new act d own ep es ed ec =
-      own_acts new act (Refused OutOfMemory) d own (inr (may_want act d _ own, refl)) (subst (λ (o : Option Frame). IfSome o IsValid) (sym (nothing_put act)) tt) (record {
+      own_acts new act (Refused OutOfMemory) d own (inr (may_want act d _ own, refl)) tt (record {
         peer = ep ∙ (none_left me.peer between.none_waits ∙ ap without_next (sym (refused_leaves act me.peer)));
-        stream = es ∙ ap (λ (o : Option Frame). with_next o me.stream.items) (sym (nothing_put act));
+        stream = es;
         are_bytes = subst (λ (x : List ℕ). All (λ b. b < 256) x) (sym es) h.ends.my_end.are_bytes;
         delivered = ed;
         decoder = ec;

@@ -5,11 +5,11 @@ use Rattle.lc_frame.specs.declared.frame.Frame.{Frame}
 use Rattle.lc_world.specs.State.{Line, size, arrive_first, arrive_on, deliver_over, deliver_on}
 
 -- a property of lines that does not look at how many bytes have begun to come
-pub record IsKept (P : Line → Type 0) : Type 0 where
+pub record IsKeptByArrivals (P : Line → Type 0) : Type 0 where
   pub begins : (l : Line) (n : ℕ) → P l → P (record l { begun = n })
   pub arrives : (l : Line) → P l → P (arrive_on l)
 
-module _ (P : Line → Type 0) (kept : IsKept P) where
+module _ (P : Line → Type 0) (kept : IsKeptByArrivals P) where
   over : (frames : List Frame) (n : ℕ) (l : Line) → l.in_flight ≡ frames → P l → P (deliver_over frames n l)
   over [] n l e h = h
   over (f ∷ rest) n l e h =

@@ -25,7 +25,7 @@ use Rattle.lc_world.specs.declared.event.Act.TheVariants.{Send, Issue, Plead, Ab
 use Rattle.lc_world.specs.declared.event.Answer.{Answer}
 use Rattle.lc_world.specs.declared.event.Answer.TheVariants.{Refused}
 use Rattle.lc_world.specs.State.{State, opening, Line, stream, client_book, server_book, size, arrive_first, arrive_on}
-use Rattle.lc_world.specs.Answers.{judged, honoured, arrival, arrive_answer, delivery_violation, delivery, deliver_answer, none_waiting, take_answer, waiting, answer_of, IsAnswer, after, refusal}
+use Rattle.lc_world.specs.Answers.{judged, honoured, arrival, arrive_answer, delivery_violation, delivery, deliver_answer, empty_or_ended, take_answer, waiting, answer_of, IsAnswer, after, refusal}
 use Rattle.lc_world.specs.Histories.{History, IsLegal, IsHistory}
 use Rattle.lc_world.specs.Guarantee.{IsLawful}
 use Rattle.lc_world.specs.Sound.{FitsAfter, AllFit, Sound, IsSound}
@@ -87,13 +87,13 @@ lawful_honoured : (amount : Option ℕ) → IsLawful (honoured amount)
 lawful_honoured None = tt
 lawful_honoured (Some n) = tt
 
-lawful_none_waiting : (left : Option ℕ) → IsLawful (none_waiting left)
-lawful_none_waiting None = tt
-lawful_none_waiting (Some zero) = tt
-lawful_none_waiting (Some (suc n)) = tt
+lawful_empty_or_ended : (left : Option ℕ) → IsLawful (empty_or_ended left)
+lawful_empty_or_ended None = tt
+lawful_empty_or_ended (Some zero) = tt
+lawful_empty_or_ended (Some (suc n)) = tt
 
 lawful_take : (left : Option ℕ) (bodies : List (List ℕ)) → IsLawful (take_answer left bodies)
-lawful_take left [] = lawful_none_waiting left
+lawful_take left [] = lawful_empty_or_ended left
 lawful_take left (body ∷ bodies) = tt
 
 -- what is sound of two lines where the frames of the second arrive at the side whose line is the first

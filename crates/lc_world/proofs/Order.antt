@@ -55,8 +55,8 @@ record LeavesTaken (capacity : ℕ) (c : Channel) (mine l new : Line) : Type 0 w
 taken-deliver : (capacity : ℕ) (c : Channel) (count : ℕ) (mine l : Line) → Sound capacity c l mine → taken_messages c (deliver_on count l) ≡ taken_messages c l
 taken-deliver capacity c count mine l s =
     (deliver_keeps (LeavesTaken capacity c mine l) (record {
-      begins = λ x n h. record { sound = record { solvent = h.sound.solvent; roomy = h.sound.roomy; total = h.sound.total; taken = h.sound.taken; places = h.sound.places }; same = h.same };
-      arrives = λ x h. record { sound = sound_comes capacity c x mine h.sound; same = taken-arrive c x h.sound.taken ∙ h.same };
+      begins = λ x n h. record { sound = record { solvent = h.sound.solvent; roomy = h.sound.roomy; total = h.sound.total; taken_of_arrived = h.sound.taken_of_arrived; places = h.sound.places }; same = h.same };
+      arrives = λ x h. record { sound = sound_comes capacity c x mine h.sound; same = taken-arrive c x h.sound.taken_of_arrived ∙ h.same };
     }) count l (record { sound = s; same = refl })).same
 
 -- a take adds the first message that waits
@@ -85,7 +85,7 @@ take_adds left c d l body places e =
 
 -- what an event takes of the other side's messages
 theirs_adds : (capacity : ℕ) (mine l : Line) (act : Act) (a : Answer) (c : Channel) → IsAnswerOf capacity mine l act a → ((d : Channel) → Sound capacity d l mine) → Adds c l (theirs_after mine l act a) (taken_body c act a)
-theirs_adds capacity mine l Arrive Arrived c h g = adds_none c l (arrive_on l) (taken-arrive c l (g c).taken)
+theirs_adds capacity mine l Arrive Arrived c h g = adds_none c l (arrive_on l) (taken-arrive c l (g c).taken_of_arrived)
 theirs_adds capacity mine l (Deliver count) (Delivered bytes frames) c h g = adds_none c l (deliver_on count l) (taken-deliver capacity c count mine l (g c))
 theirs_adds capacity mine l (Take d) (Took body) c h g = take_adds _ c d l body (g d).places (told _ _ _ h (λ e. cc))
 theirs_adds capacity mine l (Honour d) (Absolved n) c h g = λ ys. refl

@@ -99,7 +99,7 @@ put_solvent capacity c mine theirs f may solvent =
 
 pub sound_client_puts : (capacity : ℕ) (c : Channel) (mine theirs : Line) (o : Option Frame) → MayPutAny capacity mine theirs o → Sound capacity c mine theirs → Sound capacity c (put_any mine o) theirs
 sound_client_puts capacity c mine theirs None may s = s
-sound_client_puts capacity c mine theirs (Some f) may s = record { solvent = put_solvent capacity c mine theirs f may s.solvent; roomy = s.roomy; total = s.total; taken = s.taken; places = s.places }
+sound_client_puts capacity c mine theirs (Some f) may s = record { solvent = put_solvent capacity c mine theirs f may s.solvent; roomy = s.roomy; total = s.total; taken_of_arrived = s.taken_of_arrived; places = s.places }
 
 -- the ring's balance after an issue of n
 room_enough : (capacity issued_so_far arrived given_up taken n : ℕ) → arrived + given_up ≤ issued_so_far → taken ≤ arrived → issued_so_far ≤ capacity + taken + given_up → n ≤ capacity - (issued_so_far - arrived - given_up) - (arrived - taken) → issued_so_far + n ≤ capacity + taken + given_up
@@ -116,12 +116,12 @@ give_here capacity mine theirs f may s =
     let fits : FitsRoom (server_book capacity d theirs mine) (issued d (f ∷ [])) = issue_fits (client_book d theirs mine) (server_book capacity d theirs mine) f may in
     let roomy : issued d (stream theirs) + issued d (f ∷ []) ≤ capacity + sum_by length (taken_messages d mine) + absolved d mine.arrived = room_enough capacity (issued d (stream theirs)) (cost d mine.arrived) (absolved d mine.arrived) (sum_by length (taken_messages d mine)) (issued d (f ∷ [])) (paid capacity d mine theirs s) (taken_cost d mine) s.roomy fits.in_room in
     let total : issued d (stream theirs) + issued d (f ∷ []) ≤ max_total = fits.in_total s.total in
-    record { solvent = s.solvent; roomy = omega (arith, roomy, issued-put d theirs f); total = omega (arith, total, issued-put d theirs f); taken = s.taken; places = s.places }
+    record { solvent = s.solvent; roomy = omega (arith, roomy, issued-put d theirs f); total = omega (arith, total, issued-put d theirs f); taken_of_arrived = s.taken_of_arrived; places = s.places }
 
 give_elsewhere : (capacity : ℕ) (c : Channel) (mine theirs : Line) (f : Frame) → is_same c (channel_of f) ≡ false → Sound capacity c mine theirs → Sound capacity c mine (put_on theirs f)
 give_elsewhere capacity c mine theirs f apart s =
     let same : issued c (stream (put_on theirs f)) ≡ issued c (stream theirs) = omega (arith, issued-put c theirs f, none_issued_elsewhere c f apart) in
-    record { solvent = s.solvent; roomy = omega (arith, s.roomy, same); total = omega (arith, s.total, same); taken = s.taken; places = s.places }
+    record { solvent = s.solvent; roomy = omega (arith, s.roomy, same); total = omega (arith, s.total, same); taken_of_arrived = s.taken_of_arrived; places = s.places }
 
 pub sound_server_puts : (capacity : ℕ) (c : Channel) (mine theirs : Line) (o : Option Frame) → MayPutAny capacity theirs mine o → Sound capacity c mine theirs → Sound capacity c mine (put_any theirs o)
 sound_server_puts capacity c mine theirs None may s = s
@@ -141,9 +141,9 @@ comes capacity c arrived (f ∷ rest) begun taken asked theirs s =
     let same : (arrived ++ f ∷ []) ++ rest ≡ arrived ++ f ∷ rest = append_assoc arrived (f ∷ []) rest in
     record {
       solvent = subst (λ (fs : List Frame). cost c fs + absolved c fs ≤ issued c theirs.arrived) (sym same) s.solvent;
-      roomy = omega (arith, s.roomy, absolved-append c arrived (f ∷ []), ap (sum_by length) (taken-push c arrived f (get_or taken (number_of c) 0) s.taken));
+      roomy = omega (arith, s.roomy, absolved-append c arrived (f ∷ []), ap (sum_by length) (taken-push c arrived f (get_or taken (number_of c) 0) s.taken_of_arrived));
       total = s.total;
-      taken = omega (arith, s.taken, ap length (messages-append c arrived (f ∷ [])), length-append (messages c arrived) (messages c (f ∷ [])));
+      taken_of_arrived = omega (arith, s.taken_of_arrived, ap length (messages-append c arrived (f ∷ [])), length-append (messages c arrived) (messages c (f ∷ [])));
       places = s.places;
     }
 
@@ -159,7 +159,7 @@ gets capacity c mine arrived (f ∷ rest) begun taken asked s =
       solvent = omega (arith, s.solvent, issued-append c arrived (f ∷ []));
       roomy = omega (arith, s.roomy, same);
       total = omega (arith, s.total, same);
-      taken = s.taken;
+      taken_of_arrived = s.taken_of_arrived;
       places = s.places;
     }
 
@@ -170,14 +170,14 @@ sound_gets capacity c mine theirs s = gets capacity c mine theirs.arrived theirs
 pub sound_delivers : (capacity : ℕ) (c : Channel) (count : ℕ) (mine theirs : Line) → Sound capacity c mine theirs → Sound capacity c (deliver_on count mine) theirs
 sound_delivers capacity c count mine theirs s =
     deliver_keeps (λ (l : Line). Sound capacity c l theirs) (record {
-      begins = λ l n h. record { solvent = h.solvent; roomy = h.roomy; total = h.total; taken = h.taken; places = h.places };
+      begins = λ l n h. record { solvent = h.solvent; roomy = h.roomy; total = h.total; taken_of_arrived = h.taken_of_arrived; places = h.places };
       arrives = λ l h. sound_comes capacity c l theirs h;
     }) count mine s
 
 pub sound_delivers_theirs : (capacity : ℕ) (c : Channel) (count : ℕ) (mine theirs : Line) → Sound capacity c mine theirs → Sound capacity c mine (deliver_on count theirs)
 sound_delivers_theirs capacity c count mine theirs s =
     deliver_keeps (λ (l : Line). Sound capacity c mine l) (record {
-      begins = λ l n h. record { solvent = h.solvent; roomy = h.roomy; total = h.total; taken = h.taken; places = h.places };
+      begins = λ l n h. record { solvent = h.solvent; roomy = h.roomy; total = h.total; taken_of_arrived = h.taken_of_arrived; places = h.places };
       arrives = λ l h. sound_gets capacity c mine l h;
     }) count theirs s
 
@@ -203,7 +203,7 @@ takes_here capacity d mine theirs more s =
       solvent = s.solvent;
       roomy = omega (arith, s.roomy, ap (λ (t : ℕ). sum_by length (take t (messages d mine.arrived))) e, sum_by_more length (messages d mine.arrived) (taken_count d mine) [] more);
       total = s.total;
-      taken = omega (arith, e, more);
+      taken_of_arrived = omega (arith, e, more);
       places = places_stay d d mine s.places;
     }
 
@@ -214,7 +214,7 @@ takes_elsewhere capacity c d mine theirs apart s =
       solvent = s.solvent;
       roomy = omega (arith, s.roomy, ap (λ (t : ℕ). sum_by length (take t (messages c mine.arrived))) e);
       total = s.total;
-      taken = omega (arith, e, s.taken);
+      taken_of_arrived = omega (arith, e, s.taken_of_arrived);
       places = places_stay c d mine s.places;
     }
 
@@ -227,13 +227,13 @@ sound_takes capacity c d mine theirs more s =
 
 -- what the other direction does with a line changes nothing here
 pub sound_takes_theirs : (capacity : ℕ) (c d : Channel) (mine theirs : Line) → Sound capacity c mine theirs → Sound capacity c mine (take_on d theirs)
-sound_takes_theirs capacity c d mine theirs s = record { solvent = s.solvent; roomy = s.roomy; total = s.total; taken = s.taken; places = s.places }
+sound_takes_theirs capacity c d mine theirs s = record { solvent = s.solvent; roomy = s.roomy; total = s.total; taken_of_arrived = s.taken_of_arrived; places = s.places }
 
 pub sound_forgets_theirs : (capacity : ℕ) (c d : Channel) (mine theirs : Line) → Sound capacity c mine theirs → Sound capacity c mine (forget_on d theirs)
-sound_forgets_theirs capacity c d mine theirs s = record { solvent = s.solvent; roomy = s.roomy; total = s.total; taken = s.taken; places = s.places }
+sound_forgets_theirs capacity c d mine theirs s = record { solvent = s.solvent; roomy = s.roomy; total = s.total; taken_of_arrived = s.taken_of_arrived; places = s.places }
 
 pub sound_forgets : (capacity : ℕ) (c d : Channel) (mine theirs : Line) → Sound capacity c mine theirs → Sound capacity c (forget_on d mine) theirs
-sound_forgets capacity c d mine theirs s = record { solvent = s.solvent; roomy = s.roomy; total = s.total; taken = s.taken; places = s.places }
+sound_forgets capacity c d mine theirs s = record { solvent = s.solvent; roomy = s.roomy; total = s.total; taken_of_arrived = s.taken_of_arrived; places = s.places }
 
 -- nothing has happened
 none_taken : (c : Channel) → taken_count c new_line ≡ 0
@@ -246,4 +246,4 @@ none_taken PayloadRequestChannel = refl
 none_taken StaticTokenChannel = refl
 
 pub sound_opening : (capacity : ℕ) (c : Channel) → Sound capacity c new_line new_line
-sound_opening capacity c = record { solvent = omega arith; roomy = omega arith; total = omega arith; taken = omega (arith, none_taken c); places = number_below c }
+sound_opening capacity c = record { solvent = omega arith; roomy = omega arith; total = omega arith; taken_of_arrived = omega (arith, none_taken c); places = number_below c }

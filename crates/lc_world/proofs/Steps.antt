@@ -10,7 +10,7 @@ use Rattle.lc_world.specs.declared.event.Act.TheVariants.{Honour, Arrive, Delive
 use Rattle.lc_world.specs.declared.event.Answer.{Answer}
 use Rattle.lc_world.specs.declared.event.Answer.TheVariants.{Absolved, NothingToAbsolve, Arrived, Delivered, Took}
 use Rattle.lc_world.specs.State.{State, opening, Line, line, other, stream, taken_count}
-use Rattle.lc_world.specs.Answers.{frame_put, put_any, none_waiting, take_answer, waiting, IsAnswerOf, IsAnswer, mine_after, theirs_after, state_after, after}
+use Rattle.lc_world.specs.Answers.{frame_put, put_any, empty_or_ended, take_answer, waiting, IsAnswerOf, IsAnswer, mine_after, theirs_after, state_after, after}
 use Rattle.lc_world.specs.Histories.{History, after_all, IsLegal}
 use Rattle.lc_world.specs.Sound.{AllFit, Sound, IsSound}
 use Rattle.lc_world.proofs.Limits.{all_fit_push}
@@ -19,7 +19,7 @@ use Rattle.lc_world.proofs.Streams.{stream-put, stream-theirs}
 use Rattle.lc_world.proofs.Sound.{sound_client_puts, sound_server_puts, sound_comes, sound_gets, sound_delivers, sound_delivers_theirs, sound_takes, sound_takes_theirs, sound_forgets, sound_forgets_theirs, sound_opening, waits}
 
 -- a message that was taken was the first that waited
-not_took : (left : Option ℕ) (body : List ℕ) → Took body ≡ none_waiting left → ⊥
+not_took : (left : Option ℕ) (body : List ℕ) → Took body ≡ empty_or_ended left → ⊥
 not_took None body e = cc
 not_took (Some zero) body e = cc
 not_took (Some (suc n)) body e = cc

@@ -86,6 +86,9 @@ message_accepted c fs (Absolve d n) Accepted = keeps_none message_of (is_same c 
 message_accepted c fs (Honour d) (Absolved n) = keeps_none message_of (is_same c d) (frame.Absolve d n) (on c fs) refl
 message_accepted c fs (LimitSending d n) Accepted = keeps_none message_of (is_same c d) (frame.LimitSending d n) (on c fs) refl
 message_accepted c fs (LimitReceiving d n) Accepted = keeps_none message_of (is_same c d) (frame.LimitReceiving d n) (on c fs) refl
+message_accepted c fs Arrive Accepted = refl
+message_accepted c fs (Deliver count) Accepted = refl
+message_accepted c fs (Take d) Accepted = refl
 message_accepted c fs act a = refl
 
 message_at : (b : Bool) (c : Channel) (fs : List Frame) (act : Act) (a : Answer) → cons_option (if b then sent_body c act a else None) (messages c fs) ≡ messages c (cons_option (if b then frame_put act a else None) fs)
@@ -110,6 +113,9 @@ amount_issued c fs (Absolve d n) Accepted = keeps_none issue_of (is_same c d) (f
 amount_issued c fs (Honour d) (Absolved n) = keeps_none issue_of (is_same c d) (frame.Absolve d n) (on c fs) refl
 amount_issued c fs (LimitSending d n) Accepted = keeps_none issue_of (is_same c d) (frame.LimitSending d n) (on c fs) refl
 amount_issued c fs (LimitReceiving d n) Accepted = keeps_none issue_of (is_same c d) (frame.LimitReceiving d n) (on c fs) refl
+amount_issued c fs Arrive Accepted = refl
+amount_issued c fs (Deliver count) Accepted = refl
+amount_issued c fs (Take d) Accepted = refl
 amount_issued c fs act a = refl
 
 amount_at : (b : Bool) (c : Channel) (fs : List Frame) (act : Act) (a : Answer) → cons_option (if b then issued_amount c act a else None) (issues c fs) ≡ issues c (cons_option (if b then frame_put act a else None) fs)

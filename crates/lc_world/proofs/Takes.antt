@@ -23,7 +23,7 @@ use Rattle.lc_world.specs.declared.event.Act.TheVariants.{Take}
 use Rattle.lc_world.specs.declared.event.Answer.{Answer}
 use Rattle.lc_world.specs.declared.event.Answer.TheVariants.{Took, Empty, Ended, Refused}
 use Rattle.lc_world.specs.State.{Line, stream, taken_count, server_book, take_on}
-use Rattle.lc_world.specs.Answers.{waiting, none_waiting, take_answer, MayWantMemory, IsAnswerOf, theirs_after}
+use Rattle.lc_world.specs.Answers.{waiting, empty_or_ended, take_answer, MayWantMemory, IsAnswerOf, mine_after, theirs_after}
 use Rattle.lc_world.specs.Endpoint.{line_of, capacity_of, streams_of, of_lines, IsPeerBetween, AreEnds, AreInStep, Acts}
 use Rattle.lc_world.proofs.Steps.{sound_step}
 use Rattle.lc_world.proofs.Calls.{peer_same, at_set}
@@ -43,12 +43,12 @@ some_first [] some = absurd (let none = some in cc)
 some_first (m ∷ ms) some = (m, ms, refl)
 
 -- a peer that answers that none waits
-empty_is : (left : Option ℕ) → takes.Empty ≡ inboxes.none_waiting left → Empty ≡ none_waiting left
+empty_is : (left : Option ℕ) → takes.Empty ≡ inboxes.none_waiting left → Empty ≡ empty_or_ended left
 empty_is None e = refl
 empty_is (Some zero) e = absurd (let f = e in cc)
 empty_is (Some (suc n)) e = refl
 
-ended_is : (left : Option ℕ) → takes.Ended ≡ inboxes.none_waiting left → Ended ≡ none_waiting left
+ended_is : (left : Option ℕ) → takes.Ended ≡ inboxes.none_waiting left → Ended ≡ empty_or_ended left
 ended_is None e = absurd (let f = e in cc)
 ended_is (Some zero) e = refl
 ended_is (Some (suc n)) e = absurd (let f = e in cc)
@@ -58,10 +58,10 @@ took_is_none None n e = let f = e in cc
 took_is_none (Some zero) n e = let f = e in cc
 took_is_none (Some (suc m)) n e = let f = e in cc
 
-left_alone : (mine theirs : Line) (c : Channel) (left : Option ℕ) → theirs ≡ theirs_after mine theirs (Take c) (none_waiting left)
-left_alone mine theirs c None = refl
-left_alone mine theirs c (Some zero) = refl
-left_alone mine theirs c (Some (suc n)) = refl
+left_alone : (k : ℕ) (mine theirs : Line) (c : Channel) (me peer : Endpoint) (left : Option ℕ) → AreEnds k mine theirs me peer → AreEnds k (mine_after mine theirs (Take c) (empty_or_ended left)) (theirs_after mine theirs (Take c) (empty_or_ended left)) me peer
+left_alone k mine theirs c me peer None h = h
+left_alone k mine theirs c me peer (Some zero) h = h
+left_alone k mine theirs c me peer (Some (suc n)) h = h
 
 wants : (c : Channel) (left : Option ℕ) (ms : List (List ℕ)) (body : List ℕ) (rest : List (List ℕ)) → ms ≡ body ∷ rest → MayWantMemory (Take c) (take_answer left ms)
 wants c left ms body rest e = subst (λ (xs : List (List ℕ)). MayWantMemory (Take c) (take_answer left xs)) (sym e) tt
@@ -145,14 +145,14 @@ module _ (me peer : Endpoint) (h : AreInStep me peer) (c : Channel) where
       let right : IsAnswerOf k mine theirs (Take c) (Took body) = inl (sym (ap (take_answer (server_book k c mine theirs).send_left) (sym (waiting_is k mine theirs me peer h.ends c) ∙ first.1))) in
       record { right = right; ends = took_ends k mine theirs me peer h.ends c new body first.0 first.1 ep es ed ec right }
 
-  none_acts : (new : Endpoint) (answer : Answer) → None ≡ front (inbox me.peer c).ring → answer ≡ none_waiting (server me.peer c).send_left → new.peer ≡ calls.take_on me.peer c → new.stream.items ≡ me.stream.items → new.delivered ≡ me.delivered → new.decoder ≡ me.decoder → Acts me peer new peer (Take c) answer
+  none_acts : (new : Endpoint) (answer : Answer) → None ≡ front (inbox me.peer c).ring → answer ≡ empty_or_ended (server me.peer c).send_left → new.peer ≡ calls.take_on me.peer c → new.stream.items ≡ me.stream.items → new.delivered ≡ me.delivered → new.decoder ≡ me.decoder → Acts me peer new peer (Take c) answer
   none_acts new answer e told ep es ed ec =
       let none = none_first (inbox me.peer c).ring.messages e in
       let left : Option ℕ = (server_book k c mine theirs).send_left in
-      let answer_is : answer ≡ none_waiting left = told ∙ ap none_waiting (left_of k mine theirs me peer h.ends c) in
+      let answer_is : answer ≡ empty_or_ended left = told ∙ ap empty_or_ended (left_of k mine theirs me peer h.ends c) in
       record {
         right = inl (answer_is ∙ ap (take_answer left) (sym none ∙ waiting_is k mine theirs me peer h.ends c));
-        ends = subst (λ (l : Line). AreEnds k mine l new peer) (left_alone mine theirs c left ∙ ap (λ (a : Answer). theirs_after mine theirs (Take c) a) (sym answer_is)) (none_ends k mine theirs me peer h.ends c new none ep es ed ec);
+        ends = subst (λ (a : Answer). AreEnds k (mine_after mine theirs (Take c) a) (theirs_after mine theirs (Take c) a) new peer) (sym answer_is) (left_alone k mine theirs c new peer left (none_ends k mine theirs me peer h.ends c new none ep es ed ec));
       }
 
   -- what the peer answers where none waits

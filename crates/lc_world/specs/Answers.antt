@@ -1,7 +1,7 @@
 -- Which answer to an event is right, and what the event leaves. Who may send, issue and absolve what is LCMUX's; the order of refusals, the answers and their names are this project's own.
 use Rattle.std.specs.Prelude.{◌≡◌, ℕ, zero, ◌+◌, ◌-◌, min, nat_lt, if◌then◌else◌, ◌⊎◌, List, [], ◌∷◌, length, drop, Option, Some, None}
 use Rattle.std.specs.List.{flat_map}
-use Rattle.std.specs.Option.{option_or}
+use Rattle.std.specs.Option.{option_or, option_and_then}
 use Rattle.lc_frame.specs.declared.channel.Channel.{Channel}
 use Rattle.lc_frame.specs.declared.frame.Frame.{Frame}
 use Rattle.lc_frame.specs.declared.frame.Frame.TheVariants as frame
@@ -24,18 +24,22 @@ use Rattle.lc_world.specs.declared.event.Answer.{Answer}
 use Rattle.lc_world.specs.declared.event.Answer.TheVariants.{Accepted, Absolved, NothingToAbsolve, Arrived, Delivered, NothingInFlight, Violated, Took, Empty, Ended, Refused}
 use Rattle.lc_world.specs.State.{State, Line, line, other, client_book, server_book, taken_count, put_on, arrive_first, arrive_on, size, deliver_on, take_on, forget_on}
 
--- the first refusal of an own event, by the side's books of its channel: that of the frame that it would put; an honour, an arrival, a delivery and a take have none
+-- the frame that an event puts where it is accepted; an honour's says what it absolved, and an arrival, a delivery and a take put none
+abbrev pub own_frame : Act → Option Frame
+own_frame (Send c body) = Some (frame.Send c body)
+own_frame (Issue c amount) = Some (frame.Issue c amount)
+own_frame (Plead c target) = Some (frame.Plead c target)
+own_frame (Absolve c amount) = Some (frame.Absolve c amount)
+own_frame (LimitSending c bound) = Some (frame.LimitSending c bound)
+own_frame (LimitReceiving c bound) = Some (frame.LimitReceiving c bound)
+own_frame (Honour c) = None
+own_frame Arrive = None
+own_frame (Deliver count) = None
+own_frame (Take c) = None
+
+-- the first refusal of an own event, by the side's books of its channel: that of its frame
 abbrev pub refusal : Client → Server → Act → Option Refusal
-refusal client server (Send c body) = book_refusal client server (frame.Send c body)
-refusal client server (Issue c amount) = book_refusal client server (frame.Issue c amount)
-refusal client server (Plead c target) = book_refusal client server (frame.Plead c target)
-refusal client server (Absolve c amount) = book_refusal client server (frame.Absolve c amount)
-refusal client server (LimitSending c bound) = book_refusal client server (frame.LimitSending c bound)
-refusal client server (LimitReceiving c bound) = book_refusal client server (frame.LimitReceiving c bound)
-refusal client server (Honour c) = None
-refusal client server Arrive = None
-refusal client server (Deliver count) = None
-refusal client server (Take c) = None
+refusal client server act = option_and_then (book_refusal client server) (own_frame act)
 
 abbrev pub judged : Option Refusal → Answer
 judged None = Accepted
@@ -46,38 +50,11 @@ abbrev pub honoured : Option ℕ → Answer
 honoured None = NothingToAbsolve
 honoured (Some amount) = Absolved amount
 
--- the answer to an own event, by the side's books of its channel
-abbrev pub own_answer : Client → Server → Act → Answer
-own_answer client server (Honour c) = honoured (amount_to_absolve client)
-own_answer client server (Send c body) = judged (refusal client server (Send c body))
-own_answer client server (Issue c amount) = judged (refusal client server (Issue c amount))
-own_answer client server (Plead c target) = judged (refusal client server (Plead c target))
-own_answer client server (Absolve c amount) = judged (refusal client server (Absolve c amount))
-own_answer client server (LimitSending c bound) = judged (refusal client server (LimitSending c bound))
-own_answer client server (LimitReceiving c bound) = judged (refusal client server (LimitReceiving c bound))
-own_answer client server Arrive = judged (refusal client server Arrive)
-own_answer client server (Deliver count) = judged (refusal client server (Deliver count))
-own_answer client server (Take c) = judged (refusal client server (Take c))
-
 -- the frame that an answered event puts last on its side's stream
 abbrev pub frame_put : Act → Answer → Option Frame
-frame_put (Send c body) Accepted = Some (frame.Send c body)
-frame_put (Issue c amount) Accepted = Some (frame.Issue c amount)
-frame_put (Plead c target) Accepted = Some (frame.Plead c target)
-frame_put (Absolve c amount) Accepted = Some (frame.Absolve c amount)
+frame_put act Accepted = own_frame act
 frame_put (Honour c) (Absolved amount) = Some (frame.Absolve c amount)
-frame_put (LimitSending c bound) Accepted = Some (frame.LimitSending c bound)
-frame_put (LimitReceiving c bound) Accepted = Some (frame.LimitReceiving c bound)
-frame_put (Send c body) answer = None
-frame_put (Issue c amount) answer = None
-frame_put (Plead c target) answer = None
-frame_put (Absolve c amount) answer = None
-frame_put (Honour c) answer = None
-frame_put (LimitSending c bound) answer = None
-frame_put (LimitReceiving c bound) answer = None
-frame_put Arrive answer = None
-frame_put (Deliver count) answer = None
-frame_put (Take c) answer = None
+frame_put act answer = None
 
 abbrev pub arrival : Option Violation → Answer
 arrival None = Arrived
@@ -113,23 +90,23 @@ abbrev pub waiting : Channel → Line → List (List ℕ)
 waiting c l = drop (taken_count c l) (messages c l.arrived)
 
 -- where no message waits, the channel has ended or it has not, by what is left of the client's limit as far as it has arrived
-abbrev pub none_waiting : Option ℕ → Answer
-none_waiting (Some zero) = Ended
-none_waiting left = Empty
+abbrev pub empty_or_ended : Option ℕ → Answer
+empty_or_ended (Some zero) = Ended
+empty_or_ended left = Empty
 
 abbrev pub take_answer : Option ℕ → List (List ℕ) → Answer
-take_answer left [] = none_waiting left
+take_answer left [] = empty_or_ended left
 take_answer left (body ∷ bodies) = Took body
 
 -- the answer where there is memory, at the side whose line is the first
 abbrev pub answer_of : ℕ → Line → Line → Act → Answer
-answer_of capacity mine theirs (Send c body) = own_answer (client_book c mine theirs) (server_book capacity c mine theirs) (Send c body)
-answer_of capacity mine theirs (Issue c amount) = own_answer (client_book c mine theirs) (server_book capacity c mine theirs) (Issue c amount)
-answer_of capacity mine theirs (Plead c target) = own_answer (client_book c mine theirs) (server_book capacity c mine theirs) (Plead c target)
-answer_of capacity mine theirs (Absolve c amount) = own_answer (client_book c mine theirs) (server_book capacity c mine theirs) (Absolve c amount)
-answer_of capacity mine theirs (Honour c) = own_answer (client_book c mine theirs) (server_book capacity c mine theirs) (Honour c)
-answer_of capacity mine theirs (LimitSending c bound) = own_answer (client_book c mine theirs) (server_book capacity c mine theirs) (LimitSending c bound)
-answer_of capacity mine theirs (LimitReceiving c bound) = own_answer (client_book c mine theirs) (server_book capacity c mine theirs) (LimitReceiving c bound)
+answer_of capacity mine theirs (Send c body) = judged (refusal (client_book c mine theirs) (server_book capacity c mine theirs) (Send c body))
+answer_of capacity mine theirs (Issue c amount) = judged (refusal (client_book c mine theirs) (server_book capacity c mine theirs) (Issue c amount))
+answer_of capacity mine theirs (Plead c target) = judged (refusal (client_book c mine theirs) (server_book capacity c mine theirs) (Plead c target))
+answer_of capacity mine theirs (Absolve c amount) = judged (refusal (client_book c mine theirs) (server_book capacity c mine theirs) (Absolve c amount))
+answer_of capacity mine theirs (Honour c) = honoured (amount_to_absolve (client_book c mine theirs))
+answer_of capacity mine theirs (LimitSending c bound) = judged (refusal (client_book c mine theirs) (server_book capacity c mine theirs) (LimitSending c bound))
+answer_of capacity mine theirs (LimitReceiving c bound) = judged (refusal (client_book c mine theirs) (server_book capacity c mine theirs) (LimitReceiving c bound))
 answer_of capacity mine theirs Arrive = arrive_answer capacity mine theirs theirs.in_flight
 answer_of capacity mine theirs (Deliver count) = deliver_answer capacity mine theirs count theirs.in_flight
 answer_of capacity mine theirs (Take c) = take_answer (server_book capacity c mine theirs).send_left (waiting c theirs)

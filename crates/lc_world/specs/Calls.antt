@@ -1,18 +1,18 @@
 -- What an own event is to the peer of its side, for src/endpoint.rt and src/act.rt.
-use Rattle.std.specs.Prelude.{◌≡◌, ℕ, List, [], ◌++◌, replicate, Option, Some, None, Result, Ok, Err}
+use Rattle.std.specs.Prelude.{◌≡◌, ℕ, List, [], ◌++◌, replicate, Option, Some, None, IfSome, Result, Ok, Err}
 use Rattle.lc_frame.specs.declared.channel.Channel.{Channel}
 use Rattle.lc_frame.specs.declared.frame.Frame.{Frame}
 use Rattle.lc_frame.specs.Encoding.{encoding}
 use Rattle.lc_book.specs.declared.fault.Refusal.{Refusal}
-use Rattle.lc_peer.specs.Peer.{PeerState, client, server}
-use Rattle.lc_peer.specs.Calls.{put, put_honour}
+use Rattle.lc_peer.specs.Peer.{PeerState}
+use Rattle.lc_peer.specs.Calls.{refusal_by_books, put, due, put_honour}
 use Rattle.lc_peer.specs.Config.{new_peer}
 use Rattle.lc_world.specs.declared.endpoint.Endpoint.{Endpoint}
 use Rattle.lc_world.specs.declared.event.Act.{Act}
 use Rattle.lc_world.specs.declared.event.Act.TheVariants.{Send, Issue, Plead, Absolve, Honour, LimitSending, LimitReceiving, Arrive, Deliver, Take}
 use Rattle.lc_world.specs.declared.event.Answer.{Answer}
 use Rattle.lc_world.specs.declared.event.Answer.TheVariants.{Absolved, NothingToAbsolve, Refused}
-use Rattle.lc_world.specs.Answers.{own_answer, honoured, frame_put, IsUnlessMemory}
+use Rattle.lc_world.specs.Answers.{own_frame, judged, honoured, frame_put, IsUnlessMemory}
 
 -- an end at which nothing has happened
 pub record IsNewEnd (capacity : ℕ) (e : Endpoint) : Type 0 where
@@ -54,7 +54,11 @@ abbrev pub honour_answer : Result (Option ℕ) Refusal → Answer
 honour_answer (Ok amount) = honoured amount
 honour_answer (Err r) = Refused r
 
--- the call answered by the books of its channel
-pub record Called (p new : PeerState) (c : Channel) (act : Act) (answer : Answer) : Type 0 where
-  pub right : IsUnlessMemory act (own_answer (client p c) (server p c) act) answer
+-- a call is answered by the books of its channel: a frame as they judge it, and an honour by what it has to absolve
+abbrev pub IsCallAnswer : PeerState → Act → Answer → Type 0
+IsCallAnswer p (Honour c) answer = IsUnlessMemory (Honour c) (honoured (due p c)) answer
+IsCallAnswer p act answer = IfSome (own_frame act) (λ f. IsUnlessMemory act (judged (refusal_by_books p f)) answer)
+
+pub record Called (p new : PeerState) (act : Act) (answer : Answer) : Type 0 where
+  pub right : IsCallAnswer p act answer
   pub after : new ≡ after_call act answer p

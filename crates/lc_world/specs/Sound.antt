@@ -29,7 +29,7 @@ pub record Sound (capacity : ℕ) (c : Channel) (mine theirs : Line) : Type 0 wh
   pub solvent : cost c (stream mine) + absolved c (stream mine) ≤ issued c theirs.arrived
   pub roomy : issued c (stream theirs) ≤ capacity + sum_by length (taken_messages c mine) + absolved c mine.arrived
   pub total : issued c (stream theirs) ≤ max_total
-  pub taken : taken_count c mine ≤ length (messages c mine.arrived)
+  pub taken_of_arrived : taken_count c mine ≤ length (messages c mine.arrived)
   pub places : number_of c < length mine.taken
 
 -- each channel direction of the state is sound, and each stream within its limits

@@ -1,14 +1,16 @@
 //! An event at one of two ends.
 ghost use Rattle.std.specs.Prelude.{◌≡◌, ◌+◌, ◌≤◌, ◌<◌, length, IfOk, IsSome, IfSome, OnErr, OnOk, Some, None};
+ghost use Rattle.std.specs.Option.{option_map};
 ghost use Rattle.std.specs.Result.{result_err};
 ghost use Rattle.lc_frame.specs.Frame.{IsValid};
+ghost use Rattle.lc_frame.specs.FrameRef.{frame_of};
 ghost use Rattle.lc_ring.specs.Ring.{front};
 ghost use Rattle.lc_peer.specs.Peer.{inbox};
 ghost use Rattle.lc_peer.specs.Calls.{queue_refusal};
 ghost use Rattle.lc_world.specs.declared.event.Answer.{Answer};
 ghost use Rattle.lc_world.specs.declared.event.Act.TheVariants as acts;
 ghost use Rattle.lc_world.specs.State.{size};
-ghost use Rattle.lc_world.specs.Answers.{judged, frame_put};
+ghost use Rattle.lc_world.specs.Answers.{own_frame, judged, frame_put};
 ghost use Rattle.lc_world.specs.Calls.{own_channel, honour_answer, Called};
 ghost use Rattle.lc_world.specs.Endpoint.{AreInStep, Acts, Brings};
 
@@ -19,45 +21,32 @@ use lc_frame::{Body, Channel, Decoded, FrameRef, MAX_AMOUNT, MAX_FRAME, decode};
 use lc_peer::{Peer, Take};
 use std::alloc::{AllocError, Global};
 
-// How many bytes the frame of an own event has at most.
-fn room(act: &Act) -> usize
-    requires { IsSome (own_channel act.now) }
+// The frame that an event puts where it is accepted.
+fn own_frame(act: &Act) -> Option<FrameRef<'_>>
+    ensures { option_map frame_of result ≡ own_frame act.now }
+{
+    match *act {
+        Act::Send { channel, ref body } => {
+            let body = body.as_slice();
+            Some(FrameRef::Send { channel, body })
+        }
+        Act::Issue { channel, amount } => Some(FrameRef::Issue { channel, amount }),
+        Act::Plead { channel, target } => Some(FrameRef::Plead { channel, target }),
+        Act::Absolve { channel, amount } => Some(FrameRef::Absolve { channel, amount }),
+        Act::LimitSending { channel, bound } => Some(FrameRef::LimitSending { channel, bound }),
+        Act::LimitReceiving { channel, bound } => Some(FrameRef::LimitReceiving { channel, bound }),
+        Act::Honour { .. } | Act::Arrive | Act::Deliver { .. } | Act::Take { .. } => None,
+    }
+}
+
+// How many bytes the frame of an own event has at most; an honour's is an absolving, all of which
+// have one length.
+fn room(channel: Channel, act: &Act) -> usize
     ensures { (answer : Answer) → IfSome (frame_put act.now answer) (λ f. IsValid f → size f ≤ result) }
 {
-    match act {
-        Act::Send { channel, body } => {
-            let frame = FrameRef::Send {
-                channel: *channel,
-                body: body.as_slice(),
-            };
-            frame.encoded_len().min(MAX_FRAME)
-        }
-        Act::Issue { channel, amount } => {
-            let (channel, amount) = (*channel, *amount);
-            FrameRef::Issue { channel, amount }.encoded_len()
-        }
-        Act::Plead { channel, target } => {
-            let (channel, target) = (*channel, *target);
-            FrameRef::Plead { channel, target }.encoded_len()
-        }
-        Act::Absolve { channel, amount } => {
-            let (channel, amount) = (*channel, *amount);
-            FrameRef::Absolve { channel, amount }.encoded_len()
-        }
-        Act::Honour { channel } => {
-            let (channel, amount) = (*channel, MAX_AMOUNT);
-            FrameRef::Absolve { channel, amount }.encoded_len()
-        }
-        Act::LimitSending { channel, bound } => {
-            let (channel, bound) = (*channel, *bound);
-            FrameRef::LimitSending { channel, bound }.encoded_len()
-        }
-        Act::LimitReceiving { channel, bound } => {
-            let (channel, bound) = (*channel, *bound);
-            FrameRef::LimitReceiving { channel, bound }.encoded_len()
-        }
-        Act::Arrive | Act::Deliver { .. } | Act::Take { .. } => unreachable!(),
-    }
+    let amount = MAX_AMOUNT;
+    let frame = own_frame(act).unwrap_or(FrameRef::Absolve { channel, amount });
+    frame.encoded_len().min(MAX_FRAME)
 }
 
 fn judged(judgement: Result<(), Refusal>) -> Answer
@@ -83,7 +72,7 @@ fn honoured(judgement: Result<Option<u32>, Refusal>) -> Answer
 fn call(peer: &mut Peer, channel: Channel, act: &Act) -> Answer
     requires own { own_channel act.now ≡ Some channel }
     requires free { queue_refusal peer.old ≡ None }
-    ensures { Called peer.old peer.new channel act.now result }
+    ensures { Called peer.old peer.new act.now result }
 {
     match act {
         Act::Send { body, .. } => judged(peer.send(channel, body.as_slice())),
@@ -103,7 +92,7 @@ fn own_event(me: &mut Endpoint, peer: &Endpoint, channel: Channel, act: &Act) ->
     requires in_step { AreInStep me.old peer.now }
     ensures { Acts me.old peer.now me.new peer.now act.now result }
 {
-    if me.stream.reserve(room(act)).is_err() {
+    if me.stream.reserve(room(channel, act)).is_err() {
         return Answer::Refused(Refusal::OutOfMemory);
     }
     let answer = call(&mut me.peer, channel, act);
