@@ -58,7 +58,7 @@ pub record IsBalanced (capacity : ℕ) (w : State) : Type 0 where
   pub sums : (s : Side) (c : Channel) → AddsUp (client w s c)
   pub in_flight : (s : Side) (c : Channel) → IsSomewhere w s c
 
--- the history is cut behind an accepted act of the side
+-- the history is cut after an accepted act of the side
 abbrev pub IsCut : History → Side → Act → History → Type 0
 IsCut history s act later = (earlier : History) × (history ≡ earlier ++ (record { side = s; act = act }, Accepted) ∷ later)
 
@@ -74,7 +74,7 @@ plead_kept s c w = kept_plead c (line w (other s))
 abbrev pub last_plead : Channel → List Frame → Option ℕ
 last_plead c frames = last_or None (pleads c frames)
 
--- the history is cut behind an honour of the side on the channel that was answered
+-- the history is cut after an honour of the side on the channel that was answered
 abbrev pub IsCutAtHonour : History → Side → Channel → History → History → Type 0
 IsCutAtHonour history s c earlier later = (answer : Answer) × IsHonoured answer × (history ≡ earlier ++ (record { side = s; act = Honour c }, answer) ∷ later)
 

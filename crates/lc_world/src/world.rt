@@ -1,7 +1,7 @@
 //! Two peers whose streams keep order.
 ghost use Rattle.std.specs.Prelude.{◌≡◌, ◌↔◌, IfOk, IsOk, IsSome, IfSome, length, [], replicate, Err};
 ghost use Rattle.std.specs.List.{zip};
-ghost use Rattle.lc_book.specs.Server.{IsCapacity};
+ghost use Rattle.lc_frame.specs.Bounds.{IsCapacity};
 ghost use Rattle.lc_ring.specs.Ring.{IsNoCapacity};
 ghost use Rattle.lc_world.specs.State.{opening, client, server};
 ghost use Rattle.lc_world.specs.Answers.{IsAnswer, after};
