@@ -49,7 +49,7 @@ A absolve 2 => Refused(NotHeld { held: 1 })
 A absolve 1 => Accepted
 ";
 
-// A stream is cut inside a promise, behind a message, and inside the next, of which the rest arrives.
+// A stream is cut inside a promise, after a message, and inside the next, of which the rest arrives.
 const CUT: &str = "B issue 5 => Accepted
 A deliver 2 => Delivered { bytes: 2, frames: 0 }
 A send 61 => Refused(NoGuarantee { held: 0 })
@@ -69,10 +69,9 @@ B deliver 0 => Delivered { bytes: 0, frames: 0 }
 B deliver 4294967295 => Delivered { bytes: 8, frames: 2 }
 ";
 
-// An event that has a number.
-fn numbered(word: &str, number: u64) -> Option<Act> {
+// An event that counts bytes.
+fn counted(word: &str, amount: u32) -> Option<Act> {
     let channel = DATA;
-    let (amount, bound) = (u32::try_from(number).ok()?, number);
     Some(match word {
         "deliver" => Act::Deliver { count: amount },
         "issue" => Act::Issue { channel, amount },
@@ -81,10 +80,18 @@ fn numbered(word: &str, number: u64) -> Option<Act> {
             channel,
             target: amount,
         },
-        "limit-sending" => Act::LimitSending { channel, bound },
-        "limit-receiving" => Act::LimitReceiving { channel, bound },
         _ => return None,
     })
+}
+
+// An event that has a number.
+fn numbered(word: &str, bound: u64) -> Option<Act> {
+    let channel = DATA;
+    match word {
+        "limit-sending" => Some(Act::LimitSending { channel, bound }),
+        "limit-receiving" => Some(Act::LimitReceiving { channel, bound }),
+        _ => counted(word, u32::try_from(bound).ok()?),
+    }
 }
 
 fn act(alloc: Global, word: &str, rest: &str) -> Option<Act> {
@@ -241,6 +248,69 @@ fn events_leave_their_books(rt: HostRuntime) -> Result<(), Fail> {
     let found = books(rt.alloc(), &stepped.world);
     same(&rt, "books", found, "2 5 3, 2 5 9, 0");
     Ok(())
+}
+
+// Numbers at the ends of their ranges.
+const LARGE: &str = "B issue 16777216 => Accepted
+B issue 1 => Refused(NoRoom { room: 0 })
+B plead 16777215 => Accepted
+B limit-receiving 4611686018427387904 => Accepted
+B limit-receiving 4611686018427387905 => Refused(BoundTooLarge)
+A deliver 4294967295 => Delivered { bytes: 19, frames: 3 }
+A honour => Absolved(1)
+A absolve 16777216 => Refused(NotHeld { held: 16777215 })
+A absolve 16777215 => Accepted
+A limit-sending 4611686018427387904 => Accepted
+B deliver 4294967295 => Delivered { bytes: 19, frames: 3 }
+B issue 16777216 => Accepted
+B limit-receiving 4611686018410610688 => Accepted
+B limit-receiving 4611686018410610689 => Refused(LimitRaised { left: 4611686018410610688 })
+";
+
+#[test]
+fn large_numbers_have_their_answers(rt: HostRuntime) -> Result<(), Fail> {
+    are_answered(&rt, rt.alloc(), 16_777_216, LARGE)
+}
+
+// 1,100 messages of one byte, which one delivery brings.
+#[test]
+fn many_events_have_their_answers(rt: HostRuntime) -> Result<(), Fail> {
+    let alloc = rt.alloc();
+    let (sends, takes) = (
+        "A send 61 => Accepted\n".repeat(alloc, 1_100)?,
+        "B take => Took(Body { bytes: [97] })\n".repeat(alloc, 1_100)?,
+    );
+    let lines = format!(in alloc;
+        "B issue 1100 => Accepted
+A arrive => Arrived
+{sends}A send 61 => Refused(NoGuarantee {{ held: 0 }})
+B deliver 4400 => Delivered {{ bytes: 4400, frames: 1100 }}
+{takes}B take => Empty
+"
+    )?;
+    are_answered(&rt, alloc, 1_100, &lines)
+}
+
+// Two of the longest messages, which one delivery brings.
+#[test]
+fn long_messages_have_their_answers(rt: HostRuntime) -> Result<(), Fail> {
+    let alloc = rt.alloc();
+    let (body, bytes) = ("61".repeat(alloc, 65_535)?, "97, ".repeat(alloc, 65_534)?);
+    let lines = format!(in alloc;
+        "B issue 131071 => Accepted
+A arrive => Arrived
+A send {body} => Accepted
+A send {body}61 => Refused(BodyTooLong)
+A send {body} => Accepted
+B deliver 131075 => Delivered {{ bytes: 131075, frames: 1 }}
+B deliver 131076 => Delivered {{ bytes: 1, frames: 1 }}
+B take => Took(Body {{ bytes: [{bytes}97] }})
+B take => Took(Body {{ bytes: [{bytes}97] }})
+A send 62 => Accepted
+B deliver 65536 => Delivered {{ bytes: 4, frames: 1 }}
+"
+    )?;
+    are_answered(&rt, alloc, 131_071, &lines)
 }
 
 // Why there is no world with rings of so many bytes, and no run.
