@@ -76,7 +76,7 @@ nothing_read a i p fits o going =
       going = going;
     }
 
--- what comes of more bytes behind those of a list of frames and a rest
+-- what comes of more bytes after those of a list of frames and a rest
 further_frames : (bytes held y : List ℕ) → All (λ b. b < 256) bytes → held ≡ rest_of bytes → (frames_of (bytes ++ y) ≡ frames_of bytes ++ frames_of (held ++ y)) × (rest_of (bytes ++ y) ≡ rest_of (held ++ y))
 further_frames bytes held y fits e =
     let split = computed_split bytes (bytes_from bytes fits) in
@@ -84,7 +84,7 @@ further_frames bytes held y fits e =
     let law = joined_law (frames_of bytes) (held ++ y) split.each in
     (ap (λ (xs : List ℕ). frames_of xs) parts ∙ law.0, ap (λ (xs : List ℕ). rest_of xs) parts ∙ law.1)
 
--- what came of all, where more bytes came behind those read so far
+-- what came of all, where more bytes came after those read so far
 pub record Further (came later : Arrival) (rest later_rest : List ℕ) : Type 0 where
   pub peer : came.peer ≡ later.peer
   pub violation : came.violation ≡ later.violation
@@ -107,6 +107,9 @@ further {held = held} {old = old} {new = new} {i = i} s y =
       left = ap (λ (xs : List ℕ). rest_of xs) joined ∙ more.1;
     }
 
+more_bytes : (held read y : List ℕ) → All (λ b. b < 256) (held ++ read) → All (λ b. b < 256) y → All (λ b. b < 256) (held ++ (read ++ y))
+more_bytes held read y fits more = subst (λ (xs : List ℕ). All (λ b. b < 256) xs) (append_assoc held read y) (All-append (λ (b : ℕ). b < 256) (held ++ read) y fits more)
+
 -- one read more, all of which was taken
 pub reads_on : {a b c : Option (List ℕ)} {held : List ℕ} {old p q : PeerState} {i : IntakeState} {turns : ℕ} (j : IntakeState) (y piece : List ℕ) (d : Delivery) → SoFar a b held old i p turns → Consumes b c y → piece ≡ y → 0 < length y → length y ≤ 512 → All (λ b. b < 256) piece → Delivers p i.held piece q j.held d → d.stop ≡ None → j.stop ≡ d.stop → SoFar a c held old j q (turns + 1)
 reads_on {a} {b} {c} {held} {old} {p} {q} {i} {turns} j y piece d s consumed same more less fits delivers none stop =
@@ -118,7 +121,7 @@ reads_on {a} {b} {c} {held} {old} {p} {q} {i} {turns} j y piece d s consumed sam
       consumed = consumes_then a b c s.read y s.consumed consumed;
       few = omega (arith, s.few, less, length-append s.read y);
       some = omega (arith, s.some, more, length-append s.read y);
-      bytes = subst (λ (xs : List ℕ). All (λ b. b < 256) xs) (append_assoc held s.read y) (All-append (λ (b : ℕ). b < 256) (held ++ s.read) y s.bytes (subst (λ (xs : List ℕ). All (λ b. b < 256) xs) same fits));
+      bytes = more_bytes held s.read y s.bytes (subst (λ (xs : List ℕ). All (λ b. b < 256) xs) same fits);
       peer = delivers.peer ∙ ap (λ (r : Arrival). r.peer) given ∙ sym f.peer;
       lawful = f.violation ∙ ap (λ (r : Arrival). r.violation) (sym given) ∙ took.lawful;
       rest = took.rest ∙ ap (λ (xs : List ℕ). rest_of (i.held ++ xs)) same ∙ sym f.left;
@@ -135,8 +138,8 @@ stop_of_end (stops.Fault fault) = refl
 stop_of_end (stops.Violated violation) = refl
 
 -- one read more, in which the stream was given up
-pub reads_stop : {a b c : Option (List ℕ)} {held : List ℕ} {old p q : PeerState} {i : IntakeState} {turns : ℕ} (max_reads : ℕ) (j : IntakeState) (y piece : List ℕ) (d : Delivery) (stop : Stop) → SoFar a b held old i p turns → turns < max_reads → Consumes b c y → piece ≡ y → length y ≤ 512 → Delivers p i.held piece q j.held d → d.stop ≡ Some stop → j.stop ≡ d.stop → Reads a c held old j q max_reads (end_of stop)
-reads_stop {a} {b} {c} {held} {old} {p} {q} {i} {turns} max_reads j y piece d stop s left consumed same less delivers is kept =
+pub reads_stop : {a b c : Option (List ℕ)} {held : List ℕ} {old p q : PeerState} {i : IntakeState} {turns : ℕ} (max_reads : ℕ) (j : IntakeState) (y piece : List ℕ) (d : Delivery) (stop : Stop) → SoFar a b held old i p turns → turns < max_reads → Consumes b c y → piece ≡ y → length y ≤ 512 → All (λ b. b < 256) piece → Delivers p i.held piece q j.held d → d.stop ≡ Some stop → j.stop ≡ d.stop → Reads a c held old j q max_reads (end_of stop)
+reads_stop {a} {b} {c} {held} {old} {p} {q} {i} {turns} max_reads j y piece d stop s left consumed same less fits delivers is kept =
     let stopped = subst (λ (o : Option Stop). StopsBy o (arrivals p (frames_of (i.held ++ piece))) (i.held ++ piece) piece j.held d.taken) is delivers.stop in
     let here = subst (λ (xs : List ℕ). StopsBy (Some stop) (arrivals p (frames_of (i.held ++ xs))) (i.held ++ xs) xs j.held d.taken) same stopped in
     let f = further s y in
@@ -144,6 +147,7 @@ reads_stop {a} {b} {c} {held} {old} {p} {q} {i} {turns} max_reads j y piece d st
       read = s.read ++ y;
       consumed = consumes_then a b c s.read y s.consumed consumed;
       few = omega (arith, s.few, less, left, length-append s.read y);
+      bytes = more_bytes held s.read y s.bytes (subst (λ (xs : List ℕ). All (λ b. b < 256) xs) same fits);
       peer = delivers.peer ∙ ap (λ (xs : List ℕ). (arrivals p (frames_of (i.held ++ xs))).peer) same ∙ sym f.peer;
       ends = ends_by_stop stop _ _ _ (i.held ++ y) y j.held d.taken _ max_reads f here;
       kept = kept ∙ is ∙ stop_of_end stop;
@@ -174,6 +178,7 @@ reads_end {a} {b} {c} {held} {old} {new} {i} max_reads end s left consumed e = r
   read = s.read;
   consumed = subst (λ (xs : List ℕ). Consumes a c xs) (append-nil s.read) (consumes_then a b c s.read [] s.consumed consumed);
   few = omega (arith, s.few, left);
+  bytes = s.bytes;
   peer = s.peer;
   ends = ends_here end _ _ _ _ max_reads (goes_on s) e;
   kept = s.going ∙ none_kept end i.held e;
@@ -185,6 +190,7 @@ reads_failed {a} {b} {c} {held} {old} {new} {i} max_reads s left keeps = record 
   read = s.read;
   consumed = subst (λ (xs : List ℕ). Consumes a c xs) (append-nil s.read) (consumes_then a b c s.read [] s.consumed (consumes_kept b c keeps));
   few = omega (arith, s.few, left);
+  bytes = s.bytes;
   peer = s.peer;
   ends = goes_on s;
   kept = s.going;
@@ -196,6 +202,7 @@ reads_spent {a} {b} {held} {old} {new} {i} max_reads s all = record {
   read = s.read;
   consumed = s.consumed;
   few = omega (arith, s.few, all);
+  bytes = s.bytes;
   peer = s.peer;
   ends = (goes_on s, omega (arith, s.some, all));
   kept = s.going;

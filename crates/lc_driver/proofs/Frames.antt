@@ -27,11 +27,11 @@ pub all_fit : (ws : List Frame) → AllByRecursion IsValid ws → length (flat_m
 all_fit [] v = omega arith
 all_fit (f ∷ ws) v = omega (arith, longest f v.0, all_fit ws v.1, ap length (flat_map-cons encoding f ws), length-append (encoding f) (flat_map encoding ws))
 
-pub none_waiting : (ws : List Frame) → flat_map encoding ws ≡ [] → ws ≡ []
-none_waiting [] e = refl
-none_waiting (f ∷ ws) e = absurd (omega (arith, some_bytes f, ap length e, ap length (flat_map-cons encoding f ws), length-append (encoding f) (flat_map encoding ws)))
+pub no_bytes_no_frames : (ws : List Frame) → flat_map encoding ws ≡ [] → ws ≡ []
+no_bytes_no_frames [] e = refl
+no_bytes_no_frames (f ∷ ws) e = absurd (omega (arith, some_bytes f, ap length e, ap length (flat_map-cons encoding f ws), length-append (encoding f) (flat_map encoding ws)))
 
--- what is behind the first so many
+-- the first so many and those after them
 pub length-split : (n : ℕ) (ws : List Frame) → length (flat_map encoding ws) ≡ length (flat_map encoding (take n ws)) + length (flat_map encoding (drop n ws))
 length-split n ws = ap (λ (xs : List Frame). length (flat_map encoding xs)) (sym (take-append-drop n ws)) ∙ ap length (flat_map-append encoding (take n ws) (drop n ws)) ∙ length-append (flat_map encoding (take n ws)) (flat_map encoding (drop n ws))
 
@@ -49,7 +49,7 @@ pub first_of : (ws : List Frame) (f : Frame) → Some f ≡ slice_get ws 0 → w
 first_of [] f e = cc
 first_of (w ∷ ws) f e = cc
 
--- the bytes of the first frame, and those behind it
+-- the bytes of the first frame, and those after it
 pub record IsNext (at len : ℕ) (given : List ℕ) (f : Frame) (ws : List Frame) : Type 0 where
   pub ahead : IsAhead (at + len) given ws
   pub first : take len (drop at given) ≡ encoding f
@@ -72,4 +72,4 @@ next_ahead at len given f ws (suc joined) more same e =
 pub joined_none : (old new : List ℕ) (ws : List Frame) (place : ℕ) → new ≡ old ++ flat_map encoding (take place ws) → length ws ≤ place → new ≡ [] → ws ≡ []
 joined_none old new ws place joined all nothing =
     let whole : flat_map encoding (take place ws) ≡ flat_map encoding ws = ap (λ (xs : List Frame). flat_map encoding xs) (take_all place ws all) in
-    none_waiting ws (nil_from_length (flat_map encoding ws) (omega (arith, ap length joined, ap length nothing, ap length whole, length-append old (flat_map encoding (take place ws)))))
+    no_bytes_no_frames ws (nil_from_length (flat_map encoding ws) (omega (arith, ap length joined, ap length nothing, ap length whole, length-append old (flat_map encoding (take place ws)))))

@@ -1,3 +1,4 @@
+pub mod Counting
 pub mod Frames
 pub mod Written
 pub mod Arrived

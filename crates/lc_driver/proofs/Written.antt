@@ -1,8 +1,7 @@
 -- What a writer took, after one write and another.
-use Rattle.std.proofs.Common.{◌≡◌, ℕ, ◌+◌, ◌-◌, ◌<◌, ◌≤◌, cond, eqb, ltb, ◌&&◌, List, [], ◌∷◌, ◌++◌, length, take, drop, Option, Some, None, refl, sym, ap, subst, ◌∙◌, append_assoc, arith, inl, inr, length-append}
+use Rattle.std.proofs.Common.{◌≡◌, ℕ, ◌+◌, ◌-◌, ◌<◌, ◌≤◌, List, [], ◌∷◌, ◌++◌, length, take, drop, Option, Some, None, refl, sym, ap, subst, ◌∙◌, append_assoc, arith, inl, inr, length-append}
 use Rattle.std.specs.List.{flat_map}
 use Rattle.std.proofs.lemmas.Bool.{cases_lt}
-use Rattle.std.proofs.lemmas.Bool.Decides.{nat_tests}
 use Rattle.std.proofs.lemmas.List.{append-nil, length-take, drop-drop}
 use Rattle.std.proofs.lemmas.List.Concat.{flat_map-cons}
 use Rattle.std.proofs.Math.Seq.{take-add}
@@ -79,14 +78,6 @@ writes_then {a} {b} {c} {x} {y} {z} {p} {q} {r} {n} {m} k s t e = record {
   peer = gone_then s.gone t.gone p q r s.peer t.peer;
   begun = λ i h. omega (arith, e, begun_then s t i h);
 }
-
--- a count that a write of some bytes leaves
-pub count_stays : (n asked before after more : ℕ) → (n ≡ 0 → ⊥) → after ≡ cond (eqb n 0 && ltb 0 asked) more before → after ≡ before
-count_stays n asked before after more some e = grind (arith, nat_tests)
-
--- a call that was asked for some bytes and moved none counts one end
-pub count_ends : (n asked before after more : ℕ) → n ≡ 0 → 0 < asked → after ≡ cond (eqb n 0 && ltb 0 asked) more before → after ≡ more
-count_ends n asked before after more none some e = grind (arith, nat_tests)
 
 pub written_after : (fault : WriteFault) (before : ℕ) → fault_written (fault_after fault before) ≡ before + fault_written fault
 written_after (Failed n) before = refl

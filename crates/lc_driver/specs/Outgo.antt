@@ -7,7 +7,7 @@ pub record OutgoState : Type 0 where
   pub pending : List ℕ
 
 -- what a buffer of so many bytes with this capacity keeps, whose bytes before the start were taken: a whole frame has room
-pub record IsKept (len capacity start : ℕ) : Type 0 where
+pub record IsFrameBuffer (len capacity start : ℕ) : Type 0 where
   pub within : start ≤ len
   pub most : len ≤ max_frame
   pub room : max_frame ≤ capacity

@@ -1,6 +1,6 @@
 -- What reading does: which frames arrive, what is held, and how it ends. These rules are this project's own.
-use Rattle.std.specs.Prelude.{◌≡◌, ℕ, ◌*◌, ◌≤◌, List, [], ◌++◌, length, Option, Some, None}
-use Rattle.std.specs.Io.KnownBytes.{Consumes}
+use Rattle.std.specs.Prelude.{◌≡◌, ℕ, ◌*◌, ◌<◌, ◌≤◌, List, [], ◌++◌, length, All, Option, Some, None, IsSome, ⊤}
+use Rattle.std.specs.Io.KnownBytes.{Consumes, IsAtEnd}
 use Rattle.lc_frame.specs.Encoding.{FaultStands}
 use Rattle.lc_frame.specs.Decoded.{IsOpen}
 use Rattle.lc_frame.specs.StreamDecoder.{IsPart}
@@ -11,6 +11,7 @@ use Rattle.lc_peer.specs.Peer.{PeerState}
 use Rattle.lc_peer.specs.Arrivals.{Arrival, arrivals}
 use Rattle.lc_driver.specs.declared.reading.ReadEnd.{ReadEnd}
 use Rattle.lc_driver.specs.declared.reading.ReadEnd.TheVariants.{Clean, Truncated, Fault, Violated, ReadFailed, TurnsSpent}
+use Rattle.lc_driver.specs.declared.counts.Counts.{Counts}
 use Rattle.lc_driver.specs.Counts.{count_up}
 use Rattle.lc_driver.specs.Intake.{IntakeState}
 
@@ -49,13 +50,21 @@ pub record Reads (before after : Option (List ℕ)) (held : List ℕ) (old : Pee
   pub read : List ℕ
   pub consumed : Consumes before after read
   pub few : length read ≤ max_read * max_reads
+  -- all of them are bytes, also where the reader tells nothing of what it gives
+  pub bytes : All (λ b. b < 256) (held ++ read)
   pub peer : new ≡ (arrivals old (frames_of (held ++ read))).peer
   pub ends : EndsBy end (arrivals old (frames_of (held ++ read))) (rest_of (held ++ read)) intake.held (length read) max_reads
   pub kept : intake.stop ≡ stop_of end
 
+-- where the answer says that the input ended, it did
+abbrev pub EndsInput : ReadEnd → Option (List ℕ) → Type 0
+EndsInput Clean remaining = IsAtEnd remaining
+EndsInput Truncated remaining = IsAtEnd remaining
+EndsInput end remaining = ⊤
+
 -- the reader's own counts name what it did: one read failed, or one gave nothing; else no read did
-abbrev pub CountsReads : ReadEnd → ℕ → ℕ → ℕ → ℕ → Type 0
-CountsReads Clean failed failed' ended ended' = (failed' ≡ failed) × (ended' ≡ count_up ended)
-CountsReads Truncated failed failed' ended ended' = (failed' ≡ failed) × (ended' ≡ count_up ended)
-CountsReads ReadFailed failed failed' ended ended' = (failed' ≡ count_up failed) × (ended' ≡ ended)
-CountsReads end failed failed' ended ended' = (failed' ≡ failed) × (ended' ≡ ended)
+abbrev pub CountsReads : ReadEnd → Counts → Counts → Type 0
+CountsReads Clean old new = new ≡ record old { calls = new.calls; ends = count_up old.ends }
+CountsReads Truncated old new = new ≡ record old { calls = new.calls; ends = count_up old.ends }
+CountsReads ReadFailed old new = (new ≡ record old { calls = new.calls; failures = count_up old.failures; last_failure = new.last_failure }) × IsSome new.last_failure
+CountsReads end old new = new ≡ record old { calls = new.calls }

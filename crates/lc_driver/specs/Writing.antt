@@ -1,5 +1,5 @@
 -- What writing does: which bytes the writer takes, and which frames leave the peer. These rules are this project's own.
-use Rattle.std.specs.Prelude.{◌≡◌, ℕ, ◌+◌, ◌<◌, ◌≤◌, List, ◌++◌, length, take, drop, Option, Result, Ok, Err}
+use Rattle.std.specs.Prelude.{◌≡◌, ℕ, ◌+◌, ◌<◌, ◌≤◌, List, ◌++◌, length, take, drop, Option, Result, Ok, Err, IsSome}
 use Rattle.std.specs.List.{flat_map}
 use Rattle.std.specs.Io.KnownBytes.{Appends}
 use Rattle.lc_frame.specs.declared.frame.Frame.{Frame}
@@ -7,6 +7,7 @@ use Rattle.lc_frame.specs.Encoding.{encoding}
 use Rattle.lc_peer.specs.Peer.{PeerState}
 use Rattle.lc_driver.specs.declared.writing.WriteFault.{WriteFault}
 use Rattle.lc_driver.specs.declared.writing.WriteFault.TheVariants.{Failed, Zero}
+use Rattle.lc_driver.specs.declared.counts.Counts.{Counts}
 use Rattle.lc_driver.specs.Counts.{count_up}
 
 -- the bytes that are pending, then those of the frames that wait
@@ -44,12 +45,12 @@ fault_after (Failed n) before = Failed (before + n)
 fault_after (Zero n) before = Zero (before + n)
 
 -- the writer's own counts name the fault: one call failed, or one took nothing; else no call did
-abbrev pub CountsWrites : Result ℕ WriteFault → ℕ → ℕ → ℕ → ℕ → Type 0
-CountsWrites (Ok n) failed failed' ended ended' = (failed' ≡ failed) × (ended' ≡ ended)
-CountsWrites (Err (Failed n)) failed failed' ended ended' = (failed' ≡ count_up failed) × (ended' ≡ ended)
-CountsWrites (Err (Zero n)) failed failed' ended ended' = (failed' ≡ failed) × (ended' ≡ count_up ended)
+abbrev pub CountsWrites : Result ℕ WriteFault → Counts → Counts → Type 0
+CountsWrites (Ok n) old new = new ≡ record old { calls = new.calls }
+CountsWrites (Err (Failed n)) old new = (new ≡ record old { calls = new.calls; failures = count_up old.failures; last_failure = new.last_failure }) × IsSome new.last_failure
+CountsWrites (Err (Zero n)) old new = new ≡ record old { calls = new.calls; ends = count_up old.ends }
 
--- behind the first so many bytes stand those of the first frames that wait
+-- after the first so many bytes stand those of the first frames that wait
 pub record IsAhead (begun : ℕ) (bytes : List ℕ) (waiting : List Frame) : Type 0 where
   pub within : begun ≤ length bytes
   pub joined : ℕ

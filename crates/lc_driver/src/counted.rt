@@ -1,27 +1,34 @@
-//! Devices that count the calls of theirs that failed.
-ghost use Rattle.std.specs.Prelude.{◌≡◌, ℕ, length, if◌then◌else◌, is_ok};
+//! Devices that count their calls.
+ghost use Rattle.std.specs.Prelude.{◌≡◌, length, None, MatchResult};
 ghost use Rattle.std.specs.Io.{ReadsAtMost, WritesAtMost};
 ghost use Rattle.std.specs.Io.KnownBytes.{ReadConsumes, WriteAppends, Keeps};
-ghost use Rattle.lc_driver.specs.Counts.{CountsCall, count_up};
+ghost use Rattle.lc_driver.specs.declared.counts.Counts.{Counts};
+ghost use Rattle.lc_driver.specs.Counts.{CountsCall, with_failure};
 
+use crate::counts::Counts;
 use std::io;
-use std::io::{Read, Write};
+use std::io::{ErrorKind, Read, Write};
 
 /// A device that counts. At `u64::MAX` a count stays.
 pub trait Failures {
-    // The calls that failed so far.
-    ghost failed: { Self → ℕ };
+    // What was counted so far.
+    ghost counts: { Self → Counts };
 
-    // The reads and writes so far, asked for at least one byte, that succeeded and gave or took none.
-    ghost ended: { Self → ℕ };
+    /// How many reads and writes were made.
+    fn calls(&self) -> u64
+        ensures { result ≡ (counts self.now).calls };
 
     /// How many calls failed.
     fn failures(&self) -> u64
-        ensures { result ≡ failed self.now };
+        ensures { result ≡ (counts self.now).failures };
 
     /// How many reads and writes, asked for at least one byte, succeeded and gave or took none.
     fn ends(&self) -> u64
-        ensures { result ≡ ended self.now };
+        ensures { result ≡ (counts self.now).ends };
+
+    /// Of what kind the last failure was.
+    fn last_failure(&self) -> Option<ErrorKind>
+        ensures { result ≡ (counts self.now).last_failure };
 }
 
 /// A reader that counts each of its reads.
@@ -30,7 +37,7 @@ pub trait CountedRead: Read + Failures {
     fn read_counted(&mut self, buf: &mut [u8]) -> io::Result<usize>
         ensures bound { ReadsAtMost result buf.new }
         ensures bytes { ReadConsumes (Self.remaining self.old) (Self.remaining self.new) result buf.new }
-        ensures counts { CountsCall result (length buf.old) (Self.failed self.old) (Self.failed self.new) (Self.ended self.old) (Self.ended self.new) };
+        ensures counts { CountsCall result (length buf.old) (Self.counts self.old) (Self.counts self.new) };
 }
 
 /// A writer that counts each of its writes.
@@ -39,33 +46,32 @@ pub trait CountedWrite: Write + Failures {
     fn write_counted(&mut self, buf: &[u8]) -> io::Result<usize>
         ensures bound { WritesAtMost result buf.now }
         ensures bytes { WriteAppends (Self.contents self.old) (Self.contents self.new) result buf.now }
-        ensures counts { CountsCall result (length buf.now) (Self.failed self.old) (Self.failed self.new) (Self.ended self.old) (Self.ended self.new) };
+        ensures counts { CountsCall result (length buf.now) (Self.counts self.old) (Self.counts self.new) };
 }
 
 /// Any reader or writer, with its calls handed on unchanged and counted.
+///
+/// What is counted are the answers of the device below. They are handed on as they come, and no
+/// clause ties them to what that device really did beyond what its own `read`, `write` and `flush`
+/// promise.
 #[derive(Debug, Drop)]
 pub struct Counted<T> {
     inner: T,
-    failures: u64,
-    ends: u64,
-}
-
-fn count_up(count: u64) -> u64
-    ensures { result ≡ count_up count }
-{
-    count.saturating_add(1)
+    counts: Counts,
 }
 
 impl<T> Counted<T> {
-    /// A device with both counts at 0.
+    /// A device on which nothing was counted.
     pub fn new(inner: T) -> Counted<T>
-        ensures { result ≡ record { inner = inner; failures = 0; ends = 0 } }
+        ensures { result ≡ record { inner = inner; counts = record { calls = 0; failures = 0; ends = 0; last_failure = None } } }
     {
-        Counted {
-            inner,
+        let counts = Counts {
+            calls: 0,
             failures: 0,
             ends: 0,
-        }
+            last_failure: None,
+        };
+        Counted { inner, counts }
     }
 
     /// The device that was counted.
@@ -77,31 +83,25 @@ impl<T> Counted<T> {
         let Counted { inner, .. } = self;
         inner
     }
-
-    fn note_failure(&mut self)
-        ensures { self.new ≡ record self.old { failures = count_up self.old.failures } }
-    {
-        self.failures = count_up(self.failures);
-    }
-
-    fn note_end(&mut self)
-        ensures { self.new ≡ record self.old { ends = count_up self.old.ends } }
-    {
-        self.ends = count_up(self.ends);
-    }
 }
 
 impl<T> Failures for Counted<T> {
-    ghost failed = { λ device. device.failures };
+    ghost counts = { λ device. device.counts };
 
-    ghost ended = { λ device. device.ends };
+    fn calls(&self) -> u64 {
+        self.counts.calls
+    }
 
     fn failures(&self) -> u64 {
-        self.failures
+        self.counts.failures
     }
 
     fn ends(&self) -> u64 {
-        self.ends
+        self.counts.ends
+    }
+
+    fn last_failure(&self) -> Option<ErrorKind> {
+        self.counts.last_failure
     }
 }
 
@@ -111,7 +111,7 @@ impl<T: Read> Read for Counted<T> {
     fn read(&mut self, buf: &mut [u8]) -> io::Result<usize>
         ensures bound { ReadsAtMost result buf.new }
         ensures bytes { ReadConsumes (T.remaining self.old.inner) (T.remaining self.new.inner) result buf.new }
-        ensures counts { CountsCall result (length buf.old) self.old.failures self.new.failures self.old.ends self.new.ends }
+        ensures counts { CountsCall result (length buf.old) self.old.counts self.new.counts }
     {
         self.read_counted(buf)
     }
@@ -120,17 +120,9 @@ impl<T: Read> Read for Counted<T> {
 impl<T: Read> CountedRead for Counted<T> {
     fn read_counted(&mut self, buf: &mut [u8]) -> io::Result<usize> {
         let asked = buf.len();
-        let result = self.inner.read(buf);
-        match &result {
-            Ok(0) => {
-                if asked > 0 {
-                    self.note_end();
-                }
-            }
-            Ok(_) => {}
-            Err(_) => self.note_failure(),
-        }
-        result
+        let answer = self.inner.read(buf);
+        self.counts.note_call(&answer, asked);
+        answer
     }
 }
 
@@ -140,37 +132,28 @@ impl<T: Write> Write for Counted<T> {
     fn write(&mut self, buf: &[u8]) -> io::Result<usize>
         ensures bound { WritesAtMost result buf.now }
         ensures bytes { WriteAppends (T.contents self.old.inner) (T.contents self.new.inner) result buf.now }
-        ensures counts { CountsCall result (length buf.now) self.old.failures self.new.failures self.old.ends self.new.ends }
+        ensures counts { CountsCall result (length buf.now) self.old.counts self.new.counts }
     {
         self.write_counted(buf)
     }
 
     fn flush(&mut self) -> io::Result<()>
         ensures bytes { Keeps (T.contents self.old.inner) (T.contents self.new.inner) }
-        ensures failures { self.new.failures ≡ (if is_ok result then self.old.failures else count_up self.old.failures) }
-        ensures ends { self.new.ends ≡ self.old.ends }
+        ensures counts { MatchResult result (λ _. self.new.counts ≡ self.old.counts) (λ e. self.new.counts ≡ with_failure self.old.counts e) }
     {
-        let result = self.inner.flush();
-        match &result {
+        let answer = self.inner.flush();
+        match &answer {
             Ok(()) => {}
-            Err(_) => self.note_failure(),
+            Err(error) => self.counts.note_failure(error),
         }
-        result
+        answer
     }
 }
 
 impl<T: Write> CountedWrite for Counted<T> {
     fn write_counted(&mut self, buf: &[u8]) -> io::Result<usize> {
-        let result = self.inner.write(buf);
-        match &result {
-            Ok(0) => {
-                if !buf.is_empty() {
-                    self.note_end();
-                }
-            }
-            Ok(_) => {}
-            Err(_) => self.note_failure(),
-        }
-        result
+        let answer = self.inner.write(buf);
+        self.counts.note_call(&answer, buf.len());
+        answer
     }
 }

@@ -18,13 +18,13 @@ pub struct Intake {
 }
 
 impl Model for Intake {
-    ghost use Rattle.lc_driver.specs.Intake.{IntakeState, IsKept};
+    ghost use Rattle.lc_driver.specs.Intake.{IntakeState, IsOpenUnlessStopped};
 
     ghost Value = { IntakeState };
 
     ghost view = { λ intake. record { held = intake.decoder.bytes; stop = intake.stop } };
 
-    ghost invariant = { λ intake. IsKept intake.decoder.bytes intake.stop };
+    ghost invariant = { λ intake. IsOpenUnlessStopped intake.decoder.bytes intake.stop };
 }
 
 impl Intake {

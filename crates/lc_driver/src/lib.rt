@@ -2,12 +2,14 @@
 #![tactic(auto)]
 
 mod counted;
+mod counts;
 mod intake;
 mod outgo;
 mod reading;
 mod writing;
 
 pub use counted::{Counted, CountedRead, CountedWrite, Failures};
+pub use counts::Counts;
 pub use intake::Intake;
 pub use outgo::Outgo;
 pub use reading::{ReadEnd, read_in};

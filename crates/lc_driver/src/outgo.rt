@@ -18,13 +18,13 @@ pub struct Outgo {
 
 impl Model for Outgo {
     ghost use Rattle.std.specs.Prelude.{drop, vec_len, vec_capacity};
-    ghost use Rattle.lc_driver.specs.Outgo.{OutgoState, IsKept};
+    ghost use Rattle.lc_driver.specs.Outgo.{OutgoState, IsFrameBuffer};
 
     ghost Value = { OutgoState };
 
     ghost view = { λ outgo. record { pending = drop outgo.start outgo.buffer.items } };
 
-    ghost invariant = { λ outgo. IsKept (vec_len outgo.buffer) (vec_capacity outgo.buffer) outgo.start };
+    ghost invariant = { λ outgo. IsFrameBuffer (vec_len outgo.buffer) (vec_capacity outgo.buffer) outgo.start };
 }
 
 impl Outgo {
@@ -82,7 +82,9 @@ impl Outgo {
         if MAX_FRAME - self.buffer.len() < frame.encoded_len() {
             return false;
         }
-        let _ = frame.encode_into(&mut self.buffer);
+        if frame.encode_into(&mut self.buffer).is_err() {
+            unreachable!();
+        }
         true
     }
 }

@@ -1,6 +1,6 @@
 //! Reading what comes to a peer.
-ghost use Rattle.std.specs.Prelude.{◌≡◌, None, IfSome};
-ghost use Rattle.lc_driver.specs.Reading.{Reads, CountsReads, end_of};
+ghost use Rattle.std.specs.Prelude.{◌≡◌, ◌+◌, ◌≤◌, None, IfSome};
+ghost use Rattle.lc_driver.specs.Reading.{Reads, CountsReads, EndsInput, end_of};
 
 use crate::counted::CountedRead;
 use crate::intake::Intake;
@@ -11,15 +11,17 @@ use lc_peer::{Peer, Stop, Violation};
 const READ_LEN: usize = 512;
 
 /// Why reading ended.
+#[must_use]
 #[derive(Clone, Copy, Debug, PartialEq, Eq)]
 pub enum ReadEnd {
-    /// The input ended behind a whole frame, or before the first.
+    /// The input ended after a whole frame, or before the first.
     Clean,
     /// The input ended inside a frame.
     Truncated,
-    /// Behind the frames that arrived stands none, however the input goes on.
+    /// What follows the frames that arrived is no frame, however the input goes on. It is not
+    /// `FrameFault::Truncated`, for which `Truncated` stands.
     Fault(FrameFault),
-    /// The frame behind those that arrived breaks the rules.
+    /// The frame after those that arrived breaks the rules.
     Violated(Violation),
     /// A read failed.
     ReadFailed,
@@ -27,10 +29,10 @@ pub enum ReadEnd {
     TurnsSpent,
 }
 
-impl ReadEnd {
-    fn of(stop: Stop) -> ReadEnd
-        ensures { result ≡ end_of stop }
-    {
+impl From<Stop> for ReadEnd {
+    ghost from_gives = { λ stop end. end ≡ end_of stop };
+
+    fn from(stop: Stop) -> ReadEnd {
         match stop {
             Stop::Fault(fault) => ReadEnd::Fault(fault),
             Stop::Violated(violation) => ReadEnd::Violated(violation),
@@ -40,7 +42,7 @@ impl ReadEnd {
 
 /// Reads up to `max_reads` times, at most 512 bytes each, and lets each whole frame arrive.
 ///
-/// After `Fault` and `Violated` the stream is given up: the bytes behind are lost, every further
+/// After `Fault` and `Violated` the stream is given up: the bytes that follow are lost, every further
 /// call answers the same without a read, and the peer may still be taken from. After every other
 /// answer a further call goes on with the next byte. A failed read is not tried again.
 pub fn read_in<R: CountedRead>(
@@ -51,10 +53,12 @@ pub fn read_in<R: CountedRead>(
 ) -> ReadEnd
     ensures given_up { IfSome intake.old.stop (λ stop. (result ≡ end_of stop) × (peer.new ≡ peer.old) × (reader.new ≡ reader.old) × (intake.new ≡ intake.old)) }
     ensures reads { intake.old.stop ≡ None → Reads (R.remaining reader.old) (R.remaining reader.new) intake.old.held peer.old intake.new peer.new max_reads result }
-    ensures counts { CountsReads result (R.failed reader.old) (R.failed reader.new) (R.ended reader.old) (R.ended reader.new) }
+    ensures at_end { EndsInput result (R.remaining reader.new) }
+    ensures counts { CountsReads result (R.counts reader.old) (R.counts reader.new) }
+    ensures calls { (R.counts reader.new).calls ≤ (R.counts reader.old).calls + max_reads }
 {
     match intake.stop() {
-        Some(stop) => return ReadEnd::of(stop),
+        Some(stop) => return ReadEnd::from(stop),
         None => {}
     }
     let mut buffer = [0; READ_LEN];
@@ -62,7 +66,7 @@ pub fn read_in<R: CountedRead>(
         match reader.read_counted(&mut buffer) {
             Ok(0) => return intake.end(),
             Ok(n) => match intake.deliver(peer, buffer.split_at(n).0).stop {
-                Some(stop) => return ReadEnd::of(stop),
+                Some(stop) => return ReadEnd::from(stop),
                 None => {}
             },
             Err(_) => return ReadEnd::ReadFailed,

@@ -14,10 +14,10 @@ use thiserror::Error;
 #[derive(Clone, Copy, Debug, PartialEq, Eq, Error)]
 pub enum WriteFault {
     /// A write failed.
-    #[error("a write failed behind {written} bytes")]
+    #[error("a write failed after {written} bytes")]
     Failed { written: u64 },
     /// A write took nothing.
-    #[error("a write took nothing behind {written} bytes")]
+    #[error("a write took nothing after {written} bytes")]
     Zero { written: u64 },
 }
 
@@ -38,7 +38,7 @@ impl WriteFault {
     }
 }
 
-// Encodes frames that wait behind what is pending, as long as a whole one has room.
+// Encodes frames that wait after what is pending, as long as a whole one has room.
 fn join_waiting(peer: &Peer, outgo: &mut Outgo)
     ensures ahead { IsAhead (length outgo.old.pending) outgo.new.pending peer.now.waiting }
     ensures begun { take (length outgo.old.pending) outgo.new.pending ≡ outgo.old.pending }
@@ -78,7 +78,7 @@ fn note_taken(peer: &mut Peer, outgo: &mut Outgo, begun: usize, taken: usize) ->
 }
 
 // Writes all that is in Outgo: the rest of the frame that was begun, as long as is said, and
-// behind it frames that wait.
+// after it frames that wait.
 fn write_joined<W: CountedWrite>(
     peer: &mut Peer,
     outgo: &mut Outgo,
@@ -88,7 +88,7 @@ fn write_joined<W: CountedWrite>(
     requires ahead { IsAhead rest outgo.old.pending peer.old.waiting }
     ensures writes { Writes (W.contents writer.old) (W.contents writer.new) (take rest outgo.old.pending) peer.old outgo.new.pending peer.new (written_in result) }
     ensures all { IfOk result (λ n. (outgo.new.pending ≡ []) × (n ≡ length outgo.old.pending)) }
-    ensures counts { CountsWrites result (W.failed writer.old) (W.failed writer.new) (W.ended writer.old) (W.ended writer.new) }
+    ensures counts { CountsWrites result (W.counts writer.old) (W.counts writer.new) }
 {
     let all = outgo.pending();
     let mut begun = rest;
@@ -122,7 +122,8 @@ pub fn write_out<W: CountedWrite>(
 ) -> Result<u64, WriteFault>
     ensures writes { Writes (W.contents writer.old) (W.contents writer.new) outgo.old.pending peer.old outgo.new.pending peer.new (written_in result) }
     ensures all { OnOk result ((outgo.new.pending ≡ []) × (peer.new.waiting ≡ [])) }
-    ensures counts { CountsWrites result (W.failed writer.old) (W.failed writer.new) (W.ended writer.old) (W.ended writer.new) }
+    ensures none { outgo.old.pending ≡ [] → peer.old.waiting ≡ [] → writer.new ≡ writer.old }
+    ensures counts { CountsWrites result (W.counts writer.old) (W.counts writer.new) }
 {
     // All that there is to write fits the count.
     let _pending = outgo.pending();

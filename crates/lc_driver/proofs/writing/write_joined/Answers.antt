@@ -1,6 +1,6 @@
 use Rattle.std.proofs.Common.{◌≤◌, ◌∙◌, arith, ap, length, length-drop, refl}
-use Rattle.lc_driver.specs.Counts.{count_up}
-use Rattle.lc_driver.proofs.Written.{writes_nothing, writes_then, one_write, count_stays, count_ends}
+use Rattle.lc_driver.proofs.Counting.{call_goes_on, call_ends, call_fails}
+use Rattle.lc_driver.proofs.Written.{writes_nothing, writes_then, one_write}
 use Rattle.lc_driver.proofs.writing.write_joined.Goals as goal
 
 pub writes-init : goal.writes-init
@@ -8,8 +8,7 @@ writes-init g c = record {
   within = omega (arith, c.pending-all.ensures.value);
   ahead = c.requires.ahead;
   writes = writes_nothing _ _ _ _ (omega (arith, c.pending-all.ensures.value));
-  failed = refl;
-  ended = refl;
+  counts = refl;
 }
 
 pub writes-smaller : goal.writes-smaller
@@ -31,18 +30,12 @@ writes-preserved g c =
       within = omega (arith, at.within, len);
       ahead = noted.ahead;
       writes = writes_then _ at.writes (one_write _ _ _ _ _ _ _ _ given fits wrote.bytes noted.advanced noted.gone) (omega (arith, len, at.within, fits));
-      failed = wrote.counts.0 ∙ at.failed;
-      ended = count_stays _ _ _ _ _ c.in-Ok.taken-test.1 wrote.counts.1 ∙ at.ended;
+      counts = call_goes_on (g.W.Failures.counts c.args.writer.now) (g.W.Failures.counts c.writes.writer) (g.W.Failures.counts c.write_counted.new.self) c.in-Ok.taken _ c.in-Ok.taken-test.1 at.counts wrote.counts;
     }
 
 pub returns-in-Ok-eq0-clause-counts : goal.returns-in-Ok-eq0-clause-counts
 returns-in-Ok-eq0-clause-counts g c =
-    let at = c.writes.invariant in
-    let counts = c.in-Ok-eq0.ensures.counts in
-    (counts.0 ∙ at.failed, count_ends _ _ _ _ _ c.in-Ok-eq0.field-0-test (omega (arith, c.writes-test.true, c.pending-in-writes.ensures.value, ap length c.bytes.ensures.value)) counts.1 ∙ ap count_up at.ended)
+    call_ends (g.W.Failures.counts c.args.writer.now) (g.W.Failures.counts c.writes.writer) (g.W.Failures.counts c.write_counted.new.self) c.in-Ok-eq0.field-0 _ c.in-Ok-eq0.field-0-test (omega (arith, c.writes-test.true, c.pending-in-writes.ensures.value, ap length c.bytes.ensures.value)) c.writes.invariant.counts c.in-Ok-eq0.ensures.counts
 
 pub returns-in-Err-clause-counts : goal.returns-in-Err-clause-counts
-returns-in-Err-clause-counts g c =
-    let at = c.writes.invariant in
-    let counts = c.in-Err.ensures.counts in
-    (counts.0 ∙ ap count_up at.failed, counts.1 ∙ at.ended)
+returns-in-Err-clause-counts g c = call_fails (g.W.Failures.counts c.args.writer.now) (g.W.Failures.counts c.writes.writer) (g.W.Failures.counts c.write_counted.new.self) c.in-Err.field-0 0 c.writes.invariant.counts c.in-Err.ensures.counts

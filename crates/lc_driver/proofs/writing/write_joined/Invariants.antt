@@ -1,4 +1,5 @@
-use Rattle.std.proofs.Common.{◌≡◌, ◌-◌, ◌≤◌, length, take}
+use Rattle.std.proofs.Common.{◌-◌, ◌≤◌, length, take}
+use Rattle.lc_driver.proofs.Counting.{NoneTold}
 use Rattle.lc_driver.specs.Writing.{Writes, IsAhead}
 use Rattle.lc_driver.proofs.writing.write_joined.Given as goal
 
@@ -7,8 +8,7 @@ invariant-writes g l = record {
   within : length l.outgo.pending ≤ l.all;
   ahead : IsAhead l.begun l.outgo.pending l.peer.waiting;
   writes : Writes (g.W.Write.contents l.initial.writer) (g.W.Write.contents l.writer) (take l.fn.rest l.fn.outgo.pending) l.fn.peer (take l.begun l.outgo.pending) l.peer (l.all - length l.outgo.pending);
-  failed : g.W.Failures.failed l.writer ≡ g.W.Failures.failed l.initial.writer;
-  ended : g.W.Failures.ended l.writer ≡ g.W.Failures.ended l.initial.writer;
+  counts : NoneTold (g.W.Failures.counts l.initial.writer) (g.W.Failures.counts l.writer);
 }
 
 abbrev pub decreases-writes : goal.decreases-writes

@@ -2,6 +2,7 @@ use Rattle.std.proofs.Common.{◌≡◌, ◌∙◌, arith, ap, subst, refl, take
 use Rattle.std.specs.List.{flat_map}
 use Rattle.lc_frame.specs.Encoding.{encoding}
 use Rattle.lc_driver.specs.Writing.{Writes, fault_written}
+use Rattle.lc_driver.proofs.Counting.{none_told_then}
 use Rattle.lc_driver.proofs.Frames.{all_fit}
 use Rattle.lc_driver.proofs.Written.{writes_nothing, writes_then, written_after, text_left}
 use Rattle.lc_driver.proofs.writing.write_out.Goals as goal
@@ -12,8 +13,8 @@ batches-init g c =
     record {
       small = omega (arith, c.pending-pending.ensures.value, c.pending-pending.ensures.most, waiting.value, waiting.small, all_fit c.args.peer.now.waiting waiting.kept.each, length-append c.args.outgo.now.pending (flat_map encoding c.args.peer.now.waiting));
       writes = writes_nothing _ _ _ 0 refl;
-      failed = refl;
-      ended = refl;
+      counts = refl;
+      untouched = λ nothing. refl;
     }
 
 pub batches-smaller : goal.batches-smaller
@@ -30,8 +31,8 @@ batches-preserved g c =
     record {
       small = omega (arith, at.small, text_left wrote);
       writes = writes_then _ at.writes wrote refl;
-      failed = c.in-Ok.ensures.counts.0 ∙ at.failed;
-      ended = c.in-Ok.ensures.counts.1 ∙ at.ended;
+      counts = none_told_then (g.W.Failures.counts c.args.writer.now) (g.W.Failures.counts c.batches.writer) (g.W.Failures.counts c.write_joined.new.writer) at.counts c.in-Ok.ensures.counts;
+      untouched = λ nothing. absurd (omega (arith, nothing, text_left at.writes, text_left wrote, c.in-Ok.ensures.all.1, c.if-pending-eq0.false, c.pending.ensures.value));
     }
 
 pub returns-in-Err-clause-writes : goal.returns-in-Err-clause-writes

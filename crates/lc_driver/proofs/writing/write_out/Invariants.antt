@@ -1,4 +1,5 @@
 use Rattle.std.proofs.Common.{◌≡◌, ◌+◌, ◌*◌, ◌≤◌, length}
+use Rattle.lc_driver.proofs.Counting.{NoneTold}
 use Rattle.lc_driver.specs.Writing.{Writes, text}
 use Rattle.lc_driver.proofs.writing.write_out.Given as goal
 
@@ -6,8 +7,8 @@ abbrev pub invariant-batches : goal.invariant-batches
 invariant-batches g l = record {
   small : l.written + length (text l.outgo.pending l.peer.waiting) ≤ 65538 * 65537;
   writes : Writes (g.W.Write.contents l.initial.writer) (g.W.Write.contents l.writer) l.initial.outgo.pending l.initial.peer l.outgo.pending l.peer l.written;
-  failed : g.W.Failures.failed l.writer ≡ g.W.Failures.failed l.initial.writer;
-  ended : g.W.Failures.ended l.writer ≡ g.W.Failures.ended l.initial.writer;
+  counts : NoneTold (g.W.Failures.counts l.initial.writer) (g.W.Failures.counts l.writer);
+  untouched : length (text l.initial.outgo.pending l.initial.peer.waiting) ≡ 0 → l.writer ≡ l.initial.writer;
 }
 
 abbrev pub decreases-batches : goal.decreases-batches

@@ -1,12 +1,6 @@
-use Rattle.std.proofs.Common.{rules, arith, subst, ℕ, ◌<◌}
+use Rattle.std.proofs.Common.{arith, subst, ℕ, ◌<◌}
 use Rattle.std.proofs.lemmas.List.{get_or_default}
 use Rattle.lc_driver.proofs.intake.Intake.deliver.Goals as goal
 
 pub returns-clause-bytes : goal.returns-clause-bytes
 returns-clause-bytes c = λ k d less. subst (λ (n : ℕ). n < 256) (get_or_default c.args.piece.now k 0 d less) (omega (arith, c.type_inv.piece k))
-
-pub invariant_of-self : goal.invariant_of-self
-invariant_of-self c = search rules
-
-pub returns-clause-stop : goal.returns-clause-stop
-returns-clause-stop c = search rules

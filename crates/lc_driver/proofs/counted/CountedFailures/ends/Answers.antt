@@ -1,5 +1,0 @@
-use Rattle.std.proofs.Common.{rules}
-use Rattle.lc_driver.proofs.counted.CountedFailures.ends.Goals as goal
-
-pub returns : goal.returns
-returns g c = search rules
