@@ -97,7 +97,7 @@ const STREAMS: [(&str, &str, &str, &str); 13] = [
     ),
 ];
 
-// What a reading that may make no reads answers behind one that ended so.
+// What a reading that may make no reads answers after one that ended so.
 fn without_reads(end: &str) -> &str {
     if end.starts_with("Violated") || end.starts_with("Fault") {
         return end;
@@ -169,25 +169,14 @@ fn is_bounded(rt: &impl Abort, peer: &mut Peer, channel: Channel) {
     assert_eq!(rt; take_all(peer, channel), buffered);
 }
 
-/// All channels.
-const CHANNELS: [Channel; 7] = [
-    Channel::ReconciliationChannel,
-    Channel::DataChannel,
-    Channel::OverlapChannel,
-    Channel::CapabilityChannel,
-    Channel::AreaOfInterestChannel,
-    Channel::PayloadRequestChannel,
-    Channel::StaticTokenChannel,
-];
-
 fn issue_all(rt: &impl Abort, peer: &mut Peer) {
-    for channel in &CHANNELS {
+    for channel in &Channel::ALL {
         assert_eq!(rt; peer.issue(*channel, 8), Ok(()));
     }
 }
 
 fn all_are_bounded(rt: &impl Abort, peer: &mut Peer) {
-    for channel in &CHANNELS {
+    for channel in &Channel::ALL {
         is_bounded(rt, peer, *channel);
     }
 }

@@ -1,4 +1,4 @@
-//! Scripts of calls on one side of a session: a call a line, and behind `=>` what it answers.
+//! Scripts of calls on one side of a session: a call a line, and after `=>` what it answers.
 use crate::tests::devices::{Odd, Pipe, Plan};
 use crate::tests::side::{Side, pipe};
 use lc_driver::ReadEnd;
@@ -139,7 +139,7 @@ fn same(rt: &impl Abort, what: &str, found: Option<String>, wanted: &str) {
     assert!(rt; found == wanted, "{what}: {found}, not {wanted}");
 }
 
-// Each call of a script, in turn, answers what stands behind it.
+// Each call of a script, in turn, answers what stands after it.
 fn answers(rt: &impl Abort, alloc: Global, side: &mut Side, input: &mut Pipe, script: &str) {
     for line in script.lines() {
         let line = line.trim();
