@@ -6,20 +6,8 @@ mod inbox;
 mod script;
 mod worked;
 
-use lc_frame::Channel;
 use std::alloc::Global;
 use std::process::Abort;
-
-/// Every channel, by its number.
-const CHANNELS: [Channel; 7] = [
-    Channel::ReconciliationChannel,
-    Channel::DataChannel,
-    Channel::OverlapChannel,
-    Channel::CapabilityChannel,
-    Channel::AreaOfInterestChannel,
-    Channel::PayloadRequestChannel,
-    Channel::StaticTokenChannel,
-];
 
 /// What the calls of a script are made on.
 trait Subject {

@@ -42,6 +42,13 @@ fn peers_of_other_bounds(rt: HostRuntime) {
 }
 
 #[test]
+fn want_of_memory_has_its_text(rt: HostRuntime) {
+    let fault = PeerFault::OutOfMemory;
+    let found = format!(in rt.alloc(); "{fault:?}: {fault}").ok();
+    same(&rt, "new", found, "OutOfMemory: out of memory");
+}
+
+#[test]
 fn the_widest_peer(rt: HostRuntime) -> Result<(), Fail> {
     let mut widest = [16_777_216; 7];
     widest[0] = 1;

@@ -46,7 +46,7 @@ const WORKED: [&str; 7] = [
     client 1 => (5, None, None, None)",
     "deliver 11000061 => taken 3 frames 0 Some(Fault(ZeroLength)) held 3",
     "deliver 60400000000000000161 => taken 9 frames 0 Some(Fault(BadNumber)) held 9",
-    // Frames behind one that violates wait until it is lawful.
+    // Frames after one that violates wait until it is lawful.
     "issue 1 1 => Ok(())
     deliver 11000261622100000005 => taken 5 frames 0 Some(Violated(NotGuaranteed)) held 5
     client 1 => (0, None, None, None)

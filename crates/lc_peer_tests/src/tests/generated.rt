@@ -1,7 +1,6 @@
 //! Peers to which generated calls, frames and bytes come.
 ghost use Rattle.std.specs.Prelude.{◌<◌};
 
-use crate::tests::CHANNELS;
 use crate::tests::script::Side;
 use lc_frame::{Channel, FrameRef};
 use lc_peer::{Peer, Take};
@@ -173,7 +172,7 @@ fn goes_on(rt: &impl Abort, rng: &mut Pcg32, peer: &mut Peer) {
     let mut all = [Done::default(); 7];
     for _ in 0..100 {
         let number = below(rng, 7).min(below(rng, 7)) as usize;
-        let channel = CHANNELS[number];
+        let channel = Channel::ALL[number];
         let mut done = all[number];
         match below(rng, 5) {
             0 => as_client(rng, peer, channel, &mut done),
@@ -197,69 +196,64 @@ fn calls_and_frames(rt: HostRuntime) -> Result<(), Fail> {
     Ok(())
 }
 
-// The next byte of a linear congruential generator.
-fn next_byte(state: &mut u64) -> u8 {
-    *state = state
-        .wrapping_mul(6_364_136_223_846_793_005)
-        .wrapping_add(1_442_695_040_888_963_407);
-    state.to_be_bytes()[0]
+fn next_byte(rng: &mut Pcg32) -> u8 {
+    rng.next_word().to_be_bytes()[0]
 }
 
-// Takes all messages, and gives how many bytes they had.
-fn take_all(peer: &mut Peer, channel: Channel) -> u64 {
-    let mut taken = 0u64;
-    let mut buffer = [0; 8];
+// Drops all messages, and gives how many bytes they had.
+fn pop_all(peer: &mut Peer, channel: Channel) -> u64 {
+    let mut popped = 0u64;
     for _ in 0..9 {
-        match peer.take_into(channel, &mut buffer) {
-            Ok(Take::Took(len)) => taken = taken.saturating_add(len as u64),
+        match peer.pop(channel) {
+            Take::Took(len) => popped = popped.saturating_add(len as u64),
             _ => break,
         }
     }
-    taken
+    popped
 }
 
-// Whatever came, there is room for what may still come, and what is buffered can be taken.
+// Whatever came, there is room for what may still come, and what is buffered comes out.
 fn is_bounded(rt: &impl Abort, peer: &mut Peer, channel: Channel) -> u64 {
     let book = peer.server(channel);
     let (buffered, outstanding) = (book.buffered(), book.outstanding());
     assert!(rt; buffered.saturating_add(outstanding) <= 8);
-    let taken = take_all(peer, channel);
-    assert!(rt; taken == buffered);
-    taken
+    let popped = pop_all(peer, channel);
+    assert!(rt; popped == buffered);
+    popped
 }
 
-fn any_bytes(state: &mut u64) -> [u8; 64] {
+fn any_bytes(rng: &mut Pcg32) -> [u8; 64] {
     let mut bytes = [0; 64];
     for byte in &mut bytes {
-        *byte = next_byte(state);
+        *byte = next_byte(rng);
     }
     bytes
 }
 
 // Messages of two bytes each, on any channels, with one byte changed.
-fn changed_messages(state: &mut u64) -> [u8; 64] {
+fn changed_messages(rng: &mut Pcg32) -> [u8; 64] {
     let mut bytes = [0; 64];
     for (place, byte) in bytes.iter_mut().enumerate() {
         *byte = match place % 5 {
-            0 => 0x10 + next_byte(state) % 7,
+            0 => 0x10 + next_byte(rng) % 7,
             1 => 0,
             2 => 2,
-            _ => next_byte(state),
+            _ => next_byte(rng),
         };
     }
-    bytes[usize::from(next_byte(state) % 64)] = next_byte(state);
+    bytes[usize::from(next_byte(rng) % 64)] = next_byte(rng);
     bytes
 }
 
 // How many bytes of messages a new peer lets through that issued all that it may.
 fn let_through(rt: &impl Abort, side: &mut Side, first: &[u8], rest: &[u8]) -> u64 {
-    for &channel in &CHANNELS {
+    for &channel in &Channel::ALL {
         assert!(rt; side.peer.issue(channel, 8).is_ok());
     }
     let _first = side.peer.deliver(&mut side.decoder, first);
     let _rest = side.peer.deliver(&mut side.decoder, rest);
     let mut came = 0u64;
-    for &channel in &CHANNELS {
+    for &channel in &Channel::ALL {
         came = came.saturating_add(is_bounded(rt, &mut side.peer, channel));
     }
     came
@@ -267,10 +261,10 @@ fn let_through(rt: &impl Abort, side: &mut Side, first: &[u8], rest: &[u8]) -> u
 
 #[test]
 fn streams_of_any_bytes(rt: HostRuntime) -> Result<(), Fail> {
-    let mut state = 1;
+    let mut rng = Pcg32::new(42, 54);
     for number in 0..10_000 {
         let mut side = Side::new(rt.alloc(), 7)?;
-        let bytes = any_bytes(&mut state);
+        let bytes = any_bytes(&mut rng);
         let (first, rest) = bytes.split_at(number % 65);
         let _came = let_through(&rt, &mut side, first, rest);
     }
@@ -280,11 +274,11 @@ fn streams_of_any_bytes(rt: HostRuntime) -> Result<(), Fail> {
 // Half of the streams are whole for six messages and more.
 #[test]
 fn streams_of_changed_messages(rt: HostRuntime) -> Result<(), Fail> {
-    let mut state = 1;
+    let mut rng = Pcg32::new(42, 54);
     let mut came = 0u64;
     for number in 0..10_000 {
         let mut side = Side::new(rt.alloc(), 7)?;
-        let bytes = changed_messages(&mut state);
+        let bytes = changed_messages(&mut rng);
         let (first, rest) = bytes.split_at(number % 65);
         came = came.saturating_add(let_through(&rt, &mut side, first, rest));
     }

@@ -2,7 +2,7 @@
 //! hexadecimal. `arrive` has a frame, `deliver` the pieces of a stream, `stream` one that is cut as
 //! the run says, `feed` bytes for the decoder alone, and `take` the room of its buffer, whose bytes
 //! were 238. `each` asks on every channel.
-use crate::tests::{CHANNELS, Subject, answers};
+use crate::tests::{Subject, answers};
 use lc_frame::{Channel, Decoded, StreamDecoder, decode};
 use lc_peer::{Config, Delivery, Peer};
 use std::alloc::Global;
@@ -184,8 +184,8 @@ fn on_channel(
 
 // What all channels answer alike.
 fn each(alloc: Global, peer: &mut Peer, verb: &str) -> Option<String> {
-    let first = on_channel(alloc, peer, verb, CHANNELS[0], "0")?;
-    for &channel in &CHANNELS {
+    let first = on_channel(alloc, peer, verb, Channel::ALL[0], "0")?;
+    for &channel in &Channel::ALL {
         let other = on_channel(alloc, peer, verb, channel, "0")?;
         if other.as_str() != first.as_str() {
             return text(alloc, &"two channels differ");

@@ -93,7 +93,7 @@ fn what_ended_lanes_put_is_popped(rt: HostRuntime) -> Result<(), Fail> {
     pop_two(&rt, rt.alloc(), &mut drain)
 }
 
-// How many of one frame more than there are slots are put.
+// How many frames are put, of one more than there are slots, until one comes back.
 fn room(rt: &(impl Wait + Abort), slots: u32, end: &mut LaneEnd) -> u32 {
     let mut room = 0u32;
     for _ in 0..=slots {
@@ -101,23 +101,81 @@ fn room(rt: &(impl Wait + Abort), slots: u32, end: &mut LaneEnd) -> u32 {
             channel: Channel::StaticTokenChannel,
             target: 0,
         };
-        if push(rt, end, frame).is_ok() {
-            room = room.saturating_add(1);
+        if push(rt, end, frame).is_err() {
+            break;
         }
+        room = room.saturating_add(1);
     }
     room
 }
 
-fn room_of(rt: &(impl Wait + Abort), alloc: Global, slots: u32) -> Option<u32> {
+// How many of so many pops take a frame.
+fn taken(rt: &impl Wait, drain: &mut Drain, pops: u32) -> u32 {
+    let mut taken = 0u32;
+    for _ in 0..pops {
+        if drain.pop(rt).is_some() {
+            taken = taken.saturating_add(1);
+        }
+    }
+    taken
+}
+
+// The room of a new queue, what so many pops then take, and the room after them.
+fn rooms(
+    rt: &(impl Wait + Abort),
+    alloc: Global,
+    slots: u32,
+    pops: u32,
+) -> Option<(u32, u32, u32)> {
     let mut parts = lanes(alloc, slots).ok()?;
-    Some(room(rt, slots, &mut parts.ends[13]))
+    let before = room(rt, slots, &mut parts.ends[13]);
+    let taken = taken(rt, &mut parts.drain, pops);
+    Some((before, taken, room(rt, slots, &mut parts.ends[13])))
 }
 
 #[test]
-fn a_queue_has_its_slots(rt: HostRuntime) {
-    for slots in [1, 65_536] {
-        assert!(rt; room_of(&rt, rt.alloc(), slots) == Some(slots));
+fn a_frame_comes_back_exactly_where_all_slots_are_taken(rt: HostRuntime) {
+    for (slots, pops, wanted) in [
+        (1, 0, (1, 0, 0)),
+        (1, 2, (1, 1, 1)),
+        (2, 1, (2, 1, 1)),
+        (2, 3, (2, 2, 2)),
+        (5, 3, (5, 3, 3)),
+        (65_536, 7, (65_536, 7, 7)),
+    ] {
+        let found = rooms(&rt, rt.alloc(), slots, pops);
+        assert!(rt; found == Some(wanted), "{slots} slots, {pops} pops");
     }
+}
+
+// Puts a frame and pops it, though no lane has ended, and then finds nothing more.
+fn put_and_pop(rt: &(impl Wait + Abort), end: &mut LaneEnd, drain: &mut Drain) {
+    put(rt, end, issue());
+    assert!(rt; drain.pop(rt) == Some(issue()));
+    assert!(rt; drain.pop(rt).is_none());
+}
+
+#[test]
+fn a_frame_is_popped_at_once(rt: HostRuntime) -> Result<(), Fail> {
+    let Lanes { mut ends, mut drain } = lanes(rt.alloc(), 2)?;
+    assert!(rt; drain.pop(&rt).is_none());
+    for _ in 0..5 {
+        put_and_pop(&rt, &mut ends[8], &mut drain);
+    }
+    Ok(())
+}
+
+// An end and the drain as texts.
+fn shown(alloc: Global, parts: &Lanes) -> Option<String> {
+    format!(in alloc; "{:?}, {:?}", parts.ends[8], parts.drain).ok()
+}
+
+#[test]
+fn ends_show_their_lane(rt: HostRuntime) -> Result<(), Fail> {
+    let parts = lanes(rt.alloc(), 1)?;
+    let shown = shown(rt.alloc(), &parts).ok_or("no text")?;
+    assert!(rt; shown.as_str() == "LaneEnd { lane: 8, .. }, Drain { .. }");
+    Ok(())
 }
 
 #[test]

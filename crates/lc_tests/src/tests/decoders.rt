@@ -83,7 +83,7 @@ impl Subject for StreamDecoder {
     }
 }
 
-// A decoder takes nothing while a frame stands, and nothing ever again behind a fault.
+// A decoder takes nothing while a frame stands, and nothing ever again after a fault.
 #[test]
 fn what_stands_stops_the_feed(rt: HostRuntime) -> Result<(), Fail> {
     let mut decoder = StreamDecoder::new(rt.alloc())?;

@@ -122,7 +122,7 @@ fn is_bad(rt: &impl Abort, alloc: Global) {
     assert_eq!(rt; faults, (bad, bad));
 }
 
-// Every request for memory can be refused here in turn: behind the ring's the last is the test's
+// Every request for memory can be refused here in turn: after the ring's the last is the test's
 // own.
 #[test]
 fn a_ring_of_four_bytes(rt: HostRuntime) -> Result<(), Fail> {
@@ -250,9 +250,9 @@ fn a_ring_has_1_to_2_to_the_24_bytes(rt: HostRuntime) {
 
 #[test]
 fn errors_have_texts(rt: HostRuntime) {
-    let full = Full { free: 1 };
+    let full = Full { free: 16_777_216 };
     let (bad, memory) = (NewFault::BadCapacity, NewFault::OutOfMemory);
     let found = format!(in rt.alloc(); "{full}, {bad}, {memory}").ok();
-    let wanted = "the ring has room for 1 bytes, the capacity is not 1 to 2^24, out of memory";
+    let wanted = "the ring has room for 16777216 bytes, the capacity is not 1 to 2^24, out of memory";
     same(&rt, "errors", found, wanted);
 }

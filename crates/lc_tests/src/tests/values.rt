@@ -39,6 +39,16 @@ fn channels_have_numbers_and_lanes(rt: HostRuntime) -> Result<(), Fail> {
     Ok(())
 }
 
+#[test]
+fn all_channels_stand_by_their_numbers(rt: HostRuntime) -> Result<(), Fail> {
+    let mut found = String::new(rt.alloc());
+    for (place, &channel) in Channel::ALL.iter().enumerate() {
+        writeln!(found, "{place}: {}", shown(rt.alloc(), channel)?)?;
+    }
+    same(&rt, "channels", Some(found), CHANNELS);
+    Ok(())
+}
+
 // Whether the frame is valid, borrowed and owned.
 fn validity(alloc: Global, frame: FrameRef<'_>) -> Option<String> {
     let owned = frame.to_frame(alloc).ok()?;
