@@ -12,12 +12,12 @@ use Rattle.lc_frame.specs.declared.frame.Frame.TheVariants as frame
 use Rattle.lc_frame.specs.Channel.{number_of}
 use Rattle.lc_frame.specs.Frame.{channel_of, IsValid}
 use Rattle.lc_frame.specs.Encoding.{encoding}
-use Rattle.lc_frame.proofs.Channels.{cases_same, same_is_same, number_below, some_same}
+use Rattle.lc_frame.proofs.Channels.{cases_same, same_is_same, number_below}
 use Rattle.lc_book.specs.declared.fault.Refusal.{Refusal}
 use Rattle.lc_book.specs.declared.fault.Refusal.TheVariants.{OutOfMemory}
 use Rattle.lc_book.specs.Client.{Client, amount_to_absolve}
 use Rattle.lc_book.specs.Server.{Server}
-use Rattle.lc_peer.specs.Peer.{PeerState, channel, client, server}
+use Rattle.lc_peer.specs.Peer.{PeerState, channel, server}
 use Rattle.lc_frame.specs.StreamDecoder.{Held}
 use Rattle.lc_peer.specs.Calls.{book_refusal, refusal_by_books, put, due, absolvings, put_honour, next, without_next, queue_refusal}
 use Rattle.lc_peer.specs.Streams.{IsChannelOf, IsEndOf, Streams, IsPeerOf, at, then_put, then_honours}
@@ -29,7 +29,7 @@ use Rattle.lc_world.specs.declared.event.Act.TheVariants.{Send, Issue, Plead, Ab
 use Rattle.lc_world.specs.declared.event.Answer.{Answer}
 use Rattle.lc_world.specs.declared.event.Answer.TheVariants.{Accepted, Absolved, NothingToAbsolve, Refused}
 use Rattle.lc_world.specs.State.{Line, stream, client_book, server_book, put_on, forget_on, size}
-use Rattle.lc_world.specs.Answers.{own_frame, judged, honoured, frame_put, MayWantMemory, IsUnlessMemory, IsAnswerOf, put_any, mine_after, theirs_after}
+use Rattle.lc_world.specs.Answers.{judged, honoured, frame_put, MayWantMemory, IsUnlessMemory, IsAnswerOf, put_any, mine_after, theirs_after}
 use Rattle.lc_world.specs.Delivery.{bytes_of, delivered, HasBegun}
 use Rattle.lc_world.specs.Endpoint.{line_of, capacity_of, streams_of, of_lines, IsPeerBetween, IsEnd, IsLine, AreEnds, AreInStep, Acts}
 use Rattle.lc_world.specs.Calls.{with_next, own_channel, after_call, IsCallAnswer, Called}

@@ -157,7 +157,7 @@ module _ (me peer : Endpoint) (h : AreInStep me peer) (c : Channel) where
 
   -- what the peer answers where none waits
   told_none : (t : Taken) → None ≡ front (inbox me.peer c).ring → t ≡ inboxes.take_answer (inbox me.peer c) → t ≡ inboxes.none_waiting (server me.peer c).send_left
-  told_none t e told = told ∙ ap (λ (o : Option (List ℕ)). inboxes.taken (server me.peer c) (option_map length o)) (sym e)
+  told_none t e told = told ∙ ap (λ (o : Option (List ℕ)). inboxes.answer_by_length (server me.peer c) (option_map length o)) (sym e)
 
   pub empty_acts : (new : Endpoint) → None ≡ front (inbox me.peer c).ring → takes.Empty ≡ inboxes.take_answer (inbox me.peer c) → new.peer ≡ calls.take_on me.peer c → new.stream.items ≡ me.stream.items → new.delivered ≡ me.delivered → new.decoder ≡ me.decoder → Acts me peer new peer (Take c) Empty
   empty_acts new e told ep es ed ec = none_acts new Empty e (empty_is (server me.peer c).send_left (told_none takes.Empty e told)) ep es ed ec

@@ -1,7 +1,7 @@
 //! One end of a world: a peer, the stream that it writes, and what came of a frame of the other.
 ghost use Rattle.std.specs.Prelude.{◌≡◌, ◌↔◌, replicate, ◌+◌, ◌≤◌, ◌<◌, All, IfOk, IfSome, Err, vec_len, vec_capacity};
+ghost use Rattle.lc_frame.specs.Bounds.{IsCapacity};
 ghost use Rattle.lc_frame.specs.Frame.{IsValid};
-ghost use Rattle.lc_ring.specs.Ring.{IsNoCapacity};
 ghost use Rattle.lc_peer.specs.Config as configs;
 ghost use Rattle.lc_peer.specs.Calls.{next, without_next};
 ghost use Rattle.lc_world.specs.State.{size};
@@ -12,7 +12,7 @@ use lc_peer::{Config, Peer, PeerFault};
 use lc_ring::NewFault;
 use std::alloc::Global;
 
-#[derive(Drop)]
+#[derive(Debug, Drop)]
 pub(crate) struct Endpoint {
     pub peer: Peer,
     /// The bytes of all frames that the peer put.
@@ -25,7 +25,8 @@ pub(crate) struct Endpoint {
 
 // All rings have one capacity, and a frame goes out at once.
 fn new_peer(alloc: Global, capacity: u32) -> Result<Peer, NewFault>
-    ensures capacity { (result ≡ Err NewFault.BadCapacity) ↔ IsNoCapacity capacity }
+    ensures capacity { (result ≡ Err NewFault.BadCapacity) ↔ ¬ IsCapacity capacity }
+    ensures made { IfOk result (λ _. IsCapacity capacity) }
     ensures value { IfOk result (λ peer. peer ≡ configs.new_peer (record { capacities = replicate 7 capacity; slots = 1 })) }
 {
     let config = Config {
@@ -44,7 +45,8 @@ impl Endpoint {
     /// An end at which nothing has happened. The memory of its rings and of its decoder is taken
     /// here.
     pub(crate) fn new(alloc: Global, capacity: u32) -> Result<Endpoint, NewFault>
-        ensures capacity { (result ≡ Err NewFault.BadCapacity) ↔ IsNoCapacity capacity }
+        ensures capacity { (result ≡ Err NewFault.BadCapacity) ↔ ¬ IsCapacity capacity }
+        ensures made { IfOk result (λ _. IsCapacity capacity) }
         ensures value { IfOk result (IsNewEnd capacity) }
     {
         let peer = new_peer(alloc, capacity)?;

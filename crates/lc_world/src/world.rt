@@ -2,7 +2,6 @@
 ghost use Rattle.std.specs.Prelude.{◌≡◌, ◌↔◌, IfOk, IsOk, IsSome, IfSome, length, [], replicate, Err};
 ghost use Rattle.std.specs.List.{zip};
 ghost use Rattle.lc_frame.specs.Bounds.{IsCapacity};
-ghost use Rattle.lc_ring.specs.Ring.{IsNoCapacity};
 ghost use Rattle.lc_world.specs.State.{opening, client, server};
 ghost use Rattle.lc_world.specs.Answers.{IsAnswer, after};
 ghost use Rattle.lc_world.specs.Histories.{IsHistory};
@@ -19,6 +18,7 @@ use std::marker::Model;
 
 /// Two peers, all of whose receiving rings have one capacity. Contracts see it as the state of
 /// both streams.
+#[derive(Debug)]
 pub struct World {
     alloc: Global,
     a: Endpoint,
@@ -52,7 +52,7 @@ impl World {
     /// before any memory is taken. The memory of the rings and of what comes in pieces is taken
     /// here.
     pub fn new(alloc: Global, capacity: u32) -> Result<World, NewFault>
-        ensures capacity { (result ≡ Err NewFault.BadCapacity) ↔ IsNoCapacity capacity }
+        ensures capacity { (result ≡ Err NewFault.BadCapacity) ↔ ¬ IsCapacity capacity }
         ensures made { IsOk result → IsCapacity capacity }
         ensures value { IfOk result (λ w. w ≡ opening capacity) }
     {
@@ -98,7 +98,7 @@ impl World {
 /// `BadCapacity` exactly where that is not 1 to 2^24, `OutOfMemory` only where the memory of the
 /// world or the places of the answers, which are reserved before the first event, are refused.
 pub fn run(alloc: Global, capacity: u32, events: &[Event]) -> Result<Vec<Answer>, NewFault>
-    ensures capacity { (result ≡ Err NewFault.BadCapacity) ↔ IsNoCapacity capacity }
+    ensures capacity { (result ≡ Err NewFault.BadCapacity) ↔ ¬ IsCapacity capacity }
     ensures count { IfOk result (λ answers. length answers.items ≡ length events.now) }
     ensures legal { IfOk result (λ answers. IsHistory capacity (zip events.now answers.items)) }
     ensures keeps { IfOk result (λ answers. KeepsGuarantees capacity (zip events.now answers.items)) }
