@@ -3,7 +3,7 @@ use crate::fault::Fault;
 use crate::listing::frames;
 use crate::number::parse_decimal;
 use crate::replaying::replay;
-use lc_frame::MAX_AMOUNT;
+use lc_frame::is_capacity;
 use std::alloc::Global;
 use std::env::Args;
 use std::io;
@@ -58,5 +58,5 @@ impl Command {
 
 fn parse_capacity(text: &str) -> Option<u32> {
     let capacity = u32::try_from(parse_decimal(text)?).ok()?;
-    (1..=MAX_AMOUNT).contains(&capacity).then_some(capacity)
+    is_capacity(capacity).then_some(capacity)
 }

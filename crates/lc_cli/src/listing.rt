@@ -4,11 +4,11 @@ ghost use Rattle.lc_frame.specs.Decoded.{IsOpen};
 
 use crate::fault::{Fault, Status};
 use crate::input::{MAX_INPUT, PIECE};
-use crate::output::write_hex_line;
+use crate::output::{buffered, write_hex_line};
 use lc_frame::{FrameFault, FrameRef, StreamDecoder};
 use std::alloc::{AllocError, Global};
 use std::io;
-use std::io::{BufWriter, Read, Write};
+use std::io::{Read, Write};
 
 /// Prints the frames of the stream that the input holds to `out`, up to the first fault, whose line
 /// goes to `err`, and answers the exit status. One frame and one piece of the input are held at a
@@ -27,7 +27,7 @@ pub fn frames<R: Read, W: Write, E: Write>(
 
 fn print_frames<R: Read, W: Write>(alloc: Global, input: &mut R, out: &mut W) -> Result<(), Fault> {
     let mut listing = Listing::new(alloc)?;
-    let mut buffered = BufWriter::new(alloc, out).map_err(|_| Fault::OutOfMemory)?;
+    let mut buffered = buffered(alloc, out)?;
     // The frames before a fault are printed, so a failed write is met first.
     let printed = match listing.read(input, &mut buffered) {
         Err(Fault::WriteFailed) => Err(Fault::WriteFailed),

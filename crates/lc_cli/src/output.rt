@@ -1,14 +1,23 @@
 //! Writing bytes as text.
-ghost use Rattle.std.specs.Prelude.{OnOk};
+ghost use Rattle.std.specs.Prelude.{◌≡◌, IfErr, OnOk};
 ghost use Rattle.std.specs.Io.KnownBytes.{Appends};
 ghost use Rattle.hex.specs.Hex.{encode_lower};
 
+use crate::fault::Fault;
+use std::alloc::Global;
 use std::io;
-use std::io::Write;
+use std::io::{BufWriter, Write};
 
 // The bytes that are turned into text at a time: few, since room for their digits is made, and
 // cleared, for each message.
 const PIECE: usize = 256;
+
+/// A writer that hands on to this one what it gathered. Its making alone asks for memory.
+pub fn buffered<W: Write>(alloc: Global, out: &mut W) -> Result<BufWriter<&mut W>, Fault>
+    ensures { IfErr result (λ fault. fault ≡ Fault.OutOfMemory) }
+{
+    BufWriter::new(alloc, out).map_err(|_| Fault::OutOfMemory)
+}
 
 // Writes the bytes in lower case hexadecimal. Takes no memory.
 fn write_hex<W: Write>(bytes: &[u8], out: &mut W) -> io::Result<()>

@@ -1,16 +1,18 @@
 //! `lcmux replay`: a script of events between two peers, and the answer to each.
-ghost use Rattle.std.specs.Prelude.{◌≡◌, ◌<◌, ◌↔◌, ◌⊎◌, Err, IfErr};
+ghost use Rattle.std.specs.Prelude.{◌≡◌, ◌↔◌, Err, IfErr};
+ghost use Rattle.lc_frame.specs.Bounds.{IsCapacity};
 ghost use Rattle.lc_cli.specs.Fault.{status_of};
 
 use crate::answer::write_answer;
 use crate::fault::{Fault, Status};
 use crate::input::read_all;
+use crate::output::buffered;
 use crate::script::parse_script;
-use lc_frame::MAX_AMOUNT;
+use lc_frame::is_capacity;
 use lc_world::{Answer, Event, NewFault, run};
 use std::alloc::Global;
 use std::io;
-use std::io::{BufWriter, Read, Write};
+use std::io::{Read, Write};
 
 /// Replays the script that the input holds between two new peers, whose receiving rings have
 /// `capacity` bytes each. The answers go to `out`, a fault's line to `err`, and the exit status is
@@ -23,7 +25,7 @@ pub fn replay<R: Read, W: Write, E: Write>(
     err: &mut E,
 ) -> u8
     ensures bad_input_prints_nothing { result ≡ 2 → out.new ≡ out.old }
-    ensures capacity { (capacity ≡ 0) ⊎ (MAX_AMOUNT < capacity) → (result ≡ 2) × (input.new ≡ input.old) }
+    ensures capacity { ¬ IsCapacity capacity → (result ≡ 2) × (input.new ≡ input.old) }
 {
     match try_replay(alloc, capacity, input, out) {
         Ok(()) => Status::Done.code(),
@@ -38,10 +40,10 @@ fn try_replay<R: Read, W: Write>(
     out: &mut W,
 ) -> Result<(), Fault>
     ensures bad { IfErr result (λ fault. status_of fault ≡ Status.Bad → out.new ≡ out.old) }
-    ensures usage { (result ≡ Err Fault.Usage) ↔ ((capacity ≡ 0) ⊎ (MAX_AMOUNT < capacity)) }
+    ensures usage { (result ≡ Err Fault.Usage) ↔ (¬ IsCapacity capacity) }
     ensures unread { result ≡ Err Fault.Usage → input.new ≡ input.old }
 {
-    if capacity == 0 || capacity > MAX_AMOUNT {
+    if !is_capacity(capacity) {
         return Err(Fault::Usage);
     }
     let events = read_events(alloc, input)?;
@@ -64,7 +66,7 @@ fn read_events<R: Read>(alloc: Global, input: &mut R) -> Result<Vec<Event>, Faul
 fn print_answers<W: Write>(alloc: Global, answers: &[Answer], out: &mut W) -> Result<(), Fault>
     ensures { IfErr result (λ fault. status_of fault ≡ Status.Failed) }
 {
-    let mut buffered = BufWriter::new(alloc, out).map_err(|_| Fault::OutOfMemory)?;
+    let mut buffered = buffered(alloc, out)?;
     let written = write_answers(answers, &mut buffered);
     // A writer that is dropped would try once more to write what a failed write left.
     let _ = buffered.into_parts();
