@@ -53,7 +53,7 @@ fn spending_turn(parts: &mut CreditParts) -> bool {
         return false;
     }
     spend_each(
-        &mut parts.outgoing[usize::from(CHANNEL.number())],
+        &mut parts.outgoing[CHANNEL.index()],
         CALLS,
         AMOUNT,
     )
@@ -64,7 +64,7 @@ fn adding_turn(parts: &mut CreditParts) -> bool {
         return false;
     }
     spend_each(
-        &mut parts.outgoing[usize::from(CHANNEL.number())],
+        &mut parts.outgoing[CHANNEL.index()],
         1,
         AMOUNT * CALLS,
     )

@@ -20,7 +20,7 @@ impl Receiver {
     /// A receiver with room for so many bytes.
     pub fn new(alloc: Global, room: u32) -> io::Result<Receiver> {
         let mut capacities = [1; 7];
-        capacities[usize::from(CHANNEL.number())] = room;
+        capacities[CHANNEL.index()] = room;
         let config = Config {
             capacities,
             slots: 2,
