@@ -80,8 +80,14 @@ fn violations_have_their_lines(rt: HostRuntime) {
 }
 
 #[test]
-fn the_largest_amount_has_its_line(rt: HostRuntime) {
+fn the_largest_numbers_have_their_lines(rt: HostRuntime) {
     let absolved = Answer::Absolved(u32::MAX);
     let wanted = "absolved 4294967295\n";
     same(&rt, wanted, line(rt.alloc(), &absolved), wanted);
+    let delivered = Answer::Delivered {
+        bytes: LARGEST,
+        frames: LARGEST - 1,
+    };
+    let wanted = "delivered 18446744073709551615 bytes 18446744073709551614 frames\n";
+    same(&rt, wanted, line(rt.alloc(), &delivered), wanted);
 }

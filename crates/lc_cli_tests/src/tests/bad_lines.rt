@@ -32,6 +32,18 @@ A arrive\0
 \t
  # no comment
 A arrive # no comment
+A arrive#
+; no comment
+;
+;A arrive
+A arrive;
+// no comment
+-- no comment
+! no comment
+% no comment
+> ok
+< A arrive
+$ lcmux replay 8
 A arrive 1
 A arrive 0
 A take
@@ -154,6 +166,9 @@ fn the_first_bad_line_is_named(rt: HostRuntime) -> Result<(), Fail> {
     run_as_shown(&rt, rt.alloc(), FIRST)
 }
 
+// The last is all that a script has room for.
+const LATE: [u32; 9] = [9, 10, 255, 256, 257, 9_999, 65_536, 65_537, 16_777_216];
+
 // What a script shows whose only bad line is its last, which has this number and no line feed.
 fn late_line(alloc: Global, number: u32) -> Option<String> {
     let mut script = vec![in alloc; b'\n'; number as usize].ok()?;
@@ -164,7 +179,7 @@ fn late_line(alloc: Global, number: u32) -> Option<String> {
 
 #[test]
 fn a_late_line_has_its_number(rt: HostRuntime) -> Result<(), Fail> {
-    for &number in &[9, 10, 255, 256, 257, 300, 9_999, 65_535, 65_536, 65_537] {
+    for &number in &LATE {
         let wanted = format!(in rt.alloc(); "! lcmux: line {number}: bad script line\n= 2\n")?;
         let found = late_line(rt.alloc(), number);
         same(&rt, "a late line", found, wanted.as_str());

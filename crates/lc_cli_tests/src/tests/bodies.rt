@@ -1,4 +1,5 @@
-//! Bodies whose lengths lie about those of the blocks in which digits are printed, and the longest.
+//! Bodies whose lengths lie about those of the blocks in which digits are printed, the longest, and
+//! those that are longer.
 use super::same;
 use super::transcript::shown;
 use std::alloc::Global;
@@ -42,7 +43,8 @@ fn stream(alloc: Global, length: u16, digits: &str) -> Option<Vec<u8>> {
     hex::decode(alloc, stream.as_str()).ok()
 }
 
-// A message that is a byte too long for a limit of this length, and one that is not.
+// A message that is a byte too long for a limit of this length, and one that is not. That and the
+// limit's frame, of nine bytes, are delivered together.
 fn is_replayed(rt: &impl Abort, alloc: Global, length: u16, digits: &Digits) -> Option<()> {
     let script = script(alloc, length, digits.upper.as_str())?;
     let found = shown(alloc, "lcmux replay 70000", &mut script.as_bytes());
@@ -53,14 +55,15 @@ fn is_replayed(rt: &impl Abort, alloc: Global, length: u16, digits: &Digits) -> 
 
 fn script(alloc: Global, length: u16, digits: &str) -> Option<String> {
     format!(in alloc;
-        "B issue 0 70000\nA arrive\nA limit-sending 0 {length}\nA send 0 {digits}00\nA send 0 {digits}\nB arrive\nB arrive\nB take 0\n"
+        "B issue 0 70000\nA arrive\nA limit-sending 0 {length}\nA send 0 {digits}00\nA send 0 {digits}\nB deliver 4294967295\nB take 0\n"
     ).ok()
 }
 
 fn replayed(alloc: Global, length: u16, digits: &str) -> Option<String> {
     let refused = longer(alloc, length)?;
+    let bytes = u32::from(length) + 12;
     format!(in alloc;
-        "> ok\n> arrived\n> ok\n> {refused}\n> ok\n> arrived\n> arrived\n> took {digits}\n= 0\n"
+        "> ok\n> arrived\n> ok\n> {refused}\n> ok\n> delivered {bytes} bytes 2 frames\n> took {digits}\n= 0\n"
     ).ok()
 }
 
@@ -84,4 +87,29 @@ fn long_bodies_are_whole(rt: HostRuntime) -> Result<(), Fail> {
         is_whole(&rt, rt.alloc(), length).ok_or("no body")?;
     }
     Ok(())
+}
+
+// What a script shows that sends a body of so many digits.
+fn sent(alloc: Global, digits: usize) -> Option<String> {
+    let body = "6".repeat(alloc, digits).ok()?;
+    let script = format!(in alloc; "A send 1 {body}").ok()?;
+    shown(alloc, "lcmux replay 8", &mut script.as_bytes())
+}
+
+// So many digits, with what is shown. The last are all that a script has room for.
+const LONGER: [(usize, &str); 7] = [
+    (131_070, "> refused 4 held 0\n= 0\n"),
+    (131_072, "> refused 2\n= 0\n"),
+    (140_000, "> refused 2\n= 0\n"),
+    (140_002, "> refused 2\n= 0\n"),
+    (140_003, "! lcmux: line 1: bad script line\n= 2\n"),
+    (2_097_154, "> refused 2\n= 0\n"),
+    (16_777_206, "> refused 2\n= 0\n"),
+];
+
+#[test]
+fn longer_bodies_are_refused(rt: HostRuntime) {
+    for &(digits, wanted) in &LONGER {
+        same(&rt, "a long body", sent(rt.alloc(), digits), wanted);
+    }
 }

@@ -46,6 +46,8 @@ lcmux replay 1_000
 lcmux replay eight
 lcmux replay 16777217
 lcmux replay 33554432
+lcmux replay 33554440
+lcmux replay 2147483656
 lcmux replay 4294967295
 lcmux replay 4294967296
 lcmux replay 4294967304

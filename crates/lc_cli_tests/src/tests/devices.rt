@@ -33,7 +33,8 @@ impl Read for ShortReader<'_> {
     fn read(&mut self, buf: &mut [u8]) -> io::Result<usize> {
         self.reads = self.reads.saturating_add(1);
         if self.reads == self.fails_at {
-            return Err(io::Error::from(ErrorKind::Other));
+            // Want of memory that a device tells is a failed read like any other.
+            return Err(io::Error::from(ErrorKind::OutOfMemory));
         }
         let most = self.most.min(buf.len());
         self.rest.read(&mut buf[..most])
@@ -75,6 +76,15 @@ impl ShortWriter {
         }
     }
 
+    // Want of memory that a device tells is a failed write like any other.
+    fn kind(&self) -> ErrorKind {
+        if self.calls % 2 == 0 {
+            ErrorKind::BrokenPipe
+        } else {
+            ErrorKind::OutOfMemory
+        }
+    }
+
     /// Whether its call that fails was made.
     pub fn has_failed(&self) -> bool {
         self.calls >= self.fails_at
@@ -92,7 +102,7 @@ impl Write for ShortWriter {
     fn flush(&mut self) -> io::Result<()> {
         self.calls = self.calls.saturating_add(1);
         if self.calls == self.fails_at {
-            return Err(io::Error::from(ErrorKind::BrokenPipe));
+            return Err(io::Error::from(self.kind()));
         }
         Ok(())
     }

@@ -1,7 +1,7 @@
 //! Devices that fail at each call in turn.
 use super::devices::{ShortReader, ShortWriter};
 use super::same;
-use super::transcript::{arguments, end};
+use super::transcript::{arguments, end, shown};
 use lc_cli::run;
 use std::alloc::Global;
 use std::io::{Read, Write};
@@ -45,6 +45,14 @@ const FAULT_FOUND: Case = Case {
     input: FAULTY,
     printed: "issue 1 5\n",
     end: "! lcmux: F1 in the frame at byte 5\n= 2\n",
+};
+
+// A bad line, before which nothing is printed.
+const BAD_LINE: Case = Case {
+    command: "lcmux replay 8",
+    input: b"A arrive\nx\n",
+    printed: "",
+    end: "! lcmux: line 2: bad script line\n= 2\n",
 };
 
 const WRITE_FAILED: &str = "! lcmux: write failed\n= 1\n";
@@ -93,11 +101,16 @@ fn fails_at(rt: &impl Abort, alloc: Global, case: &Case, call: u32) {
     case.check(rt, out, found);
 }
 
-// A run makes fewer than fifty calls. Then there is room for four bytes alone.
-fn writes_fail(rt: &impl Abort, alloc: Global, case: &Case) {
+// A run makes fewer than fifty calls.
+fn each_write_fails(rt: &impl Abort, alloc: Global, case: &Case) {
     for call in 1..100 {
         fails_at(rt, alloc, case, call);
     }
+}
+
+// Each write fails in turn, and then there is room for four bytes alone.
+fn writes_fail(rt: &impl Abort, alloc: Global, case: &Case) {
+    each_write_fails(rt, alloc, case);
     let mut room = [0u8; 4];
     let found = case.end(alloc, &mut room.as_mut_slice());
     same(rt, case.command, found, WRITE_FAILED);
@@ -110,6 +123,7 @@ fn failed_writes_are_named(rt: HostRuntime) {
     writes_fail(&rt, rt.alloc(), &LISTED);
     writes_fail(&rt, rt.alloc(), &REPLAYED);
     writes_fail(&rt, rt.alloc(), &FAULT_FOUND);
+    each_write_fails(&rt, rt.alloc(), &BAD_LINE);
 }
 
 // What `frames` has printed when so many bytes were read.
@@ -146,6 +160,46 @@ fn failed_reads_are_named(rt: HostRuntime) {
     for read in 1..11 {
         let script = ShortReader::failing(SCRIPT, 6, read);
         read_fails(&rt, rt.alloc(), "lcmux replay 8", script, "");
+    }
+    let bad = ShortReader::failing(b"x\nA arrive\n", 6, 3);
+    read_fails(&rt, rt.alloc(), "lcmux replay 8", bad, "");
+}
+
+// Streams with a fault, so many bytes a read, and the first read after the fault, which would fail.
+const UNREAD: [(&[u8], usize, u32, &str); 5] = [
+    (b"\x77", 1, 2, "! lcmux: F1 in the frame at byte 0\n= 2\n"),
+    (
+        b"\x11\x00\x00",
+        1,
+        4,
+        "! lcmux: F2 in the frame at byte 0\n= 2\n",
+    ),
+    (
+        b"\x21\x00\x00\x00\x00",
+        1,
+        6,
+        "! lcmux: F3 in the frame at byte 0\n= 2\n",
+    ),
+    (
+        FAULTY,
+        1,
+        7,
+        "> issue 1 5\n! lcmux: F1 in the frame at byte 5\n= 2\n",
+    ),
+    (
+        FAULTY,
+        70_000,
+        2,
+        "> issue 1 5\n! lcmux: F1 in the frame at byte 5\n= 2\n",
+    ),
+];
+
+#[test]
+fn nothing_is_read_after_a_fault(rt: HostRuntime) {
+    for &(stream, most, fails_at, wanted) in &UNREAD {
+        let mut input = ShortReader::failing(stream, most, fails_at);
+        let found = shown(rt.alloc(), "lcmux frames", &mut input);
+        same(&rt, "a fault", found, wanted);
     }
 }
 

@@ -1,6 +1,8 @@
 //! Sessions of `replay`: each kind of event, each answer that a replay gives, and each number at the
 //! ends of its range and one past them.
-use super::transcript::run_as_shown;
+use super::same;
+use super::transcript::{run_as_shown, shown};
+use std::alloc::Global;
 use std::test::Fail;
 
 // A message, no guarantees, a full ring, messages in order, a plead that is honoured and one that
@@ -445,6 +447,57 @@ $ lcmux replay 16777216
 = 0
 ";
 
+// Deliveries of several frames, of more bytes than are in flight, and of more than those.
+const DELIVERIES: &str = "$ lcmux replay 8
+< B issue 1 1
+< B issue 2 2
+< B issue 3 3
+< A deliver 10
+< A deliver 4
+< A deliver 0
+< A deliver 256
+< A deliver 256
+> ok
+> ok
+> ok
+> delivered 10 bytes 2 frames
+> delivered 4 bytes 0 frames
+> delivered 0 bytes 0 frames
+> delivered 1 bytes 1 frames
+> nothing in flight
+= 0
+$ lcmux replay 8
+< B issue 1 1
+< A deliver 65536
+< B issue 1 1
+< A deliver 16777216
+< B issue 1 1
+< A deliver 2147483648
+< B issue 1 1
+< A deliver 4294967295
+< A absolve 1 4
+< A limit-sending 1 0
+< A issue 6 8
+< A plead 6 7
+< A limit-receiving 6 0
+< B deliver 33
+> ok
+> delivered 5 bytes 1 frames
+> ok
+> delivered 5 bytes 1 frames
+> ok
+> delivered 5 bytes 1 frames
+> ok
+> delivered 5 bytes 1 frames
+> ok
+> ok
+> ok
+> ok
+> ok
+> delivered 33 bytes 5 frames
+= 0
+";
+
 // Bounds up to 2^62, and above.
 const BOUNDS: &str = "$ lcmux replay 16777216
 < A limit-sending 0 18446744073709551615
@@ -514,8 +567,31 @@ $ lcmux replay 16777216
 
 #[test]
 fn answers_events(rt: HostRuntime) -> Result<(), Fail> {
-    for cases in &[WORKED, LINES, CHANNELS, AMOUNTS, BOUNDS] {
+    for cases in &[WORKED, LINES, CHANNELS, AMOUNTS, DELIVERIES, BOUNDS] {
         run_as_shown(&rt, rt.alloc(), cases)?;
+    }
+    Ok(())
+}
+
+// So many frames that are delivered together, with how that ends.
+const MANY: [(usize, &str); 3] = [
+    (300, "> delivered 1500 bytes 300 frames\n= 0\n"),
+    (1_001, "> delivered 5005 bytes 1001 frames\n= 0\n"),
+    (65_537, "> delivered 327685 bytes 65537 frames\n= 0\n"),
+];
+
+fn many(alloc: Global, count: usize) -> Option<String> {
+    let mut script = "B issue 1 1\n".repeat(alloc, count).ok()?;
+    script.push_str("A deliver 4294967295\n").ok()?;
+    shown(alloc, "lcmux replay 70000", &mut script.as_bytes())
+}
+
+#[test]
+fn many_events_are_answered(rt: HostRuntime) -> Result<(), Fail> {
+    for &(count, end) in &MANY {
+        let mut wanted = "> ok\n".repeat(rt.alloc(), count)?;
+        wanted.push_str(end)?;
+        same(&rt, end, many(rt.alloc(), count), wanted.as_str());
     }
     Ok(())
 }

@@ -1,6 +1,8 @@
 //! Streams that `frames` lists: each kind of frame, each number at the ends of its range and one
 //! past them, each fault.
-use super::transcript::run_as_shown;
+use super::same;
+use super::transcript::{run_as_shown, shown};
+use std::alloc::Global;
 use std::test::Fail;
 
 const FRAMES: &str = "$ lcmux frames
@@ -190,4 +192,20 @@ x 60 00 00 00 00 00 00 00 00 21 00 00 00 01 11 00 00 21 00 00 00 01
 fn lists_frames(rt: HostRuntime) -> Result<(), Fail> {
     run_as_shown(&rt, rt.alloc(), FRAMES)?;
     run_as_shown(&rt, rt.alloc(), FAULTS)
+}
+
+// What a stream of so many frames shows.
+fn many(alloc: Global, count: usize) -> Option<String> {
+    let stream = b"\x21\x00\x00\x00\x05".repeat(alloc, count).ok()?;
+    shown(alloc, "lcmux frames", &mut stream.as_slice())
+}
+
+#[test]
+fn many_frames_are_listed(rt: HostRuntime) -> Result<(), Fail> {
+    for &count in &[300, 1_001, 65_537] {
+        let mut wanted = "> issue 1 5\n".repeat(rt.alloc(), count)?;
+        wanted.push_str("= 0\n")?;
+        same(&rt, "many frames", many(rt.alloc(), count), wanted.as_str());
+    }
+    Ok(())
 }
