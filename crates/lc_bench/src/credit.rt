@@ -52,22 +52,14 @@ fn spending_turn(parts: &mut CreditParts) -> bool {
     if !add_each(&mut parts.incoming, 1, AMOUNT * CALLS) {
         return false;
     }
-    spend_each(
-        &mut parts.outgoing[CHANNEL.index()],
-        CALLS,
-        AMOUNT,
-    )
+    spend_each(&mut parts.outgoing[CHANNEL.index()], CALLS, AMOUNT)
 }
 
 fn adding_turn(parts: &mut CreditParts) -> bool {
     if !add_each(&mut parts.incoming, CALLS, AMOUNT) {
         return false;
     }
-    spend_each(
-        &mut parts.outgoing[CHANNEL.index()],
-        1,
-        AMOUNT * CALLS,
-    )
+    spend_each(&mut parts.outgoing[CHANNEL.index()], 1, AMOUNT * CALLS)
 }
 
 // Adds an amount so many times, and says whether it came to that.

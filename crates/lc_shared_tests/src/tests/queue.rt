@@ -157,7 +157,10 @@ fn put_and_pop(rt: &(impl Wait + Abort), end: &mut LaneEnd, drain: &mut Drain) {
 
 #[test]
 fn a_frame_is_popped_at_once(rt: HostRuntime) -> Result<(), Fail> {
-    let Lanes { mut ends, mut drain } = lanes(rt.alloc(), 2)?;
+    let Lanes {
+        mut ends,
+        mut drain,
+    } = lanes(rt.alloc(), 2)?;
     assert!(rt; drain.pop(&rt).is_none());
     for _ in 0..5 {
         put_and_pop(&rt, &mut ends[8], &mut drain);

@@ -253,6 +253,7 @@ fn errors_have_texts(rt: HostRuntime) {
     let full = Full { free: 16_777_216 };
     let (bad, memory) = (NewFault::BadCapacity, NewFault::OutOfMemory);
     let found = format!(in rt.alloc(); "{full}, {bad}, {memory}").ok();
-    let wanted = "the ring has room for 16777216 bytes, the capacity is not 1 to 2^24, out of memory";
+    let wanted =
+        "the ring has room for 16777216 bytes, the capacity is not 1 to 2^24, out of memory";
     same(&rt, "errors", found, wanted);
 }
