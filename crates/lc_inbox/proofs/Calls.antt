@@ -1,0 +1,130 @@
+-- What a call does to a side, from what it did to the inbox.
+use Rattle.std.proofs.Common.{◌≡◌, ℕ, ◌+◌, Bool, true, false, List, [], ◌∷◌, ◌++◌, Some, None, refl, sym, ◌∙◌, ap, subst, append-nil}
+use Rattle.std.specs.Prelude.{IfSome}
+use Rattle.lc_history.specs.History.{IsHistory, Knows, Learns, Makes}
+use Rattle.lc_history.proofs.Histories.{history-push, known_same, learned_same, made_one}
+use Rattle.lc_frame.specs.declared.frame.Frame.{Frame}
+use Rattle.lc_frame.specs.Channel.{number_of}
+use Rattle.lc_frame.specs.Frame.{lane_of}
+use Rattle.lc_book.specs.declared.fault.Violation.{Violation}
+use Rattle.lc_ring.specs.Ring.{front}
+use Rattle.lc_queue.specs.Parts.{End}
+use Rattle.lc_book.specs.Server.{Server}
+use Rattle.lc_inbox.specs.declared.history.Entry.{Entry}
+use Rattle.lc_inbox.specs.declared.history.Entry.TheVariants.{Heard, Refused, Put, Took}
+use Rattle.lc_inbox.specs.declared.rule.Key.{Key}
+use Rattle.lc_inbox.specs.Ends.{Held, violation_of, refusal_of, IsPut}
+use Rattle.lc_inbox.specs.History.{heard_of, put_of, took_of, heard, put, took, book_after, inbox_after, held_after, MayFollow, IsLeftBy, is_of, is_reading, is_receiving}
+use Rattle.lc_inbox.specs.Sides.{Half, Side, side_of, IsHeard, IsViolated, HasLooked, IsPutBy, IsTaken, IsFinished}
+use Rattle.lc_inbox.proofs.Histories.{in_order}
+
+-- whose entries carry what
+heard_by : (e : Entry) → is_reading e ≡ false → heard_of e ≡ None
+heard_by (Heard f) not = absurd (cc)
+heard_by (Refused f) not = refl
+heard_by (Put f) not = refl
+heard_by (Took body) not = refl
+
+put_by : (e : Entry) → is_receiving e ≡ false → put_of e ≡ None
+put_by (Heard f) not = refl
+put_by (Refused f) not = refl
+put_by (Put f) not = absurd (cc)
+put_by (Took body) not = refl
+
+took_by : (e : Entry) → is_receiving e ≡ false → took_of e ≡ None
+took_by (Heard f) not = refl
+took_by (Refused f) not = refl
+took_by (Put f) not = refl
+took_by (Took body) not = absurd (cc)
+
+-- a half took the inbox, and gave it back with entries more
+pub gave : (old took new : Half) (log more : List Entry) → took ≡ record old { lent = Some log } → IfSome took.lent (λ history. new ≡ record took { seen = history ++ more; lent = None }) → new ≡ record old { seen = log ++ more; lent = None }
+gave old took new log more is h = subst (λ (v : Half). IfSome v.lent (λ history. new ≡ record v { seen = history ++ more; lent = None })) is h
+
+makes_one : (side : Bool) (old new : Half) (log : List Entry) (e : Entry) → old.side ≡ side → Knows (is_of old.side) old.seen log → IsHistory (MayFollow old.key) (log ++ e ∷ []) → new ≡ record old { seen = log ++ e ∷ []; lent = None } → Makes (MayFollow old.key) (is_of side) old.seen e new.seen
+makes_one side old new log e side_is knows legal is =
+    record {
+      before = log;
+      knows = subst (λ (b : Bool). Knows (is_of b) old.seen log) side_is knows;
+      last = ap (λ (h : Half). h.seen) is;
+      legal = subst (IsHistory (MayFollow old.key)) (sym (ap (λ (h : Half). h.seen) is)) legal;
+    }
+
+-- a half took the inbox, and gave it back as it was
+pub looked : (old took new : Half) (log : List Entry) → old.side ≡ false → Knows (is_of old.side) old.seen log → IsHistory (MayFollow old.key) log → took ≡ record old { lent = Some log } → IfSome took.lent (λ history. new ≡ record took { seen = history; lent = None }) → HasLooked (side_of old) (side_of new)
+looked old took new log side_is knows legal is gives =
+    let now : new ≡ record old { seen = log; lent = None } = subst (λ (v : Half). IfSome v.lent (λ history. new ≡ record v { seen = history; lent = None })) is gives in
+    let learns : Learns (MayFollow old.key) is_receiving old.seen new.seen =
+    record { knows = subst (λ (p : Bool × List Entry). Knows (is_of p.0) old.seen p.1) (λ i. (side_is i, (sym now i).seen)) knows; legal = subst (IsHistory (MayFollow old.key)) (λ i. (sym now i).seen) legal } in
+    record {
+      learns = learns;
+      put = learned_same is_receiving put_of put_by (MayFollow old.key) old.seen new.seen learns;
+      took = learned_same is_receiving took_of took_by (MayFollow old.key) old.seen new.seen learns;
+    }
+
+-- what the inbox said when it was taken is said of the one that the history leaves
+pub says : (X : Held → Type 0) (old took new : Half) (log : List Entry) (held : Held) → IsLeftBy old.key held log → took ≡ record old { lent = Some log } → IfSome took.lent (λ history. new ≡ record took { seen = history; lent = None }) → X held → X (held_after old.key new.seen)
+says X old took new log held left is gives x =
+    let now : new ≡ record old { seen = log; lent = None } = subst (λ (v : Half). IfSome v.lent (λ history. new ≡ record v { seen = history; lent = None })) is gives in
+    subst X (left.is ∙ (λ i. held_after old.key (sym now i).seen)) x
+
+pub may_hear : (key : Key) (log : List Entry) (held : Held) (f : Frame) → IsLeftBy key held log → lane_of f ≡ number_of key.channel → None ≡ violation_of f held.inbox.book → MayFollow key log (Heard f)
+may_hear key log held f left on lawful = (on, ap (λ (h : Held). violation_of f h.inbox.book) (sym left.is) ∙ sym lawful)
+
+pub may_refuse : (key : Key) (log : List Entry) (held : Held) (f : Frame) (v : Violation) → IsLeftBy key held log → lane_of f ≡ number_of key.channel → Some v ≡ violation_of f held.inbox.book → MayFollow key log (Refused f)
+may_refuse key log held f v left on wrong = (on, (v, ap (λ (h : Held). violation_of f h.inbox.book) (sym left.is) ∙ sym wrong))
+
+pub hears : (old new : Half) (log : List Entry) (f : Frame) → old.side ≡ true → Knows (is_of old.side) old.seen log → IsHistory (MayFollow old.key) log → MayFollow old.key log (Heard f) → new ≡ record old { seen = log ++ Heard f ∷ []; lent = None } → IsHeard f (side_of old) (side_of new)
+unfolding makes_one
+hears old new log f side_is knows legal may is =
+    let makes = makes_one true old new log (Heard f) side_is knows (history-push (MayFollow old.key) log (Heard f) may legal) is in
+    record { makes = makes; lawful = may.1; heard = made_one is_reading heard_of heard_by (MayFollow old.key) old.seen (Heard f) new.seen makes }
+
+pub refuses : (old new : Half) (log : List Entry) (f : Frame) (v : Violation) → old.side ≡ true → Knows (is_of old.side) old.seen log → IsHistory (MayFollow old.key) log → (may : MayFollow old.key log (Refused f)) → violation_of f (book_after old.key log) ≡ Some v → new ≡ record old { seen = log ++ Refused f ∷ []; lent = None } → IsViolated v f (side_of old) (side_of new)
+unfolding makes_one
+refuses old new log f v side_is knows legal may wrong is =
+    let makes = makes_one true old new log (Refused f) side_is knows (history-push (MayFollow old.key) log (Refused f) may legal) is in
+    record { makes = makes; violation = wrong; heard = made_one is_reading heard_of heard_by (MayFollow old.key) old.seen (Refused f) new.seen makes ∙ append-nil (heard old.seen) }
+
+pub may_put : (key : Key) (log : List Entry) (held new : Held) (f : Frame) → IsLeftBy key held log → lane_of f ≡ 7 + number_of key.channel → IsPut f held new → MayFollow key log (Put f)
+may_put key log held new f left on p = (on, ap (λ (h : Held). refusal_of f h.inbox.book) (sym left.is) ∙ p.allowed)
+
+pub puts : (old new : Half) (log : List Entry) (held after : Held) (f : Frame) → old.side ≡ false → Knows (is_of old.side) old.seen log → IsLeftBy old.key held log → lane_of f ≡ 7 + number_of old.key.channel → IsPut f held after → new ≡ record old { seen = log ++ Put f ∷ []; lent = None } → IsPutBy f (side_of old) (side_of new)
+puts old new log held after f side_is knows left on p is =
+    let makes = makes_one false old new log (Put f) side_is knows (history-push (MayFollow old.key) log (Put f) (may_put old.key log held after f left on p) left.legal) is in
+    record {
+      makes = makes;
+      put = made_one is_receiving put_of put_by (MayFollow old.key) old.seen (Put f) new.seen makes;
+      took = made_one is_receiving took_of took_by (MayFollow old.key) old.seen (Put f) new.seen makes ∙ append-nil (took old.seen);
+    }
+
+pub wrong_as : (key : Key) (log : List Entry) (held : Held) (f : Frame) (v : Violation) → IsLeftBy key held log → Some v ≡ violation_of f held.inbox.book → violation_of f (book_after key log) ≡ Some v
+wrong_as key log held f v left wrong = ap (λ (h : Held). violation_of f h.inbox.book) (sym left.is) ∙ sym wrong
+
+pub takes_one : (old new : Half) (log : List Entry) (held : Held) (body : List ℕ) → old.side ≡ false → Knows (is_of old.side) old.seen log → IsLeftBy old.key held log → front held.inbox.ring ≡ Some body → new ≡ record old { seen = log ++ Took body ∷ []; lent = None } → IsTaken body (side_of old) (side_of new)
+unfolding makes_one
+takes_one old new log held body side_is knows left first is =
+    let waits : front (inbox_after old.key log).ring ≡ Some body = ap (λ (h : Held). front h.inbox.ring) (sym left.is) ∙ first in
+    let makes = makes_one false old new log (Took body) side_is knows (history-push (MayFollow old.key) log (Took body) waits left.legal) is in
+    record {
+      makes = makes;
+      first = waits;
+      put = made_one is_receiving put_of put_by (MayFollow old.key) old.seen (Took body) new.seen makes ∙ append-nil (put old.seen);
+      took = made_one is_receiving took_of took_by (MayFollow old.key) old.seen (Took body) new.seen makes;
+    }
+
+-- both sides have ended
+pub finished : (incoming outgoing : Side) (held : Held) (book : Server) (lane : End) (history : List Entry) → Knows (is_of true) incoming.seen history → Knows (is_of false) outgoing.seen history → IsLeftBy incoming.key held history → book ≡ held.inbox.book → lane ≡ held.lane → IsFinished incoming outgoing book lane
+finished incoming outgoing held book lane history reads receives left book_is lane_is =
+    record {
+      history = history;
+      legal = left.legal;
+      reads = reads;
+      receives = receives;
+      book_is = book_is ∙ ap (λ (h : Held). h.inbox.book) left.is;
+      lane_is = lane_is ∙ ap (λ (h : Held). h.lane) left.is;
+      heard = known_same is_reading heard_of heard_by incoming.seen history reads;
+      put = known_same is_receiving put_of put_by outgoing.seen history receives;
+      took = known_same is_receiving took_of took_by outgoing.seen history receives;
+      in_order = in_order incoming.key history left.legal;
+    }

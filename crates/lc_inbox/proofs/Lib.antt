@@ -1,0 +1,5 @@
+mod Ends
+mod Histories
+mod Steps
+mod Calls
+mod Takes

@@ -1,0 +1,4 @@
+pub mod Ends
+pub mod History
+pub mod Rule
+pub mod Sides

@@ -1,0 +1,124 @@
+-- The rule of a shared inbox: there is one history, each side knows how it begins and all its own entries, and where no side has the inbox it lies in the slot as the history leaves it. And what each step tells the side that makes it. All of it is this project's own.
+use Rattle.std.specs.Prelude.{◌≡◌, ◌≢◌, ℕ, ◌≤◌, Bool, true, false, List, [], ◌∷◌, ◌++◌, length, slice_index, Option, Some, None}
+use mathlib.Core.Option.{some}
+use lib.ListN.{get_elem?}
+use Rattle.atomic_table.specs.Table.{State, Me}
+use Rattle.lc_history.specs.History.{Knows}
+use Rattle.lc_inbox.specs.declared.history.Entry.{Entry}
+use Rattle.lc_inbox.specs.declared.rule.Key.{Key}
+use Rattle.lc_inbox.specs.declared.rule.View.{View}
+use Rattle.lc_inbox.specs.declared.rule.View.TheVariants.{Idle, Has, Both, Closed}
+use Rattle.lc_inbox.specs.Ends.{Held}
+use Rattle.lc_inbox.specs.History.{is_of, IsLeftBy}
+
+-- the word while this side has the inbox; it is 0 while no side has it
+abbrev pub word_of : Bool → ℕ
+word_of true = 1
+word_of false = 2
+
+abbrev pub other : Bool → Bool
+other true = false
+other false = true
+
+-- what a seat has seen itself; and the whole history, where it has the inbox
+abbrev pub seen_of : View → List Entry
+seen_of (Idle k side x) = x
+seen_of (Has k side x y) = x
+seen_of (Both k x y) = x
+seen_of Closed = []
+
+abbrev pub received_of : View → List Entry
+received_of (Idle k side y) = y
+received_of v = []
+
+abbrev pub lent_of : View → Option (List Entry)
+lent_of (Has k side x y) = Some y
+lent_of v = None
+
+abbrev pub view_of : Key → Bool → List Entry → Option (List Entry) → View
+view_of k side x None = Idle k side x
+view_of k side x (Some y) = Has k side x y
+
+-- the views of both sides when they part, and when they come together
+abbrev pub reading_of : View → View
+reading_of (Both k x y) = Idle k true x
+reading_of v = Closed
+
+abbrev pub receiving_of : View → View
+receiving_of (Both k x y) = Idle k false y
+receiving_of v = Closed
+
+abbrev pub both_of : View → View → View
+both_of (Idle k side x) w = Both k x (received_of w)
+both_of v w = Closed
+
+-- what the rule says of one view, where `seats` has the seat of each side
+abbrev pub IsTrueOf : Key → (Bool → ℕ) → List Entry → ℕ → ℕ → View → Type 0
+IsTrueOf key seats history word seat (Idle k side x) = (k ≡ key) × (seats side ≡ seat) × Knows (is_of side) x history × (word ≢ word_of side)
+IsTrueOf key seats history word seat (Has k side x y) = (k ≡ key) × (seats side ≡ seat) × Knows (is_of side) x history × (history ≡ y) × (word ≡ word_of side)
+IsTrueOf key seats history word seat (Both k x y) = (k ≡ key) × (seats true ≡ seat) × (seats false ≡ seat) × Knows (is_of true) x history × Knows (is_of false) y history × (word ≡ 0)
+IsTrueOf key seats history word seat Closed = Unit {0}
+
+-- the inbox lies in the slot, as the history leaves it
+pub record IsHome (key : Key) (s : State (Option Held) View) (history : List Entry) : Type 0 where
+  pub inbox : Held
+  pub there : get_elem? s.homes 0 ≡ some (some (Some inbox))
+  pub left : IsLeftBy key inbox history
+
+-- the rule
+pub record KeepsInbox (key : Key) (s : State (Option Held) View) : Type 0 where
+  pub seats : Bool → ℕ
+  pub history : List Entry
+  pub words : length s.words ≡ 1
+  pub word : slice_index s.words 0 ≤ 2
+  pub home : slice_index s.words 0 ≡ 0 → IsHome key s history
+  pub views : (seat : ℕ) (v : View) → get_elem? s.views seat ≡ some v → IsTrueOf key seats history (slice_index s.words 0) seat v
+
+abbrev pub Seated : Type 0
+Seated = Me (Option Held) View
+
+-- the place of the inbox is out with the side that has it, and empty
+abbrev pub carried_of : Option (List Entry) → List (ℕ × Option Held)
+carried_of None = []
+carried_of (Some y) = (0, None) ∷ []
+
+-- a side that was free has the inbox now
+pub record Takes (k : Key) (side : Bool) (x : List Entry) (new : Seated) : Type 0 where
+  pub held : Held
+  pub history : List Entry
+  pub is : new ≡ (Has k side x history, (0, Some held) ∷ [])
+  pub knows : Knows (is_of side) x history
+  pub left : IsLeftBy k held history
+
+-- a seat tried to take the inbox: it has it where the word was 0, and else nothing changed
+abbrev pub SeizedBy : View → List (ℕ × Option Held) → ℕ → Seated → Type 0
+SeizedBy (Idle k side x) c found new = (found ≡ 0 → Takes k side x new) × (found ≢ 0 → new ≡ (Idle k side x, c))
+SeizedBy v c found new = Unit {0}
+
+abbrev pub Seized : Seated → ℕ → Seated → Type 0
+Seized old found new = SeizedBy old.0 old.1 found new
+
+-- the inbox was given back, after these entries
+abbrev pub returned_by : List Entry → View → View
+returned_by entries (Has k side x y) = Idle k side (y ++ entries)
+returned_by entries v = Closed
+
+abbrev pub Returned : List Entry → Seated → Seated → Type 0
+Returned entries old new = new ≡ (returned_by entries old.0, [])
+
+-- both sides together have the inbox for good
+pub record TakesLast (k : Key) (x y : List Entry) (new : Seated) : Type 0 where
+  pub held : Held
+  pub history : List Entry
+  pub is : new ≡ (Closed, (0, Some held) ∷ [])
+  pub reads : Knows (is_of true) x history
+  pub receives : Knows (is_of false) y history
+  pub left : IsLeftBy k held history
+
+-- it was there
+abbrev pub SeizedLastBy : View → ℕ → Seated → Type 0
+SeizedLastBy (Both k x y) found new = (found ≡ 0) × TakesLast k x y new
+SeizedLastBy v found new = Unit {0}
+
+abbrev pub SeizedLast : Seated → ℕ → Seated → Type 0
+SeizedLast old found new = SeizedLastBy old.0 found new

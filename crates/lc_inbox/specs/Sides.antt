@@ -1,0 +1,121 @@
+-- What contracts see of the two sides that share an inbox, and what each call does. That a server's book judges what arrives, and what it issues, is LCMUX's; that each side knows its own part of one history is this project's own.
+use Rattle.std.specs.Prelude.{◌≡◌, ℕ, Bool, List, [], ◌∷◌, ◌++◌, length, Option, Some, None}
+use Rattle.atomic_table.specs.Seated.{TableId}
+use Rattle.lc_history.specs.History.{IsHistory, Knows, Learns, Makes}
+use Rattle.lc_frame.specs.declared.frame.Frame.{Frame}
+use Rattle.lc_book.specs.declared.fault.Refusal.{Refusal}
+use Rattle.lc_book.specs.declared.fault.Violation.{Violation}
+use Rattle.lc_book.specs.Server.{Server}
+use Rattle.lc_ring.specs.Ring.{front, with_front}
+use Rattle.lc_peer.specs.Inbox.{take_refusal, take_answer}
+use Rattle.lc_peer.specs.declared.inbox.Take.{Take}
+use Rattle.lc_peer.specs.declared.inbox.Take.TheVariants.{Took as TookMessage}
+use Rattle.lc_queue.specs.Parts.{End}
+use Rattle.lc_inbox.specs.declared.history.Entry.{Entry}
+use Rattle.lc_inbox.specs.declared.history.Entry.TheVariants.{Heard, Refused, Put, Took}
+use Rattle.lc_inbox.specs.declared.rule.Key.{Key}
+use Rattle.lc_inbox.specs.Ends.{Held, violation_of, IsReason}
+use Rattle.lc_inbox.specs.History.{heard, put, took, book_after, inbox_after, lane_after, held_after, MayFollow, IsInOrder, is_reading, is_receiving}
+
+-- which inbox it is: no two have the same
+abbrev pub InboxId : Type 0
+InboxId = TableId
+
+-- one half of the lock, with the whole history while it has the inbox. It serves `src/half.rt`
+pub record Half : Type 0 where
+  pub inbox : InboxId
+  pub key : Key
+  pub side : Bool
+  pub seen : List Entry
+  pub lent : Option (List Entry)
+
+-- one side: which inbox it is of, what that was made of, and how its history begins
+pub record Side : Type 0 where
+  pub inbox : InboxId
+  pub key : Key
+  pub seen : List Entry
+
+abbrev pub side_of : Half → Side
+side_of h = record { inbox = h.inbox; key = h.key; seen = h.seen }
+
+-- a half that has not got the inbox
+pub record IsIdle (side : Bool) (h : Half) : Type 0 where
+  pub side_is : h.side ≡ side
+  pub lent : h.lent ≡ None
+
+-- it is still a side of the same inbox
+pub record IsSameSide (old new : Side) : Type 0 where
+  pub inbox : new.inbox ≡ old.inbox
+  pub key : new.key ≡ old.key
+
+-- both are sides of one inbox
+abbrev pub AreOfOne : Side → Side → Type 0
+AreOfOne incoming outgoing = incoming.inbox ≡ outgoing.inbox
+
+-- both sides of a new inbox, that of this end: nothing has happened
+pub record IsNew (h : Held) (incoming outgoing : Side) : Type 0 where
+  pub one : outgoing ≡ incoming
+  pub seen : incoming.seen ≡ []
+  pub channel : incoming.key.channel ≡ h.channel
+  pub capacity : incoming.key.capacity ≡ h.inbox.book.capacity
+  pub lane : incoming.key.lane.value ≡ h.lane
+
+-- a frame arrived, which is no violation by the book of the whole history before it
+pub record IsHeard (f : Frame) (old new : Side) : Type 0 where
+  pub makes : Makes (MayFollow old.key) is_reading old.seen (Heard f) new.seen
+  pub lawful : violation_of f (book_after old.key makes.before) ≡ None
+  pub heard : heard new.seen ≡ heard old.seen ++ f ∷ []
+
+-- a frame was refused, by the violation that this book has; it changed nothing but the history
+pub record IsViolated (v : Violation) (f : Frame) (old new : Side) : Type 0 where
+  pub makes : Makes (MayFollow old.key) is_reading old.seen (Refused f) new.seen
+  pub violation : violation_of f (book_after old.key makes.before) ≡ Some v
+  pub heard : heard new.seen ≡ heard old.seen
+
+-- the receiving side has seen the whole history up to here, and made no entry
+pub record HasLooked (old new : Side) : Type 0 where
+  pub learns : Learns (MayFollow old.key) is_receiving old.seen new.seen
+  pub put : put new.seen ≡ put old.seen
+  pub took : took new.seen ≡ took old.seen
+
+-- a frame was put, which the book of the whole history before it allowed
+pub record IsPutBy (f : Frame) (old new : Side) : Type 0 where
+  pub makes : Makes (MayFollow old.key) is_receiving old.seen (Put f) new.seen
+  pub put : put new.seen ≡ put old.seen ++ f ∷ []
+  pub took : took new.seen ≡ took old.seen
+
+-- it was not put, and the whole history up to here says why
+pub record IsNotPutBy (e : Refusal) (f : Frame) (old new : Side) : Type 0 where
+  pub looks : HasLooked old new
+  pub reason : IsReason e f (held_after old.key new.seen)
+
+-- a message was taken: the first that waited
+pub record IsTaken (body : List ℕ) (old new : Side) : Type 0 where
+  pub makes : Makes (MayFollow old.key) is_receiving old.seen (Took body) new.seen
+  pub first : front (inbox_after old.key makes.before).ring ≡ Some body
+  pub put : put new.seen ≡ put old.seen
+  pub took : took new.seen ≡ took old.seen ++ body ∷ []
+
+-- what a take answers, by the inbox of the whole history before it, and what it does with the buffer
+abbrev pub IsTakeAnswer : Take → List ℕ → List ℕ → Side → Side → Type 0
+IsTakeAnswer (TookMessage len) buffer filled old new = (body : List ℕ) × IsTaken body old new × (len ≡ length body) × (filled ≡ with_front (Some body) buffer)
+IsTakeAnswer take buffer filled old new = HasLooked old new × (take ≡ take_answer (inbox_after old.key new.seen)) × (filled ≡ buffer)
+
+-- why nothing was taken: the buffer is shorter than the first message
+pub record IsNotTaken (e : Refusal) (buffer filled : List ℕ) (old new : Side) : Type 0 where
+  pub looks : HasLooked old new
+  pub refusal : take_refusal (inbox_after old.key new.seen) (length buffer) ≡ Some e
+  pub same : filled ≡ buffer
+
+-- the end: both sides know how one history begins and all their own entries, the book and the lane are those that it leaves, and what arrived, what was put and what was taken is what its sides know of it
+pub record IsFinished (incoming outgoing : Side) (book : Server) (lane : End) : Type 0 where
+  pub history : List Entry
+  pub legal : IsHistory (MayFollow incoming.key) history
+  pub reads : Knows is_reading incoming.seen history
+  pub receives : Knows is_receiving outgoing.seen history
+  pub book_is : book ≡ book_after incoming.key history
+  pub lane_is : lane ≡ lane_after incoming.key history
+  pub heard : heard history ≡ heard incoming.seen
+  pub put : put history ≡ put outgoing.seen
+  pub took : took history ≡ took outgoing.seen
+  pub in_order : IsInOrder incoming.key history

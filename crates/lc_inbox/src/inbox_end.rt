@@ -1,0 +1,173 @@
+//! One channel's inbox, with the lane that its server puts on.
+ghost use Rattle.std.specs.Prelude.{◌≡◌, ◌+◌, ◌<◌, ◌≤◌, [], length, if◌then◌else◌, is_ok, IfOk, IfErr, OnOk, Some, None};
+ghost use Rattle.std.specs.Result.{result_err};
+ghost use Rattle.lc_frame.specs.declared.frame.Frame.TheVariants.{Issue, Plead, LimitReceiving};
+ghost use Rattle.lc_frame.specs.Channel.{number_of, channel_at};
+ghost use Rattle.lc_frame.specs.Frame.{IsValid, lane_of, channel_of};
+ghost use Rattle.lc_frame.specs.FrameRef.{frame_of};
+ghost use Rattle.lc_book.specs.Server.{buffered};
+ghost use Rattle.lc_book.specs.Sums.{server_after_put};
+ghost use Rattle.lc_ring.specs.Ring.{front, with_front};
+ghost use Rattle.lc_peer.specs.Inbox.{new_inbox, IsInbox, IsTake, take_answer, take_first, take_refusal};
+ghost use Rattle.lc_inbox.specs.Ends.{IsHeld, IsNewHeld, violation_of, refusal_of, arrive, put, IsPut, IsNotPut};
+
+use lc_book::{Refusal, ServerBook, Violation};
+use lc_frame::{Channel, Frame, FrameRef};
+use lc_peer::{Inbox, Take};
+use lc_queue::LaneEnd;
+use std::marker::Model;
+use std::sync::Wait;
+
+/// An inbox with the end of the lane on which its channel's server puts. Contracts see both.
+#[derive(Drop)]
+pub struct InboxEnd {
+    channel: Channel,
+    inbox: Inbox,
+    lane: LaneEnd,
+}
+
+impl Model for InboxEnd {
+    ghost use Rattle.lc_inbox.specs.Ends.{Held, IsHeld};
+
+    ghost Value = { Held };
+
+    ghost view = { λ e. record { channel = e.channel; inbox = e.inbox; lane = e.lane } };
+
+    ghost invariant = { λ e. IsHeld (record { channel = e.channel; inbox = e.inbox; lane = e.lane }) };
+}
+
+impl InboxEnd {
+    /// A new inbox with the end of its channel's lane, where nothing was put. It takes no memory.
+    pub fn new(inbox: Inbox, lane: LaneEnd) -> InboxEnd
+        requires inbox { inbox ≡ new_inbox inbox.book.capacity }
+        requires put { lane.put ≡ [] }
+        requires server { 6 < lane.lane }
+        ensures parts { (result.inbox ≡ inbox) × (result.lane ≡ lane) }
+        ensures channel { lane.lane ≡ 7 + number_of result.channel }
+        ensures new { IsNewHeld result }
+    {
+        let Some(channel) = Channel::from_number(lane.lane() - 7) else {
+            unreachable!()
+        };
+        InboxEnd {
+            channel,
+            inbox,
+            lane,
+        }
+    }
+
+    /// The channel.
+    pub fn channel(&self) -> Channel
+        ensures { result ≡ self.now.channel }
+    {
+        self.channel
+    }
+
+    // The lane's end.
+    pub(crate) fn lane(&self) -> &LaneEnd
+        ensures { result.now ≡ self.now.lane }
+    {
+        &self.lane
+    }
+
+    /// The inbox's book: what was issued is the sum of the Issue amounts that were put, and what is
+    /// left of the limit on receiving is that of what was put.
+    pub fn book(&self) -> ServerBook
+        ensures value { result ≡ self.now.inbox.book }
+        ensures kept { IsInbox self.now.inbox }
+        ensures held { IsHeld self.now }
+    {
+        self.inbox.book()
+    }
+
+    /// A frame of the client arrives. Violations V1 to V4, as the inbox's book has them.
+    pub(crate) fn arrive(&mut self, frame: FrameRef<'_>) -> Result<(), Violation>
+        requires valid { IsValid (frame_of frame) }
+        requires lane { lane_of (frame_of frame) ≡ number_of self.old.channel }
+        ensures answer { result_err result ≡ violation_of (frame_of frame.entry) self.old.inbox.book }
+        ensures after { self.new ≡ (if is_ok result then arrive (frame_of frame.entry) self.old else self.old) }
+    {
+        match frame {
+            FrameRef::Send { body, .. } => self.inbox.message(body),
+            FrameRef::Absolve { amount, .. } => self.inbox.was_absolved(amount),
+            FrameRef::LimitSending { bound, .. } => self.inbox.sending_limited(bound),
+            _ => Ok(()),
+        }
+    }
+
+    /// Takes the first message into the front of the buffer. Refused by 16 alone.
+    pub(crate) fn take_into(&mut self, buffer: &mut [u8]) -> Result<Take, Refusal>
+        ensures answer { result_err result ≡ take_refusal self.old.inbox (length buffer.old) }
+        ensures range { IfOk result (λ take. IsTake take) }
+        ensures value { IfOk result (λ take. take ≡ take_answer self.old.inbox) }
+        ensures after { self.new ≡ (if is_ok result then record self.old { inbox = take_first self.old.inbox } else self.old) }
+        ensures buffer { buffer.new ≡ (if is_ok result then with_front (front self.old.inbox.ring) buffer.old else buffer.old) }
+    {
+        self.inbox.take_into(buffer)
+    }
+
+    /// Issues `n` guarantees. Refused by 5, 9, 10, 12 and 13, in this order.
+    pub fn issue<R: Wait>(&mut self, rt: &R, n: u32) -> Result<(), Refusal>
+        ensures ok { OnOk result (IsPut (Issue self.old.channel n) self.old self.new) }
+        ensures err { IfErr result (λ e. IsNotPut e (Issue self.old.channel n) self.old self.new) }
+    {
+        let mut book = self.inbox.book();
+        book.issue(n)?;
+        let channel = self.channel;
+        self.put(rt, Frame::Issue { channel, amount: n }, book)
+    }
+
+    /// Asks the client to absolve until it holds at most `target`. Refused by 11 and 13, in this
+    /// order.
+    pub fn plead<R: Wait>(&mut self, rt: &R, target: u32) -> Result<(), Refusal>
+        ensures ok { OnOk result (IsPut (Plead self.old.channel target) self.old self.new) }
+        ensures err { IfErr result (λ e. IsNotPut e (Plead self.old.channel target) self.old self.new) }
+    {
+        let book = self.inbox.book();
+        book.plead(target)?;
+        let channel = self.channel;
+        self.put(rt, Frame::Plead { channel, target }, book)
+    }
+
+    /// Issues at most `bound` guarantees from here on. Refused by 7, 8 and 13, in this order.
+    pub fn limit<R: Wait>(&mut self, rt: &R, bound: u64) -> Result<(), Refusal>
+        ensures ok { OnOk result (IsPut (LimitReceiving self.old.channel bound) self.old self.new) }
+        ensures err { IfErr result (λ e. IsNotPut e (LimitReceiving self.old.channel bound) self.old self.new) }
+    {
+        let mut book = self.inbox.book();
+        book.limit_receiving(bound)?;
+        let channel = self.channel;
+        self.put(rt, Frame::LimitReceiving { channel, bound }, book)
+    }
+
+    // Puts a frame that the book accepted, with the book that it leaves.
+    fn put<R: Wait>(&mut self, rt: &R, frame: Frame, book: ServerBook) -> Result<(), Refusal>
+        requires valid { IsValid frame }
+        requires lane { (lane_of frame ≡ 7 + number_of self.old.channel) × (channel_of frame ≡ self.old.channel) }
+        requires allowed { refusal_of frame self.old.inbox.book ≡ None }
+        requires book { book ≡ server_after_put frame self.old.inbox.book }
+        requires same { (book.capacity ≡ self.old.inbox.book.capacity) × (buffered book ≡ buffered self.old.inbox.book) }
+        ensures ok { OnOk result (IsPut frame self.old self.new) }
+        ensures err { IfErr result (λ e. IsNotPut e frame self.old self.new) }
+    {
+        match self.lane.push(rt, frame) {
+            Ok(()) => {
+                self.inbox.adopt(book);
+                Ok(())
+            }
+            Err(_) => Err(Refusal::QueueFull),
+        }
+    }
+
+    /// The book and the lane's end; what waits is lost.
+    pub(crate) fn into_parts(self) -> (ServerBook, LaneEnd)
+        ensures { (result.0 ≡ self.inbox.book) × (result.1 ≡ self.lane) }
+    {
+        let InboxEnd {
+            channel: _,
+            inbox,
+            lane,
+        } = self;
+        (inbox.book(), lane)
+    }
+}

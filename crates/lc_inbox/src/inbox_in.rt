@@ -1,0 +1,93 @@
+//! The reading side of a shared inbox.
+ghost use Rattle.std.specs.Prelude.{◌≡◌, [], ◌∷◌, ◌++◌, List, OnOk, IfErr, IfSome, true, None, Some};
+ghost use Rattle.lc_frame.specs.Channel.{number_of};
+ghost use Rattle.lc_frame.specs.Frame.{IsValid, lane_of};
+ghost use Rattle.lc_frame.specs.FrameRef.{frame_of};
+ghost use Rattle.lc_inbox.specs.declared.history.Entry.{Entry as AnyEntry};
+ghost use Rattle.lc_inbox.specs.declared.history.Entry.TheVariants.{Heard, Refused};
+ghost use Rattle.lc_inbox.specs.History.{IsLeftBy};
+ghost use Rattle.lc_inbox.specs.Sides.{IsIdle, side_of, IsSameSide, IsHeard, IsViolated};
+
+use crate::half::Half;
+use crate::inbox_end::InboxEnd;
+use lc_book::Violation;
+use lc_frame::FrameRef;
+use std::alloc::Global;
+use std::marker::{Brand, Model};
+use std::sync::{Arc, Mutex, Wait};
+
+/// A shared inbox, as the thread that reads frames has it.
+#[derive(Drop)]
+pub struct InboxIn {
+    pub(crate) turn: Arc<Mutex<()>, Global>,
+    pub(crate) half: Half,
+}
+
+impl Model for InboxIn {
+    ghost use Rattle.std.specs.Prelude.{true};
+    ghost use Rattle.lc_inbox.specs.Sides.{Side, IsIdle, side_of};
+
+    ghost Value = { Side };
+
+    ghost view = { λ i. side_of i.half };
+
+    ghost invariant = { λ i. IsIdle true i.half };
+}
+
+// Gives the inbox back, where the frame arrived.
+fn give_heard(half: &mut Half, end: InboxEnd, frame: FrameRef<'_>)
+    requires side { half.old.side ≡ true }
+    requires fits { (history : List AnyEntry) × (half.old.lent ≡ Some history) × IsLeftBy half.old.key end (history ++ Heard (frame_of frame) ∷ []) }
+    ensures { IfSome half.old.lent (λ history. half.new ≡ record half.old { seen = history ++ Heard (frame_of frame.entry) ∷ []; lent = None }) }
+{
+    half.give::<Brand, FrameRef<'_>>(end, &frame);
+}
+
+// Gives the inbox back, where the frame was refused.
+fn give_refused(half: &mut Half, end: InboxEnd, frame: FrameRef<'_>)
+    requires side { half.old.side ≡ true }
+    requires fits { (history : List AnyEntry) × (half.old.lent ≡ Some history) × IsLeftBy half.old.key end (history ++ Refused (frame_of frame) ∷ []) }
+    ensures { IfSome half.old.lent (λ history. half.new ≡ record half.old { seen = history ++ Refused (frame_of frame.entry) ∷ []; lent = None }) }
+{
+    half.give::<Brand, FrameRef<'_>>(end, &frame);
+}
+
+// A frame arrives at the inbox.
+fn arrive<R: Wait>(half: &mut Half, rt: &R, frame: FrameRef<'_>) -> Result<(), Violation>
+    requires idle { IsIdle true half.old }
+    requires valid { IsValid (frame_of frame) }
+    requires lane { lane_of (frame_of frame) ≡ number_of half.old.key.channel }
+    ensures idle { IsIdle true half.new }
+    ensures same { IsSameSide (side_of half.old) (side_of half.new) }
+    ensures ok { OnOk result (IsHeard (frame_of frame.entry) (side_of half.old) (side_of half.new)) }
+    ensures err { IfErr result (λ v. IsViolated v (frame_of frame.entry) (side_of half.old) (side_of half.new)) }
+{
+    let mut end = half.take(rt);
+    match end.arrive(frame) {
+        Ok(()) => {
+            give_heard(half, end, frame);
+            Ok(())
+        }
+        Err(violation) => {
+            give_refused(half, end, frame);
+            Err(violation)
+        }
+    }
+}
+
+impl InboxIn {
+    /// A frame of the client arrives. Violations V1 to V4, each exactly where the book has it that
+    /// the whole history up to here leaves.
+    pub fn arrive<R: Wait>(&mut self, rt: &R, frame: FrameRef<'_>) -> Result<(), Violation>
+        requires valid { IsValid (frame_of frame) }
+        requires lane { lane_of (frame_of frame) ≡ number_of self.old.key.channel }
+        ensures ok { OnOk result (IsHeard (frame_of frame.entry) self.old self.new) }
+        ensures err { IfErr result (λ v. IsViolated v (frame_of frame.entry) self.old self.new) }
+        ensures same { IsSameSide self.old self.new }
+    {
+        let turn = self.turn.lock(rt);
+        let answer = arrive(&mut self.half, rt, frame);
+        drop(turn);
+        answer
+    }
+}

@@ -1,0 +1,238 @@
+//! The receiving side of a shared inbox.
+ghost use Rattle.std.specs.Prelude.{◌≡◌, [], ◌∷◌, ◌++◌, List, length, take, IfOk, OnOk, IfErr, IfSome, false, None, Some};
+ghost use Rattle.lc_frame.specs.declared.frame.Frame.TheVariants.{Issue, Plead, LimitReceiving};
+ghost use Rattle.lc_inbox.specs.declared.history.Entry.{Entry as AnyEntry};
+ghost use Rattle.lc_inbox.specs.declared.history.Entry.TheVariants.{Put, Took};
+ghost use Rattle.lc_inbox.specs.History.{IsLeftBy, book_after};
+ghost use Rattle.lc_inbox.specs.Sides.{IsIdle, side_of, IsSameSide, IsPutBy, IsNotPutBy, IsTakeAnswer, IsNotTaken, HasLooked};
+
+use crate::half::Half;
+use crate::inbox_end::InboxEnd;
+use lc_book::{Refusal, ServerBook};
+use lc_frame::{Channel, Frame};
+use lc_peer::Take;
+use std::alloc::Global;
+use std::marker::{Brand, Model};
+use std::sync::{Arc, Mutex, Wait};
+
+/// A shared inbox, as the channel's receiving end has it.
+#[derive(Drop)]
+pub struct InboxOut {
+    pub(crate) turn: Arc<Mutex<()>, Global>,
+    pub(crate) half: Half,
+}
+
+impl Model for InboxOut {
+    ghost use Rattle.std.specs.Prelude.{false};
+    ghost use Rattle.lc_inbox.specs.Sides.{Side, IsIdle, side_of};
+
+    ghost Value = { Side };
+
+    ghost view = { λ i. side_of i.half };
+
+    ghost invariant = { λ i. IsIdle false i.half };
+}
+
+// Gives the inbox back as it was.
+fn give_same(half: &mut Half, end: InboxEnd)
+    requires fits { (history : List AnyEntry) × (half.old.lent ≡ Some history) × IsLeftBy half.old.key end history }
+    ensures { IfSome half.old.lent (λ history. half.new ≡ record half.old { seen = history; lent = None }) }
+{
+    half.give::<Brand, ()>(end, &());
+}
+
+// Gives the inbox back, where the frame was put.
+fn give_put(half: &mut Half, end: InboxEnd, frame: &Frame)
+    requires side { half.old.side ≡ false }
+    requires fits { (history : List AnyEntry) × (half.old.lent ≡ Some history) × IsLeftBy half.old.key end (history ++ Put frame.now ∷ []) }
+    ensures { IfSome half.old.lent (λ history. half.new ≡ record half.old { seen = history ++ Put frame.now ∷ []; lent = None }) }
+{
+    half.give::<Brand, Frame>(end, frame);
+}
+
+// Gives the inbox back, out of which the message was taken.
+fn give_took(half: &mut Half, end: InboxEnd, body: &[u8])
+    requires side { half.old.side ≡ false }
+    requires fits { (history : List AnyEntry) × (half.old.lent ≡ Some history) × IsLeftBy half.old.key end (history ++ Took body.now ∷ []) }
+    ensures { IfSome half.old.lent (λ history. half.new ≡ record half.old { seen = history ++ Took body.now ∷ []; lent = None }) }
+{
+    half.give::<Brand, &[u8]>(end, &body);
+}
+
+// Guarantees are issued.
+fn issue<R: Wait>(half: &mut Half, rt: &R, n: u32) -> Result<(), Refusal>
+    requires idle { IsIdle false half.old }
+    ensures idle { IsIdle false half.new }
+    ensures same { IsSameSide (side_of half.old) (side_of half.new) }
+    ensures ok { OnOk result (IsPutBy (Issue half.old.key.channel n) (side_of half.old) (side_of half.new)) }
+    ensures err { IfErr result (λ e. IsNotPutBy e (Issue half.old.key.channel n) (side_of half.old) (side_of half.new)) }
+{
+    let mut end = half.take(rt);
+    let channel = end.channel();
+    match end.issue(rt, n) {
+        Ok(()) => {
+            let frame = Frame::Issue { channel, amount: n };
+            give_put(half, end, &frame);
+            Ok(())
+        }
+        Err(refusal) => {
+            give_same(half, end);
+            Err(refusal)
+        }
+    }
+}
+
+// The client is asked to absolve.
+fn plead<R: Wait>(half: &mut Half, rt: &R, target: u32) -> Result<(), Refusal>
+    requires idle { IsIdle false half.old }
+    ensures idle { IsIdle false half.new }
+    ensures same { IsSameSide (side_of half.old) (side_of half.new) }
+    ensures ok { OnOk result (IsPutBy (Plead half.old.key.channel target) (side_of half.old) (side_of half.new)) }
+    ensures err { IfErr result (λ e. IsNotPutBy e (Plead half.old.key.channel target) (side_of half.old) (side_of half.new)) }
+{
+    let mut end = half.take(rt);
+    let channel = end.channel();
+    match end.plead(rt, target) {
+        Ok(()) => {
+            let frame = Frame::Plead { channel, target };
+            give_put(half, end, &frame);
+            Ok(())
+        }
+        Err(refusal) => {
+            give_same(half, end);
+            Err(refusal)
+        }
+    }
+}
+
+// What may be issued is limited.
+fn limit<R: Wait>(half: &mut Half, rt: &R, bound: u64) -> Result<(), Refusal>
+    requires idle { IsIdle false half.old }
+    ensures idle { IsIdle false half.new }
+    ensures same { IsSameSide (side_of half.old) (side_of half.new) }
+    ensures ok { OnOk result (IsPutBy (LimitReceiving half.old.key.channel bound) (side_of half.old) (side_of half.new)) }
+    ensures err { IfErr result (λ e. IsNotPutBy e (LimitReceiving half.old.key.channel bound) (side_of half.old) (side_of half.new)) }
+{
+    let mut end = half.take(rt);
+    let channel = end.channel();
+    match end.limit(rt, bound) {
+        Ok(()) => {
+            let frame = Frame::LimitReceiving { channel, bound };
+            give_put(half, end, &frame);
+            Ok(())
+        }
+        Err(refusal) => {
+            give_same(half, end);
+            Err(refusal)
+        }
+    }
+}
+
+// Takes the first message into the buffer.
+fn take_into<R: Wait>(half: &mut Half, rt: &R, buffer: &mut [u8]) -> Result<Take, Refusal>
+    requires idle { IsIdle false half.old }
+    ensures idle { IsIdle false half.new }
+    ensures same { IsSameSide (side_of half.old) (side_of half.new) }
+    ensures ok { IfOk result (λ take. IsTakeAnswer take buffer.old buffer.new (side_of half.old) (side_of half.new)) }
+    ensures err { IfErr result (λ e. IsNotTaken e buffer.old buffer.new (side_of half.old) (side_of half.new)) }
+{
+    let mut end = half.take(rt);
+    match end.take_into(buffer) {
+        Ok(Take::Took(len)) => {
+            give_took(half, end, &buffer[..len]);
+            Ok(Take::Took(len))
+        }
+        Ok(Take::Empty) => {
+            give_same(half, end);
+            Ok(Take::Empty)
+        }
+        Ok(Take::Ended) => {
+            give_same(half, end);
+            Ok(Take::Ended)
+        }
+        Err(refusal) => {
+            give_same(half, end);
+            Err(refusal)
+        }
+    }
+}
+
+// Reads the book.
+fn book<R: Wait>(half: &mut Half, rt: &R) -> ServerBook
+    requires idle { IsIdle false half.old }
+    ensures idle { IsIdle false half.new }
+    ensures same { IsSameSide (side_of half.old) (side_of half.new) }
+    ensures looks { HasLooked (side_of half.old) (side_of half.new) }
+    ensures book { result ≡ book_after half.new.key half.new.seen }
+{
+    let end = half.take(rt);
+    let book = end.book();
+    give_same(half, end);
+    book
+}
+
+impl InboxOut {
+    /// `n` guarantees are issued. Refused by 5, 9, 10 and 12, each exactly where the book has it
+    /// that the whole history up to here leaves, and by 13 where the queue gave the frame back.
+    pub fn issue<R: Wait>(&mut self, rt: &R, n: u32) -> Result<(), Refusal>
+        ensures ok { OnOk result (IsPutBy (Issue self.old.key.channel n) self.old self.new) }
+        ensures err { IfErr result (λ e. IsNotPutBy e (Issue self.old.key.channel n) self.old self.new) }
+        ensures same { IsSameSide self.old self.new }
+    {
+        let turn = self.turn.lock(rt);
+        let answer = issue(&mut self.half, rt, n);
+        drop(turn);
+        answer
+    }
+
+    /// The client is asked to absolve until it holds at most `target`. Refused by 11, by the same
+    /// book, and by 13 where the queue gave the frame back.
+    pub fn plead<R: Wait>(&mut self, rt: &R, target: u32) -> Result<(), Refusal>
+        ensures ok { OnOk result (IsPutBy (Plead self.old.key.channel target) self.old self.new) }
+        ensures err { IfErr result (λ e. IsNotPutBy e (Plead self.old.key.channel target) self.old self.new) }
+        ensures same { IsSameSide self.old self.new }
+    {
+        let turn = self.turn.lock(rt);
+        let answer = plead(&mut self.half, rt, target);
+        drop(turn);
+        answer
+    }
+
+    /// At most `bound` guarantees are issued from here on. Refused by 7 and 8, by the same book,
+    /// and by 13 where the queue gave the frame back.
+    pub fn limit<R: Wait>(&mut self, rt: &R, bound: u64) -> Result<(), Refusal>
+        ensures ok { OnOk result (IsPutBy (LimitReceiving self.old.key.channel bound) self.old self.new) }
+        ensures err { IfErr result (λ e. IsNotPutBy e (LimitReceiving self.old.key.channel bound) self.old self.new) }
+        ensures same { IsSameSide self.old self.new }
+    {
+        let turn = self.turn.lock(rt);
+        let answer = limit(&mut self.half, rt, bound);
+        drop(turn);
+        answer
+    }
+
+    /// Takes the first message into the front of the buffer. Refused by 16 alone, where the buffer
+    /// is shorter than the message.
+    pub fn take_into<R: Wait>(&mut self, rt: &R, buffer: &mut [u8]) -> Result<Take, Refusal>
+        ensures ok { IfOk result (λ take. IsTakeAnswer take buffer.old buffer.new self.old self.new) }
+        ensures err { IfErr result (λ e. IsNotTaken e buffer.old buffer.new self.old self.new) }
+        ensures same { IsSameSide self.old self.new }
+    {
+        let turn = self.turn.lock(rt);
+        let answer = take_into(&mut self.half, rt, buffer);
+        drop(turn);
+        answer
+    }
+
+    /// The book, as the whole history up to here leaves it.
+    pub fn book<R: Wait>(&mut self, rt: &R) -> ServerBook
+        ensures looks { HasLooked self.old self.new }
+        ensures book { result ≡ book_after self.new.key self.new.seen }
+        ensures same { IsSameSide self.old self.new }
+    {
+        let turn = self.turn.lock(rt);
+        let answer = book(&mut self.half, rt);
+        drop(turn);
+        answer
+    }
+}

@@ -1,0 +1,67 @@
+//! How an inbox comes to be shared, and how that ends.
+ghost use Rattle.std.specs.Prelude.{IfOk};
+ghost use Rattle.lc_inbox.specs.Ends.{IsNewHeld};
+ghost use Rattle.lc_inbox.specs.Sides.{AreOfOne, IsNew, IsFinished};
+
+use crate::half::halves;
+use crate::inbox_end::InboxEnd;
+use crate::inbox_in::InboxIn;
+use crate::inbox_out::InboxOut;
+use crate::rule::Key;
+use lc_book::ServerBook;
+use lc_queue::LaneEnd;
+use std::alloc::{AllocError, Global};
+use std::snapshot::Snapshot;
+use std::sync::{Arc, Mutex};
+
+/// The two sides of one inbox, for two threads.
+#[derive(Drop)]
+pub struct SharedInbox {
+    /// For the thread that reads frames.
+    pub incoming: InboxIn,
+    /// For the thread that takes messages.
+    pub outgoing: InboxOut,
+}
+
+/// Shares an inbox in which nothing has happened. No other call takes memory.
+pub fn share(alloc: Global, end: InboxEnd) -> Result<SharedInbox, AllocError>
+    requires { IsNewHeld end }
+    ensures { IfOk result (λ shared. IsNew end shared.incoming shared.outgoing) }
+{
+    let key = Key {
+        channel: end.channel(),
+        capacity: end.book().capacity(),
+        lane: Snapshot::of(end.lane()),
+    };
+    let (reading, receiving) = halves(alloc, end, key)?;
+    let Ok(turn) = Arc::new(alloc, Mutex::new(())) else {
+        return Err(AllocError);
+    };
+    let theirs = Arc::try_clone(&turn)?;
+    let incoming = InboxIn {
+        turn,
+        half: reading,
+    };
+    let outgoing = InboxOut {
+        turn: theirs,
+        half: receiving,
+    };
+    Ok(SharedInbox { incoming, outgoing })
+}
+
+/// Ends both sides of an inbox: the book and the lane's end, as their history leaves them. What
+/// waits is lost. It waits for no one, since no other has the inbox.
+pub fn finish(incoming: InboxIn, outgoing: InboxOut) -> (ServerBook, LaneEnd)
+    requires one { AreOfOne incoming outgoing }
+    ensures { IsFinished incoming outgoing result.0 result.1 }
+{
+    let InboxIn {
+        turn: _,
+        half: reading,
+    } = incoming;
+    let InboxOut {
+        turn: _,
+        half: receiving,
+    } = outgoing;
+    reading.take_last(receiving).into_parts()
+}
