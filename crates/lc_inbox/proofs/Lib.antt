@@ -3,3 +3,4 @@ mod Histories
 mod Steps
 mod Calls
 mod Takes
+mod Seven

@@ -1,7 +1,8 @@
 -- What contracts see of the two sides that share an inbox, and what each call does. That a server's book judges what arrives, and what it issues, is LCMUX's; that each side knows its own part of one history is this project's own.
-use Rattle.std.specs.Prelude.{◌≡◌, ℕ, Bool, List, [], ◌∷◌, ◌++◌, length, Option, Some, None}
+use Rattle.std.specs.Prelude.{◌≡◌, ℕ, ◌+◌, Bool, List, [], ◌∷◌, ◌++◌, length, Option, Some, None}
 use Rattle.atomic_table.specs.Seated.{TableId}
 use Rattle.lc_history.specs.History.{IsHistory, Knows, Learns, Makes}
+use Rattle.lc_frame.specs.Channel.{number_of}
 use Rattle.lc_frame.specs.declared.frame.Frame.{Frame}
 use Rattle.lc_book.specs.declared.fault.Refusal.{Refusal}
 use Rattle.lc_book.specs.declared.fault.Violation.{Violation}
@@ -14,7 +15,7 @@ use Rattle.lc_queue.specs.Parts.{End}
 use Rattle.lc_inbox.specs.declared.history.Entry.{Entry}
 use Rattle.lc_inbox.specs.declared.history.Entry.TheVariants.{Heard, Refused, Put, Took}
 use Rattle.lc_inbox.specs.declared.rule.Key.{Key}
-use Rattle.lc_inbox.specs.Ends.{Held, violation_of, IsReason}
+use Rattle.lc_inbox.specs.Ends.{violation_of, IsReason}
 use Rattle.lc_inbox.specs.History.{heard, put, took, book_after, inbox_after, lane_after, held_after, MayFollow, IsInOrder, is_reading, is_receiving}
 
 -- which inbox it is: no two have the same
@@ -52,13 +53,13 @@ pub record IsSameSide (old new : Side) : Type 0 where
 abbrev pub AreOfOne : Side → Side → Type 0
 AreOfOne incoming outgoing = incoming.inbox ≡ outgoing.inbox
 
--- both sides of a new inbox, that of this end: nothing has happened
-pub record IsNew (h : Held) (incoming outgoing : Side) : Type 0 where
+-- both sides of a new inbox of this capacity, which puts on this lane: they are of one inbox, and nothing has happened
+pub record IsNew (capacity : ℕ) (lane : End) (incoming outgoing : Side) : Type 0 where
   pub one : outgoing ≡ incoming
   pub seen : incoming.seen ≡ []
-  pub channel : incoming.key.channel ≡ h.channel
-  pub capacity : incoming.key.capacity ≡ h.inbox.book.capacity
-  pub lane : incoming.key.lane.value ≡ h.lane
+  pub channel_is : lane.lane ≡ 7 + number_of incoming.key.channel
+  pub capacity_is : incoming.key.capacity ≡ capacity
+  pub lane_is : incoming.key.lane.value ≡ lane
 
 -- a frame arrived, which is no violation by the book of the whole history before it
 pub record IsHeard (f : Frame) (old new : Side) : Type 0 where

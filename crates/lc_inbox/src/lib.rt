@@ -2,7 +2,7 @@
 //! frames and the one that takes messages.
 //!
 //! What both do to it is one history, of which each side knows how it begins and all its own
-//! entries. No memory is taken but by [`share`].
+//! entries. No memory is taken but by [`share`] and [`share_all`].
 #![tactic(auto)]
 
 mod half;
@@ -10,6 +10,7 @@ mod history;
 mod inbox_end;
 mod inbox_in;
 mod inbox_out;
+mod inboxes;
 pub mod laws;
 mod rule;
 mod shared_inbox;
@@ -17,4 +18,5 @@ mod shared_inbox;
 pub use inbox_end::InboxEnd;
 pub use inbox_in::InboxIn;
 pub use inbox_out::InboxOut;
+pub use inboxes::{Inboxes, share_all};
 pub use shared_inbox::{SharedInbox, finish, share};

@@ -26,7 +26,7 @@ pub struct SharedInbox {
 /// Shares an inbox in which nothing has happened. No other call takes memory.
 pub fn share(alloc: Global, end: InboxEnd) -> Result<SharedInbox, AllocError>
     requires { IsNewHeld end }
-    ensures { IfOk result (λ shared. IsNew end shared.incoming shared.outgoing) }
+    ensures { IfOk result (λ shared. IsNew end.inbox.book.capacity end.lane shared.incoming shared.outgoing) }
 {
     let key = Key {
         channel: end.channel(),

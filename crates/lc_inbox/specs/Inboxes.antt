@@ -1,0 +1,47 @@
+-- The inboxes of all seven channels, by number. The channels, and the bounds of their rings, are this project's own.
+use Rattle.std.specs.Prelude.{◌≡◌, ◌⊎◌, ℕ, ◌-◌, ◌<◌, List, [], ◌∷◌, map, slice_index, Option, Some, None}
+use Rattle.std.specs.Option.{option_map}
+use Rattle.lc_peer.specs.declared.config.PeerFault.{PeerFault}
+use Rattle.lc_peer.specs.declared.config.PeerFault.TheVariants.{BadCapacity, OutOfMemory}
+use Rattle.lc_peer.specs.Config.{first_bad}
+use Rattle.lc_queue.specs.Parts.{End}
+use Rattle.lc_inbox.specs.declared.shared_inbox.SharedInbox.{SharedInbox}
+use Rattle.lc_inbox.specs.Sides.{Side, IsNew}
+
+-- the end of a lane on which a server puts, where nothing was put
+pub record IsServerEnd (lane : End) : Type 0 where
+  pub put : lane.put ≡ []
+  pub server : 6 < lane.lane
+
+-- the capacity of a lane's channel
+abbrev pub capacity_of : List ℕ → End → ℕ
+capacity_of capacities lane = slice_index capacities (lane.lane - 7)
+
+-- both sides of a new inbox of the lane's channel, which puts on the lane
+abbrev pub IsNewShared : List ℕ → End → SharedInbox → Type 0
+IsNewShared capacities lane shared = IsNew (capacity_of capacities lane) lane shared.incoming shared.outgoing
+
+abbrev pub incoming_of : SharedInbox → Side
+incoming_of shared = shared.incoming
+
+abbrev pub outgoing_of : SharedInbox → Side
+outgoing_of shared = shared.outgoing
+
+-- the two sides of each
+pub record AreParts (shared : List SharedInbox) (incoming outgoing : List Side) : Type 0 where
+  pub incoming_are : incoming ≡ map incoming_of shared
+  pub outgoing_are : outgoing ≡ map outgoing_of shared
+
+-- of these lanes, in order, each one's inbox has its two sides at its place
+abbrev pub AreNew : List ℕ → List End → List Side → List Side → Type 0
+AreNew capacities [] [] [] = Unit {0}
+AreNew capacities (lane ∷ lanes) (i ∷ incoming) (o ∷ outgoing) = IsNew (capacity_of capacities lane) lane i o × AreNew capacities lanes incoming outgoing
+AreNew capacities lanes incoming outgoing = ⊥
+
+-- what is wrong with the capacities: the first that no ring may have
+abbrev pub capacity_fault : List ℕ → Option PeerFault
+capacity_fault capacities = option_map BadCapacity (first_bad capacities)
+
+-- capacities without a fault may still want memory
+abbrev pub IsSharingAnswer : List ℕ → Option PeerFault → Type 0
+IsSharingAnswer capacities answer = (answer ≡ capacity_fault capacities) ⊎ ((capacity_fault capacities ≡ None) × (answer ≡ Some OutOfMemory))
