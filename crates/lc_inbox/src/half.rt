@@ -12,7 +12,7 @@ use crate::inbox_end::InboxEnd;
 use crate::rule::{InboxRule, Key, Return, Seize, SeizeLast, Told, TwoSides, View};
 use atomic_table::{Refused, Seat, Table};
 use std::alloc::{AllocError, Global};
-use std::marker::Model;
+use std::marker::{Brand, Model};
 use std::sync::{Arc, Wait};
 use std::thread;
 
@@ -141,6 +141,14 @@ impl Half {
         self.table
             .shared
             .store::<Return<N>>(&mut self.seat, WORD, 0);
+    }
+
+    /// Gives the inbox back as it was.
+    pub(crate) fn give_same(&mut self, end: InboxEnd)
+        requires fits { (history : List AnyEntry) × (self.old.lent ≡ Some history) × IsLeftBy self.old.key end history }
+        ensures { IfSome self.old.lent (λ history. self.new ≡ record self.old { seen = history; lent = None }) }
+    {
+        self.give::<Brand, ()>(end, &());
     }
 
     /// Takes the inbox for good, from the reading half and the receiving half of its lock. It is

@@ -33,14 +33,6 @@ impl Model for InboxOut {
     ghost invariant = { λ i. IsIdle false i.half };
 }
 
-// Gives the inbox back as it was.
-fn give_same(half: &mut Half, end: InboxEnd)
-    requires fits { (history : List AnyEntry) × (half.old.lent ≡ Some history) × IsLeftBy half.old.key end history }
-    ensures { IfSome half.old.lent (λ history. half.new ≡ record half.old { seen = history; lent = None }) }
-{
-    half.give::<Brand, ()>(end, &());
-}
-
 // Gives the inbox back, where the frame was put.
 fn give_put(half: &mut Half, end: InboxEnd, frame: &Frame)
     requires side { half.old.side ≡ false }
@@ -76,7 +68,7 @@ fn issue<R: Wait>(half: &mut Half, rt: &R, n: u32) -> Result<(), Refusal>
             Ok(())
         }
         Err(refusal) => {
-            give_same(half, end);
+            half.give_same(end);
             Err(refusal)
         }
     }
@@ -99,7 +91,7 @@ fn plead<R: Wait>(half: &mut Half, rt: &R, target: u32) -> Result<(), Refusal>
             Ok(())
         }
         Err(refusal) => {
-            give_same(half, end);
+            half.give_same(end);
             Err(refusal)
         }
     }
@@ -122,7 +114,7 @@ fn limit<R: Wait>(half: &mut Half, rt: &R, bound: u64) -> Result<(), Refusal>
             Ok(())
         }
         Err(refusal) => {
-            give_same(half, end);
+            half.give_same(end);
             Err(refusal)
         }
     }
@@ -143,15 +135,15 @@ fn take_into<R: Wait>(half: &mut Half, rt: &R, buffer: &mut [u8]) -> Result<Take
             Ok(Take::Took(len))
         }
         Ok(Take::Empty) => {
-            give_same(half, end);
+            half.give_same(end);
             Ok(Take::Empty)
         }
         Ok(Take::Ended) => {
-            give_same(half, end);
+            half.give_same(end);
             Ok(Take::Ended)
         }
         Err(refusal) => {
-            give_same(half, end);
+            half.give_same(end);
             Err(refusal)
         }
     }
@@ -167,7 +159,7 @@ fn book<R: Wait>(half: &mut Half, rt: &R) -> ServerBook
 {
     let end = half.take(rt);
     let book = end.book();
-    give_same(half, end);
+    half.give_same(end);
     book
 }
 

@@ -34,6 +34,6 @@ returns-in-Err-clause-err g c =
     let channel = ap (λ h. h.channel) taken.3.is in
     let why = (subst (λ d. IsNotPut c.in-Err.refusal (Plead d c.args.target) c.take-end.result c.plead.new.self) channel c.in-Err.ensures.err).reason in
     record {
-      looks = looked c.args.half.now c.take-end.new.self c.give_same.new.half taken.0 c.requires.idle.side_is taken.2 taken.3.legal taken.1 c.give_same.ensures;
-      reason = says (IsReason c.in-Err.refusal (Plead c.args.half.now.key.channel c.args.target)) c.args.half.now c.take-end.new.self c.give_same.new.half taken.0 c.take-end.result taken.3 taken.1 c.give_same.ensures why;
+      looks = looked c.args.half.now c.take-end.new.self c.give_same.new.self taken.0 c.requires.idle.side_is taken.2 taken.3.legal taken.1 c.give_same.ensures;
+      reason = says (IsReason c.in-Err.refusal (Plead c.args.half.now.key.channel c.args.target)) c.args.half.now c.take-end.new.self c.give_same.new.self taken.0 c.take-end.result taken.3 taken.1 c.give_same.ensures why;
     }

@@ -46,8 +46,8 @@ pub returns-in-Ok-Empty-clause-ok : goal.returns-in-Ok-Empty-clause-ok
 returns-in-Ok-Empty-clause-ok g c =
     let taken = c.take-end.ensures in
     let is = sym c.in-Ok-Empty.field-0-is ∙ c.in-Ok-Empty.ensures.value in (
-      looked c.args.half.now c.take-end.new.self c.give_same.new.half taken.0 c.requires.idle.side_is taken.2 taken.3.legal taken.1 c.give_same.ensures,
-      says (λ h. Empty ≡ take_answer h.inbox) c.args.half.now c.take-end.new.self c.give_same.new.half taken.0 c.take-end.result taken.3 taken.1 c.give_same.ensures is,
+      looked c.args.half.now c.take-end.new.self c.give_same.new.self taken.0 c.requires.idle.side_is taken.2 taken.3.legal taken.1 c.give_same.ensures,
+      says (λ h. Empty ≡ take_answer h.inbox) c.args.half.now c.take-end.new.self c.give_same.new.self taken.0 c.take-end.result taken.3 taken.1 c.give_same.ensures is,
       none_filled c.take-end.result Empty _ _ tt is c.in-Ok-Empty.ensures.buffer,
     )
 
@@ -67,8 +67,8 @@ pub returns-in-Ok-Ended-clause-ok : goal.returns-in-Ok-Ended-clause-ok
 returns-in-Ok-Ended-clause-ok g c =
     let taken = c.take-end.ensures in
     let is = sym c.in-Ok-Ended.field-0-is ∙ c.in-Ok-Ended.ensures.value in (
-      looked c.args.half.now c.take-end.new.self c.give_same-in-Ok-Ended.new.half taken.0 c.requires.idle.side_is taken.2 taken.3.legal taken.1 c.give_same-in-Ok-Ended.ensures,
-      says (λ h. Ended ≡ take_answer h.inbox) c.args.half.now c.take-end.new.self c.give_same-in-Ok-Ended.new.half taken.0 c.take-end.result taken.3 taken.1 c.give_same-in-Ok-Ended.ensures is,
+      looked c.args.half.now c.take-end.new.self c.give_same-in-Ok-Ended.new.self taken.0 c.requires.idle.side_is taken.2 taken.3.legal taken.1 c.give_same-in-Ok-Ended.ensures,
+      says (λ h. Ended ≡ take_answer h.inbox) c.args.half.now c.take-end.new.self c.give_same-in-Ok-Ended.new.self taken.0 c.take-end.result taken.3 taken.1 c.give_same-in-Ok-Ended.ensures is,
       none_filled c.take-end.result Ended _ _ tt is c.in-Ok-Ended.ensures.buffer,
     )
 
@@ -76,7 +76,7 @@ pub returns-in-Err-clause-err : goal.returns-in-Err-clause-err
 returns-in-Err-clause-err g c =
     let taken = c.take-end.ensures in
     record {
-      looks = looked c.args.half.now c.take-end.new.self c.give_same-in-Err.new.half taken.0 c.requires.idle.side_is taken.2 taken.3.legal taken.1 c.give_same-in-Err.ensures;
-      refusal = says (λ h. take_refusal h.inbox (length c.args.buffer.now) ≡ Some c.in-Err.refusal) c.args.half.now c.take-end.new.self c.give_same-in-Err.new.half taken.0 c.take-end.result taken.3 taken.1 c.give_same-in-Err.ensures (sym c.in-Err.ensures.answer);
+      looks = looked c.args.half.now c.take-end.new.self c.give_same-in-Err.new.self taken.0 c.requires.idle.side_is taken.2 taken.3.legal taken.1 c.give_same-in-Err.ensures;
+      refusal = says (λ h. take_refusal h.inbox (length c.args.buffer.now) ≡ Some c.in-Err.refusal) c.args.half.now c.take-end.new.self c.give_same-in-Err.new.self taken.0 c.take-end.result taken.3 taken.1 c.give_same-in-Err.ensures (sym c.in-Err.ensures.answer);
       same = c.in-Err.ensures.buffer;
     }
