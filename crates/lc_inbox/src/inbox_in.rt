@@ -11,7 +11,7 @@ ghost use Rattle.lc_inbox.specs.Sides.{IsIdle, side_of, IsSameSide, IsHeard, IsV
 use crate::half::Half;
 use crate::inbox_end::InboxEnd;
 use lc_book::Violation;
-use lc_frame::FrameRef;
+use lc_frame::{Channel, FrameRef};
 use std::alloc::Global;
 use std::marker::{Brand, Model};
 use std::sync::{Arc, Mutex, Wait};
@@ -19,19 +19,20 @@ use std::sync::{Arc, Mutex, Wait};
 /// A shared inbox, as the thread that reads frames has it.
 #[derive(Drop)]
 pub struct InboxIn {
+    pub(crate) channel: Channel,
     pub(crate) turn: Arc<Mutex<()>, Global>,
     pub(crate) half: Half,
 }
 
 impl Model for InboxIn {
-    ghost use Rattle.std.specs.Prelude.{true};
+    ghost use Rattle.std.specs.Prelude.{◌≡◌, true};
     ghost use Rattle.lc_inbox.specs.Sides.{Side, IsIdle, side_of};
 
     ghost Value = { Side };
 
     ghost view = { λ i. side_of i.half };
 
-    ghost invariant = { λ i. IsIdle true i.half };
+    ghost invariant = { λ i. IsIdle true i.half × (i.half.key.channel ≡ i.channel) };
 }
 
 // Gives the inbox back, where the frame arrived.
@@ -76,6 +77,13 @@ fn arrive<R: Wait>(half: &mut Half, rt: &R, frame: FrameRef<'_>) -> Result<(), V
 }
 
 impl InboxIn {
+    /// The channel.
+    pub fn channel(&self) -> Channel
+        ensures { result ≡ self.now.key.channel }
+    {
+        self.channel
+    }
+
     /// A frame of the client arrives. Violations V1 to V4, each exactly where the book has it that
     /// the whole history up to here leaves.
     pub fn arrive<R: Wait>(&mut self, rt: &R, frame: FrameRef<'_>) -> Result<(), Violation>

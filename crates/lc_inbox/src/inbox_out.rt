@@ -1,6 +1,7 @@
 //! The receiving side of a shared inbox.
 ghost use Rattle.std.specs.Prelude.{◌≡◌, [], ◌∷◌, ◌++◌, List, length, take, IfOk, OnOk, IfErr, IfSome, false, None, Some};
 ghost use Rattle.lc_frame.specs.declared.frame.Frame.TheVariants.{Issue, Plead, LimitReceiving};
+ghost use Rattle.lc_peer.specs.Inbox.{IsTake};
 ghost use Rattle.lc_inbox.specs.declared.history.Entry.{Entry as AnyEntry};
 ghost use Rattle.lc_inbox.specs.declared.history.Entry.TheVariants.{Put, Took};
 ghost use Rattle.lc_inbox.specs.History.{IsLeftBy, book_after};
@@ -126,6 +127,7 @@ fn take_into<R: Wait>(half: &mut Half, rt: &R, buffer: &mut [u8]) -> Result<Take
     ensures idle { IsIdle false half.new }
     ensures same { IsSameSide (side_of half.old) (side_of half.new) }
     ensures ok { IfOk result (λ take. IsTakeAnswer take buffer.old buffer.new (side_of half.old) (side_of half.new)) }
+    ensures range { IfOk result (λ take. IsTake take) }
     ensures err { IfErr result (λ e. IsNotTaken e buffer.old buffer.new (side_of half.old) (side_of half.new)) }
 {
     let mut end = half.take(rt);
@@ -207,6 +209,7 @@ impl InboxOut {
     /// is shorter than the message.
     pub fn take_into<R: Wait>(&mut self, rt: &R, buffer: &mut [u8]) -> Result<Take, Refusal>
         ensures ok { IfOk result (λ take. IsTakeAnswer take buffer.old buffer.new self.old self.new) }
+        ensures range { IfOk result (λ take. IsTake take) }
         ensures err { IfErr result (λ e. IsNotTaken e buffer.old buffer.new self.old self.new) }
         ensures same { IsSameSide self.old self.new }
     {

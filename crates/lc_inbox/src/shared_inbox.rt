@@ -28,8 +28,9 @@ pub fn share(alloc: Global, end: InboxEnd) -> Result<SharedInbox, AllocError>
     requires { IsNewHeld end }
     ensures { IfOk result (λ shared. IsNew end.inbox.book.capacity end.lane shared.incoming shared.outgoing) }
 {
+    let channel = end.channel();
     let key = Key {
-        channel: end.channel(),
+        channel,
         capacity: end.book().capacity(),
         lane: Snapshot::of(end.lane()),
     };
@@ -39,6 +40,7 @@ pub fn share(alloc: Global, end: InboxEnd) -> Result<SharedInbox, AllocError>
     };
     let theirs = Arc::try_clone(&turn)?;
     let incoming = InboxIn {
+        channel,
         turn,
         half: reading,
     };
@@ -56,6 +58,7 @@ pub fn finish(incoming: InboxIn, outgoing: InboxOut) -> (ServerBook, LaneEnd)
     ensures { IsFinished incoming outgoing result.0 result.1 }
 {
     let InboxIn {
+        channel: _,
         turn: _,
         half: reading,
     } = incoming;
@@ -63,5 +66,6 @@ pub fn finish(incoming: InboxIn, outgoing: InboxOut) -> (ServerBook, LaneEnd)
         turn: _,
         half: receiving,
     } = outgoing;
-    reading.take_last(receiving).into_parts()
+    let end = reading.take_last(receiving);
+    end.into_parts()
 }
