@@ -1,9 +1,11 @@
-//! Threads over one queue and over the credits of seven channels.
+//! Threads over one queue, over the credits of seven channels, and over one inbox.
 #![tactic(auto)]
 
 mod frames;
 mod order;
 mod sharing;
+mod taking;
 
 pub use order::keeps_order;
 pub use sharing::balances_agree;
+pub use taking::{new_pair, takes_what_arrives};

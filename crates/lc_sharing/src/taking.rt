@@ -1,0 +1,189 @@
+//! One thread reads messages into an inbox, and one takes them out.
+ghost use Rattle.std.specs.Prelude.{◌≡◌, ◌≤◌, ◌<◌, [], IfOk};
+ghost use Rattle.std.specs.List.{All};
+ghost use Rattle.lc_frame.specs.Kind.{max_body};
+ghost use Rattle.lc_peer.specs.Inbox.{new_inbox};
+ghost use Rattle.lc_inbox.specs.Sides.{AreOfOne};
+
+use lc_book::Refusal;
+use lc_frame::{Frame, FrameRef};
+use lc_inbox::{InboxEnd, InboxIn, InboxOut, SharedInbox, finish, share};
+use lc_peer::{Inbox, Take};
+use lc_queue::{Drain, LaneEnd, Lanes, lanes};
+use std::alloc::{AllocError, Global};
+use std::sync::Wait;
+use std::thread;
+use std::thread::{Threads, join};
+
+// The bytes of the ring.
+const CAPACITY: u32 = 32;
+
+// The slots of the queue.
+const SLOTS: u32 = 4;
+
+// The lane of the inbox.
+const LANE: u8 = 8;
+
+// A message, in a buffer of the most bytes that one has, and its length.
+struct Message {
+    bytes: [u8; 8],
+    len: usize,
+}
+
+// The message of this number: 1 to 8 bytes, all of one value.
+fn numbered_message(number: u32) -> Message
+    ensures { result.len ≤ 8 }
+{
+    let len = (number % 8) as usize + 1;
+    let bytes = [(number / 8 % 256) as u8; 8];
+    Message { bytes, len }
+}
+
+// Reads guarantees off the queue until there are as many as a message needs.
+fn await_guarantees<R: Wait>(rt: &R, drain: &mut Drain, held: u64, need: u64) -> u64
+    ensures { need ≤ result }
+{
+    let mut held = held;
+    for _ in rt.forever() {
+        if need <= held {
+            return held;
+        }
+        match drain.pop(rt) {
+            Some(Frame::Issue { amount, .. }) => held = held.saturating_add(u64::from(amount)),
+            _ => thread::yield_now(),
+        }
+    }
+    unreachable!()
+}
+
+// Whether a message that arrives is lawful.
+fn hear<R: Wait>(rt: &R, incoming: &mut InboxIn, body: &[u8]) -> bool
+    ensures { incoming.new.inbox ≡ incoming.old.inbox }
+{
+    let channel = incoming.channel();
+    let frame = FrameRef::Send { channel, body };
+    frame.is_valid() && incoming.arrive(rt, frame).is_ok()
+}
+
+// The messages 1 to `count` arrive, each as soon as there are guarantees for it. Whether all of
+// them were lawful.
+fn hear_all<R: Wait>(rt: &R, mut incoming: InboxIn, mut drain: Drain, count: u32) -> (InboxIn, bool)
+    ensures { result.0.inbox ≡ incoming.inbox }
+{
+    let mut held = 0;
+    let mut lawful = true;
+    for number in 1..=count {
+        let Message { bytes, len } = numbered_message(number);
+        held = await_guarantees(rt, &mut drain, held, len as u64) - len as u64;
+        lawful &= hear(rt, &mut incoming, &bytes[..len]);
+    }
+    (incoming, lawful)
+}
+
+// Whether so many guarantees are issued, as soon as a slot is free.
+fn issue<R: Wait>(rt: &R, outgoing: &mut InboxOut, amount: u32) -> bool
+    ensures { outgoing.new.inbox ≡ outgoing.old.inbox }
+{
+    for _ in rt.forever() {
+        match outgoing.issue(rt, amount) {
+            Ok(()) => return true,
+            Err(Refusal::QueueFull) => thread::yield_now(),
+            Err(_) => return false,
+        }
+    }
+    unreachable!()
+}
+
+// Takes a message as soon as one waits; its length, 0 where it is too long.
+fn take<R: Wait>(rt: &R, outgoing: &mut InboxOut, buffer: &mut [u8; 8]) -> usize
+    ensures same { outgoing.new.inbox ≡ outgoing.old.inbox }
+    ensures range { result ≤ max_body }
+{
+    for _ in rt.forever() {
+        match outgoing.take_into(rt, buffer) {
+            Ok(Take::Took(len)) => return len,
+            Ok(_) => thread::yield_now(),
+            Err(_) => return 0,
+        }
+    }
+    unreachable!()
+}
+
+// Takes messages, each of whose bytes are issued anew. Whether they are the messages 1 to `count`.
+fn take_all<R: Wait>(rt: &R, mut outgoing: InboxOut, count: u32) -> (InboxOut, bool)
+    ensures { result.0.inbox ≡ outgoing.inbox }
+{
+    let mut same = issue(rt, &mut outgoing, CAPACITY);
+    for number in 1..=count {
+        let mut buffer = [0; 8];
+        let taken = take(rt, &mut outgoing, &mut buffer);
+        let Message { bytes, len } = numbered_message(number);
+        same &= buffer.get(..taken) == bytes.get(..len);
+        same &= issue(rt, &mut outgoing, taken as u32);
+    }
+    (outgoing, same)
+}
+
+// Shares an inbox that puts on this lane.
+fn share_on(
+    alloc: Global,
+    inbox: Inbox,
+    ends: [LaneEnd; 14],
+    lane: u8,
+) -> Result<SharedInbox, AllocError>
+    requires inbox { inbox ≡ new_inbox inbox.book.capacity }
+    requires put { All (λ end. end.put ≡ []) ends }
+    requires server { 6 < lane }
+    ensures { IfOk result (λ shared. AreOfOne shared.incoming shared.outgoing) }
+{
+    for end in ends {
+        if end.lane() == lane {
+            return share(alloc, InboxEnd::new(inbox, end));
+        }
+    }
+    Err(AllocError)
+}
+
+/// Both sides of a new inbox over a ring of so many bytes, which puts on this lane, 7 to 13, of a
+/// new queue of so many slots; and the queue's drain. Bad numbers are answered as want of memory.
+pub fn new_pair(
+    alloc: Global,
+    lane: u8,
+    capacity: u32,
+    slots: u32,
+) -> Result<(SharedInbox, Drain), AllocError>
+    ensures { IfOk result (λ new. AreOfOne new.0.incoming new.0.outgoing) }
+{
+    let Ok(parts) = lanes(alloc, slots) else {
+        return Err(AllocError);
+    };
+    let Ok(inbox) = Inbox::new(alloc, capacity) else {
+        return Err(AllocError);
+    };
+    if lane < 7 {
+        return Err(AllocError);
+    }
+    let Lanes { ends, drain } = parts;
+    let shared = share_on(alloc, inbox, ends, lane)?;
+    Ok((shared, drain))
+}
+
+/// Whether one thread takes the messages 1 to `count` out of a ring of 32 bytes while another reads
+/// them into it, each message whole and in its place, and nothing waits at the end.
+pub fn takes_what_arrives<R>(rt: &R, alloc: Global, count: u32) -> Result<bool, AllocError>
+where
+    R: Threads + Wait + Sync,
+{
+    let (SharedInbox { incoming, outgoing }, drain) = new_pair(alloc, LANE, CAPACITY, SLOTS)?;
+    let ((incoming, lawful), (outgoing, same)) = join(
+        rt,
+        || -> (InboxIn, bool)
+            ensures { result.0.inbox ≡ incoming.inbox }
+        { hear_all(rt, incoming, drain, count) },
+        || -> (InboxOut, bool)
+            ensures { result.0.inbox ≡ outgoing.inbox }
+        { take_all(rt, outgoing, count) },
+    );
+    let (book, _lane) = finish(incoming, outgoing);
+    Ok(lawful && same && book.buffered() == 0)
+}
