@@ -1,11 +1,9 @@
 //! One thread reads messages into an inbox, and one takes them out.
 ghost use Rattle.std.specs.Prelude.{◌≡◌, ◌≤◌, ◌<◌, [], IfOk};
 ghost use Rattle.std.specs.List.{All};
-ghost use Rattle.lc_frame.specs.Kind.{max_body};
 ghost use Rattle.lc_peer.specs.Inbox.{new_inbox};
 ghost use Rattle.lc_inbox.specs.Sides.{AreOfOne};
 
-use lc_book::Refusal;
 use lc_frame::{Frame, FrameRef};
 use lc_inbox::{InboxEnd, InboxIn, InboxOut, SharedInbox, finish, share};
 use lc_peer::{Inbox, Take};
@@ -80,28 +78,22 @@ fn hear_all<R: Wait>(rt: &R, mut incoming: InboxIn, mut drain: Drain, count: u32
     (incoming, lawful)
 }
 
-// Whether so many guarantees are issued, as soon as a slot is free.
-fn issue<R: Wait>(rt: &R, outgoing: &mut InboxOut, amount: u32) -> bool
+// Takes a message as soon as one waits, and issues what is owed as soon as a slot is free: the
+// message's length, which is owed then too.
+fn take<R: Wait>(rt: &R, outgoing: &mut InboxOut, owed: &mut u32, buffer: &mut [u8; 8]) -> usize
     ensures { outgoing.new.inbox ≡ outgoing.old.inbox }
 {
     for _ in rt.forever() {
-        match outgoing.issue(rt, amount) {
-            Ok(()) => return true,
-            Err(Refusal::QueueFull) => thread::yield_now(),
-            Err(_) => return false,
+        if *owed > 0
+            && let Ok(()) = outgoing.issue(rt, *owed)
+        {
+            *owed = 0;
         }
-    }
-    unreachable!()
-}
-
-// Takes a message as soon as one waits; its length, 0 where it is too long.
-fn take<R: Wait>(rt: &R, outgoing: &mut InboxOut, buffer: &mut [u8; 8]) -> usize
-    ensures same { outgoing.new.inbox ≡ outgoing.old.inbox }
-    ensures range { result ≤ max_body }
-{
-    for _ in rt.forever() {
         match outgoing.take_into(rt, buffer) {
-            Ok(Take::Took(len)) => return len,
+            Ok(Take::Took(len)) => {
+                *owed = owed.saturating_add(len as u32);
+                return len;
+            }
             Ok(_) => thread::yield_now(),
             Err(_) => return 0,
         }
@@ -109,17 +101,17 @@ fn take<R: Wait>(rt: &R, outgoing: &mut InboxOut, buffer: &mut [u8; 8]) -> usize
     unreachable!()
 }
 
-// Takes messages, each of whose bytes are issued anew. Whether they are the messages 1 to `count`.
+// Takes messages, and issues their bytes anew. Whether they are the messages 1 to `count`.
 fn take_all<R: Wait>(rt: &R, mut outgoing: InboxOut, count: u32) -> (InboxOut, bool)
     ensures { result.0.inbox ≡ outgoing.inbox }
 {
-    let mut same = issue(rt, &mut outgoing, CAPACITY);
+    let mut owed = CAPACITY;
+    let mut same = true;
     for number in 1..=count {
         let mut buffer = [0; 8];
-        let taken = take(rt, &mut outgoing, &mut buffer);
+        let taken = take(rt, &mut outgoing, &mut owed, &mut buffer);
         let Message { bytes, len } = numbered_message(number);
         same &= buffer.get(..taken) == bytes.get(..len);
-        same &= issue(rt, &mut outgoing, taken as u32);
     }
     (outgoing, same)
 }

@@ -1,0 +1,5 @@
+//! Tests of `lc_inbox`.
+#![tactic(auto)]
+
+#[cfg(test)]
+mod tests;

@@ -1,0 +1,20 @@
+//! An inbox that two sides share, and those of seven channels.
+mod pair;
+mod seven;
+mod worked;
+
+use lc_sharing::takes_what_arrives;
+use std::process::Abort;
+use std::test::Fail;
+
+/// Fails where there is no text, or not the one that is wanted, and names what was compared.
+fn same(rt: &impl Abort, what: &str, found: Option<String>, wanted: &str) {
+    let found = found.as_deref().unwrap_or("nothing");
+    assert!(rt; found == wanted, "{what}: {found}, not {wanted}");
+}
+
+#[test]
+fn one_thread_takes_what_another_reads(rt: HostRuntime) -> Result<(), Fail> {
+    assert!(rt; takes_what_arrives(&rt, rt.alloc(), 10_000)?);
+    Ok(())
+}
