@@ -37,14 +37,21 @@ pub record IsClient (b : Client) : Type 0 where
 abbrev pub client_of_parts : ClientParts → Client
 client_of_parts p = record { received = p.received; spent = p.spent; absolved = p.absolved; send_left = p.send_left; receive_left = p.receive_left; asked = p.asked }
 
--- why a client may not send so many bytes, and what a message leaves
-abbrev pub spend_refusal : Client → ℕ → Option Refusal
-spend_refusal b len =
+-- why a message of so many bytes may not be sent where so much is left of the limit on sending; where neither its length nor the limit forbids it, `otherwise` says why
+abbrev pub message_refusal_or : Option ℕ → ℕ → Option Refusal → Option Refusal
+message_refusal_or left len otherwise =
     if len == 0 then Some EmptyBody
     else (if nat_lt max_body len then Some BodyTooLong
-    else (if is_past b.send_left len then Some (PastSendLimit (left_of b.send_left))
-    else (if nat_lt (held b) len then Some (NoGuarantee (held b))
-    else None)))
+    else (if is_past left len then Some (PastSendLimit (left_of left))
+    else otherwise))
+
+-- the same, whatever is held
+abbrev pub message_refusal : Option ℕ → ℕ → Option Refusal
+message_refusal left len = message_refusal_or left len None
+
+-- why a client may not send so many bytes, and what a message leaves
+abbrev pub spend_refusal : Client → ℕ → Option Refusal
+spend_refusal b len = message_refusal_or b.send_left len (if nat_lt (held b) len then Some (NoGuarantee (held b)) else None)
 
 abbrev pub spend : Client → ℕ → Client
 spend b len = record b { spent = b.spent + len; send_left = less b.send_left len }

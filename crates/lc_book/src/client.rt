@@ -7,8 +7,8 @@ ghost use Rattle.lc_book.specs.Limit.{limit_refusal};
 ghost use Rattle.lc_book.specs.Client.{IsClient, client_of_parts, new_client, held, spend_refusal, spend, absolve_refusal, absolve, amount_to_absolve, honour, limit_client, issued_violation, add_received, keep_plead, receive_limit_violation, note_receive_limit};
 
 use crate::fault::{Refusal, Violation};
-use crate::limit::{is_bound, limited, take_from};
-use lc_frame::{MAX_AMOUNT, MAX_BODY, MAX_TOTAL};
+use crate::limit::{after_message, check_limit, is_bound, take_from};
+use lc_frame::{MAX_AMOUNT, MAX_TOTAL};
 use std::marker::Model;
 
 /// The book of a channel direction at its client. All numbers count bytes of messages.
@@ -165,17 +165,8 @@ impl ClientBook {
         ensures answer { result_err result ≡ spend_refusal self.old len }
         ensures after { self.new ≡ (if is_ok result then spend self.old len else self.old) }
     {
-        if len == 0 {
-            return Err(Refusal::EmptyBody);
-        }
-        if len as usize > MAX_BODY {
-            return Err(Refusal::BodyTooLong);
-        }
+        let send_left = after_message(self.send_left, len as usize)?;
         let cost = u64::from(len);
-        let send_left = match take_from(self.send_left, cost) {
-            Ok(left) => left,
-            Err(left) => return Err(Refusal::PastSendLimit { left }),
-        };
         let held = self.held();
         if cost > held {
             return Err(Refusal::NoGuarantee { held });
@@ -225,7 +216,8 @@ impl ClientBook {
         ensures answer { result_err result ≡ limit_refusal self.old.send_left bound }
         ensures after { self.new ≡ (if is_ok result then limit_client self.old bound else self.old) }
     {
-        self.send_left = Some(limited(self.send_left, bound)?);
+        check_limit(self.send_left, bound)?;
+        self.send_left = Some(bound);
         Ok(())
     }
 

@@ -11,4 +11,5 @@ mod server;
 
 pub use client::{ClientBook, ClientParts};
 pub use fault::{Refusal, Violation};
+pub use limit::{after_message, check_limit};
 pub use server::{ServerBook, ServerParts};

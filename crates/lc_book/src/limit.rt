@@ -1,25 +1,45 @@
 //! What is left of a limit, on sending or on receiving.
-ghost use Rattle.std.specs.Prelude.{◌≡◌, ◌≤◌, ◌↔◌, if◌then◌else◌, Ok, Err, IfOk, IsTrue};
+ghost use Rattle.std.specs.Prelude.{◌≡◌, ◌<◌, ◌≤◌, ◌↔◌, if◌then◌else◌, Ok, Err, IfOk, OnOk, IsTrue};
 ghost use Rattle.std.specs.Option.{ForSome};
 ghost use Rattle.std.specs.Result.{result_err};
-ghost use Rattle.lc_frame.specs.Kind.{max_total};
+ghost use Rattle.lc_frame.specs.Kind.{max_body, max_total};
 ghost use Rattle.lc_book.specs.Limit.{is_past, less, left_of, limit_refusal};
+ghost use Rattle.lc_book.specs.Client.{message_refusal};
 
 use crate::fault::Refusal;
-use lc_frame::MAX_TOTAL;
+use lc_frame::{MAX_BODY, MAX_TOTAL};
 
-// A side limits itself: the bound, refused by 7 and 8.
-pub(crate) fn limited(left: Option<u64>, bound: u64) -> Result<u64, Refusal>
+/// What a limit on sending of which `left` is left leaves after a message of `len` bytes, whatever
+/// guarantees are held. Refused by 1, 2 and 3, in this order.
+pub fn after_message(left: Option<u64>, len: usize) -> Result<Option<u64>, Refusal>
+    ensures answer { result_err result ≡ message_refusal left len }
+    ensures value { IfOk result (λ after. after ≡ less left len) }
+    ensures range { OnOk result ((0 < len) × (len ≤ max_body)) }
+{
+    if len == 0 {
+        return Err(Refusal::EmptyBody);
+    }
+    if len > MAX_BODY {
+        return Err(Refusal::BodyTooLong);
+    }
+    match take_from(left, len as u64) {
+        Ok(after) => Ok(after),
+        Err(left) => Err(Refusal::PastSendLimit { left }),
+    }
+}
+
+/// Whether a side may limit itself to `bound` bytes, where `left` is left of its limit so far.
+/// Refused by 7 and 8, in this order.
+pub fn check_limit(left: Option<u64>, bound: u64) -> Result<(), Refusal>
     ensures answer { result_err result ≡ limit_refusal left bound }
-    ensures value { IfOk result (λ n. n ≡ bound) }
-    ensures small { IfOk result (λ n. n ≤ max_total) }
+    ensures small { OnOk result (bound ≤ max_total) }
 {
     if bound > MAX_TOTAL {
         return Err(Refusal::BoundTooLarge);
     }
     match left {
         Some(left) if bound > left => Err(Refusal::LimitRaised { left }),
-        _ => Ok(bound),
+        _ => Ok(()),
     }
 }
 

@@ -7,7 +7,7 @@ ghost use Rattle.lc_book.specs.Limit.{limit_refusal};
 ghost use Rattle.lc_book.specs.Server.{IsServer, server_of_parts, new_server, outstanding, buffered, room, IsEnded, issue_refusal, issue, plead_refusal, limit_server, note_taken, AreFreed, message_violation, add_arrived, absolve_violation, add_absolved, send_limit_violation, note_send_limit};
 
 use crate::fault::{Refusal, Violation};
-use crate::limit::{is_bound, limited, take_from};
+use crate::limit::{check_limit, is_bound, take_from};
 use lc_frame::{MAX_TOTAL, is_capacity};
 use std::marker::Model;
 
@@ -227,7 +227,8 @@ impl ServerBook {
         ensures answer { result_err result ≡ limit_refusal self.old.receive_left bound }
         ensures after { self.new ≡ (if is_ok result then limit_server self.old bound else self.old) }
     {
-        self.receive_left = Some(limited(self.receive_left, bound)?);
+        check_limit(self.receive_left, bound)?;
+        self.receive_left = Some(bound);
         Ok(())
     }
 
