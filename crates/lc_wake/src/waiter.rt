@@ -1,0 +1,139 @@
+//! How an end waits.
+use crate::wakers::{End, Wakers};
+use crossbeam_utils::sync::Parker;
+use std::alloc::Global;
+use std::sync::{Arc, Wait};
+use std::thread;
+use std::time::{Clock, Duration};
+
+/// How often an end that found nothing yields the processor before it sleeps. Measured: see
+/// `docs/performance.md`.
+const YIELDS: u32 = 1;
+
+/// Why a wait ended. It is advice: nothing is promised of it.
+#[derive(Clone, Copy, Debug, PartialEq, Eq)]
+pub enum Wake {
+    /// Something may have changed: look again.
+    Again,
+    /// A pump's run has ended: what a call answers now it may answer for good.
+    Over,
+}
+
+/// What an end waits by. One thread at a time has it.
+#[derive(Drop)]
+pub struct Waiter {
+    shared: Arc<Wakers, Global>,
+    parker: Parker,
+    end: End,
+    // The counts as they stood when the end last looked.
+    told: u64,
+    freed: u64,
+    // Whether it met a full queue since it last waited.
+    wants_slot: bool,
+}
+
+impl Waiter {
+    pub(crate) fn new(shared: Arc<Wakers, Global>, parker: Parker, end: End) -> Waiter {
+        Waiter {
+            shared,
+            parker,
+            end,
+            told: 0,
+            freed: 0,
+            wants_slot: false,
+        }
+    }
+
+    /// The end is about to look at its channel or at the queue. What it is told of from here on ends
+    /// its next wait.
+    pub fn look(&mut self) {
+        self.told = self.shared.told(self.end);
+        self.freed = self.shared.freed();
+    }
+
+    /// The end put a frame.
+    pub fn frame_put(&self) {
+        self.shared.frame_put();
+    }
+
+    /// The end met a full queue, after it looked: a slot that is freed ends its next wait.
+    pub fn met_full_queue(&mut self) {
+        self.wants_slot = true;
+    }
+
+    // What the end was told since it looked, if anything.
+    fn news(&self) -> Option<Wake> {
+        if self.shared.is_over() {
+            return Some(Wake::Over);
+        }
+        let told = self.shared.told(self.end) != self.told;
+        let freed = self.wants_slot && self.shared.freed() != self.freed;
+        if told || freed {
+            Some(Wake::Again)
+        } else {
+            None
+        }
+    }
+
+    // Yields while there are no news, a few times.
+    fn yield_first(&self) -> Option<Wake> {
+        for _ in 0..YIELDS {
+            match self.news() {
+                Some(wake) => return Some(wake),
+                None => thread::yield_now(),
+            }
+        }
+        self.news()
+    }
+
+    // Sleeps until there are news.
+    fn sleep<R: Wait>(&self, rt: &R) -> Wake {
+        for _ in rt.forever() {
+            match self.news() {
+                Some(wake) => return wake,
+                None => self.parker.park(rt),
+            }
+        }
+        unreachable!()
+    }
+
+    // Says that it wants a slot, if it does. Who frees one after this finds it, and one that was
+    // freed before is found by `news`.
+    fn ask(&self) {
+        if self.wants_slot {
+            self.shared.want_slot(self.end);
+        }
+    }
+
+    // The wait has ended: what came so far is told by that.
+    fn end_wait(&mut self) {
+        if self.wants_slot {
+            self.shared.want_no_slot(self.end);
+            self.wants_slot = false;
+        }
+        self.look();
+    }
+
+    /// Sleeps until something came that concerns this end since it last looked or waited: a frame on
+    /// its channel, a free slot where it met a full queue, or the end of a pump's run.
+    pub fn wait<R: Wait>(&mut self, rt: &R) -> Wake {
+        self.ask();
+        let wake = match self.yield_first() {
+            Some(wake) => wake,
+            None => self.sleep(rt),
+        };
+        self.end_wait();
+        wake
+    }
+
+    /// The same, and no longer than this. It may end earlier without a reason.
+    pub fn wait_timeout<R: Wait + Clock>(&mut self, rt: &R, timeout: Duration) -> Wake {
+        self.ask();
+        if self.yield_first().is_none() {
+            self.parker.park_timeout(rt, timeout);
+        }
+        let wake = self.news().unwrap_or(Wake::Again);
+        self.end_wait();
+        wake
+    }
+}
