@@ -16,3 +16,8 @@ with_failure c e = record c { failures = count_up c.failures; last_failure = Som
 abbrev pub CountsCall : Result ℕ Error → ℕ → Counts → Counts → Type 0
 CountsCall (Ok n) asked old new = new ≡ record old { calls = count_up old.calls; ends = if n == 0 && nat_lt 0 asked then count_up old.ends else old.ends }
 CountsCall (Err e) asked old new = new ≡ with_failure (record old { calls = count_up old.calls }) e
+
+-- what a flush does to them
+abbrev pub CountsFlush : {A : Type 0} → Result A Error → Counts → Counts → Type 0
+CountsFlush (Ok x) old new = new ≡ old
+CountsFlush (Err e) old new = new ≡ with_failure old e

@@ -1,9 +1,9 @@
 //! Devices that count their calls.
-ghost use Rattle.std.specs.Prelude.{◌≡◌, length, None, MatchResult};
+ghost use Rattle.std.specs.Prelude.{◌≡◌, length, None};
 ghost use Rattle.std.specs.Io.{ReadsAtMost, WritesAtMost};
 ghost use Rattle.std.specs.Io.KnownBytes.{ReadConsumes, WriteAppends, Keeps};
 ghost use Rattle.lc_driver.specs.declared.counts.Counts.{Counts};
-ghost use Rattle.lc_driver.specs.Counts.{CountsCall, with_failure};
+ghost use Rattle.lc_driver.specs.Counts.{CountsCall, CountsFlush};
 
 use crate::counts::Counts;
 use std::io;
@@ -40,13 +40,18 @@ pub trait CountedRead: Read + Failures {
         ensures counts { CountsCall result (length buf.old) (Self.counts self.old) (Self.counts self.new) };
 }
 
-/// A writer that counts each of its writes.
+/// A writer that counts each of its writes, and the flushes that fail.
 pub trait CountedWrite: Write + Failures {
     /// Writes as `write` does, and counts the call.
     fn write_counted(&mut self, buf: &[u8]) -> io::Result<usize>
         ensures bound { WritesAtMost result buf.now }
         ensures bytes { WriteAppends (Self.contents self.old) (Self.contents self.new) result buf.now }
         ensures counts { CountsCall result (length buf.now) (Self.counts self.old) (Self.counts self.new) };
+
+    /// Flushes as `flush` does, and counts a failure.
+    fn flush_counted(&mut self) -> io::Result<()>
+        ensures bytes { Keeps (Self.contents self.old) (Self.contents self.new) }
+        ensures counts { CountsFlush result (Self.counts self.old) (Self.counts self.new) };
 }
 
 /// Any reader or writer, with its calls handed on unchanged and counted.
@@ -139,14 +144,9 @@ impl<T: Write> Write for Counted<T> {
 
     fn flush(&mut self) -> io::Result<()>
         ensures bytes { Keeps (T.contents self.old.inner) (T.contents self.new.inner) }
-        ensures counts { MatchResult result (λ _. self.new.counts ≡ self.old.counts) (λ e. self.new.counts ≡ with_failure self.old.counts e) }
+        ensures counts { CountsFlush result self.old.counts self.new.counts }
     {
-        let answer = self.inner.flush();
-        match &answer {
-            Ok(()) => {}
-            Err(error) => self.counts.note_failure(error),
-        }
-        answer
+        self.flush_counted()
     }
 }
 
@@ -154,6 +154,15 @@ impl<T: Write> CountedWrite for Counted<T> {
     fn write_counted(&mut self, buf: &[u8]) -> io::Result<usize> {
         let answer = self.inner.write(buf);
         self.counts.note_call(&answer, buf.len());
+        answer
+    }
+
+    fn flush_counted(&mut self) -> io::Result<()> {
+        let answer = self.inner.flush();
+        match &answer {
+            Ok(()) => {}
+            Err(error) => self.counts.note_failure(error),
+        }
         answer
     }
 }
