@@ -20,6 +20,11 @@ appends_then (Some a) None c x y p q = absurd p
 appends_then (Some a) (Some b) None x y p q = absurd q
 appends_then (Some a) (Some b) (Some c) x y p q = q ∙ ap (λ (zs : List ℕ). zs ++ y) p ∙ append_assoc a x y
 
+-- one write more
+pub writes_on : (a b c : Option (List ℕ)) (bytes given : List ℕ) (done taken : ℕ) → given ≡ drop done bytes → Appends a b (take done bytes) → Appends b c (take taken given) → Appends a c (take (done + taken) bytes)
+writes_on a b c bytes given done taken is p q =
+    subst (λ (xs : List ℕ). Appends a c xs) (sym (take-add done taken bytes)) (appends_then a b c (take done bytes) (take taken (drop done bytes)) p (subst (λ (xs : List ℕ). Appends b c (take taken xs)) is q))
+
 appends_nothing : (a : Option (List ℕ)) → Appends a a []
 appends_nothing None = tt
 appends_nothing (Some a) = sym (append-nil a)
@@ -98,6 +103,12 @@ one_write {a} {b} given bytes left rest taken more p q same fits grown e l = rec
   peer = l.peer;
   begun = λ k h. omega (arith, l.first k h, length-text (take rest bytes) (take k p.waiting), length-take rest bytes);
 }
+
+-- the same, where so many were written and the rest after the frame that was begun is dropped
+pub wrote : {a b : Option (List ℕ)} (given bytes left kept : List ℕ) (rest n taken more : ℕ) (p q : PeerState) → given ≡ bytes → taken ≡ n → n ≤ length given → Appends a b (take n given) → left ≡ drop taken bytes → LetsGo bytes rest taken (taken + more) p q → kept ≡ take more left → Writes a b (take rest bytes) p kept q n
+wrote {a} {b} given bytes left kept rest n taken more p q same e fits grown advanced l cut =
+    subst (λ (x : List ℕ × ℕ). Writes a b (take rest bytes) p x.0 q x.1) (λ i. (sym cut i, e i))
+    (one_write given bytes left rest taken more p q same (omega (arith, e, fits, ap length same)) (subst (λ (k : ℕ). Appends a b (take k given)) (sym e) grown) advanced l)
 
 -- one frame more leaves the peer
 pub record GoesOn (bytes : List ℕ) (begun taken end : ℕ) (p q : PeerState) : Type 0 where

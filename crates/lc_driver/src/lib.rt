@@ -13,4 +13,4 @@ pub use counts::Counts;
 pub use intake::Intake;
 pub use outgo::Outgo;
 pub use reading::{ReadEnd, read_in};
-pub use writing::{WriteFault, write_out};
+pub use writing::{WriteFault, write_all, write_out};

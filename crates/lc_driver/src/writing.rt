@@ -1,6 +1,7 @@
 //! Writing what waits at a peer.
 ghost use Rattle.std.specs.Prelude.{◌≡◌, ℕ, ◌+◌, ◌<◌, ◌≤◌, ◌^◌, [], ◌++◌, length, take, drop, OnOk, IfOk};
 ghost use Rattle.std.specs.List.{flat_map};
+ghost use Rattle.std.specs.Io.KnownBytes.{Appends};
 ghost use Rattle.lc_frame.specs.Encoding.{encoding};
 ghost use Rattle.lc_frame.specs.Kind.{max_frame};
 ghost use Rattle.lc_driver.specs.Writing.{Writes, CountsWrites, written_in, fault_written, fault_after, IsAhead, LetsGo, text};
@@ -35,6 +36,16 @@ impl WriteFault {
                 written: before + written,
             },
         }
+    }
+}
+
+// How many bytes were written.
+fn written_of(wrote: &Result<u64, WriteFault>) -> u64
+    ensures { result ≡ written_in wrote.now }
+{
+    match wrote {
+        Ok(written) | Err(WriteFault::Failed { written }) | Err(WriteFault::Zero { written }) =>
+            *written,
     }
 }
 
@@ -77,6 +88,27 @@ fn note_taken(peer: &mut Peer, outgo: &mut Outgo, begun: usize, taken: usize) ->
     end - taken
 }
 
+/// Writes these bytes, by as many writes as it takes. `Ok` carries how many they are; after a fault
+/// the first `written` of them were written. It doesn't flush, and tries no failed write again.
+pub fn write_all<W: CountedWrite>(writer: &mut W, bytes: &[u8]) -> Result<u64, WriteFault>
+    ensures grown { Appends (W.contents writer.old) (W.contents writer.new) (take (written_in result) bytes.now) }
+    ensures within { written_in result ≤ length bytes.now }
+    ensures all { IfOk result (λ n. n ≡ length bytes.now) }
+    ensures none { bytes.now ≡ [] → writer.new ≡ writer.old }
+    ensures counts { CountsWrites result (W.counts writer.old) (W.counts writer.new) }
+{
+    let mut done = 0;
+    'writes: while done < bytes.len() {
+        let written = done as u64;
+        match writer.write_counted(bytes.split_at(done).1) {
+            Ok(0) => return Err(WriteFault::Zero { written }),
+            Ok(taken) => done += taken,
+            Err(_) => return Err(WriteFault::Failed { written }),
+        }
+    }
+    Ok(done as u64)
+}
+
 // Writes all that is in Outgo: the rest of the frame that was begun, as long as is said, and
 // after it frames that wait.
 fn write_joined<W: CountedWrite>(
@@ -90,23 +122,12 @@ fn write_joined<W: CountedWrite>(
     ensures all { IfOk result (λ n. (outgo.new.pending ≡ []) × (n ≡ length outgo.old.pending)) }
     ensures counts { CountsWrites result (W.counts writer.old) (W.counts writer.new) }
 {
-    let all = outgo.pending();
-    let mut begun = rest;
-    'writes: while outgo.pending() > 0 {
-        let written = (all - outgo.pending()) as u64;
-        match writer.write_counted(outgo.bytes()) {
-            Ok(0) => {
-                outgo.cut_back(begun);
-                return Err(WriteFault::Zero { written });
-            }
-            Ok(taken) => begun = note_taken(peer, outgo, begun, taken),
-            Err(_) => {
-                outgo.cut_back(begun);
-                return Err(WriteFault::Failed { written });
-            }
-        }
-    }
-    Ok(all as u64)
+    // What is pending fits a frame.
+    let _pending = outgo.pending();
+    let result = write_all(writer, outgo.bytes());
+    let left = note_taken(peer, outgo, rest, written_of(&result) as usize);
+    outgo.cut_back(left);
+    result
 }
 
 /// Writes the rest of the frame that was begun, and then all frames that wait, several in one write
