@@ -1,5 +1,5 @@
 -- What a call does to a side, from what it did to the inbox.
-use Rattle.std.proofs.Common.{◌≡◌, ℕ, ◌+◌, Bool, true, false, List, [], ◌∷◌, ◌++◌, Some, None, refl, sym, ◌∙◌, ap, subst, append-nil}
+use Rattle.std.proofs.Common.{◌≡◌, ℕ, ◌+◌, Bool, true, false, List, [], ◌∷◌, ◌++◌, Option, Some, None, refl, sym, ◌∙◌, ap, subst, append-nil}
 use Rattle.std.specs.Prelude.{IfSome}
 use Rattle.lc_history.specs.History.{IsHistory, Knows, Learns, Makes}
 use Rattle.lc_history.proofs.Histories.{history-push, known_same, learned_same, made_one}
@@ -8,6 +8,9 @@ use Rattle.lc_frame.specs.Channel.{number_of}
 use Rattle.lc_frame.specs.Frame.{lane_of}
 use Rattle.lc_book.specs.declared.fault.Violation.{Violation}
 use Rattle.lc_ring.specs.Ring.{front}
+use Rattle.lc_peer.specs.Inbox.{take_answer, take_first}
+use Rattle.lc_peer.specs.declared.inbox.Take.{Take}
+use Rattle.lc_peer.specs.declared.inbox.Take.TheVariants.{Empty as NoneWaits, Ended as NoneComes}
 use Rattle.lc_queue.specs.Parts.{End}
 use Rattle.lc_book.specs.Server.{Server}
 use Rattle.lc_inbox.specs.declared.history.Entry.{Entry}
@@ -15,8 +18,12 @@ use Rattle.lc_inbox.specs.declared.history.Entry.TheVariants.{Heard, Refused, Pu
 use Rattle.lc_inbox.specs.declared.rule.Key.{Key}
 use Rattle.lc_inbox.specs.Ends.{Held, violation_of, refusal_of, IsPut}
 use Rattle.lc_inbox.specs.History.{heard_of, put_of, took_of, heard, put, took, book_after, inbox_after, held_after, MayFollow, IsLeftBy, is_of, is_reading, is_receiving}
+use Rattle.lc_inbox.specs.declared.lent.Lent.{Lent}
+use Rattle.lc_inbox.specs.declared.lent.Lent.TheVariants.{Read, Empty, Ended}
+use Rattle.lc_inbox.specs.Lends.{Reader, first_taken, taken_entry, IsLent, IsLentBy}
 use Rattle.lc_inbox.specs.Sides.{Half, Side, side_of, IsHeard, IsViolated, HasLooked, IsPutBy, IsTaken, IsFinished}
-use Rattle.lc_inbox.proofs.Histories.{in_order}
+use Rattle.lc_inbox.proofs.Histories.{in_order, left_took}
+use Rattle.lc_inbox.proofs.Takes.{IsNone, nothing_taken, unlent_left}
 
 -- whose entries carry what
 heard_by : (e : Entry) → is_reading e ≡ false → heard_of e ≡ None
@@ -38,10 +45,10 @@ took_by (Put f) not = refl
 took_by (Took body) not = absurd (cc)
 
 -- a half took the inbox, and gave it back with entries more
-pub gave : (old took new : Half) (log more : List Entry) → took ≡ record old { lent = Some log } → IfSome took.lent (λ history. new ≡ record took { seen = history ++ more; lent = None }) → new ≡ record old { seen = log ++ more; lent = None }
+pub gave : (old took new : Half) (log more : List Entry) → took ≡ record old { turns = old.turns + 1; lent = Some log } → IfSome took.lent (λ history. new ≡ record took { seen = history ++ more; lent = None }) → new ≡ record old { seen = log ++ more; turns = old.turns + 1; lent = None }
 gave old took new log more is h = subst (λ (v : Half). IfSome v.lent (λ history. new ≡ record v { seen = history ++ more; lent = None })) is h
 
-makes_one : (side : Bool) (old new : Half) (log : List Entry) (e : Entry) → old.side ≡ side → Knows (is_of old.side) old.seen log → IsHistory (MayFollow old.key) (log ++ e ∷ []) → new ≡ record old { seen = log ++ e ∷ []; lent = None } → Makes (MayFollow old.key) (is_of side) old.seen e new.seen
+makes_one : (side : Bool) (old new : Half) (log : List Entry) (e : Entry) → old.side ≡ side → Knows (is_of old.side) old.seen log → IsHistory (MayFollow old.key) (log ++ e ∷ []) → new ≡ record old { seen = log ++ e ∷ []; turns = old.turns + 1; lent = None } → Makes (MayFollow old.key) (is_of side) old.seen e new.seen
 makes_one side old new log e side_is knows legal is =
     record {
       before = log;
@@ -51,9 +58,11 @@ makes_one side old new log e side_is knows legal is =
     }
 
 -- a half took the inbox, and gave it back as it was
-pub looked : (old took new : Half) (log : List Entry) → old.side ≡ false → Knows (is_of old.side) old.seen log → IsHistory (MayFollow old.key) log → took ≡ record old { lent = Some log } → IfSome took.lent (λ history. new ≡ record took { seen = history; lent = None }) → HasLooked (side_of old) (side_of new)
-looked old took new log side_is knows legal is gives =
-    let now : new ≡ record old { seen = log; lent = None } = subst (λ (v : Half). IfSome v.lent (λ history. new ≡ record v { seen = history; lent = None })) is gives in
+given_same : (old took new : Half) (log : List Entry) → took ≡ record old { turns = old.turns + 1; lent = Some log } → IfSome took.lent (λ history. new ≡ record took { seen = history; lent = None }) → new ≡ record old { seen = log; turns = old.turns + 1; lent = None }
+given_same old took new log is gives = subst (λ (v : Half). IfSome v.lent (λ history. new ≡ record v { seen = history; lent = None })) is gives
+
+looked_up : (old new : Half) (log : List Entry) → old.side ≡ false → Knows (is_of old.side) old.seen log → IsHistory (MayFollow old.key) log → new ≡ record old { seen = log; turns = old.turns + 1; lent = None } → HasLooked (side_of old) (side_of new)
+looked_up old new log side_is knows legal now =
     let learns : Learns (MayFollow old.key) is_receiving old.seen new.seen =
     record { knows = subst (λ (p : Bool × List Entry). Knows (is_of p.0) old.seen p.1) (λ i. (side_is i, (sym now i).seen)) knows; legal = subst (IsHistory (MayFollow old.key)) (λ i. (sym now i).seen) legal } in
     record {
@@ -62,10 +71,13 @@ looked old took new log side_is knows legal is gives =
       took = learned_same is_receiving took_of took_by (MayFollow old.key) old.seen new.seen learns;
     }
 
+pub looked : (old took new : Half) (log : List Entry) → old.side ≡ false → Knows (is_of old.side) old.seen log → IsHistory (MayFollow old.key) log → took ≡ record old { turns = old.turns + 1; lent = Some log } → IfSome took.lent (λ history. new ≡ record took { seen = history; lent = None }) → HasLooked (side_of old) (side_of new)
+looked old took new log side_is knows legal is gives = looked_up old new log side_is knows legal (given_same old took new log is gives)
+
 -- what the inbox said when it was taken is said of the one that the history leaves
-pub says : (X : Held → Type 0) (old took new : Half) (log : List Entry) (held : Held) → IsLeftBy old.key held log → took ≡ record old { lent = Some log } → IfSome took.lent (λ history. new ≡ record took { seen = history; lent = None }) → X held → X (held_after old.key new.seen)
+pub says : (X : Held → Type 0) (old took new : Half) (log : List Entry) (held : Held) → IsLeftBy old.key held log → took ≡ record old { turns = old.turns + 1; lent = Some log } → IfSome took.lent (λ history. new ≡ record took { seen = history; lent = None }) → X held → X (held_after old.key new.seen)
 says X old took new log held left is gives x =
-    let now : new ≡ record old { seen = log; lent = None } = subst (λ (v : Half). IfSome v.lent (λ history. new ≡ record v { seen = history; lent = None })) is gives in
+    let now = given_same old took new log is gives in
     subst X (left.is ∙ (λ i. held_after old.key (sym now i).seen)) x
 
 pub may_hear : (key : Key) (log : List Entry) (held : Held) (f : Frame) → IsLeftBy key held log → lane_of f ≡ number_of key.channel → None ≡ violation_of f held.inbox.book → MayFollow key log (Heard f)
@@ -74,13 +86,13 @@ may_hear key log held f left on lawful = (on, ap (λ (h : Held). violation_of f 
 pub may_refuse : (key : Key) (log : List Entry) (held : Held) (f : Frame) (v : Violation) → IsLeftBy key held log → lane_of f ≡ number_of key.channel → Some v ≡ violation_of f held.inbox.book → MayFollow key log (Refused f)
 may_refuse key log held f v left on wrong = (on, (v, ap (λ (h : Held). violation_of f h.inbox.book) (sym left.is) ∙ sym wrong))
 
-pub hears : (old new : Half) (log : List Entry) (f : Frame) → old.side ≡ true → Knows (is_of old.side) old.seen log → IsHistory (MayFollow old.key) log → MayFollow old.key log (Heard f) → new ≡ record old { seen = log ++ Heard f ∷ []; lent = None } → IsHeard f (side_of old) (side_of new)
+pub hears : (old new : Half) (log : List Entry) (f : Frame) → old.side ≡ true → Knows (is_of old.side) old.seen log → IsHistory (MayFollow old.key) log → MayFollow old.key log (Heard f) → new ≡ record old { seen = log ++ Heard f ∷ []; turns = old.turns + 1; lent = None } → IsHeard f (side_of old) (side_of new)
 unfolding makes_one
 hears old new log f side_is knows legal may is =
     let makes = makes_one true old new log (Heard f) side_is knows (history-push (MayFollow old.key) log (Heard f) may legal) is in
     record { makes = makes; lawful = may.1; heard = made_one is_reading heard_of heard_by (MayFollow old.key) old.seen (Heard f) new.seen makes }
 
-pub refuses : (old new : Half) (log : List Entry) (f : Frame) (v : Violation) → old.side ≡ true → Knows (is_of old.side) old.seen log → IsHistory (MayFollow old.key) log → (may : MayFollow old.key log (Refused f)) → violation_of f (book_after old.key log) ≡ Some v → new ≡ record old { seen = log ++ Refused f ∷ []; lent = None } → IsViolated v f (side_of old) (side_of new)
+pub refuses : (old new : Half) (log : List Entry) (f : Frame) (v : Violation) → old.side ≡ true → Knows (is_of old.side) old.seen log → IsHistory (MayFollow old.key) log → (may : MayFollow old.key log (Refused f)) → violation_of f (book_after old.key log) ≡ Some v → new ≡ record old { seen = log ++ Refused f ∷ []; turns = old.turns + 1; lent = None } → IsViolated v f (side_of old) (side_of new)
 unfolding makes_one
 refuses old new log f v side_is knows legal may wrong is =
     let makes = makes_one true old new log (Refused f) side_is knows (history-push (MayFollow old.key) log (Refused f) may legal) is in
@@ -89,7 +101,7 @@ refuses old new log f v side_is knows legal may wrong is =
 pub may_put : (key : Key) (log : List Entry) (held new : Held) (f : Frame) → IsLeftBy key held log → lane_of f ≡ 7 + number_of key.channel → IsPut f held new → MayFollow key log (Put f)
 may_put key log held new f left on p = (on, ap (λ (h : Held). refusal_of f h.inbox.book) (sym left.is) ∙ p.allowed)
 
-pub puts : (old new : Half) (log : List Entry) (held after : Held) (f : Frame) → old.side ≡ false → Knows (is_of old.side) old.seen log → IsLeftBy old.key held log → lane_of f ≡ 7 + number_of old.key.channel → IsPut f held after → new ≡ record old { seen = log ++ Put f ∷ []; lent = None } → IsPutBy f (side_of old) (side_of new)
+pub puts : (old new : Half) (log : List Entry) (held after : Held) (f : Frame) → old.side ≡ false → Knows (is_of old.side) old.seen log → IsLeftBy old.key held log → lane_of f ≡ 7 + number_of old.key.channel → IsPut f held after → new ≡ record old { seen = log ++ Put f ∷ []; turns = old.turns + 1; lent = None } → IsPutBy f (side_of old) (side_of new)
 puts old new log held after f side_is knows left on p is =
     let makes = makes_one false old new log (Put f) side_is knows (history-push (MayFollow old.key) log (Put f) (may_put old.key log held after f left on p) left.legal) is in
     record {
@@ -101,7 +113,7 @@ puts old new log held after f side_is knows left on p is =
 pub wrong_as : (key : Key) (log : List Entry) (held : Held) (f : Frame) (v : Violation) → IsLeftBy key held log → Some v ≡ violation_of f held.inbox.book → violation_of f (book_after key log) ≡ Some v
 wrong_as key log held f v left wrong = ap (λ (h : Held). violation_of f h.inbox.book) (sym left.is) ∙ sym wrong
 
-pub takes_one : (old new : Half) (log : List Entry) (held : Held) (body : List ℕ) → old.side ≡ false → Knows (is_of old.side) old.seen log → IsLeftBy old.key held log → front held.inbox.ring ≡ Some body → new ≡ record old { seen = log ++ Took body ∷ []; lent = None } → IsTaken body (side_of old) (side_of new)
+pub takes_one : (old new : Half) (log : List Entry) (held : Held) (body : List ℕ) → old.side ≡ false → Knows (is_of old.side) old.seen log → IsLeftBy old.key held log → front held.inbox.ring ≡ Some body → new ≡ record old { seen = log ++ Took body ∷ []; turns = old.turns + 1; lent = None } → IsTaken body (side_of old) (side_of new)
 unfolding makes_one
 takes_one old new log held body side_is knows left first is =
     let waits : front (inbox_after old.key log).ring ≡ Some body = ap (λ (h : Held). front h.inbox.ring) (sym left.is) ∙ first in
@@ -112,6 +124,36 @@ takes_one old new log held body side_is knows left first is =
       put = made_one is_receiving put_of put_by (MayFollow old.key) old.seen (Took body) new.seen makes ∙ append-nil (put old.seen);
       took = made_one is_receiving took_of took_by (MayFollow old.key) old.seen (Took body) new.seen makes;
     }
+
+-- the first message is taken, where one waits
+pub left_first : (key : Key) (log : List Entry) (old new : Held) → IsLeftBy key old log → new ≡ record old { inbox = take_first old.inbox } → IsLeftBy key new (log ++ first_taken old)
+left_first key log old new left is = at (front old.inbox.ring) refl
+  where
+    at : (o : Option (List ℕ)) → front old.inbox.ring ≡ o → IsLeftBy key new (log ++ taken_entry (front old.inbox.ring))
+    at (Some body) e = subst (λ (o : Option (List ℕ)). IsLeftBy key new (log ++ taken_entry o)) (sym e) (left_took key log body old new left (ap (λ (h : Held). front h.inbox.ring) (sym left.is) ∙ e) is)
+    at None e =
+        let same : new ≡ old = unlent_left old new e is in
+        subst (λ (o : Option (List ℕ)). IsLeftBy key new (log ++ taken_entry o)) (sym e) (subst (λ (p : Held × List Entry). IsLeftBy key p.0 p.1) (λ i. (sym same i, sym (append-nil log) i)) left)
+
+-- the first message was lent and taken; or none waits, and nothing changed
+module _ {F T : Type 0} (g : Reader F T) (read : F) where
+  none_lent : (t : Take) (old new : Half) (log : List Entry) (held : Held) → IsNone t → t ≡ take_answer held.inbox → old.side ≡ false → Knows (is_of old.side) old.seen log → IsLeftBy old.key held log → new ≡ record old { seen = log ++ first_taken held; turns = old.turns + 1; lent = None }
+      → HasLooked (side_of old) (side_of new) × (take_answer (inbox_after old.key new.seen) ≡ t)
+  none_lent t old new log held none is side_is knows left gives =
+      let same : log ++ first_taken held ≡ log = ap (λ (es : List Entry). log ++ es) (nothing_taken held t none is) ∙ append-nil log in
+      let now : new ≡ record old { seen = log; turns = old.turns + 1; lent = None } = gives ∙ ap (λ (es : List Entry). record old { seen = es; turns = old.turns + 1; lent = None }) same in (
+        looked_up old new log side_is knows left.legal now,
+        subst (λ (h : Held). take_answer h.inbox ≡ t) (left.is ∙ (λ i. held_after old.key (sym now i).seen)) (sym is),
+      )
+
+  pub lent_by : (lent : Lent T) (old new : Half) (log : List Entry) (held : Held) → IsLent g read lent held.inbox → old.side ≡ false → Knows (is_of old.side) old.seen log → IsLeftBy old.key held log → new ≡ record old { seen = log ++ first_taken held; turns = old.turns + 1; lent = None }
+      → IsLentBy g read lent (side_of old) (side_of new)
+  lent_by (Read made) old new log held l side_is knows left gives =
+      let body : List ℕ = l.0 ++ l.1 in
+      let now = gives ∙ ap (λ (o : Option (List ℕ)). record old { seen = log ++ taken_entry o; turns = old.turns + 1; lent = None }) l.2 in
+      (l.0, l.1, takes_one old new log held body side_is knows left l.2 now, l.3)
+  lent_by Empty old new log held l side_is knows left gives = none_lent NoneWaits old new log held tt (sym l) side_is knows left gives
+  lent_by Ended old new log held l side_is knows left gives = none_lent NoneComes old new log held tt (sym l) side_is knows left gives
 
 -- both sides have ended
 pub finished : (incoming outgoing : Side) (held : Held) (book : Server) (lane : End) (history : List Entry) → Knows (is_of true) incoming.seen history → Knows (is_of false) outgoing.seen history → IsLeftBy incoming.key held history → book ≡ held.inbox.book → lane ≡ held.lane → IsFinished incoming outgoing book lane

@@ -1,10 +1,12 @@
 -- What a take into a buffer says of the first message.
 use Rattle.std.proofs.Common.{◌≡◌, ℕ, List, [], ◌∷◌, ◌++◌, length, take, drop, Option, Some, None, refl, sym, ◌∙◌, ap, subst, zero, suc}
 use Rattle.std.specs.Prelude.{slice_get}
+use Rattle.std.specs.Option.{option_map}
 use Rattle.lc_ring.specs.Ring.{front, with_front}
 use Rattle.lc_book.specs.Server.{Server}
-use Rattle.lc_peer.specs.Inbox.{InboxState, none_waiting, take_answer, take_first}
+use Rattle.lc_peer.specs.Inbox.{InboxState, none_waiting, answer_by_length, take_answer, take_first}
 use Rattle.lc_inbox.specs.Ends.{Held}
+use Rattle.lc_inbox.specs.Lends.{first_taken, taken_entry}
 use Rattle.lc_peer.specs.declared.inbox.Take.{Take}
 use Rattle.lc_peer.specs.declared.inbox.Take.TheVariants.{Took, Empty, Ended}
 
@@ -48,13 +50,31 @@ none_first : (book : Server) (ms : List (List ℕ)) (capacity : ℕ) (t : Take) 
 none_first book [] capacity t none is = refl
 none_first book (m ∷ ms) capacity t none is = absurd (subst IsNone is none)
 
-pub none_left : (h now : Held) (t : Take) → IsNone t → t ≡ take_answer h.inbox → now ≡ record h { inbox = take_first h.inbox } → now ≡ h
-none_left h now t none is after =
-    let empty : h.inbox.ring.messages ≡ [] = none_first h.inbox.book h.inbox.ring.messages h.inbox.ring.capacity t none is in
+-- out of a ring in which none waits nothing is taken
+empty_left : (h now : Held) → h.inbox.ring.messages ≡ [] → now ≡ record h { inbox = take_first h.inbox } → now ≡ h
+empty_left h now empty after =
     let same : take_first h.inbox ≡ h.inbox = (λ i. take_first record { book = h.inbox.book; ring = record { messages = empty i; capacity = h.inbox.ring.capacity } }) ∙ (λ i. record { book = h.inbox.book; ring = record { messages = sym empty i; capacity = h.inbox.ring.capacity } }) in
     after ∙ ap (λ (x : InboxState). record h { inbox = x }) same
+
+pub none_left : (h now : Held) (t : Take) → IsNone t → t ≡ take_answer h.inbox → now ≡ record h { inbox = take_first h.inbox } → now ≡ h
+none_left h now t none is after = empty_left h now (none_first h.inbox.book h.inbox.ring.messages h.inbox.ring.capacity t none is) after
+
+no_front : (ms : List (List ℕ)) → slice_get ms 0 ≡ None → ms ≡ []
+no_front [] none = refl
+no_front (m ∷ ms) none = absurd (cc)
+
+pub unlent_left : (h now : Held) → front h.inbox.ring ≡ None → now ≡ record h { inbox = take_first h.inbox } → now ≡ h
+unlent_left h now none after = empty_left h now (no_front h.inbox.ring.messages none) after
 
 pub none_filled : (h : Held) (t : Take) (buffer filled : List ℕ) → IsNone t → t ≡ take_answer h.inbox → filled ≡ with_front (front h.inbox.ring) buffer → filled ≡ buffer
 none_filled h t buffer filled none is fills =
     let empty : h.inbox.ring.messages ≡ [] = none_first h.inbox.book h.inbox.ring.messages h.inbox.ring.capacity t none is in
     fills ∙ ap (λ (ms : List (List ℕ)). with_front (slice_get ms 0) buffer) empty
+
+-- where none waits nothing is taken
+pub nothing_taken : (h : Held) (t : Take) → IsNone t → t ≡ take_answer h.inbox → first_taken h ≡ []
+nothing_taken h t none is = ap (λ (ms : List (List ℕ)). taken_entry (slice_get ms 0)) (none_first h.inbox.book h.inbox.ring.messages h.inbox.ring.capacity t none is)
+
+-- and where no first message is there, a take gives none
+pub none_of : (i : InboxState) (len : ℕ) → front i.ring ≡ None → Took len ≡ take_answer i → ⊥
+none_of i len none is = not_waiting i.book.send_left len (is ∙ ap (λ (o : Option (List ℕ)). answer_by_length i.book (option_map length o)) none)

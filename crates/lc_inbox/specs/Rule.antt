@@ -1,5 +1,5 @@
 -- The rule of a shared inbox: there is one history, each side knows how it begins and all its own entries, and where no side has the inbox it lies in the slot as the history leaves it. And what each step tells the side that makes it. All of it is this project's own.
-use Rattle.std.specs.Prelude.{◌≡◌, ◌≢◌, ℕ, ◌≤◌, Bool, true, false, List, [], ◌∷◌, ◌++◌, length, slice_index, Option, Some, None}
+use Rattle.std.specs.Prelude.{◌≡◌, ◌≢◌, ℕ, ◌+◌, ◌≤◌, Bool, true, false, List, [], ◌∷◌, ◌++◌, length, slice_index, Option, Some, None}
 use mathlib.Core.Option.{some}
 use lib.ListN.{get_elem?}
 use Rattle.atomic_table.specs.Table.{State, Me}
@@ -22,40 +22,46 @@ other false = true
 
 -- what a seat has seen itself; and the whole history, where it has the inbox
 abbrev pub seen_of : View → List Entry
-seen_of (Idle k side x) = x
-seen_of (Has k side x y) = x
+seen_of (Idle k side x n) = x
+seen_of (Has k side x n y) = x
 seen_of (Both k x y) = x
 seen_of Closed = []
 
 abbrev pub received_of : View → List Entry
-received_of (Idle k side y) = y
+received_of (Idle k side y n) = y
 received_of v = []
 
 abbrev pub lent_of : View → Option (List Entry)
-lent_of (Has k side x y) = Some y
+lent_of (Has k side x n y) = Some y
 lent_of v = None
 
-abbrev pub view_of : Key → Bool → List Entry → Option (List Entry) → View
-view_of k side x None = Idle k side x
-view_of k side x (Some y) = Has k side x y
+-- how many turns its side had: how often it took the inbox
+abbrev pub turns_of : View → ℕ
+turns_of (Idle k side x n) = n
+turns_of (Has k side x n y) = n
+turns_of v = 0
+
+abbrev pub view_of : Key → Bool → List Entry → ℕ → Option (List Entry) → View
+view_of k side x n None = Idle k side x n
+view_of k side x n (Some y) = Has k side x n y
 
 -- the views of both sides when they part, and when they come together
 abbrev pub reading_of : View → View
-reading_of (Both k x y) = Idle k true x
+reading_of (Both k x y) = Idle k true x 0
 reading_of v = Closed
 
 abbrev pub receiving_of : View → View
-receiving_of (Both k x y) = Idle k false y
+receiving_of (Both k x y) = Idle k false y 0
 receiving_of v = Closed
 
 abbrev pub both_of : View → View → View
-both_of (Idle k side x) w = Both k x (received_of w)
+both_of (Idle k side x n) w = Both k x (received_of w)
 both_of v w = Closed
 
 -- what the rule says of one view, where `seats` has the seat of each side
 abbrev pub IsTrueOf : Key → (Bool → ℕ) → List Entry → ℕ → ℕ → View → Type 0
-IsTrueOf key seats history word seat (Idle k side x) = (k ≡ key) × (seats side ≡ seat) × Knows (is_of side) x history × (word ≢ word_of side)
-IsTrueOf key seats history word seat (Has k side x y) = (k ≡ key) × (seats side ≡ seat) × Knows (is_of side) x history × (history ≡ y) × (word ≡ word_of side)
+IsTrueOf key seats history word seat (Idle k side x n) = (k ≡ key) × (seats side ≡ seat) × Knows (is_of side) x history × (word ≢ word_of side)
+IsTrueOf key seats history word seat (Has k side x n y) = (k ≡ key) × (seats side ≡ seat) × Knows (is_of side) x history × (history ≡ y) × (word ≡ word_of side)
 IsTrueOf key seats history word seat (Both k x y) = (k ≡ key) × (seats true ≡ seat) × (seats false ≡ seat) × Knows (is_of true) x history × Knows (is_of false) y history × (word ≡ 0)
 IsTrueOf key seats history word seat Closed = Unit {0}
 
@@ -82,17 +88,17 @@ abbrev pub carried_of : Option (List Entry) → List (ℕ × Option Held)
 carried_of None = []
 carried_of (Some y) = (0, None) ∷ []
 
--- a side that was free has the inbox now
-pub record Takes (k : Key) (side : Bool) (x : List Entry) (new : Seated) : Type 0 where
+-- a side that was free has the inbox now, and had one turn more
+pub record Takes (k : Key) (side : Bool) (x : List Entry) (n : ℕ) (new : Seated) : Type 0 where
   pub held : Held
   pub history : List Entry
-  pub is : new ≡ (Has k side x history, (0, Some held) ∷ [])
+  pub is : new ≡ (Has k side x (n + 1) history, (0, Some held) ∷ [])
   pub knows : Knows (is_of side) x history
   pub left : IsLeftBy k held history
 
 -- a seat tried to take the inbox: it has it where the word was 0, and else nothing changed
 abbrev pub SeizedBy : View → List (ℕ × Option Held) → ℕ → Seated → Type 0
-SeizedBy (Idle k side x) c found new = (found ≡ 0 → Takes k side x new) × (found ≢ 0 → new ≡ (Idle k side x, c))
+SeizedBy (Idle k side x n) c found new = (found ≡ 0 → Takes k side x n new) × (found ≢ 0 → new ≡ (Idle k side x n, c))
 SeizedBy v c found new = Unit {0}
 
 abbrev pub Seized : Seated → ℕ → Seated → Type 0
@@ -100,7 +106,7 @@ Seized old found new = SeizedBy old.0 old.1 found new
 
 -- the inbox was given back, after these entries
 abbrev pub returned_by : List Entry → View → View
-returned_by entries (Has k side x y) = Idle k side (y ++ entries)
+returned_by entries (Has k side x n y) = Idle k side (y ++ entries) n
 returned_by entries v = Closed
 
 abbrev pub Returned : List Entry → Seated → Seated → Type 0

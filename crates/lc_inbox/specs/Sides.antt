@@ -28,16 +28,18 @@ pub record Half : Type 0 where
   pub key : Key
   pub side : Bool
   pub seen : List Entry
+  pub turns : ℕ
   pub lent : Option (List Entry)
 
--- one side: which inbox it is of, what that was made of, and how its history begins
+-- one side: which inbox it is of, what that was made of, how its history begins, and how many turns it had: how often it took the inbox, of which each call is one
 pub record Side : Type 0 where
   pub inbox : InboxId
   pub key : Key
   pub seen : List Entry
+  pub turns : ℕ
 
 abbrev pub side_of : Half → Side
-side_of h = record { inbox = h.inbox; key = h.key; seen = h.seen }
+side_of h = record { inbox = h.inbox; key = h.key; seen = h.seen; turns = h.turns }
 
 -- a half that has not got the inbox
 pub record IsIdle (side : Bool) (h : Half) : Type 0 where
@@ -49,6 +51,10 @@ pub record IsSameSide (old new : Side) : Type 0 where
   pub inbox : new.inbox ≡ old.inbox
   pub key : new.key ≡ old.key
 
+-- it had the inbox once: all that the call did and answered is of this one turn
+abbrev pub HadOneTurn : Side → Side → Type 0
+HadOneTurn old new = new.turns ≡ old.turns + 1
+
 -- both are sides of one inbox
 abbrev pub AreOfOne : Side → Side → Type 0
 AreOfOne incoming outgoing = incoming.inbox ≡ outgoing.inbox
@@ -57,6 +63,7 @@ AreOfOne incoming outgoing = incoming.inbox ≡ outgoing.inbox
 pub record IsNew (capacity : ℕ) (lane : End) (incoming outgoing : Side) : Type 0 where
   pub one : outgoing ≡ incoming
   pub seen : incoming.seen ≡ []
+  pub turns : incoming.turns ≡ 0
   pub channel_is : lane.lane ≡ 7 + number_of incoming.key.channel
   pub capacity_is : incoming.key.capacity ≡ capacity
   pub lane_is : incoming.key.lane.value ≡ lane

@@ -1,5 +1,5 @@
 //! The lock on an inbox: each of the two sides has one half.
-ghost use Rattle.std.specs.Prelude.{◌≡◌, [], ◌∷◌, ◌++◌, filter, Bool, true, false, List, IfSome, IfOk, MatchOption, None, Some};
+ghost use Rattle.std.specs.Prelude.{◌≡◌, ◌+◌, [], ◌∷◌, ◌++◌, filter, Bool, true, false, List, IfSome, IfOk, MatchOption, None, Some};
 ghost use Rattle.lc_inbox.specs.declared.history.Entry.{Entry as AnyEntry};
 ghost use Rattle.lc_inbox.specs.declared.rule.View.TheVariants.{Both};
 ghost use Rattle.lc_inbox.specs.Ends.{Held};
@@ -31,14 +31,14 @@ pub(crate) struct Half {
 impl Model for Half {
     ghost use Rattle.std.specs.Prelude.{◌≡◌};
     ghost use Rattle.std.specs.Arc.{arc_value};
-    ghost use Rattle.lc_inbox.specs.Rule.{seen_of, lent_of, view_of, carried_of};
+    ghost use Rattle.lc_inbox.specs.Rule.{seen_of, turns_of, lent_of, view_of, carried_of};
     ghost use Rattle.lc_inbox.specs.Sides.{Half};
 
     ghost Value = { Half };
 
-    ghost view = { λ h. record { inbox = h.seat.table_id; key = (arc_value h.table).shared.key; side = h.side; seen = seen_of h.seat.me.0; lent = lent_of h.seat.me.0 } };
+    ghost view = { λ h. record { inbox = h.seat.table_id; key = (arc_value h.table).shared.key; side = h.side; seen = seen_of h.seat.me.0; turns = turns_of h.seat.me.0; lent = lent_of h.seat.me.0 } };
 
-    ghost invariant = { λ h. (h.seat.table_id ≡ (arc_value h.table).shared.table_id) × (h.seat.table_id.words ≡ 1) × (h.seat.table_id.slots ≡ 1) × (h.seat.me ≡ (view_of (arc_value h.table).shared.key h.side (seen_of h.seat.me.0) (lent_of h.seat.me.0), carried_of (lent_of h.seat.me.0))) };
+    ghost invariant = { λ h. (h.seat.table_id ≡ (arc_value h.table).shared.table_id) × (h.seat.table_id.words ≡ 1) × (h.seat.table_id.slots ≡ 1) × (h.seat.me ≡ (view_of (arc_value h.table).shared.key h.side (seen_of h.seat.me.0) (turns_of h.seat.me.0) (lent_of h.seat.me.0), carried_of (lent_of h.seat.me.0))) };
 }
 
 // The table with the inbox in its slot.
@@ -69,7 +69,7 @@ fn one_place(alloc: Global, end: InboxEnd) -> Result<Vec<Option<InboxEnd>>, Allo
 /// The two halves of a new lock.
 pub(crate) fn halves(alloc: Global, end: InboxEnd, key: Key) -> Result<(Half, Half), AllocError>
     requires { IsLeftBy key end [] }
-    ensures { IfOk result (λ h. (h.0 ≡ record { inbox = h.1.inbox; key = key; side = true; seen = []; lent = None }) × (h.1 ≡ record { inbox = h.1.inbox; key = key; side = false; seen = []; lent = None })) }
+    ensures { IfOk result (λ h. (h.0 ≡ record { inbox = h.1.inbox; key = key; side = true; seen = []; turns = 0; lent = None }) × (h.1 ≡ record { inbox = h.1.inbox; key = key; side = false; seen = []; turns = 0; lent = None })) }
 {
     let (table, mut seat) = slot(alloc, end, &key)?;
     let Ok(table) = Arc::new(alloc, table) else {
@@ -101,7 +101,7 @@ impl Half {
     /// Takes the inbox, as soon as the other half has not got it.
     pub(crate) fn take<R: Wait>(&mut self, rt: &R) -> InboxEnd
         requires { self.old.lent ≡ None }
-        ensures { (history : List AnyEntry) × (self.new ≡ record self.old { lent = Some history }) × Knows (is_of self.old.side) self.old.seen history × IsLeftBy self.old.key result history }
+        ensures { (history : List AnyEntry) × (self.new ≡ record self.old { turns = self.old.turns + 1; lent = Some history }) × Knows (is_of self.old.side) self.old.seen history × IsLeftBy self.old.key result history }
     {
         for _ in rt.forever() {
             match self.try_take() {
@@ -115,7 +115,7 @@ impl Half {
     // Takes the inbox, if the other half has not got it.
     fn try_take(&mut self) -> Option<InboxEnd>
         requires { self.old.lent ≡ None }
-        ensures { MatchOption result (self.new ≡ self.old) (λ end. (history : List AnyEntry) × (self.new ≡ record self.old { lent = Some history }) × Knows (is_of self.old.side) self.old.seen history × IsLeftBy self.old.key end history) }
+        ensures { MatchOption result (self.new ≡ self.old) (λ end. (history : List AnyEntry) × (self.new ≡ record self.old { turns = self.old.turns + 1; lent = Some history }) × Knows (is_of self.old.side) self.old.seen history × IsLeftBy self.old.key end history) }
     {
         let word = word_of_side(self.side);
         let found = self

@@ -1,5 +1,5 @@
 //! One channel's inbox, with the lane that its server puts on.
-ghost use Rattle.std.specs.Prelude.{◌≡◌, ◌+◌, ◌<◌, ◌≤◌, [], length, if◌then◌else◌, is_ok, IfOk, IfErr, OnOk, Some, None};
+ghost use Rattle.std.specs.Prelude.{◌≡◌, ◌+◌, ◌<◌, ◌≤◌, [], length, if◌then◌else◌, is_ok, IfOk, IfErr, OnOk, MatchOption, Some, None};
 ghost use Rattle.std.specs.Result.{result_err};
 ghost use Rattle.lc_frame.specs.declared.frame.Frame.TheVariants.{Issue, Plead, LimitReceiving};
 ghost use Rattle.lc_frame.specs.Channel.{number_of, channel_at};
@@ -10,7 +10,9 @@ ghost use Rattle.lc_book.specs.Sums.{server_after_put};
 ghost use Rattle.lc_ring.specs.Ring.{front, with_front};
 ghost use Rattle.lc_peer.specs.Inbox.{new_inbox, IsInbox, IsTake, take_answer, take_first, take_refusal};
 ghost use Rattle.lc_inbox.specs.Ends.{IsHeld, IsNewHeld, violation_of, refusal_of, arrive, put, IsPut, IsNotPut};
+ghost use Rattle.lc_inbox.specs.Lends.{IsMadeOf, IsLent};
 
+use crate::lent::Lent;
 use lc_book::{Refusal, ServerBook, Violation};
 use lc_frame::{Channel, Frame, FrameRef};
 use lc_peer::{Inbox, Take};
@@ -34,6 +36,17 @@ impl Model for InboxEnd {
     ghost view = { λ e. record { channel = e.channel; inbox = e.inbox; lane = e.lane } };
 
     ghost invariant = { λ e. IsHeld (record { channel = e.channel; inbox = e.inbox; lane = e.lane }) };
+}
+
+// What `read` makes of the first message, where one waits.
+fn lend<T, F: FnOnce(&[u8], &[u8]) -> T>(inbox: &Inbox, read: F) -> Option<T>
+    requires { F.IsAlwaysCallable read }
+    ensures { MatchOption result (front inbox.now.ring ≡ None) (λ made. IsMadeOf F.FnOnce read made inbox.now) }
+{
+    match inbox.front() {
+        Some((near, far)) => Some(read(near, far)),
+        None => None,
+    }
 }
 
 impl InboxEnd {
@@ -104,6 +117,21 @@ impl InboxEnd {
         ensures buffer { buffer.new ≡ (if is_ok result then with_front (front self.old.inbox.ring) buffer.old else buffer.old) }
     {
         self.inbox.take_into(buffer)
+    }
+
+    /// Lends the first message in two parts, one after the other, and takes it.
+    pub(crate) fn take_with<T, F: FnOnce(&[u8], &[u8]) -> T>(&mut self, read: F) -> Lent<T>
+        requires { F.IsAlwaysCallable read }
+        ensures answer { IsLent F.FnOnce read result self.old.inbox }
+        ensures after { self.new ≡ record self.old { inbox = take_first self.old.inbox } }
+    {
+        let made = lend(&self.inbox, read);
+        match (made, self.inbox.pop()) {
+            (Some(made), _) => Lent::Read(made),
+            (None, Take::Empty) => Lent::Empty,
+            (None, Take::Ended) => Lent::Ended,
+            (None, Take::Took(_)) => unreachable!(),
+        }
     }
 
     /// Issues `n` guarantees. Refused by 5, 9, 10, 12 and 13, in this order.

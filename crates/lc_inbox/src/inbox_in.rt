@@ -6,7 +6,7 @@ ghost use Rattle.lc_frame.specs.FrameRef.{frame_of};
 ghost use Rattle.lc_inbox.specs.declared.history.Entry.{Entry as AnyEntry};
 ghost use Rattle.lc_inbox.specs.declared.history.Entry.TheVariants.{Heard, Refused};
 ghost use Rattle.lc_inbox.specs.History.{IsLeftBy};
-ghost use Rattle.lc_inbox.specs.Sides.{IsIdle, side_of, IsSameSide, IsHeard, IsViolated};
+ghost use Rattle.lc_inbox.specs.Sides.{IsIdle, side_of, IsSameSide, HadOneTurn, IsHeard, IsViolated};
 
 use crate::half::Half;
 use crate::inbox_end::InboxEnd;
@@ -60,6 +60,7 @@ fn arrive<R: Wait>(half: &mut Half, rt: &R, frame: FrameRef<'_>) -> Result<(), V
     requires lane { lane_of (frame_of frame) ≡ number_of half.old.key.channel }
     ensures idle { IsIdle true half.new }
     ensures same { IsSameSide (side_of half.old) (side_of half.new) }
+    ensures turn { HadOneTurn (side_of half.old) (side_of half.new) }
     ensures ok { OnOk result (IsHeard (frame_of frame.entry) (side_of half.old) (side_of half.new)) }
     ensures err { IfErr result (λ v. IsViolated v (frame_of frame.entry) (side_of half.old) (side_of half.new)) }
 {
@@ -91,6 +92,7 @@ impl InboxIn {
         requires lane { lane_of (frame_of frame) ≡ number_of self.old.key.channel }
         ensures ok { OnOk result (IsHeard (frame_of frame.entry) self.old self.new) }
         ensures err { IfErr result (λ v. IsViolated v (frame_of frame.entry) self.old self.new) }
+        ensures turn { HadOneTurn self.old self.new }
         ensures same { IsSameSide self.old self.new }
     {
         let turn = self.turn.lock(rt);

@@ -5,15 +5,18 @@ ghost use Rattle.lc_peer.specs.Inbox.{IsTake};
 ghost use Rattle.lc_inbox.specs.declared.history.Entry.{Entry as AnyEntry};
 ghost use Rattle.lc_inbox.specs.declared.history.Entry.TheVariants.{Put, Took};
 ghost use Rattle.lc_inbox.specs.History.{IsLeftBy, book_after};
-ghost use Rattle.lc_inbox.specs.Sides.{IsIdle, side_of, IsSameSide, IsPutBy, IsNotPutBy, IsTakeAnswer, IsNotTaken, HasLooked};
+ghost use Rattle.lc_inbox.specs.Lends.{first_taken, IsLentBy};
+ghost use Rattle.lc_inbox.specs.Sides.{IsIdle, side_of, IsSameSide, HadOneTurn, IsPutBy, IsNotPutBy, IsTakeAnswer, IsNotTaken, HasLooked};
 
 use crate::half::Half;
 use crate::inbox_end::InboxEnd;
+use crate::lent::Lent;
 use lc_book::{Refusal, ServerBook};
 use lc_frame::{Channel, Frame};
 use lc_peer::Take;
 use std::alloc::Global;
 use std::marker::{Brand, Model};
+use std::snapshot::Snapshot;
 use std::sync::{Arc, Mutex, Wait};
 
 /// A shared inbox, as the channel's receiving end has it.
@@ -52,11 +55,21 @@ fn give_took(half: &mut Half, end: InboxEnd, body: &[u8])
     half.give::<Brand, &[u8]>(end, &body);
 }
 
+// Gives the inbox back, out of which the first message was taken, if there was one.
+fn give_first(half: &mut Half, end: InboxEnd, before: &Snapshot<InboxEnd>)
+    requires side { half.old.side ≡ false }
+    requires fits { (history : List AnyEntry) × (half.old.lent ≡ Some history) × IsLeftBy half.old.key end (history ++ first_taken before.now.value) }
+    ensures { IfSome half.old.lent (λ history. half.new ≡ record half.old { seen = history ++ first_taken before.now.value; lent = None }) }
+{
+    half.give::<Brand, Snapshot<InboxEnd>>(end, before);
+}
+
 // Guarantees are issued.
 fn issue<R: Wait>(half: &mut Half, rt: &R, n: u32) -> Result<(), Refusal>
     requires idle { IsIdle false half.old }
     ensures idle { IsIdle false half.new }
     ensures same { IsSameSide (side_of half.old) (side_of half.new) }
+    ensures turn { HadOneTurn (side_of half.old) (side_of half.new) }
     ensures ok { OnOk result (IsPutBy (Issue half.old.key.channel n) (side_of half.old) (side_of half.new)) }
     ensures err { IfErr result (λ e. IsNotPutBy e (Issue half.old.key.channel n) (side_of half.old) (side_of half.new)) }
 {
@@ -80,6 +93,7 @@ fn plead<R: Wait>(half: &mut Half, rt: &R, target: u32) -> Result<(), Refusal>
     requires idle { IsIdle false half.old }
     ensures idle { IsIdle false half.new }
     ensures same { IsSameSide (side_of half.old) (side_of half.new) }
+    ensures turn { HadOneTurn (side_of half.old) (side_of half.new) }
     ensures ok { OnOk result (IsPutBy (Plead half.old.key.channel target) (side_of half.old) (side_of half.new)) }
     ensures err { IfErr result (λ e. IsNotPutBy e (Plead half.old.key.channel target) (side_of half.old) (side_of half.new)) }
 {
@@ -103,6 +117,7 @@ fn limit<R: Wait>(half: &mut Half, rt: &R, bound: u64) -> Result<(), Refusal>
     requires idle { IsIdle false half.old }
     ensures idle { IsIdle false half.new }
     ensures same { IsSameSide (side_of half.old) (side_of half.new) }
+    ensures turn { HadOneTurn (side_of half.old) (side_of half.new) }
     ensures ok { OnOk result (IsPutBy (LimitReceiving half.old.key.channel bound) (side_of half.old) (side_of half.new)) }
     ensures err { IfErr result (λ e. IsNotPutBy e (LimitReceiving half.old.key.channel bound) (side_of half.old) (side_of half.new)) }
 {
@@ -126,6 +141,7 @@ fn take_into<R: Wait>(half: &mut Half, rt: &R, buffer: &mut [u8]) -> Result<Take
     requires idle { IsIdle false half.old }
     ensures idle { IsIdle false half.new }
     ensures same { IsSameSide (side_of half.old) (side_of half.new) }
+    ensures turn { HadOneTurn (side_of half.old) (side_of half.new) }
     ensures ok { IfOk result (λ take. IsTakeAnswer take buffer.old buffer.new (side_of half.old) (side_of half.new)) }
     ensures range { IfOk result (λ take. IsTake take) }
     ensures err { IfErr result (λ e. IsNotTaken e buffer.old buffer.new (side_of half.old) (side_of half.new)) }
@@ -151,11 +167,28 @@ fn take_into<R: Wait>(half: &mut Half, rt: &R, buffer: &mut [u8]) -> Result<Take
     }
 }
 
+// Lends the first message, and takes it.
+fn take_with<R: Wait, T, F: FnOnce(&[u8], &[u8]) -> T>(half: &mut Half, rt: &R, read: F) -> Lent<T>
+    requires idle { IsIdle false half.old }
+    requires callable { F.IsAlwaysCallable read }
+    ensures idle { IsIdle false half.new }
+    ensures same { IsSameSide (side_of half.old) (side_of half.new) }
+    ensures turn { HadOneTurn (side_of half.old) (side_of half.new) }
+    ensures answer { IsLentBy F.FnOnce read result (side_of half.old) (side_of half.new) }
+{
+    let mut end = half.take(rt);
+    let before = Snapshot::of(&end);
+    let lent = end.take_with(read);
+    give_first(half, end, &before);
+    lent
+}
+
 // Reads the book.
 fn book<R: Wait>(half: &mut Half, rt: &R) -> ServerBook
     requires idle { IsIdle false half.old }
     ensures idle { IsIdle false half.new }
     ensures same { IsSameSide (side_of half.old) (side_of half.new) }
+    ensures turn { HadOneTurn (side_of half.old) (side_of half.new) }
     ensures looks { HasLooked (side_of half.old) (side_of half.new) }
     ensures book { result ≡ book_after half.new.key half.new.seen }
 {
@@ -171,6 +204,7 @@ impl InboxOut {
     pub fn issue<R: Wait>(&mut self, rt: &R, n: u32) -> Result<(), Refusal>
         ensures ok { OnOk result (IsPutBy (Issue self.old.key.channel n) self.old self.new) }
         ensures err { IfErr result (λ e. IsNotPutBy e (Issue self.old.key.channel n) self.old self.new) }
+        ensures turn { HadOneTurn self.old self.new }
         ensures same { IsSameSide self.old self.new }
     {
         let turn = self.turn.lock(rt);
@@ -184,6 +218,7 @@ impl InboxOut {
     pub fn plead<R: Wait>(&mut self, rt: &R, target: u32) -> Result<(), Refusal>
         ensures ok { OnOk result (IsPutBy (Plead self.old.key.channel target) self.old self.new) }
         ensures err { IfErr result (λ e. IsNotPutBy e (Plead self.old.key.channel target) self.old self.new) }
+        ensures turn { HadOneTurn self.old self.new }
         ensures same { IsSameSide self.old self.new }
     {
         let turn = self.turn.lock(rt);
@@ -197,6 +232,7 @@ impl InboxOut {
     pub fn limit<R: Wait>(&mut self, rt: &R, bound: u64) -> Result<(), Refusal>
         ensures ok { OnOk result (IsPutBy (LimitReceiving self.old.key.channel bound) self.old self.new) }
         ensures err { IfErr result (λ e. IsNotPutBy e (LimitReceiving self.old.key.channel bound) self.old self.new) }
+        ensures turn { HadOneTurn self.old self.new }
         ensures same { IsSameSide self.old self.new }
     {
         let turn = self.turn.lock(rt);
@@ -211,6 +247,7 @@ impl InboxOut {
         ensures ok { IfOk result (λ take. IsTakeAnswer take buffer.old buffer.new self.old self.new) }
         ensures range { IfOk result (λ take. IsTake take) }
         ensures err { IfErr result (λ e. IsNotTaken e buffer.old buffer.new self.old self.new) }
+        ensures turn { HadOneTurn self.old self.new }
         ensures same { IsSameSide self.old self.new }
     {
         let turn = self.turn.lock(rt);
@@ -219,10 +256,29 @@ impl InboxOut {
         answer
     }
 
+    /// Lends the first message to `read`, in two parts, one after the other, and takes it: one step,
+    /// and no copy. The reading side waits until `read` has returned.
+    pub fn take_with<R: Wait, T, F: FnOnce(&[u8], &[u8]) -> T>(
+        &mut self,
+        rt: &R,
+        read: F,
+    ) -> Lent<T>
+        requires { F.IsAlwaysCallable read }
+        ensures answer { IsLentBy F.FnOnce read result self.old self.new }
+        ensures turn { HadOneTurn self.old self.new }
+        ensures same { IsSameSide self.old self.new }
+    {
+        let turn = self.turn.lock(rt);
+        let lent = take_with(&mut self.half, rt, read);
+        drop(turn);
+        lent
+    }
+
     /// The book, as the whole history up to here leaves it.
     pub fn book<R: Wait>(&mut self, rt: &R) -> ServerBook
         ensures looks { HasLooked self.old self.new }
         ensures book { result ≡ book_after self.new.key self.new.seen }
+        ensures turn { HadOneTurn self.old self.new }
         ensures same { IsSameSide self.old self.new }
     {
         let turn = self.turn.lock(rt);

@@ -12,6 +12,7 @@ mod inbox_in;
 mod inbox_out;
 mod inboxes;
 pub mod laws;
+mod lent;
 mod rule;
 mod shared_inbox;
 
@@ -19,4 +20,5 @@ pub use inbox_end::InboxEnd;
 pub use inbox_in::InboxIn;
 pub use inbox_out::InboxOut;
 pub use inboxes::{Inboxes, share_all};
+pub use lent::Lent;
 pub use shared_inbox::{SharedInbox, finish, share};

@@ -19,13 +19,14 @@ pub struct Key {
     pub lane: Snapshot<LaneEnd>,
 }
 
-/// What a seat knows: how the history began. A side is true where it reads, and false where it
-/// receives. No value of it is made.
+/// What a seat knows: how the history began, and how many turns its side had. A side is true where it
+/// reads, and false where it receives. Nothing but taking the inbox raises the turns, so a side that
+/// answers from memory is found out by the turn that is missing. No value of it is made.
 pub enum View {
     /// The seat of a side that has not got the inbox.
-    Idle(Key, bool, LinkedList<Entry>),
+    Idle(Key, bool, LinkedList<Entry>, u64),
     /// The seat of a side that has the inbox, and so the whole history too.
-    Has(Key, bool, LinkedList<Entry>, LinkedList<Entry>),
+    Has(Key, bool, LinkedList<Entry>, u64, LinkedList<Entry>),
     /// The one seat of both sides, before they are parted and when they end.
     Both(Key, LinkedList<Entry>, LinkedList<Entry>),
     /// A seat that another has taken in, or that has taken the inbox for good.

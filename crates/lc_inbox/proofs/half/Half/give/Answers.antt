@@ -8,9 +8,9 @@ use Rattle.lc_inbox.proofs.half.Half.give.Goals as goal
 pub store-requires : goal.store-requires
 store-requires g c =
     let log = c.requires.fits.0 in
-    let was = has_me _ _ _ log _ _ (ap (λ v. v.lent) c.self.view_is ∙ c.requires.fits.1) c.self.invariant.3 in (
+    let was = has_me _ _ _ log _ _ _ (ap (λ v. v.lent) c.self.view_is ∙ c.requires.fits.1) c.self.invariant.3 in (
       search rules,
       search rules,
-      may_return _ _ _ _ _ _ log _ _ _ (search rules) (filled_me _ _ _ _ was c.exchange.ensures.3) (subst (λ v. filter (is_of (other v.side)) g.N.Told.entries ≡ []) (sym c.self.view_is) c.requires.own)
+      may_return _ _ _ _ _ _ log _ _ _ _ (search rules) (filled_me _ _ _ _ was c.exchange.ensures.3) (subst (λ v. filter (is_of (other v.side)) g.N.Told.entries ≡ []) (sym c.self.view_is) c.requires.own)
           (subst (λ v. IsLeftBy v.key c.args.end (log ++ g.N.Told.entries)) (sym c.self.view_is) c.requires.fits.2),
     )
