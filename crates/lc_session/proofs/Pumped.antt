@@ -1,0 +1,200 @@
+-- What the writing pump popped and wrote, after one step and another.
+use Rattle.std.proofs.Common.{◌≡◌, ℕ, ◌⊎◌, inl, inr, List, [], ◌∷◌, ◌++◌, length, take, Option, Some, None, refl, sym, ap, subst, ◌∙◌, append_assoc, append-nil, arith, length-append}
+use Rattle.std.specs.List.{flat_map}
+use Rattle.std.specs.Io.KnownBytes.{Appends, Keeps}
+use Rattle.std.proofs.lemmas.List.{take_at}
+use Rattle.std.proofs.lemmas.List.Concat.{flat_map-append}
+use Rattle.lc_frame.specs.declared.frame.Frame.{Frame}
+use Rattle.lc_frame.specs.Encoding.{encoding}
+use Rattle.lc_queue.specs.Parts.{Outlet}
+use Rattle.lc_driver.specs.Writing.{text}
+use Rattle.lc_session.specs.Batch.{BatchState, HasBegun, LetsGo}
+use Rattle.lc_session.specs.Pumping.{Pumping, IsRest, IsPumping, Pops, Pumps, Writes, pumping_of}
+
+-- ---- what a writer's bytes grow by
+
+appends_then : (a b c : Option (List ℕ)) (x y : List ℕ) → Appends a b x → Appends b c y → Appends a c (x ++ y)
+appends_then None b c x y p q = tt
+appends_then (Some a) None c x y p q = absurd p
+appends_then (Some a) (Some b) None x y p q = absurd q
+appends_then (Some a) (Some b) (Some c) x y p q = q ∙ ap (λ (zs : List ℕ). zs ++ y) p ∙ append_assoc a x y
+
+appends_nothing : (a : Option (List ℕ)) → Appends a a []
+appends_nothing None = tt
+appends_nothing (Some a) = sym (append-nil a)
+
+keeps_appends : (a b : Option (List ℕ)) → Keeps a b → Appends a b []
+keeps_appends None b k = tt
+keeps_appends (Some a) None k = absurd k
+keeps_appends (Some a) (Some b) k = k ∙ sym (append-nil a)
+
+-- ---- what was popped
+
+outlet_then : (o : Outlet) (xs ys : List Frame) → ◌≡◌ {A = Outlet} (record o { popped = (o.popped ++ xs) ++ ys }) (record o { popped = o.popped ++ (xs ++ ys) })
+outlet_then o xs ys = ap (λ (fs : List Frame). record o { popped = fs }) (append_assoc o.popped xs ys)
+
+outlet_same : (o : Outlet) → ◌≡◌ {A = Outlet} o (record o { popped = o.popped ++ [] })
+outlet_same o = ap (λ (fs : List Frame). record o { popped = fs }) (sym (append-nil o.popped))
+
+pub pops_nothing : (o : Outlet) (b b' : BatchState) → b'.begun ≡ b.begun → b'.waiting ≡ b.waiting → Pops (pumping_of o b) (pumping_of o b')
+pops_nothing o b b' begun waiting = record { popped = []; drain = outlet_same o; begun = begun; waiting = waiting ∙ sym (append-nil b.waiting) }
+
+pub pops_one : (p : Pumping) (o o' : Outlet) (b b' : BatchState) (f : Frame) → Pops p (pumping_of o b) → o' ≡ record o { popped = o.popped ++ f ∷ [] } → b'.begun ≡ b.begun → b'.waiting ≡ b.waiting ++ f ∷ [] → Pops p (pumping_of o' b')
+pops_one p o o' b b' f h e begun waiting = record {
+  popped = h.popped ++ f ∷ [];
+  drain = e ∙ ap (λ (x : Outlet). record x { popped = x.popped ++ f ∷ [] }) h.drain ∙ outlet_then p.drain h.popped (f ∷ []);
+  begun = begun ∙ h.begun;
+  waiting = waiting ∙ ap (λ (fs : List Frame). fs ++ f ∷ []) h.waiting ∙ append_assoc p.waiting h.popped (f ∷ []);
+}
+
+pub not_empty : (fs : List Frame) (f : Frame) → fs ++ f ∷ [] ≡ [] → ⊥
+not_empty fs f e = omega (arith, ap length e, length-append fs (f ∷ []))
+
+-- what a pump keeps, when it pops
+pub pops_keep : (p q : Pumping) → IsPumping p → Pops p q → IsPumping q
+pops_keep p q k h = record {
+  begun_frames = k.begun_frames;
+  popped = ap (λ (o : Outlet). o.popped) h.drain ∙ ap (λ (fs : List Frame). fs ++ h.popped) k.popped ∙ append_assoc k.begun_frames p.waiting h.popped ∙ ap (λ (fs : List Frame). k.begun_frames ++ fs) (sym h.waiting);
+  rest = subst (λ (xs : List ℕ). IsRest k.begun_frames xs) (sym h.begun) k.rest;
+}
+
+-- ---- what was written
+
+-- the last of some frames, when all bytes were written
+last_of : (f : Frame) (fs : List Frame) → HasBegun (f ∷ fs) []
+last_of f [] = record { earlier = []; frame = f; last = refl; written = encoding f; some = omega arith; whole = sym (append-nil (encoding f)) }
+last_of f (g ∷ fs) =
+    let h = last_of g fs in
+    record { earlier = f ∷ h.earlier; frame = h.frame; last = ap (λ (gs : List Frame). f ∷ gs) h.last; written = h.written; some = h.some; whole = h.whole }
+
+nil_right : (xs ys : List ℕ) → xs ++ ys ≡ [] → ys ≡ []
+nil_right [] ys e = e
+nil_right (x ∷ xs) ys e = cc
+
+-- all that was pending
+all_begun : (fs : List Frame) → (fs ≡ []) ⊎ HasBegun fs []
+all_begun [] = inl refl
+all_begun (f ∷ fs) = inr (last_of f fs)
+
+-- where some bytes more are written of what was left
+rest_on : (frames : List Frame) (begun written rest : List ℕ) → IsRest frames begun → begun ≡ written ++ rest → IsRest frames rest
+rest_on frames begun written rest (inl none) e = inl (nil_right written rest (sym e ∙ none))
+rest_on frames begun written rest (inr h) e = inr (record {
+  earlier = h.earlier;
+  frame = h.frame;
+  last = h.last;
+  written = h.written ++ written;
+  some = omega (arith, h.some, length-append h.written written);
+  whole = h.whole ∙ ap (λ (xs : List ℕ). h.written ++ xs) e ∙ sym (append_assoc h.written written rest);
+})
+
+rest_after : (frames gone : List Frame) (begun written rest : List ℕ) → IsRest frames begun → begun ++ flat_map encoding gone ≡ written ++ rest → (gone ≡ []) ⊎ HasBegun gone rest → IsRest (frames ++ gone) rest
+rest_after frames gone begun written rest k e (inl none) =
+    subst (λ (fs : List Frame). IsRest fs rest) (sym (append-nil frames) ∙ ap (λ (fs : List Frame). frames ++ fs) (sym none))
+    (rest_on frames begun written rest k (sym (append-nil begun) ∙ ap (λ (fs : List Frame). begun ++ flat_map encoding fs) (sym none) ∙ e))
+rest_after frames gone begun written rest k e (inr h) = inr (record {
+  earlier = frames ++ h.earlier;
+  frame = h.frame;
+  last = ap (λ (fs : List Frame). frames ++ fs) h.last ∙ sym (append_assoc frames h.earlier (h.frame ∷ []));
+  written = h.written;
+  some = h.some;
+  whole = h.whole;
+})
+
+-- what a pump keeps, when some of what is pending is written
+pub goes_keep : (o : Outlet) (n : ℕ) (b b' : BatchState) → IsPumping (pumping_of o b) → LetsGo n b b' → IsPumping (pumping_of o b')
+goes_keep o n b b' k h = record {
+  begun_frames = k.begun_frames ++ h.gone;
+  popped = k.popped ∙ ap (λ (fs : List Frame). k.begun_frames ++ fs) h.waiting ∙ sym (append_assoc k.begun_frames h.gone b'.waiting);
+  rest = rest_after k.begun_frames h.gone b.begun h.written b'.begun k.rest h.text_is h.rest;
+}
+
+-- all of it
+goes_all : (b b' : BatchState) → b'.begun ≡ [] → b'.waiting ≡ [] → LetsGo (length (text b.begun b.waiting)) b b'
+goes_all b b' begun waiting = record {
+  gone = b.waiting;
+  written = text b.begun b.waiting;
+  count_is = refl;
+  waiting = sym (append-nil b.waiting) ∙ ap (λ (fs : List Frame). b.waiting ++ fs) (sym waiting);
+  text_is = sym (append-nil (text b.begun b.waiting)) ∙ ap (λ (xs : List ℕ). text b.begun b.waiting ++ xs) (sym begun);
+  rest = subst (λ (xs : List ℕ). (b.waiting ≡ []) ⊎ HasBegun b.waiting xs) (sym begun) (all_begun b.waiting);
+}
+
+-- ---- the steps of a run
+
+more_text : (begun : List ℕ) (fs gs : List Frame) → text begun (fs ++ gs) ≡ text begun fs ++ flat_map encoding gs
+more_text begun fs gs = ap (λ (xs : List ℕ). begun ++ xs) (flat_map-append encoding fs gs) ∙ sym (append_assoc begun (flat_map encoding fs) (flat_map encoding gs))
+
+text_after : (n : ℕ) (b b' : BatchState) (h : LetsGo n b b') → text b.begun b.waiting ≡ h.written ++ text b'.begun b'.waiting
+text_after n b b' h =
+    ap (λ (fs : List Frame). b.begun ++ flat_map encoding fs) h.waiting
+    ∙ ap (λ (xs : List ℕ). b.begun ++ xs) (flat_map-append encoding h.gone b'.waiting)
+    ∙ sym (append_assoc b.begun (flat_map encoding h.gone) (flat_map encoding b'.waiting))
+    ∙ ap (λ (xs : List ℕ). xs ++ flat_map encoding b'.waiting) h.text_is
+    ∙ append_assoc h.written b'.begun (flat_map encoding b'.waiting)
+
+-- a write of what was pending, of which the writer took so many bytes
+pub writes_some : (a b : Option (List ℕ)) (n : ℕ) (x y : BatchState) (given : List ℕ) → given ≡ text x.begun x.waiting → Appends a b (take n given) → LetsGo n x y → Writes a b x y
+writes_some a b n x y given e grown h = record {
+  count = n;
+  goes = h;
+  grown = subst (λ (xs : List ℕ). Appends a b xs) (ap (λ (xs : List ℕ). take n xs) (e ∙ text_after n x y h) ∙ take_at h.written (text y.begun y.waiting) n (sym h.count_is)) grown;
+}
+
+pub writes_all : (a b : Option (List ℕ)) (n : ℕ) (x y : BatchState) (given : List ℕ) → given ≡ text x.begun x.waiting → n ≡ length given → Appends a b (take n given) → y.begun ≡ [] → y.waiting ≡ [] → Writes a b x y
+writes_all a b n x y given e all grown begun waiting =
+    writes_some a b (length (text x.begun x.waiting)) x y given e (subst (λ (k : ℕ). Appends a b (take k given)) (all ∙ ap length e) grown) (goes_all x y begun waiting)
+
+pub keeps_itself : (a : Option (List ℕ)) → Keeps a a
+keeps_itself None = tt
+keeps_itself (Some a) = refl
+
+-- frames were popped, and the writer kept its bytes
+popped_only : (a b : Option (List ℕ)) (p q : Pumping) → Keeps a b → Pops p q → Pumps a b p q
+popped_only a b p q k h = record {
+  taken = [];
+  popped = h.popped;
+  grown = keeps_appends a b k;
+  drain = h.drain;
+  text_is = ap (λ (fs : List Frame). text p.begun fs) (sym h.waiting) ∙ ap (λ (xs : List ℕ). text xs q.waiting) (sym h.begun);
+}
+
+-- the same, where the pump is known by another name
+pub pumps_popped : (a b : Option (List ℕ)) (p p' q : Pumping) → p' ≡ p → Keeps a b → Pops p' q → Pumps a b p q
+pumps_popped a b p p' q e k h = subst (λ (x : Pumping). Pumps a b x q) e (popped_only a b p' q k h)
+
+-- nothing was popped or written
+pub pumps_same : (a b : Option (List ℕ)) (p q : Pumping) → q ≡ p → Keeps a b → Pumps a b p q
+pumps_same a b p q e k = subst (λ (x : Pumping). Pumps a b x q) e (popped_only a b q q k (record { popped = []; drain = outlet_same q.drain; begun = refl; waiting = sym (append-nil q.waiting) }))
+
+pub pumps_nothing : (a : Option (List ℕ)) (p : Pumping) → Pumps a a p p
+pumps_nothing a p = pumps_same a a p p refl (keeps_itself a)
+
+-- and some of what is pending then was written
+pub pumps_written : (a b : Option (List ℕ)) (p : Pumping) (o : Outlet) (x y : BatchState) → Pops p (pumping_of o x) → Writes a b x y → Pumps a b p (pumping_of o y)
+pumps_written a b p o x y h w = record {
+  taken = w.goes.written;
+  popped = h.popped;
+  grown = w.grown;
+  drain = h.drain;
+  text_is = ap (λ (fs : List Frame). text p.begun fs) (sym h.waiting) ∙ ap (λ (xs : List ℕ). text xs x.waiting) (sym h.begun) ∙ text_after w.count x y w.goes;
+}
+
+pub pumps_then : (a b c : Option (List ℕ)) (p q r : Pumping) → Pumps a b p q → Pumps b c q r → Pumps a c p r
+pumps_then a b c p q r s t = record {
+  taken = s.taken ++ t.taken;
+  popped = s.popped ++ t.popped;
+  grown = appends_then a b c s.taken t.taken s.grown t.grown;
+  drain = t.drain ∙ ap (λ (o : Outlet). record o { popped = o.popped ++ t.popped }) s.drain ∙ outlet_then p.drain s.popped t.popped;
+  text_is =
+      ap (λ (fs : List Frame). text p.begun fs) (sym (append_assoc p.waiting s.popped t.popped))
+      ∙ more_text p.begun (p.waiting ++ s.popped) t.popped
+      ∙ ap (λ (xs : List ℕ). xs ++ flat_map encoding t.popped) s.text_is
+      ∙ append_assoc s.taken (text q.begun q.waiting) (flat_map encoding t.popped)
+      ∙ ap (λ (xs : List ℕ). s.taken ++ xs) (sym (more_text q.begun q.waiting t.popped) ∙ t.text_is)
+      ∙ sym (append_assoc s.taken t.taken (text r.begun r.waiting));
+}
+
+-- frames were popped, and then the pump went on
+pub pumps_on : (a b : Option (List ℕ)) (p q r : Pumping) → Pops p q → Pumps a b q r → Pumps a b p r
+pumps_on a b p q r h s = pumps_then a a b p q r (popped_only a a p q (keeps_itself a) h) s

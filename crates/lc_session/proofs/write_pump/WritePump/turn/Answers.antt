@@ -1,0 +1,15 @@
+use Rattle.std.proofs.Common.{refl}
+use Rattle.lc_session.proofs.Pumped.{goes_keep, pumps_on, pumps_popped}
+use Rattle.lc_session.proofs.write_pump.WritePump.turn.Goals as goal
+
+pub invariant_of-self : goal.invariant_of-self
+invariant_of-self g c = goes_keep _ _ _ _ c.self-2.invariant c.write_pending.ensures.writes.goes
+
+pub returns-then-not-stopping-clause-pumps : goal.returns-then-not-stopping-clause-pumps
+returns-then-not-stopping-clause-pumps g c = pumps_on _ _ _ _ _ c.join_popped.ensures.pops c.rest.ensures.pumps
+
+pub returns-in-Ok-clause-pumps : goal.returns-in-Ok-clause-pumps
+returns-in-Ok-clause-pumps g c = pumps_popped _ _ _ _ _ refl c.flush_counted.ensures.bytes c.join_popped.ensures.pops
+
+pub returns-in-Err-clause-pumps : goal.returns-in-Err-clause-pumps
+returns-in-Err-clause-pumps g c = pumps_popped _ _ _ _ _ refl c.flush_counted.ensures.bytes c.join_popped.ensures.pops

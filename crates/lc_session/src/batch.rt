@@ -1,0 +1,140 @@
+//! The frames that a writing pump has popped, on their way out.
+ghost use Rattle.std.specs.Prelude.{◌≡◌, ◌+◌, ◌-◌, ◌≤◌, ◌↔◌, [], ◌∷◌, ◌++◌, length, take, drop, IsTrue, IfOk, vec_len, vec_capacity};
+ghost use Rattle.lc_frame.specs.Kind.{max_frame};
+ghost use Rattle.lc_frame.specs.Frame.{IsValid};
+ghost use Rattle.lc_frame.specs.Encoding.{encoding};
+ghost use Rattle.lc_driver.specs.Writing.{text};
+ghost use Rattle.lc_session.specs.Batch.{BatchState, max_batch, waiting_in, AreWhole, EndsAt, LetsGo};
+
+use lc_frame::{Decoded, Frame, MAX_FRAME, decode};
+use std::alloc::{AllocError, Global};
+use std::marker::Model;
+
+/// Room for two of the longest frames: while one has room, another frame can be popped.
+const MAX_BATCH: usize = 2 * MAX_FRAME;
+
+/// The bytes of frames that were popped and are not written yet, and how many of them are left of
+/// the one that was begun.
+#[derive(Debug, Drop)]
+pub(crate) struct Batch {
+    buffer: Vec<u8>,
+    start: usize,
+    begun: usize,
+}
+
+impl Model for Batch {
+    ghost use Rattle.std.specs.Prelude.{◌-◌, drop, vec_len, vec_capacity};
+    ghost use Rattle.lc_session.specs.Batch.{BatchState, max_batch, batch_of, IsBatch};
+
+    ghost Value = { BatchState };
+
+    ghost view = { λ batch. batch_of batch.begun (drop batch.start batch.buffer.items) (max_batch - vec_len batch.buffer) };
+
+    ghost invariant = { λ batch. IsBatch (vec_len batch.buffer) (vec_capacity batch.buffer) batch.start batch.begun (drop batch.start batch.buffer.items) };
+}
+
+// Where the frame ends that is begun last, once so many of these bytes are written.
+fn frame_end(bytes: &[u8], begun: usize, written: usize) -> usize
+    requires whole { AreWhole begun bytes.now }
+    requires within { written ≤ length bytes.now }
+    ensures { EndsAt begun bytes.now written result }
+{
+    let mut end = begun;
+    'frames: while end < written {
+        match decode(bytes.split_at(end).1) {
+            Decoded::Whole { frame: _, used } => end += used,
+            Decoded::More => unreachable!(),
+            Decoded::Fault(_) => unreachable!(),
+        }
+    }
+    end
+}
+
+// Puts the bytes of a frame last in a buffer that has room for them.
+fn encode(frame: Frame, buffer: &mut Vec<u8>)
+    requires valid { IsValid frame }
+    requires room { vec_len buffer.old + max_frame ≤ vec_capacity buffer.old }
+    ensures items { buffer.new.items ≡ buffer.old.items ++ encoding frame }
+    ensures capacity { vec_capacity buffer.old ≤ vec_capacity buffer.new }
+{
+    if frame.encode_into(buffer).is_err() {
+        unreachable!();
+    }
+}
+
+impl Batch {
+    pub(crate) fn new(alloc: Global) -> Result<Batch, AllocError>
+        ensures { IfOk result (λ batch. (batch.begun ≡ []) × (batch.waiting ≡ [])) }
+    {
+        Ok(Batch {
+            buffer: Vec::with_capacity(alloc, MAX_BATCH)?,
+            start: 0,
+            begun: 0,
+        })
+    }
+
+    // All that is pending: what is left of the frame that was begun, and the frames that wait.
+    pub(crate) fn bytes(&self) -> &[u8]
+        ensures { result.now ≡ text self.now.begun self.now.waiting }
+    {
+        self.buffer.split_at(self.start).1
+    }
+
+    pub(crate) fn is_empty(&self) -> bool
+        ensures empty { IsTrue result ↔ ((self.now.begun ≡ []) × (self.now.waiting ≡ [])) }
+        ensures bound { self.now.free ≤ max_batch }
+    {
+        self.start == self.buffer.len()
+    }
+
+    // All that is pending was written.
+    pub(crate) fn clear(&mut self)
+        ensures begun { self.new.begun ≡ [] }
+        ensures waiting { self.new.waiting ≡ [] }
+        ensures free { self.new.free ≡ max_batch }
+    {
+        self.buffer.clear();
+        self.start = 0;
+        self.begun = 0;
+    }
+
+    // Where nothing is pending, all room is free.
+    pub(crate) fn restart(&mut self)
+        ensures begun { self.new.begun ≡ self.old.begun }
+        ensures waiting { self.new.waiting ≡ self.old.waiting }
+        ensures room { self.new.begun ≡ [] → self.new.waiting ≡ [] → self.new.free ≡ max_batch }
+        ensures bound { self.new.free ≤ max_batch }
+    {
+        if self.is_empty() {
+            self.clear();
+        }
+    }
+
+    // The first so many bytes were written.
+    pub(crate) fn note_written(&mut self, count: usize)
+        requires { count ≤ length (text self.old.begun self.old.waiting) }
+        ensures { LetsGo count self.old self.new }
+    {
+        let end = frame_end(self.bytes(), self.begun, count);
+        self.start += count;
+        self.begun = end - count;
+    }
+
+    // Whether any frame has room.
+    pub(crate) fn has_room(&self) -> bool
+        ensures { IsTrue result ↔ (max_frame ≤ self.now.free) }
+    {
+        MAX_BATCH - self.buffer.len() >= MAX_FRAME
+    }
+
+    // A frame waits behind the others.
+    pub(crate) fn append(&mut self, frame: Frame)
+        requires valid { IsValid frame }
+        requires room { max_frame ≤ self.old.free }
+        ensures begun { self.new.begun ≡ self.old.begun }
+        ensures waiting { self.new.waiting ≡ self.old.waiting ++ frame ∷ [] }
+        ensures free { self.new.free ≡ self.old.free - length (encoding frame) }
+    {
+        encode(frame, &mut self.buffer);
+    }
+}
