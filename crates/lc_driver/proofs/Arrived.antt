@@ -13,18 +13,19 @@ use Rattle.lc_frame.specs.Splits.{frames_of, rest_of}
 use Rattle.lc_frame.proofs.Fronts.{bytes_from}
 use Rattle.lc_frame.proofs.SplitLaws.{split_law}
 use Rattle.lc_frame.proofs.Frames.{computed_split, joined_law}
+use Rattle.lc_book.specs.declared.fault.Violation.{Violation}
 use Rattle.lc_peer.specs.declared.delivery.Delivery.{Delivery}
 use Rattle.lc_peer.specs.declared.delivery.Stop.{Stop}
 use Rattle.lc_peer.specs.declared.delivery.Stop.TheVariants as stops
 use Rattle.lc_peer.specs.Peer.{PeerState}
 use Rattle.lc_peer.specs.Arrivals.{Arrival, arrivals}
-use Rattle.lc_peer.specs.Streams.{behind}
-use Rattle.lc_peer.specs.Deliveries.{Delivers, StopsBy, TookAll}
-use Rattle.lc_peer.proofs.Stops.{arrivals_go_on}
+use Rattle.lc_peer.specs.Sinks.{Arrives, Violates, AllArrive, ArriveUpTo}
+use Rattle.lc_peer.specs.Deliveries.{violation_of, LeavesRest, Leaves, DeliversTo}
+use Rattle.lc_peer.proofs.Sinks.{up_to_all, all_up_to, up_to_then, came}
 use Rattle.lc_driver.specs.declared.reading.ReadEnd.{ReadEnd}
 use Rattle.lc_driver.specs.declared.reading.ReadEnd.TheVariants.{Clean, Truncated, Fault, Violated, ReadFailed, TurnsSpent}
 use Rattle.lc_driver.specs.Intake.{IntakeState, EndsHere}
-use Rattle.lc_driver.specs.Reading.{Reads, GoesOn, EndsBy, end_of, stop_of}
+use Rattle.lc_driver.specs.Reading.{Reads, GoesOn, EndsBy, HoldsRest, EndsAt, ReadsInto, end_of, stop_of}
 
 consumes_then : (a b c : Option (List ℕ)) (x y : List ℕ) → Consumes a b x → Consumes b c y → Consumes a c (x ++ y)
 consumes_then None b c x y p q = tt
@@ -42,14 +43,13 @@ consumes_kept (Some a) None k = absurd k
 consumes_kept (Some a) (Some b) k = sym k
 
 -- what was read so far, all of which arrived or is held
-pub record SoFar (before after : Option (List ℕ)) (held : List ℕ) (old : PeerState) (intake : IntakeState) (new : PeerState) (turns : ℕ) : Type 0 where
+pub record SoFar {T : Type 0} (arrives : T → Frame → T → Type 0) (before after : Option (List ℕ)) (held : List ℕ) (old : T) (intake : IntakeState) (new : T) (turns : ℕ) : Type 0 where
   pub read : List ℕ
   pub consumed : Consumes before after read
   pub few : length read ≤ 512 * turns
   pub some : turns ≤ length read
   pub bytes : All (λ b. b < 256) (held ++ read)
-  pub peer : new ≡ (arrivals old (frames_of (held ++ read))).peer
-  pub lawful : (arrivals old (frames_of (held ++ read))).violation ≡ None
+  pub arrived : AllArrive arrives old (frames_of (held ++ read)) new
   pub rest : intake.held ≡ rest_of (held ++ read)
   pub undecided : IsOpen intake.held
   pub going : intake.stop ≡ None
@@ -58,19 +58,18 @@ pub record SoFar (before after : Option (List ℕ)) (held : List ℕ) (old : Pee
 open_split : (held : List ℕ) → All (λ b. b < 256) held → IsOpen held → (frames_of held ≡ []) × (rest_of held ≡ held)
 open_split held fits o = split_law (frames_of held) [] held (rest_of held) held (computed_split held (bytes_from held fits)) (record { whole = refl; each = tt; partial = o.no_frame })
 
-pub nothing_read : (a : Option (List ℕ)) (i : IntakeState) (p : PeerState) → All (λ b. b < 256) i.held → IsOpen i.held → i.stop ≡ None → SoFar a a i.held p i p 0
-nothing_read a i p fits o going =
+pub nothing_read : {T : Type 0} (arrives : T → Frame → T → Type 0) (a : Option (List ℕ)) (i : IntakeState) (p : T) → All (λ b. b < 256) i.held → IsOpen i.held → i.stop ≡ None → SoFar arrives a a i.held p i p 0
+nothing_read arrives a i p fits o going =
     let same = append-nil i.held in
     let split = open_split i.held fits o in
-    let none : arrivals p (frames_of (i.held ++ [])) ≡ arrivals p [] = ap (λ (bytes : List ℕ). arrivals p (frames_of bytes)) same ∙ ap (λ (fs : List Frame). arrivals p fs) split.0 in
+    let none : frames_of (i.held ++ []) ≡ [] = ap (λ (bytes : List ℕ). frames_of bytes) same ∙ split.0 in
     record {
       read = [];
       consumed = consumes_nothing a;
       few = omega arith;
       some = omega arith;
       bytes = subst (λ (bytes : List ℕ). All (λ b. b < 256) bytes) (sym same) fits;
-      peer = ap (λ (came : Arrival). came.peer) (sym none);
-      lawful = ap (λ (came : Arrival). came.violation) none;
+      arrived = subst (λ (fs : List Frame). AllArrive arrives p fs p) (sym none) refl;
       rest = sym (ap (λ (bytes : List ℕ). rest_of bytes) same ∙ split.1);
       undecided = o;
       going = going;
@@ -84,26 +83,21 @@ further_frames bytes held y fits e =
     let law = joined_law (frames_of bytes) (held ++ y) split.each in
     (ap (λ (xs : List ℕ). frames_of xs) parts ∙ law.0, ap (λ (xs : List ℕ). rest_of xs) parts ∙ law.1)
 
--- what came of all, where more bytes came after those read so far
-pub record Further (came later : Arrival) (rest later_rest : List ℕ) : Type 0 where
-  pub peer : came.peer ≡ later.peer
-  pub violation : came.violation ≡ later.violation
-  pub left : rest ≡ later_rest
+-- what comes of all, where more bytes come after those read so far
+pub record Further {T : Type 0} (arrives : T → Frame → T → Type 0) (violates : Violation → T → Frame → T → Type 0) (old new : T) (whole more : List ℕ) : Type 0 where
+  pub count : ℕ
+  pub came : (q : T) (n : ℕ) (v : Option Violation) → ArriveUpTo arrives violates new (frames_of more) n v q → ArriveUpTo arrives violates old (frames_of whole) (count + n) v q
+  pub left : rest_of whole ≡ rest_of more
 
-pub further : {a b : Option (List ℕ)} {held : List ℕ} {old new : PeerState} {i : IntakeState} {turns : ℕ} (s : SoFar a b held old i new turns) (y : List ℕ) → Further (arrivals old (frames_of (held ++ (s.read ++ y)))) (arrivals new (frames_of (i.held ++ y))) (rest_of (held ++ (s.read ++ y))) (rest_of (i.held ++ y))
-further {held = held} {old = old} {new = new} {i = i} s y =
+pub further : {T : Type 0} (arrives : T → Frame → T → Type 0) (violates : Violation → T → Frame → T → Type 0) {a b : Option (List ℕ)} {held : List ℕ} {old new : T} {i : IntakeState} {turns : ℕ} (s : SoFar arrives a b held old i new turns) (y : List ℕ) → Further arrives violates old new (held ++ (s.read ++ y)) (i.held ++ y)
+further {T} arrives violates {held = held} {old = old} {new = new} {i = i} s y =
     let bytes = held ++ s.read in
     let joined : held ++ (s.read ++ y) ≡ bytes ++ y = sym (append_assoc held s.read y) in
     let more = further_frames bytes i.held y s.bytes s.rest in
-    let went : arrivals old (frames_of bytes ++ frames_of (i.held ++ y)) ≡ behind (length (frames_of bytes)) (arrivals (arrivals old (frames_of bytes)).peer (frames_of (i.held ++ y))) = arrivals_go_on old (frames_of bytes) (frames_of (i.held ++ y)) s.lawful in
-    let came : arrivals old (frames_of (held ++ (s.read ++ y))) ≡ behind (length (frames_of bytes)) (arrivals new (frames_of (i.held ++ y))) =
-    ap (λ (xs : List ℕ). arrivals old (frames_of xs)) joined
-    ∙ ap (λ (fs : List Frame). arrivals old fs) more.0
-    ∙ went
-    ∙ ap (λ (p : PeerState). behind (length (frames_of bytes)) (arrivals p (frames_of (i.held ++ y)))) (sym s.peer) in
+    let all : frames_of (held ++ (s.read ++ y)) ≡ frames_of bytes ++ frames_of (i.held ++ y) = ap (λ (xs : List ℕ). frames_of xs) joined ∙ more.0 in
     record {
-      peer = ap (λ (r : Arrival). r.peer) came;
-      violation = ap (λ (r : Arrival). r.violation) came;
+      count = length (frames_of bytes);
+      came = λ q n v later. subst (λ (fs : List Frame). ArriveUpTo arrives violates old fs (length (frames_of bytes) + n) v q) (sym all) (up_to_then arrives violates old new q (frames_of bytes) (frames_of (i.held ++ y)) n v s.arrived later);
       left = ap (λ (xs : List ℕ). rest_of xs) joined ∙ more.1;
     }
 
@@ -111,58 +105,57 @@ more_bytes : (held read y : List ℕ) → All (λ b. b < 256) (held ++ read) →
 more_bytes held read y fits more = subst (λ (xs : List ℕ). All (λ b. b < 256) xs) (append_assoc held read y) (All-append (λ (b : ℕ). b < 256) (held ++ read) y fits more)
 
 -- one read more, all of which was taken
-pub reads_on : {a b c : Option (List ℕ)} {held : List ℕ} {old p q : PeerState} {i : IntakeState} {turns : ℕ} (j : IntakeState) (y piece : List ℕ) (d : Delivery) → SoFar a b held old i p turns → Consumes b c y → piece ≡ y → 0 < length y → length y ≤ 512 → All (λ b. b < 256) piece → Delivers p i.held piece q j.held d → d.stop ≡ None → j.stop ≡ d.stop → SoFar a c held old j q (turns + 1)
-reads_on {a} {b} {c} {held} {old} {p} {q} {i} {turns} j y piece d s consumed same more less fits delivers none stop =
-    let took : TookAll (arrivals p (frames_of (i.held ++ piece))) (i.held ++ piece) piece j.held d.taken = subst (λ (o : Option Stop). StopsBy o (arrivals p (frames_of (i.held ++ piece))) (i.held ++ piece) piece j.held d.taken) none delivers.stop in
-    let f = further s y in
-    let given : arrivals p (frames_of (i.held ++ piece)) ≡ arrivals p (frames_of (i.held ++ y)) = ap (λ (xs : List ℕ). arrivals p (frames_of (i.held ++ xs))) same in
+pub reads_on : {T : Type 0} (arrives : T → Frame → T → Type 0) (violates : Violation → T → Frame → T → Type 0) {a b c : Option (List ℕ)} {held : List ℕ} {old p q : T} {i : IntakeState} {turns : ℕ} (j : IntakeState) (y piece : List ℕ) (d : Delivery) → SoFar arrives a b held old i p turns → Consumes b c y → piece ≡ y → 0 < length y → length y ≤ 512 → All (λ b. b < 256) piece → DeliversTo arrives violates p i.held piece q j.held d → d.stop ≡ None → j.stop ≡ d.stop → SoFar arrives a c held old j q (turns + 1)
+reads_on {T} arrives violates {a} {b} {c} {held} {old} {p} {q} {i} {turns} j y piece d s consumed same more less fits delivers none stop =
+    let came = subst (λ (o : Option Stop). ArriveUpTo arrives violates p (frames_of (i.held ++ piece)) d.frames (violation_of o) q) none delivers.came in
+    let leaves : LeavesRest (i.held ++ piece) piece j.held d.taken = subst (λ (o : Option Stop). Leaves o (i.held ++ piece) piece j.held d.taken d.frames) none delivers.leaves in
+    let f = further arrives violates s y in
+    let here = subst (λ (xs : List ℕ). ArriveUpTo arrives violates p (frames_of (i.held ++ xs)) d.frames None q) same came in
     record {
       read = s.read ++ y;
       consumed = consumes_then a b c s.read y s.consumed consumed;
       few = omega (arith, s.few, less, length-append s.read y);
       some = omega (arith, s.some, more, length-append s.read y);
       bytes = more_bytes held s.read y s.bytes (subst (λ (xs : List ℕ). All (λ b. b < 256) xs) same fits);
-      peer = delivers.peer ∙ ap (λ (r : Arrival). r.peer) given ∙ sym f.peer;
-      lawful = f.violation ∙ ap (λ (r : Arrival). r.violation) (sym given) ∙ took.lawful;
-      rest = took.rest ∙ ap (λ (xs : List ℕ). rest_of (i.held ++ xs)) same ∙ sym f.left;
-      undecided = took.undecided;
+      arrived = all_up_to arrives violates old q (frames_of (held ++ (s.read ++ y))) (f.count + d.frames) (f.came q d.frames None here);
+      rest = leaves.rest ∙ ap (λ (xs : List ℕ). rest_of (i.held ++ xs)) same ∙ sym f.left;
+      undecided = leaves.undecided;
       going = stop ∙ none;
     }
-
-ends_by_stop : (stop : Stop) (came later : Arrival) (rest bytes piece held : List ℕ) (taken read max_reads : ℕ) → Further came later rest (rest_of bytes) → StopsBy (Some stop) later bytes piece held taken → EndsBy (end_of stop) came rest held read max_reads
-ends_by_stop (stops.Fault fault) came later rest bytes piece held taken read max_reads f s = (f.violation ∙ s.lawful, subst (λ (xs : List ℕ). FaultStands fault xs) (sym f.left) s.stands)
-ends_by_stop (stops.Violated violation) came later rest bytes piece held taken read max_reads f s = f.violation ∙ s.violates
 
 stop_of_end : (stop : Stop) → Some stop ≡ stop_of (end_of stop)
 stop_of_end (stops.Fault fault) = refl
 stop_of_end (stops.Violated violation) = refl
 
+ends_stopped : (stop : Stop) (bytes piece rest held : List ℕ) (taken frames read max_reads : ℕ) → rest ≡ rest_of bytes → Leaves (Some stop) bytes piece held taken frames → EndsAt (end_of stop) rest held read max_reads
+ends_stopped (stops.Fault fault) bytes piece rest held taken frames read max_reads e h = subst (λ (xs : List ℕ). FaultStands fault xs) (sym e) h.stands
+ends_stopped (stops.Violated violation) bytes piece rest held taken frames read max_reads e h = tt
+
 -- one read more, in which the stream was given up
-pub reads_stop : {a b c : Option (List ℕ)} {held : List ℕ} {old p q : PeerState} {i : IntakeState} {turns : ℕ} (max_reads : ℕ) (j : IntakeState) (y piece : List ℕ) (d : Delivery) (stop : Stop) → SoFar a b held old i p turns → turns < max_reads → Consumes b c y → piece ≡ y → length y ≤ 512 → All (λ b. b < 256) piece → Delivers p i.held piece q j.held d → d.stop ≡ Some stop → j.stop ≡ d.stop → Reads a c held old j q max_reads (end_of stop)
-reads_stop {a} {b} {c} {held} {old} {p} {q} {i} {turns} max_reads j y piece d stop s left consumed same less fits delivers is kept =
-    let stopped = subst (λ (o : Option Stop). StopsBy o (arrivals p (frames_of (i.held ++ piece))) (i.held ++ piece) piece j.held d.taken) is delivers.stop in
-    let here = subst (λ (xs : List ℕ). StopsBy (Some stop) (arrivals p (frames_of (i.held ++ xs))) (i.held ++ xs) xs j.held d.taken) same stopped in
-    let f = further s y in
+pub reads_stop : {T : Type 0} (arrives : T → Frame → T → Type 0) (violates : Violation → T → Frame → T → Type 0) {a b c : Option (List ℕ)} {held : List ℕ} {old p q : T} {i : IntakeState} {turns : ℕ} (max_reads : ℕ) (j : IntakeState) (y piece : List ℕ) (d : Delivery) (stop : Stop) → SoFar arrives a b held old i p turns → turns < max_reads → Consumes b c y → piece ≡ y → length y ≤ 512 → All (λ b. b < 256) piece → DeliversTo arrives violates p i.held piece q j.held d → d.stop ≡ Some stop → j.stop ≡ d.stop → ReadsInto arrives violates a c held old j q max_reads (end_of stop)
+reads_stop {T} arrives violates {a} {b} {c} {held} {old} {p} {q} {i} {turns} max_reads j y piece d stop s left consumed same less fits delivers is kept =
+    let stopped = subst (λ (o : Option Stop). ArriveUpTo arrives violates p (frames_of (i.held ++ piece)) d.frames (violation_of o) q) (is ∙ stop_of_end stop) delivers.came in
+    let here = subst (λ (xs : List ℕ). ArriveUpTo arrives violates p (frames_of (i.held ++ xs)) d.frames (violation_of (stop_of (end_of stop))) q) same stopped in
+    let leaves = subst (λ (o : Option Stop). Leaves o (i.held ++ piece) piece j.held d.taken d.frames) is delivers.leaves in
+    let f = further arrives violates s y in
     record {
       read = s.read ++ y;
       consumed = consumes_then a b c s.read y s.consumed consumed;
       few = omega (arith, s.few, less, left, length-append s.read y);
       bytes = more_bytes held s.read y s.bytes (subst (λ (xs : List ℕ). All (λ b. b < 256) xs) same fits);
-      peer = delivers.peer ∙ ap (λ (xs : List ℕ). (arrivals p (frames_of (i.held ++ xs))).peer) same ∙ sym f.peer;
-      ends = ends_by_stop stop _ _ _ (i.held ++ y) y j.held d.taken _ max_reads f here;
+      frames = f.count + d.frames;
+      came = f.came q d.frames (violation_of (stop_of (end_of stop))) here;
+      ends = ends_stopped stop (i.held ++ piece) piece _ j.held d.taken d.frames _ max_reads (f.left ∙ ap (λ (xs : List ℕ). rest_of (i.held ++ xs)) (sym same)) leaves;
       kept = kept ∙ is ∙ stop_of_end stop;
     }
 
-goes_on : {a b : Option (List ℕ)} {held : List ℕ} {old new : PeerState} {i : IntakeState} {turns : ℕ} (s : SoFar a b held old i new turns) → GoesOn (arrivals old (frames_of (held ++ s.read))) (rest_of (held ++ s.read)) i.held
-goes_on s = record { lawful = s.lawful; all = s.rest; undecided = s.undecided }
-
-ends_here : (end : ReadEnd) (came : Arrival) (rest held : List ℕ) (read max_reads : ℕ) → GoesOn came rest held → EndsHere end held → EndsBy end came rest held read max_reads
-ends_here Clean came rest held read max_reads g e = (g, sym g.all ∙ e)
-ends_here Truncated came rest held read max_reads g e = (g, subst IsPart g.all e)
-ends_here (Fault fault) came rest held read max_reads g e = absurd e
-ends_here (Violated violation) came rest held read max_reads g e = absurd e
-ends_here ReadFailed came rest held read max_reads g e = absurd e
-ends_here TurnsSpent came rest held read max_reads g e = absurd e
+ends_here : (end : ReadEnd) (rest held : List ℕ) (read max_reads : ℕ) → HoldsRest rest held → EndsHere end held → EndsAt end rest held read max_reads
+ends_here Clean rest held read max_reads h e = (h, sym h.all ∙ e)
+ends_here Truncated rest held read max_reads h e = (h, subst IsPart h.all e)
+ends_here (Fault fault) rest held read max_reads h e = absurd e
+ends_here (Violated violation) rest held read max_reads h e = absurd e
+ends_here ReadFailed rest held read max_reads h e = absurd e
+ends_here TurnsSpent rest held read max_reads h e = absurd e
 
 none_kept : (end : ReadEnd) (held : List ℕ) → EndsHere end held → None ≡ stop_of end
 none_kept Clean held e = refl
@@ -172,41 +165,58 @@ none_kept (Violated violation) held e = absurd e
 none_kept ReadFailed held e = absurd e
 none_kept TurnsSpent held e = absurd e
 
--- a read that gave nothing: the input ended
-pub reads_end : {a b c : Option (List ℕ)} {held : List ℕ} {old new : PeerState} {i : IntakeState} {turns : ℕ} (max_reads : ℕ) (end : ReadEnd) → SoFar a b held old i new turns → turns < max_reads → Consumes b c [] → EndsHere end i.held → Reads a c held old i new max_reads end
-reads_end {a} {b} {c} {held} {old} {new} {i} max_reads end s left consumed e = record {
+-- all that was read so far, and no stop
+reads_so_far : {T : Type 0} (arrives : T → Frame → T → Type 0) (violates : Violation → T → Frame → T → Type 0) {a b c : Option (List ℕ)} {held : List ℕ} {old new : T} {i : IntakeState} {turns : ℕ} (max_reads : ℕ) (end : ReadEnd) (s : SoFar arrives a b held old i new turns) → turns ≤ max_reads → Consumes b c [] → None ≡ stop_of end → EndsAt end (rest_of (held ++ s.read)) i.held (length s.read) max_reads → ReadsInto arrives violates a c held old i new max_reads end
+reads_so_far {T} arrives violates {a} {b} {c} {held} {old} {new} {i} max_reads end s left consumed going ends = record {
   read = s.read;
   consumed = subst (λ (xs : List ℕ). Consumes a c xs) (append-nil s.read) (consumes_then a b c s.read [] s.consumed consumed);
   few = omega (arith, s.few, left);
   bytes = s.bytes;
-  peer = s.peer;
-  ends = ends_here end _ _ _ _ max_reads (goes_on s) e;
-  kept = s.going ∙ none_kept end i.held e;
+  frames = length (frames_of (held ++ s.read));
+  came = subst (λ (o : Option Stop). ArriveUpTo arrives violates old (frames_of (held ++ s.read)) (length (frames_of (held ++ s.read))) (violation_of o) new) going (up_to_all arrives violates old new (frames_of (held ++ s.read)) _ refl s.arrived);
+  ends = ends;
+  kept = s.going ∙ going;
 }
+
+holds_rest : {T : Type 0} (arrives : T → Frame → T → Type 0) {a b : Option (List ℕ)} {held : List ℕ} {old new : T} {i : IntakeState} {turns : ℕ} (s : SoFar arrives a b held old i new turns) → HoldsRest (rest_of (held ++ s.read)) i.held
+holds_rest arrives s = record { all = s.rest; undecided = s.undecided }
+
+-- a read that gave nothing: the input ended
+pub reads_end : {T : Type 0} (arrives : T → Frame → T → Type 0) (violates : Violation → T → Frame → T → Type 0) {a b c : Option (List ℕ)} {held : List ℕ} {old new : T} {i : IntakeState} {turns : ℕ} (max_reads : ℕ) (end : ReadEnd) → SoFar arrives a b held old i new turns → turns < max_reads → Consumes b c [] → EndsHere end i.held → ReadsInto arrives violates a c held old i new max_reads end
+reads_end arrives violates {i = i} max_reads end s left consumed e = reads_so_far arrives violates max_reads end s (omega (arith, left)) consumed (none_kept end i.held e) (ends_here end _ _ _ max_reads (holds_rest arrives s) e)
 
 -- a read that failed
-pub reads_failed : {a b c : Option (List ℕ)} {held : List ℕ} {old new : PeerState} {i : IntakeState} {turns : ℕ} (max_reads : ℕ) → SoFar a b held old i new turns → turns < max_reads → Keeps b c → Reads a c held old i new max_reads ReadFailed
-reads_failed {a} {b} {c} {held} {old} {new} {i} max_reads s left keeps = record {
-  read = s.read;
-  consumed = subst (λ (xs : List ℕ). Consumes a c xs) (append-nil s.read) (consumes_then a b c s.read [] s.consumed (consumes_kept b c keeps));
-  few = omega (arith, s.few, left);
-  bytes = s.bytes;
-  peer = s.peer;
-  ends = goes_on s;
-  kept = s.going;
-}
+pub reads_failed : {T : Type 0} (arrives : T → Frame → T → Type 0) (violates : Violation → T → Frame → T → Type 0) {a b c : Option (List ℕ)} {held : List ℕ} {old new : T} {i : IntakeState} {turns : ℕ} (max_reads : ℕ) → SoFar arrives a b held old i new turns → turns < max_reads → Keeps b c → ReadsInto arrives violates a c held old i new max_reads ReadFailed
+reads_failed arrives violates {b = b} {c = c} max_reads s left keeps = reads_so_far arrives violates max_reads ReadFailed s (omega (arith, left)) (consumes_kept b c keeps) refl (holds_rest arrives s)
 
 -- as many reads as were allowed
-pub reads_spent : {a b : Option (List ℕ)} {held : List ℕ} {old new : PeerState} {i : IntakeState} {turns : ℕ} (max_reads : ℕ) → SoFar a b held old i new turns → turns ≡ max_reads → Reads a b held old i new max_reads TurnsSpent
-reads_spent {a} {b} {held} {old} {new} {i} max_reads s all = record {
-  read = s.read;
-  consumed = s.consumed;
-  few = omega (arith, s.few, all);
-  bytes = s.bytes;
-  peer = s.peer;
-  ends = (goes_on s, omega (arith, s.some, all));
-  kept = s.going;
-}
+pub reads_spent : {T : Type 0} (arrives : T → Frame → T → Type 0) (violates : Violation → T → Frame → T → Type 0) {a b : Option (List ℕ)} {held : List ℕ} {old new : T} {i : IntakeState} {turns : ℕ} (max_reads : ℕ) → SoFar arrives a b held old i new turns → turns ≡ max_reads → ReadsInto arrives violates a b held old i new max_reads TurnsSpent
+reads_spent arrives violates {b = b} max_reads s all = reads_so_far arrives violates max_reads TurnsSpent s (omega (arith, all)) (consumes_nothing b) refl (holds_rest arrives s, omega (arith, s.some, all))
+
+-- what came to a peer
+goes_on : (came : Arrival) (rest held : List ℕ) → came.violation ≡ None → HoldsRest rest held → GoesOn came rest held
+goes_on came rest held lawful h = record { lawful = lawful; all = h.all; undecided = h.undecided }
+
+ends_by : (end : ReadEnd) (came : Arrival) (rest held : List ℕ) (read max_reads : ℕ) → came.violation ≡ violation_of (stop_of end) → EndsAt end rest held read max_reads → EndsBy end came rest held read max_reads
+ends_by Clean came rest held read max_reads v e = (goes_on came rest held v e.0, e.1)
+ends_by Truncated came rest held read max_reads v e = (goes_on came rest held v e.0, e.1)
+ends_by (Fault fault) came rest held read max_reads v e = (v, e)
+ends_by (Violated violation) came rest held read max_reads v e = v
+ends_by ReadFailed came rest held read max_reads v e = goes_on came rest held v e
+ends_by TurnsSpent came rest held read max_reads v e = (goes_on came rest held v e.0, e.1)
+
+pub reads : (a b : Option (List ℕ)) (held : List ℕ) (p q : PeerState) (i : IntakeState) (max_reads : ℕ) (end : ReadEnd) → ReadsInto Arrives Violates a b held p i q max_reads end → Reads a b held p i q max_reads end
+reads a b held p q i max_reads end h =
+    let e = came p q (frames_of (held ++ h.read)) h.frames (violation_of (stop_of end)) h.came in
+    record {
+      read = h.read;
+      consumed = h.consumed;
+      few = h.few;
+      bytes = h.bytes;
+      peer = sym (ap (λ (r : Arrival). r.peer) e);
+      ends = ends_by end (arrivals p (frames_of (held ++ h.read))) (rest_of (held ++ h.read)) i.held (length h.read) max_reads (ap (λ (r : Arrival). r.violation) e) h.ends;
+      kept = h.kept;
+    }
 
 -- the input ended where no frame stands
 pub ends_clean : (held : List ℕ) → (held ≡ []) ⊎ ((f : Frame) × FrameStands f held) → IsOpen held → held ≡ []

@@ -1,14 +1,18 @@
 -- What reading does: which frames arrive, what is held, and how it ends. These rules are this project's own.
 use Rattle.std.specs.Prelude.{◌≡◌, ℕ, ◌*◌, ◌<◌, ◌≤◌, List, [], ◌++◌, length, All, Option, Some, None, IsSome, ⊤}
 use Rattle.std.specs.Io.KnownBytes.{Consumes, IsAtEnd}
+use Rattle.lc_frame.specs.declared.frame.Frame.{Frame}
 use Rattle.lc_frame.specs.Encoding.{FaultStands}
 use Rattle.lc_frame.specs.Decoded.{IsOpen}
 use Rattle.lc_frame.specs.StreamDecoder.{IsPart}
 use Rattle.lc_frame.specs.Splits.{frames_of, rest_of}
+use Rattle.lc_book.specs.declared.fault.Violation.{Violation}
 use Rattle.lc_peer.specs.declared.delivery.Stop.{Stop}
 use Rattle.lc_peer.specs.declared.delivery.Stop.TheVariants as stops
 use Rattle.lc_peer.specs.Peer.{PeerState}
 use Rattle.lc_peer.specs.Arrivals.{Arrival, arrivals}
+use Rattle.lc_peer.specs.Sinks.{ArriveUpTo}
+use Rattle.lc_peer.specs.Deliveries.{violation_of}
 use Rattle.lc_driver.specs.declared.reading.ReadEnd.{ReadEnd}
 use Rattle.lc_driver.specs.declared.reading.ReadEnd.TheVariants.{Clean, Truncated, Fault, Violated, ReadFailed, TurnsSpent}
 use Rattle.lc_driver.specs.declared.counts.Counts.{Counts}
@@ -54,6 +58,32 @@ pub record Reads (before after : Option (List ℕ)) (held : List ℕ) (old : Pee
   pub bytes : All (λ b. b < 256) (held ++ read)
   pub peer : new ≡ (arrivals old (frames_of (held ++ read))).peer
   pub ends : EndsBy end (arrivals old (frames_of (held ++ read))) (rest_of (held ++ read)) intake.held (length read) max_reads
+  pub kept : intake.stop ≡ stop_of end
+
+-- the rest, which may be part of a frame, is held
+pub record HoldsRest (rest held : List ℕ) : Type 0 where
+  pub all : held ≡ rest
+  pub undecided : IsOpen held
+
+-- why a call of so many reads at most ended, which read so many bytes, by what follows the frames. After a violation what came of the frames says it
+abbrev pub EndsAt : ReadEnd → List ℕ → List ℕ → ℕ → ℕ → Type 0
+EndsAt Clean rest held read max_reads = HoldsRest rest held × (rest ≡ [])
+EndsAt Truncated rest held read max_reads = HoldsRest rest held × IsPart rest
+EndsAt (Fault fault) rest held read max_reads = FaultStands fault rest
+EndsAt (Violated violation) rest held read max_reads = ⊤
+EndsAt ReadFailed rest held read max_reads = HoldsRest rest held
+EndsAt TurnsSpent rest held read max_reads = HoldsRest rest held × (max_reads ≤ read)
+
+-- the same of any sink: the frames of what was held and of what was read arrive at it, in order, up to the first fault or violation
+pub record ReadsInto {T : Type 0} (arrives : T → Frame → T → Type 0) (violates : Violation → T → Frame → T → Type 0) (before after : Option (List ℕ)) (held : List ℕ) (old : T) (intake : IntakeState) (new : T) (max_reads : ℕ) (end : ReadEnd) : Type 0 where
+  pub read : List ℕ
+  pub consumed : Consumes before after read
+  pub few : length read ≤ max_read * max_reads
+  pub bytes : All (λ b. b < 256) (held ++ read)
+  -- so many frames arrived
+  pub frames : ℕ
+  pub came : ArriveUpTo arrives violates old (frames_of (held ++ read)) frames (violation_of (stop_of end)) new
+  pub ends : EndsAt end (rest_of (held ++ read)) intake.held (length read) max_reads
   pub kept : intake.stop ≡ stop_of end
 
 -- where the answer says that the input ended, it did

@@ -1,12 +1,12 @@
 //! The bytes of a stream on their way in.
 ghost use Rattle.std.specs.Prelude.{◌≡◌, ◌<◌, [], None, All, IfOk};
 ghost use Rattle.lc_frame.specs.Decoded.{IsOpen};
-ghost use Rattle.lc_peer.specs.Deliveries.{Delivers};
+ghost use Rattle.lc_peer.specs.Deliveries.{DeliversTo};
 ghost use Rattle.lc_driver.specs.Intake.{EndsHere};
 
 use crate::reading::ReadEnd;
 use lc_frame::StreamDecoder;
-use lc_peer::{Delivery, Peer, Stop};
+use lc_peer::{Delivery, FrameSink, Stop, deliver_to};
 use std::alloc::{AllocError, Global};
 use std::marker::Model;
 
@@ -39,8 +39,8 @@ impl Intake {
         })
     }
 
-    // Why the stream was given up.
-    pub(crate) fn stop(&self) -> Option<Stop>
+    /// Why the stream was given up, `None` while it goes on.
+    pub fn stop(&self) -> Option<Stop>
         ensures value { result ≡ self.now.stop }
         ensures undecided { result ≡ None → IsOpen self.now.held }
         ensures bytes { All (λ b. b < 256) self.now.held }
@@ -61,12 +61,17 @@ impl Intake {
     }
 
     // The frames of what is held and of the piece arrive.
-    pub(crate) fn deliver(&mut self, peer: &mut Peer, piece: &[u8]) -> Delivery
-        ensures delivers { Delivers peer.old self.old.held piece.now peer.new self.new.held result }
+    pub(crate) fn deliver<C, S: FrameSink<C>>(
+        &mut self,
+        sink: &mut S,
+        context: &C,
+        piece: &[u8],
+    ) -> Delivery
+        ensures delivers { DeliversTo S.arrived S.violated sink.old self.old.held piece.now sink.new self.new.held result }
         ensures stop { self.new.stop ≡ result.stop }
         ensures bytes { All (λ b. b < 256) piece.now }
     {
-        let delivery = peer.deliver(&mut self.decoder, piece);
+        let delivery = deliver_to(sink, context, &mut self.decoder, piece);
         self.stop = delivery.stop;
         delivery
     }

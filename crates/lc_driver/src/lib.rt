@@ -12,5 +12,5 @@ pub use counted::{Counted, CountedRead, CountedWrite, Failures};
 pub use counts::Counts;
 pub use intake::Intake;
 pub use outgo::Outgo;
-pub use reading::{ReadEnd, read_in};
+pub use reading::{ReadEnd, read_in, read_into};
 pub use writing::{WriteFault, write_all, write_out};

@@ -1,11 +1,11 @@
-//! Reading what comes to a peer.
+//! Reading what comes to a peer, or to another sink.
 ghost use Rattle.std.specs.Prelude.{◌≡◌, ◌+◌, ◌≤◌, None, IfSome};
-ghost use Rattle.lc_driver.specs.Reading.{Reads, CountsReads, EndsInput, end_of};
+ghost use Rattle.lc_driver.specs.Reading.{Reads, ReadsInto, CountsReads, EndsInput, end_of};
 
 use crate::counted::CountedRead;
 use crate::intake::Intake;
 use lc_frame::FrameFault;
-use lc_peer::{Peer, Stop, Violation};
+use lc_peer::{FrameSink, Peer, Stop, Violation};
 
 /// The bytes asked for per read.
 const READ_LEN: usize = 512;
@@ -40,6 +40,38 @@ impl From<Stop> for ReadEnd {
     }
 }
 
+/// What `read_in` does, at any sink.
+pub fn read_into<C, S: FrameSink<C>, R: CountedRead>(
+    sink: &mut S,
+    context: &C,
+    reader: &mut R,
+    intake: &mut Intake,
+    max_reads: u64,
+) -> ReadEnd
+    ensures given_up { IfSome intake.old.stop (λ stop. (result ≡ end_of stop) × (sink.new ≡ sink.old) × (reader.new ≡ reader.old) × (intake.new ≡ intake.old)) }
+    ensures reads { intake.old.stop ≡ None → ReadsInto S.arrived S.violated (R.remaining reader.old) (R.remaining reader.new) intake.old.held sink.old intake.new sink.new max_reads result }
+    ensures at_end { EndsInput result (R.remaining reader.new) }
+    ensures counts { CountsReads result (R.counts reader.old) (R.counts reader.new) }
+    ensures calls { (R.counts reader.new).calls ≤ (R.counts reader.old).calls + max_reads }
+{
+    match intake.stop() {
+        Some(stop) => return ReadEnd::from(stop),
+        None => {}
+    }
+    let mut buffer = [0; READ_LEN];
+    'reads: for _ in 0..max_reads {
+        match reader.read_counted(&mut buffer) {
+            Ok(0) => return intake.end(),
+            Ok(n) => match intake.deliver(sink, context, buffer.split_at(n).0).stop {
+                Some(stop) => return ReadEnd::from(stop),
+                None => {}
+            },
+            Err(_) => return ReadEnd::ReadFailed,
+        }
+    }
+    ReadEnd::TurnsSpent
+}
+
 /// Reads up to `max_reads` times, at most 512 bytes each, and lets each whole frame arrive.
 ///
 /// After `Fault` and `Violated` the stream is given up: the bytes that follow are lost, every further
@@ -57,20 +89,5 @@ pub fn read_in<R: CountedRead>(
     ensures counts { CountsReads result (R.counts reader.old) (R.counts reader.new) }
     ensures calls { (R.counts reader.new).calls ≤ (R.counts reader.old).calls + max_reads }
 {
-    match intake.stop() {
-        Some(stop) => return ReadEnd::from(stop),
-        None => {}
-    }
-    let mut buffer = [0; READ_LEN];
-    'reads: for _ in 0..max_reads {
-        match reader.read_counted(&mut buffer) {
-            Ok(0) => return intake.end(),
-            Ok(n) => match intake.deliver(peer, buffer.split_at(n).0).stop {
-                Some(stop) => return ReadEnd::from(stop),
-                None => {}
-            },
-            Err(_) => return ReadEnd::ReadFailed,
-        }
-    }
-    ReadEnd::TurnsSpent
+    read_into(peer, &(), reader, intake, max_reads)
 }

@@ -1,5 +1,6 @@
 pub mod Made
 pub mod Feeds
+pub mod Sinks
 pub mod Deliveries
 pub mod Bounded
 pub mod Stops

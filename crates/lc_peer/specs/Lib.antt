@@ -5,5 +5,6 @@ pub mod Calls
 pub mod Arrivals
 pub mod Config
 pub mod Streams
+pub mod Sinks
 pub mod Deliveries
 pub mod Steps

@@ -1,9 +1,10 @@
-//! The bytes of a stream, delivered to a peer in pieces.
+//! The bytes of a stream, delivered in pieces.
 ghost use Rattle.std.specs.Prelude.{◌≡◌, []};
-ghost use Rattle.lc_peer.specs.Deliveries.{Delivers};
+ghost use Rattle.lc_peer.specs.Deliveries.{Delivers, DeliversTo};
 ghost use Rattle.lc_peer.specs.Steps.{Steps};
 
 use crate::peer::Peer;
+use crate::sink::FrameSink;
 use lc_book::Violation;
 use lc_frame::{Decoded, FrameFault, StreamDecoder, decode};
 
@@ -38,12 +39,17 @@ pub(crate) enum Step {
 }
 
 // Where nothing is held: a frame that lies whole in the piece arrives from there.
-fn step_in_piece(peer: &mut Peer, decoder: &mut StreamDecoder, piece: &[u8]) -> Step
+fn step_in_piece<C, S: FrameSink<C>>(
+    sink: &mut S,
+    context: &C,
+    decoder: &mut StreamDecoder,
+    piece: &[u8],
+) -> Step
     requires { decoder.old.bytes ≡ [] }
-    ensures { Steps result peer.old decoder.old.bytes piece.now peer.new decoder.new.bytes }
+    ensures { Steps S.arrived S.violated result sink.old decoder.old.bytes piece.now sink.new decoder.new.bytes }
 {
     match decode(piece) {
-        Decoded::Whole { frame, used } => match peer.arrive(frame) {
+        Decoded::Whole { frame, used } => match sink.arrive_in(context, frame) {
             Ok(()) => Step::Arrived(used),
             Err(violation) => Step::Stopped(Stop::Violated(violation), decoder.feed(piece)),
         },
@@ -53,12 +59,17 @@ fn step_in_piece(peer: &mut Peer, decoder: &mut StreamDecoder, piece: &[u8]) -> 
 }
 
 // Where part of a frame is held, or a whole one: it is completed there.
-fn step_in_decoder(peer: &mut Peer, decoder: &mut StreamDecoder, piece: &[u8]) -> Step
-    ensures { Steps result peer.old decoder.old.bytes piece.now peer.new decoder.new.bytes }
+fn step_in_decoder<C, S: FrameSink<C>>(
+    sink: &mut S,
+    context: &C,
+    decoder: &mut StreamDecoder,
+    piece: &[u8],
+) -> Step
+    ensures { Steps S.arrived S.violated result sink.old decoder.old.bytes piece.now sink.new decoder.new.bytes }
 {
     let taken = decoder.feed(piece);
     match decoder.frame() {
-        Some(frame) => match peer.arrive(frame) {
+        Some(frame) => match sink.arrive_in(context, frame) {
             Ok(()) => {
                 decoder.clear();
                 Step::Arrived(taken)
@@ -73,13 +84,55 @@ fn step_in_decoder(peer: &mut Peer, decoder: &mut StreamDecoder, piece: &[u8]) -
 }
 
 // One step: what stands at the front of what is held and of the piece is dealt with.
-fn go_on(peer: &mut Peer, decoder: &mut StreamDecoder, piece: &[u8]) -> Step
-    ensures { Steps result peer.old decoder.old.bytes piece.now peer.new decoder.new.bytes }
+fn go_on<C, S: FrameSink<C>>(
+    sink: &mut S,
+    context: &C,
+    decoder: &mut StreamDecoder,
+    piece: &[u8],
+) -> Step
+    ensures { Steps S.arrived S.violated result sink.old decoder.old.bytes piece.now sink.new decoder.new.bytes }
 {
     if decoder.held() == 0 {
-        step_in_piece(peer, decoder, piece)
+        step_in_piece(sink, context, decoder, piece)
     } else {
-        step_in_decoder(peer, decoder, piece)
+        step_in_decoder(sink, context, decoder, piece)
+    }
+}
+
+/// What `Peer::deliver` does, at any sink.
+pub fn deliver_to<C, S: FrameSink<C>>(
+    sink: &mut S,
+    context: &C,
+    decoder: &mut StreamDecoder,
+    piece: &[u8],
+) -> Delivery
+    ensures { DeliversTo S.arrived S.violated sink.old decoder.old.bytes piece.now sink.new decoder.new.bytes result }
+{
+    let _held = decoder.held();
+    let mut taken = 0;
+    let mut frames = 0;
+    'frames: loop {
+        let rest = piece.split_at(taken).1;
+        match go_on(sink, context, decoder, rest) {
+            Step::Arrived(count) => {
+                taken += count;
+                frames += 1;
+            }
+            Step::Open(count) => {
+                return Delivery {
+                    taken: taken + count,
+                    frames,
+                    stop: None,
+                };
+            }
+            Step::Stopped(stop, count) => {
+                return Delivery {
+                    taken: taken + count,
+                    frames,
+                    stop: Some(stop),
+                };
+            }
+        }
     }
 }
 
@@ -95,31 +148,6 @@ impl Peer {
     pub fn deliver(&mut self, decoder: &mut StreamDecoder, piece: &[u8]) -> Delivery
         ensures { Delivers self.old decoder.old.bytes piece.now self.new decoder.new.bytes result }
     {
-        let _held = decoder.held();
-        let mut taken = 0;
-        let mut frames = 0;
-        'frames: loop {
-            let rest = piece.split_at(taken).1;
-            match go_on(self, decoder, rest) {
-                Step::Arrived(count) => {
-                    taken += count;
-                    frames += 1;
-                }
-                Step::Open(count) => {
-                    return Delivery {
-                        taken: taken + count,
-                        frames,
-                        stop: None,
-                    };
-                }
-                Step::Stopped(stop, count) => {
-                    return Delivery {
-                        taken: taken + count,
-                        frames,
-                        stop: Some(stop),
-                    };
-                }
-            }
-        }
+        deliver_to(self, &(), decoder, piece)
     }
 }

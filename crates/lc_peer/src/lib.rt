@@ -8,10 +8,12 @@ mod delivery;
 mod inbox;
 pub mod laws;
 mod peer;
+mod sink;
 
 pub use config::{Config, PeerFault};
-pub use delivery::{Delivery, Stop};
+pub use delivery::{Delivery, Stop, deliver_to};
 pub use inbox::{Inbox, Take};
 pub use lc_book::{Refusal, Violation};
 pub use lc_ring::NewFault;
 pub use peer::Peer;
+pub use sink::FrameSink;

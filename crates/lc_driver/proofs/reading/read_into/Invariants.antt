@@ -1,11 +1,11 @@
 use Rattle.std.proofs.Common.{◌+◌, ◌≤◌}
 use Rattle.lc_driver.proofs.Counting.{NoneTold}
 use Rattle.lc_driver.proofs.Arrived.{SoFar}
-use Rattle.lc_driver.proofs.reading.read_in.Given as goal
+use Rattle.lc_driver.proofs.reading.read_into.Given as goal
 
 abbrev pub invariant-reads : goal.invariant-reads
 invariant-reads g l = record {
-  so_far : SoFar (g.R.Read.remaining l.fn.reader) (g.R.Read.remaining l.reader) l.fn.intake.held l.fn.peer l.intake l.peer l.counter;
+  so_far : SoFar g.S.FrameSink.arrived (g.R.Read.remaining l.fn.reader) (g.R.Read.remaining l.reader) l.fn.intake.held l.fn.sink l.intake l.sink l.counter;
   counts : NoneTold (g.R.Failures.counts l.fn.reader) (g.R.Failures.counts l.reader);
   calls : (g.R.Failures.counts l.reader).calls ≤ (g.R.Failures.counts l.fn.reader).calls + l.counter;
 }
