@@ -6,7 +6,6 @@ use Rattle.lc_history.proofs.Histories.{history-push, known_same, learned_same, 
 use Rattle.lc_frame.specs.declared.frame.Frame.{Frame}
 use Rattle.lc_frame.specs.Channel.{number_of}
 use Rattle.lc_frame.specs.Frame.{lane_of}
-use Rattle.lc_frame.specs.Stream.{messages}
 use Rattle.lc_book.specs.declared.fault.Violation.{Violation}
 use Rattle.lc_ring.specs.Ring.{front}
 use Rattle.lc_peer.specs.Inbox.{take_answer, take_first}
@@ -18,11 +17,11 @@ use Rattle.lc_inbox.specs.declared.history.Entry.{Entry}
 use Rattle.lc_inbox.specs.declared.history.Entry.TheVariants.{Heard, Refused, Put, Took}
 use Rattle.lc_inbox.specs.declared.rule.Key.{Key}
 use Rattle.lc_inbox.specs.Ends.{Held, violation_of, refusal_of, IsPut}
-use Rattle.lc_inbox.specs.History.{heard_of, put_of, took_of, heard, put, took, book_after, waiting, inbox_after, held_after, MayFollow, IsLeftBy, is_of, is_reading, is_receiving}
+use Rattle.lc_inbox.specs.History.{heard_of, put_of, took_of, heard, put, took, book_after, inbox_after, held_after, MayFollow, IsLeftBy, is_of, is_reading, is_receiving}
 use Rattle.lc_inbox.specs.declared.lent.Lent.{Lent}
 use Rattle.lc_inbox.specs.declared.lent.Lent.TheVariants.{Read, Empty, Ended}
 use Rattle.lc_inbox.specs.Lends.{Reader, first_taken, taken_entry, IsLent, IsLentBy}
-use Rattle.lc_inbox.specs.Sides.{Half, Side, side_of, IsHeard, IsViolated, HasLooked, IsPutBy, IsTaken, IsFinished, TookTheFirst}
+use Rattle.lc_inbox.specs.Sides.{Half, Side, side_of, IsHeard, IsViolated, HasLooked, IsPutBy, IsTaken, IsFinished}
 use Rattle.lc_inbox.proofs.Histories.{in_order, left_took}
 use Rattle.lc_inbox.proofs.Takes.{IsNone, nothing_taken, unlent_left}
 
@@ -171,9 +170,3 @@ finished incoming outgoing held book lane history reads receives left book_is la
       took = known_same is_receiving took_of took_by outgoing.seen history receives;
       in_order = in_order incoming.key history left.legal;
     }
-
--- what both sides know of their one history comes together
-pub took_the_first : (incoming outgoing : Side) (book : Server) (lane : End) → IsFinished incoming outgoing book lane → TookTheFirst incoming outgoing
-took_the_first incoming outgoing book lane f =
-    let others : List (List ℕ) = waiting incoming.key f.history in
-    (others, ap (messages incoming.key.channel) (sym f.heard) ∙ (f.in_order ∙ ap (λ (ts : List (List ℕ)). ts ++ others) f.took))

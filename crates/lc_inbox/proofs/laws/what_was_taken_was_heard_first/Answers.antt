@@ -1,4 +1,4 @@
-use Rattle.lc_inbox.proofs.Calls.{took_the_first}
+use Rattle.lc_inbox.proofs.Order.{took_the_first}
 use Rattle.lc_inbox.proofs.laws.what_was_taken_was_heard_first.Goals as goal
 
 pub returns : goal.returns
