@@ -4,3 +4,5 @@ mod Steps
 mod Calls
 mod Takes
 mod Seven
+pub mod Order
+pub mod Places

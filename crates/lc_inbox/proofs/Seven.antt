@@ -3,7 +3,7 @@ use Rattle.std.proofs.Common.{◌≡◌, ℕ, List, [], ◌∷◌, ◌++◌, len
 use Rattle.std.specs.List.{All, AllZip}
 use Rattle.lc_queue.specs.Parts.{End, QueueId, new_ends}
 use Rattle.lc_inbox.specs.declared.shared_inbox.SharedInbox.{SharedInbox}
-use Rattle.lc_inbox.specs.Inboxes.{IsServerEnd, IsNewShared, incoming_of, outgoing_of, AreParts, AreNew}
+use Rattle.lc_inbox.specs.Inboxes.{IsServerEnd, IsNewShared, incoming_of, outgoing_of, inbox_of, AreParts, AreNew, AreMatched}
 use Rattle.lc_inbox.specs.Sides.{Side}
 
 -- one element more of each list
@@ -50,3 +50,12 @@ new_from capacities (l ∷ lanes) (s ∷ shared) all = (all.0, new_from capaciti
 -- the sides of each inbox, by place
 pub parts_are_new : (capacities : List ℕ) (lanes : List End) (shared : List SharedInbox) (incoming outgoing : List Side) → AllZip (IsNewShared capacities) lanes shared → AreParts shared incoming outgoing → AreNew capacities lanes incoming outgoing
 parts_are_new capacities lanes shared incoming outgoing all parts = subst (λ (p : List Side × List Side). AreNew capacities lanes p.0 p.1) (λ i. (sym parts.incoming_are i, sym parts.outgoing_are i)) (new_from capacities lanes shared all)
+
+-- both sides of new inboxes are matched
+pub new_are_matched : (capacities : List ℕ) (lanes : List End) (incoming outgoing : List Side) → AreNew capacities lanes incoming outgoing → AreMatched incoming outgoing
+new_are_matched capacities [] [] [] new = refl
+new_are_matched capacities [] [] (o ∷ outgoing) new = absurd new
+new_are_matched capacities [] (i ∷ incoming) outgoing new = absurd new
+new_are_matched capacities (l ∷ lanes) [] outgoing new = absurd new
+new_are_matched capacities (l ∷ lanes) (i ∷ incoming) [] new = absurd new
+new_are_matched capacities (l ∷ lanes) (i ∷ incoming) (o ∷ outgoing) new = one_more i.inbox o.inbox _ _ (ap inbox_of new.0.one) (new_are_matched capacities lanes incoming outgoing new.1)

@@ -4,9 +4,11 @@ use Rattle.std.specs.Option.{option_map}
 use Rattle.lc_peer.specs.declared.config.PeerFault.{PeerFault}
 use Rattle.lc_peer.specs.declared.config.PeerFault.TheVariants.{BadCapacity, OutOfMemory}
 use Rattle.lc_peer.specs.Config.{first_bad}
+use Rattle.lc_book.specs.Server.{Server}
 use Rattle.lc_queue.specs.Parts.{End}
+use Rattle.lc_inbox.specs.declared.rule.Key.{Key}
 use Rattle.lc_inbox.specs.declared.shared_inbox.SharedInbox.{SharedInbox}
-use Rattle.lc_inbox.specs.Sides.{Side, IsNew}
+use Rattle.lc_inbox.specs.Sides.{InboxId, Side, IsNew, IsFinished}
 
 -- the end of a lane on which a server puts, where nothing was put
 pub record IsServerEnd (lane : End) : Type 0 where
@@ -37,6 +39,26 @@ abbrev pub AreNew : List ℕ → List End → List Side → List Side → Type 0
 AreNew capacities [] [] [] = Unit {0}
 AreNew capacities (lane ∷ lanes) (i ∷ incoming) (o ∷ outgoing) = IsNew (capacity_of capacities lane) lane i o × AreNew capacities lanes incoming outgoing
 AreNew capacities lanes incoming outgoing = ⊥
+
+-- at each place both sides are of one inbox
+abbrev pub inbox_of : Side → InboxId
+inbox_of side = side.inbox
+
+abbrev pub AreMatched : List Side → List Side → Type 0
+AreMatched incoming outgoing = map inbox_of incoming ≡ map inbox_of outgoing
+
+-- which inbox a side is of, and what that was made of; each side is still of the inbox that it was of, place by place
+abbrev pub origin_of : Side → InboxId × Key
+origin_of side = (side.inbox, side.key)
+
+abbrev pub AreSameSides : List Side → List Side → Type 0
+AreSameSides old new = map origin_of new ≡ map origin_of old
+
+-- at each place the book and the end of the lane are those that the history of both sides leaves, and there are as many of each
+abbrev pub AreFinished : List Side → List Side → List Server → List End → Type 0
+AreFinished [] [] [] [] = Unit {0}
+AreFinished (i ∷ incoming) (o ∷ outgoing) (book ∷ books) (lane ∷ lanes) = IsFinished i o book lane × AreFinished incoming outgoing books lanes
+AreFinished incoming outgoing books lanes = ⊥
 
 -- what is wrong with the capacities: the first that no ring may have
 abbrev pub capacity_fault : List ℕ → Option PeerFault

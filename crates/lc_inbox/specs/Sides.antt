@@ -3,6 +3,7 @@ use Rattle.std.specs.Prelude.{◌≡◌, ℕ, ◌+◌, Bool, List, [], ◌∷◌
 use Rattle.atomic_table.specs.Seated.{TableId}
 use Rattle.lc_history.specs.History.{IsHistory, Knows, Learns, Makes}
 use Rattle.lc_frame.specs.Channel.{number_of}
+use Rattle.lc_frame.specs.Stream.{messages}
 use Rattle.lc_frame.specs.declared.frame.Frame.{Frame}
 use Rattle.lc_book.specs.declared.fault.Refusal.{Refusal}
 use Rattle.lc_book.specs.declared.fault.Violation.{Violation}
@@ -127,3 +128,11 @@ pub record IsFinished (incoming outgoing : Side) (book : Server) (lane : End) : 
   pub put : put history ≡ put outgoing.seen
   pub took : took history ≡ took outgoing.seen
   pub in_order : IsInOrder incoming.key history
+
+-- the messages that the receiving side took are the first of those that the reading side heard; the others wait
+abbrev pub TookTheFirst : Side → Side → Type 0
+TookTheFirst incoming outgoing = (others : List (List ℕ)) × (messages incoming.key.channel (heard incoming.seen) ≡ took outgoing.seen ++ others)
+
+-- what every end of both sides keeps, as one fact
+abbrev pub EveryFinishIsInOrder : Type 0
+EveryFinishIsInOrder = (incoming outgoing : Side) (book : Server) (lane : End) → IsFinished incoming outgoing book lane → TookTheFirst incoming outgoing

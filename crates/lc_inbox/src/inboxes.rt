@@ -4,8 +4,9 @@ ghost use Rattle.std.specs.List.{All, AllZip};
 ghost use Rattle.std.specs.Result.{result_err};
 ghost use Rattle.lc_peer.specs.Config.{first_bad};
 ghost use Rattle.lc_queue.specs.Parts.{QueueId, new_ends};
-ghost use Rattle.lc_inbox.specs.Inboxes.{IsServerEnd, IsNewShared, AreParts, AreNew, IsSharingAnswer};
+ghost use Rattle.lc_inbox.specs.Inboxes.{IsServerEnd, IsNewShared, AreParts, AreNew, AreMatched, IsSharingAnswer};
 
+use crate::arrays::apart;
 use crate::inbox_end::InboxEnd;
 use crate::inbox_in::InboxIn;
 use crate::inbox_out::InboxOut;
@@ -88,25 +89,6 @@ fn share_each(
     }
 }
 
-type Seven = (
-    SharedInbox,
-    SharedInbox,
-    SharedInbox,
-    SharedInbox,
-    SharedInbox,
-    SharedInbox,
-    SharedInbox,
-);
-
-// The seven by themselves.
-fn apart(shared: [SharedInbox; 7]) -> Seven
-    requires { length shared ≡ 7 }
-    ensures { shared ≡ result.0 ∷ result.1 ∷ result.2 ∷ result.3 ∷ result.4 ∷ result.5 ∷ result.6 ∷ [] }
-{
-    let [a, b, c, d, e, f, g] = shared;
-    (a, b, c, d, e, f, g)
-}
-
 // The two sides of each.
 fn parted(shared: [SharedInbox; 7]) -> ([InboxIn; 7], [InboxOut; 7])
     requires { length shared ≡ 7 }
@@ -130,6 +112,7 @@ fn share_all_of(
 ) -> Result<Inboxes, AllocError>
     requires { (queue : QueueId) × (ends ≡ new_ends queue) }
     ensures new { IfOk result (λ inboxes. AreNew capacities.now (drop 7 ends) inboxes.incoming inboxes.outgoing) }
+    ensures matched { IfOk result (λ inboxes. AreMatched inboxes.incoming inboxes.outgoing) }
     ensures clients { IfOk result (λ inboxes. inboxes.clients ≡ take 7 ends) }
 {
     let (clients, servers) = split(alloc, ends)?;
@@ -152,6 +135,7 @@ pub fn share_all(
     requires { (queue : QueueId) × (ends ≡ new_ends queue) }
     ensures answer { IsSharingAnswer capacities (result_err result) }
     ensures new { IfOk result (λ inboxes. AreNew capacities (drop 7 ends) inboxes.incoming inboxes.outgoing) }
+    ensures matched { IfOk result (λ inboxes. AreMatched inboxes.incoming inboxes.outgoing) }
     ensures clients { IfOk result (λ inboxes. inboxes.clients ≡ take 7 ends) }
 {
     if let Some(channel) = first_bad(&capacities) {

@@ -5,6 +5,8 @@
 //! entries. No memory is taken but by [`share`] and [`share_all`].
 #![tactic(auto)]
 
+mod arrays;
+mod finishes;
 mod half;
 mod history;
 mod inbox_end;
@@ -16,6 +18,7 @@ mod lent;
 mod rule;
 mod shared_inbox;
 
+pub use finishes::{FinishedInboxes, finish_all};
 pub use inbox_end::InboxEnd;
 pub use inbox_in::InboxIn;
 pub use inbox_out::InboxOut;

@@ -1,1 +1,2 @@
 mod Channels
+mod Arrivals

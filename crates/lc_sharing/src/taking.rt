@@ -1,8 +1,9 @@
 //! One thread reads messages into an inbox, and one takes them out.
-ghost use Rattle.std.specs.Prelude.{◌≡◌, ◌≤◌, ◌<◌, [], IfOk};
+ghost use Rattle.std.specs.Prelude.{◌≡◌, ◌≤◌, ◌<◌, ◌++◌, ◌∷◌, [], if◌then◌else◌, IfOk};
 ghost use Rattle.std.specs.List.{All};
 ghost use Rattle.lc_peer.specs.Inbox.{new_inbox};
-ghost use Rattle.lc_inbox.specs.Sides.{AreOfOne};
+ghost use Rattle.lc_inbox.specs.Sides.{IsSameSide};
+ghost use Rattle.lc_sharing.specs.Arrivals.{arrived, IsNewPair};
 
 use lc_frame::{Frame, FrameRef};
 use lc_inbox::{InboxEnd, InboxIn, InboxOut, SharedInbox, finish, share};
@@ -13,14 +14,14 @@ use std::sync::Wait;
 use std::thread;
 use std::thread::{Threads, join};
 
-// The bytes of the ring.
-const CAPACITY: u32 = 32;
+/// The bytes of the ring.
+pub(crate) const CAPACITY: u32 = 32;
 
-// The slots of the queue.
-const SLOTS: u32 = 4;
+/// The slots of the queue.
+pub(crate) const SLOTS: u32 = 4;
 
-// The lane of the inbox.
-const LANE: u8 = 8;
+/// The lane of the inbox.
+pub(crate) const LANE: u8 = 8;
 
 // A message, in a buffer of the most bytes that one has, and its length.
 struct Message {
@@ -37,8 +38,8 @@ fn numbered_message(number: u32) -> Message
     Message { bytes, len }
 }
 
-// Reads guarantees off the queue until there are as many as a message needs.
-fn await_guarantees<R: Wait>(rt: &R, drain: &mut Drain, held: u64, need: u64) -> u64
+/// Reads guarantees off the queue until there are as many as a message needs.
+pub(crate) fn await_guarantees<R: Wait>(rt: &R, drain: &mut Drain, held: u64, need: u64) -> u64
     ensures { need ≤ result }
 {
     let mut held = held;
@@ -54,13 +55,20 @@ fn await_guarantees<R: Wait>(rt: &R, drain: &mut Drain, held: u64, need: u64) ->
     unreachable!()
 }
 
-// Whether a message that arrives is lawful.
-fn hear<R: Wait>(rt: &R, incoming: &mut InboxIn, body: &[u8]) -> bool
-    ensures { incoming.new.inbox ≡ incoming.old.inbox }
+/// Whether a message that arrives is lawful.
+pub(crate) fn hear<R: Wait>(rt: &R, incoming: &mut InboxIn, body: &[u8]) -> bool
+    ensures same { IsSameSide incoming.old incoming.new }
+    ensures arrived { arrived incoming.new ≡ (if result then arrived incoming.old ++ body.now ∷ [] else arrived incoming.old) }
 {
     let channel = incoming.channel();
     let frame = FrameRef::Send { channel, body };
-    frame.is_valid() && incoming.arrive(rt, frame).is_ok()
+    if !frame.is_valid() {
+        return false;
+    }
+    match incoming.arrive(rt, frame) {
+        Ok(()) => true,
+        Err(_) => false,
+    }
 }
 
 // The messages 1 to `count` arrive, each as soon as there are guarantees for it. Whether all of
@@ -126,7 +134,7 @@ fn share_on(
     requires inbox { inbox ≡ new_inbox inbox.book.capacity }
     requires put { All (λ end. end.put ≡ []) ends }
     requires server { 6 < lane }
-    ensures { IfOk result (λ shared. AreOfOne shared.incoming shared.outgoing) }
+    ensures { IfOk result (λ shared. IsNewPair shared.incoming shared.outgoing) }
 {
     for end in ends {
         if end.lane() == lane {
@@ -144,7 +152,7 @@ pub fn new_pair(
     capacity: u32,
     slots: u32,
 ) -> Result<(SharedInbox, Drain), AllocError>
-    ensures { IfOk result (λ new. AreOfOne new.0.incoming new.0.outgoing) }
+    ensures { IfOk result (λ new. IsNewPair new.0.incoming new.0.outgoing) }
 {
     let Ok(parts) = lanes(alloc, slots) else {
         return Err(AllocError);
