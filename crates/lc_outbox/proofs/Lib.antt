@@ -1,0 +1,3 @@
+mod Uses
+mod Kept
+mod Honours
