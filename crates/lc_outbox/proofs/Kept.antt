@@ -21,7 +21,7 @@ use Rattle.lc_credit.specs.Sides.{Outgoing, IsIdle, LoadsOut, IsUsed, IsNotSpent
 use Rattle.lc_outbox.specs.Uses.{uses, amounts}
 use Rattle.lc_outbox.specs.Outbox.{OutboxState, IsOutbox}
 use Rattle.lc_outbox.specs.Calls.{IsCounted, IsGivenBack}
-use Rattle.lc_outbox.specs.Honours.{LooksForTarget}
+use Rattle.lc_outbox.specs.Honours.{AnswersFor}
 use Rattle.lc_outbox.proofs.Uses.{amounts-push, learned_uses, looked_uses, counted_uses, given_back_uses}
 
 -- what was pending was counted, or came back
@@ -69,9 +69,10 @@ module _ (o : OutboxState) (is : IsOutbox o) where
   kept_loads held new h =
       kept_unput new (ap (λ (c : Outgoing). c.pending) h.after ∙ is.idle) (ap (λ (c : Outgoing). c.spent) h.after) (ap (λ (c : Outgoing). c.absolved) h.after) (learned_uses o.credit.seen new.seen h.learns)
 
-  pub kept_looks : (taken : Option ℕ) (new : Outgoing) → LooksForTarget taken o.credit new → IsOutbox (record o { credit = new })
-  kept_looks taken new h =
-      kept_unput new (ap (λ (c : Outgoing). c.pending) h.after ∙ is.idle) (ap (λ (c : Outgoing). c.spent) h.after) (ap (λ (c : Outgoing). c.absolved) h.after) (looked_uses taken o.credit new h.some h.none)
+  pub kept_answers : (target kept : Option ℕ) (new : Outgoing) → AnswersFor target kept o.credit new → IsOutbox (record o { credit = new })
+  kept_answers target kept new h =
+      let looks = h.looks in
+      kept_unput new (ap (λ (c : Outgoing). c.pending) looks.after ∙ is.idle) (ap (λ (c : Outgoing). c.spent) looks.after) (ap (λ (c : Outgoing). c.absolved) looks.after) (looked_uses h.taken o.credit new looks)
 
   pub kept_back : (kind : Use) (n : ℕ) (lane : End) (new : Outgoing) → lane ≡ o.lane → IsGivenBack kind n o.credit new → IsOutbox (record o { lane = lane; credit = new })
   kept_back kind n lane new same h =

@@ -1,3 +1,2 @@
 mod Uses
 mod Kept
-mod Honours

@@ -1,6 +1,6 @@
 -- The uses of a credit that stand, after a step of its sending end.
 use Rattle.std.proofs.Common.{◌≡◌, ℕ, suc, ◌+◌, ◌-◌, List, [], ◌∷◌, ◌++◌, length, take, Option, Some, None, refl, ap, ◌∙◌, arith, length-append}
-use Rattle.std.specs.Prelude.{filter, IfSome, IfNone}
+use Rattle.std.specs.Prelude.{filter}
 use Rattle.std.specs.List.{fold}
 use Rattle.std.proofs.lemmas.List.Elements.{filter_map-append}
 use Rattle.std.proofs.lemmas.List.Sums.{fold-append}
@@ -10,10 +10,11 @@ use Rattle.lc_credit.specs.declared.history.Entry.{Entry}
 use Rattle.lc_credit.specs.declared.history.Entry.TheVariants.{Received, Used, Returned, Asked, Taken}
 use Rattle.lc_credit.specs.declared.credit_out.Use.{Use}
 use Rattle.lc_credit.specs.declared.credit_out.Use.TheVariants.{Spend, Absolve}
-use Rattle.lc_credit.specs.History.{is_outgoing, Learns, Makes, waiting}
+use Rattle.lc_credit.specs.History.{is_outgoing, Learns, Makes}
 use Rattle.lc_credit.specs.Sides.{Outgoing, IsUsed}
 use Rattle.lc_outbox.specs.Uses.{uses_after, uses, amount_of, amounts}
 use Rattle.lc_outbox.specs.Calls.{IsCounted, IsGivenBack}
+use Rattle.lc_outbox.specs.Honours.{LooksForTarget}
 
 uses-push : (history : List Entry) (e : Entry) → uses (history ++ e ∷ []) ≡ uses_after (uses history) e
 uses-push history e = fold-append uses_after [] history (e ∷ [])
@@ -40,9 +41,9 @@ made_uses : (old new : List Entry) (e : Entry) → Makes is_outgoing old e new �
 made_uses old new e h = ap uses h.last ∙ (uses-push h.before e ∙ ap (λ (xs : List ℕ). uses_after xs e) (uses_same old h.before h.knows))
 
 -- a look for a target is no use
-pub looked_uses : (taken : Option ℕ) (old new : Outgoing) → IfSome taken (λ target. Makes is_outgoing old.seen (Taken target) new.seen) → IfNone taken (Learns is_outgoing old.seen new.seen × (waiting new.seen ≡ None)) → uses new.seen ≡ uses old.seen
-looked_uses None old new some none = learned_uses old.seen new.seen none.0
-looked_uses (Some target) old new some none = made_uses old.seen new.seen (Taken target) some
+pub looked_uses : (taken : Option ℕ) (old new : Outgoing) → LooksForTarget taken old new → uses new.seen ≡ uses old.seen
+looked_uses None old new h = learned_uses old.seen new.seen h.none.0
+looked_uses (Some target) old new h = made_uses old.seen new.seen (Taken target) h.some
 
 -- without the last
 last_gone : (xs : List ℕ) (n : ℕ) → take (length (xs ++ n ∷ []) - 1) (xs ++ n ∷ []) ≡ xs

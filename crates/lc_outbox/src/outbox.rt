@@ -1,19 +1,17 @@
 //! The sending end of one channel.
-ghost use Rattle.std.specs.Prelude.{◌≡◌, ◌+◌, ◌<◌, ◌≤◌, [], ◌∷◌, ◌++◌, IfOk, IfErr, OnOk, OnErr, IfSome, IfNone, IsSome, Some, None};
+ghost use Rattle.std.specs.Prelude.{◌≡◌, ◌<◌, ◌≤◌, [], ◌∷◌, ◌++◌, IfOk, IfErr, OnOk, OnErr, IfSome, IfNone, IsSome, Some, None};
 ghost use Rattle.lc_frame.specs.Channel.{number_of};
 ghost use Rattle.lc_frame.specs.Frame.{IsValid, lane_of};
 ghost use Rattle.lc_frame.specs.Kind.{max_amount, max_total};
 ghost use Rattle.lc_book.specs.declared.fault.Refusal.TheVariants.{QueueFull};
 ghost use Rattle.lc_queue.specs.Parts.{IsSameEnd};
 ghost use Rattle.lc_credit.specs.declared.history.Entry.TheVariants.{Returned};
-ghost use Rattle.lc_credit.specs.declared.credit_out.Use.TheVariants as kinds;
-ghost use Rattle.lc_credit.specs.declared.credit_out.Use.{Use as AnyUse};
 ghost use Rattle.lc_credit.specs.History.{is_outgoing, Makes};
-ghost use Rattle.lc_credit.specs.Sides.{Outgoing, IsIdle, LoadsOut, IsUsed, new_outgoing, counted, given_back};
+ghost use Rattle.lc_credit.specs.Sides.{IsIdle, LoadsOut, new_outgoing, counted, given_back};
 ghost use Rattle.lc_credit.specs.Channels.{SameCredit};
 ghost use Rattle.lc_outbox.specs.Outbox.{IsOutbox, IsSameOutbox, new_outbox};
 ghost use Rattle.lc_outbox.specs.Calls.{IsSent, IsNotSent, IsAbsolved, IsNotAbsolved, IsLimited, IsNotLimited};
-ghost use Rattle.lc_outbox.specs.Honours.{IsDue, IsHonoured, IsPutOff};
+ghost use Rattle.lc_outbox.specs.Honours.{AnswersFor, IsMet, IsLowered, IsHonoured, IsPutOff};
 
 use lc_book::{Refusal, after_message, check_limit};
 use lc_credit::CreditOut;
@@ -103,11 +101,19 @@ fn put_used<R: Wait>(
     }
 }
 
+// Takes the target that waits, if one does, in place of the one that was kept.
+fn take_target(credit: &mut CreditOut, kept: Option<u32>) -> Option<u32>
+    ensures answers { AnswersFor result kept credit.old credit.new }
+    ensures same { SameCredit credit.old credit.new }
+{
+    credit.take_asked().or(kept)
+}
+
 // Takes out what is held above the target, as far as one frame can carry it.
-fn take_excess(credit: &mut CreditOut, target: u32) -> Option<u32>
+fn lower_to(credit: &mut CreditOut, target: u32) -> Option<u32>
     requires { IsIdle credit.old }
-    ensures none { IfNone result (IsDue (Some target) None credit.old credit.new) }
-    ensures some { IfSome result (λ n. (loaded : Outgoing) × IsDue (Some target) (Some n) credit.old loaded × IsUsed AnyUse.Absolve n loaded credit.new) }
+    ensures none { IfNone result (IsMet (Some target) credit.old credit.new) }
+    ensures some { IfSome result (λ n. IsLowered target n credit.old credit.new) }
     ensures range { IfSome result (λ n. (0 < n) × (n ≤ max_amount)) }
     ensures same { SameCredit credit.old credit.new }
 {
@@ -216,11 +222,11 @@ impl Outbox {
         ensures kept { IsOutbox self.new }
         ensures same { IsSameOutbox self.old self.new }
     {
-        self.asked = self.credit.take_asked().or(self.asked);
+        self.asked = take_target(&mut self.credit, self.asked);
         let Some(target) = self.asked else {
             return Ok(None);
         };
-        let Some(amount) = take_excess(&mut self.credit, target) else {
+        let Some(amount) = lower_to(&mut self.credit, target) else {
             self.asked = None;
             return Ok(None);
         };
@@ -228,9 +234,13 @@ impl Outbox {
             channel: self.channel,
             amount,
         };
-        put_used(rt, &mut self.lane, &mut self.credit, frame)?;
-        self.asked = None;
-        Ok(Some(amount))
+        match put_used(rt, &mut self.lane, &mut self.credit, frame) {
+            Ok(()) => {
+                self.asked = None;
+                Ok(Some(amount))
+            }
+            Err(refusal) => Err(refusal),
+        }
     }
 
     /// At most `bound` bytes are sent from here on; 0 ends the channel. Refused by 7, 8 and 13, in
