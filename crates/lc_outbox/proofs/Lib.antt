@@ -1,0 +1,2 @@
+mod Uses
+mod Kept

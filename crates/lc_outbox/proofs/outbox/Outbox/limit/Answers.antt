@@ -1,0 +1,12 @@
+use Rattle.std.proofs.Common.{subst, sym}
+use Rattle.lc_outbox.specs.Outbox.{IsOutbox}
+use Rattle.lc_outbox.proofs.Kept.{kept_lane, kept_limited}
+use Rattle.lc_outbox.proofs.outbox.Outbox.limit.Goals.{in-Ok, in-Err}
+use Rattle.lc_outbox.proofs.outbox.Outbox.limit.Goals as goal
+
+pub invariant_of-self : goal.invariant_of-self
+invariant_of-self g c = kept_limited _ c.self.invariant _ _ c.in-Ok.ensures.after
+
+pub returns-clause-kept : goal.returns-clause-kept
+returns-clause-kept g c =
+    elim c.match-push.branch [ in-Ok w ↦ subst IsOutbox (sym w.self-is) (kept_limited _ c.self.invariant _ _ w.in-Ok.ensures.after) | in-Err w ↦ subst IsOutbox (sym w.self-is) (kept_lane _ _ w.in-Err.ensures.after.1 c.self.invariant) ]

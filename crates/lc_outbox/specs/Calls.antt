@@ -1,0 +1,71 @@
+-- What a message, an absolving and a limit do to an outbox, and why they are refused. That they need guarantees, and what a limit bounds, is LCMUX's; the order of the refusals, and that a copy may get no memory and a frame no slot, is this project's own.
+use Rattle.std.specs.Prelude.{◌≡◌, ◌⊎◌, ℕ, ◌<◌, List, length, Option, Some, None}
+use Rattle.lc_frame.specs.declared.frame.Frame.TheVariants.{Send, Absolve, LimitSending}
+use Rattle.lc_book.specs.declared.fault.Refusal.{Refusal}
+use Rattle.lc_book.specs.declared.fault.Refusal.TheVariants.{NoGuarantee, ZeroAmount, NotHeld, QueueFull, OutOfMemory}
+use Rattle.lc_book.specs.Limit.{less, limit_refusal}
+use Rattle.lc_book.specs.Client.{message_refusal}
+use Rattle.lc_credit.specs.declared.history.Entry.TheVariants.{Returned}
+use Rattle.lc_credit.specs.declared.credit_out.Use.{Use}
+use Rattle.lc_credit.specs.declared.credit_out.Use.TheVariants as kinds
+use Rattle.lc_credit.specs.History.{is_outgoing, Makes}
+use Rattle.lc_credit.specs.Sides as sides
+use Rattle.lc_credit.specs.Sides.{Outgoing, IsUsed, IsNotSpent, counted_as, given_back}
+use Rattle.lc_outbox.specs.Outbox.{OutboxState, put}
+
+-- the credit, as it was loaded, had the amount, which was taken out and counted
+pub record IsCounted (kind : Use) (n : ℕ) (old new : Outgoing) : Type 0 where
+  pub pending : Outgoing
+  pub used : IsUsed kind n old pending
+  pub after : new ≡ counted_as kind n pending
+
+-- the same, but the amount was given back
+pub record IsGivenBack (kind : Use) (n : ℕ) (old new : Outgoing) : Type 0 where
+  pub pending : Outgoing
+  pub used : IsUsed kind n old pending
+  pub makes : Makes is_outgoing pending.seen (Returned n) new.seen
+  pub after : new ≡ given_back (record { kind = kind; amount = n }) new.seen pending
+
+-- a message was put: neither its length nor the limit forbade it, and its bytes were spent
+pub record IsSent (body : List ℕ) (old new : OutboxState) : Type 0 where
+  pub allowed : message_refusal old.send_left (length body) ≡ None
+  pub spent : IsCounted kinds.Spend (length body) old.credit new.credit
+  pub after : new ≡ put (Send old.channel body) (record old { credit = new.credit; send_left = less old.send_left (length body) })
+
+-- why a message of so many bytes was not put, and what that leaves of the credit: 1, 2 and 3 come before a look at it, 4 by the word as it was loaded, and 14 and 13 where it had enough
+abbrev pub IsSendReason : Refusal → Option ℕ → ℕ → Outgoing → Outgoing → Type 0
+IsSendReason (NoGuarantee held) left len old new = (message_refusal left len ≡ None) × IsNotSpent (NoGuarantee held) len old new
+IsSendReason OutOfMemory left len old new = (message_refusal left len ≡ None) × IsGivenBack kinds.Spend len old new
+IsSendReason QueueFull left len old new = (message_refusal left len ≡ None) × IsGivenBack kinds.Spend len old new
+IsSendReason e left len old new = (message_refusal left len ≡ Some e) × (new ≡ old)
+
+pub record IsNotSent (e : Refusal) (body : List ℕ) (old new : OutboxState) : Type 0 where
+  pub reason : IsSendReason e old.send_left (length body) old.credit new.credit
+  pub after : new ≡ record old { credit = new.credit }
+
+-- an absolving was put
+pub record IsAbsolved (n : ℕ) (old new : OutboxState) : Type 0 where
+  pub some : 0 < n
+  pub absolved : IsCounted kinds.Absolve n old.credit new.credit
+  pub after : new ≡ put (Absolve old.channel n) (record old { credit = new.credit })
+
+-- why it was not, and what that leaves of the credit: 5 comes before a look at it, 6 by the word as it was loaded, and 13 where it had enough
+abbrev pub IsAbsolveReason : Refusal → ℕ → Outgoing → Outgoing → Type 0
+IsAbsolveReason ZeroAmount n old new = (n ≡ 0) × (new ≡ old)
+IsAbsolveReason (NotHeld held) n old new = (0 < n) × sides.IsNotAbsolved (NotHeld held) n old new
+IsAbsolveReason QueueFull n old new = (0 < n) × IsGivenBack kinds.Absolve n old new
+IsAbsolveReason e n old new = ⊥
+
+pub record IsNotAbsolved (e : Refusal) (n : ℕ) (old new : OutboxState) : Type 0 where
+  pub reason : IsAbsolveReason e n old.credit new.credit
+  pub after : new ≡ record old { credit = new.credit }
+
+-- a limit was put
+pub record IsLimited (bound : ℕ) (old new : OutboxState) : Type 0 where
+  pub allowed : limit_refusal old.send_left bound ≡ None
+  pub after : new ≡ put (LimitSending old.channel bound) (record old { send_left = Some bound })
+
+-- why it was not: 7 and 8, or else 13
+pub record IsNotLimited (e : Refusal) (bound : ℕ) (old new : OutboxState) : Type 0 where
+  pub reason : (limit_refusal old.send_left bound ≡ Some e) ⊎ ((limit_refusal old.send_left bound ≡ None) × (e ≡ QueueFull))
+  pub after : new ≡ old

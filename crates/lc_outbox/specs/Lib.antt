@@ -1,0 +1,4 @@
+pub mod Uses
+pub mod Outbox
+pub mod Calls
+pub mod Honours
