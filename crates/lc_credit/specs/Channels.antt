@@ -1,5 +1,5 @@
 -- The credits of all seven channels, by number. The channels are this project's own.
-use Rattle.std.specs.Prelude.{◌≡◌, ℕ, List, [], ◌∷◌, map, IsSomeAnd, slice_get, slice_set}
+use Rattle.std.specs.Prelude.{◌≡◌, List, [], ◌∷◌, map}
 use Rattle.lc_credit.specs.declared.balance.Balance.{Balance}
 use Rattle.lc_credit.specs.Sides.{CreditId, Incoming, Outgoing, new_incoming, new_outgoing, IsSettled}
 
@@ -25,10 +25,6 @@ AreMatched incoming outgoing = map credit_in incoming ≡ map credit_out outgoin
 pub record AreNew (incoming : List Incoming) (outgoing : List Outgoing) : Type 0 where
   pub incoming_new : incoming ≡ map new_incoming (map credit_out outgoing)
   pub outgoing_new : outgoing ≡ map new_outgoing (map credit_out outgoing)
-
--- one channel is there and changed, in this way, and no other
-abbrev pub ChangesAt : ℕ → (Incoming → Incoming → Type 0) → List Incoming → List Incoming → Type 0
-ChangesAt at Changes old new = (i : Incoming) × IsSomeAnd (slice_get old at) (λ was. Changes was i) × (new ≡ slice_set old at i)
 
 -- each channel is settled, by its number, and there are as many of one as of the other
 abbrev pub AreSettled : List Incoming → List Outgoing → List Balance → Type 0

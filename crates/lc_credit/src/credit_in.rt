@@ -4,7 +4,8 @@ ghost use Rattle.lc_frame.specs.Channel.{number_of};
 ghost use Rattle.lc_frame.specs.Kind.{max_amount, max_total};
 ghost use Rattle.lc_book.specs.declared.fault.Violation.{Violation as AnyViolation};
 ghost use Rattle.lc_credit.specs.Sides.{IsIncoming, IsAdded, IsNotAdded, IsLimited, IsPastLimit, IsAsked};
-ghost use Rattle.lc_credit.specs.Channels.{SameCredits, ChangesAt};
+ghost use Rattle.lc_history.specs.Places.{ChangesAt};
+ghost use Rattle.lc_credit.specs.Channels.{SameCredits};
 
 use crate::channel_in::ChannelIn;
 use lc_book::Violation;
