@@ -2,6 +2,14 @@
 #![tactic(auto)]
 
 mod batch;
+mod heeding;
+mod read_pump;
+mod reading_side;
+mod recv_end;
+mod send_end;
 mod write_pump;
 
+pub use read_pump::ReadPump;
+pub use recv_end::RecvEnd;
+pub use send_end::SendEnd;
 pub use write_pump::{WriteEnd, WritePump};

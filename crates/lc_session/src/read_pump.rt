@@ -1,0 +1,55 @@
+//! The pump that reads.
+ghost use Rattle.std.specs.Prelude.{◌≡◌, ◌+◌, ◌≤◌, None, IfSome};
+ghost use Rattle.lc_driver.specs.Reading.{ReadsInto, CountsReads, EndsInput, end_of};
+ghost use Rattle.lc_session.specs.Reading.{Arrives, Violates, IsSameReading};
+
+use crate::reading_side::ReadingSide;
+use lc_driver::{CountedRead, Intake, ReadEnd, read_into};
+use std::marker::Model;
+use std::sync::Wait;
+
+/// Reads frames and lets each arrive at its channel's inbox or credit. One thread has it.
+#[derive(Drop)]
+pub struct ReadPump {
+    pub(crate) side: ReadingSide,
+    intake: Intake,
+}
+
+impl Model for ReadPump {
+    ghost use Rattle.lc_session.specs.Reading.{Reading};
+
+    ghost Value = { Reading };
+
+    ghost view = { λ p. record { side = p.side; intake = p.intake } };
+}
+
+impl ReadPump {
+    pub(crate) fn new(side: ReadingSide, intake: Intake) -> ReadPump
+        ensures { result ≡ record { side = side; intake = intake } }
+    {
+        ReadPump { side, intake }
+    }
+
+    /// Reads up to `max_reads` times, at most 512 bytes each, and lets each whole frame arrive, as
+    /// `lc_driver::read_in` does at a peer. When the run ends all ends are woken.
+    ///
+    /// It ends by its transport: `Session::stop` does not reach it while it waits in a read. What
+    /// frees it is `shutdown(Read)` on a clone of its socket, or the other side's end of the stream.
+    pub fn run<R: Wait, D: CountedRead>(
+        &mut self,
+        rt: &R,
+        reader: &mut D,
+        max_reads: u64,
+    ) -> ReadEnd
+        ensures given_up { IfSome self.old.intake.stop (λ stop. (result ≡ end_of stop) × (reader.new ≡ reader.old) × (self.new ≡ self.old)) }
+        ensures reads { self.old.intake.stop ≡ None → ReadsInto Arrives Violates (D.remaining reader.old) (D.remaining reader.new) self.old.intake.held self.old.side self.new.intake self.new.side max_reads result }
+        ensures at_end { EndsInput result (D.remaining reader.new) }
+        ensures counts { CountsReads result (D.counts reader.old) (D.counts reader.new) }
+        ensures calls { (D.counts reader.new).calls ≤ (D.counts reader.old).calls + max_reads }
+    {
+        self.side.begin_run();
+        let end = read_into(&mut self.side, rt, reader, &mut self.intake, max_reads);
+        self.side.end_run();
+        end
+    }
+}

@@ -1,0 +1,128 @@
+//! Where the frames that come are for.
+ghost use Rattle.std.specs.Prelude.{◌≡◌, ◌∷◌, [], ◌≤◌, map, OnOk, IfErr};
+ghost use Rattle.lc_history.specs.Places.{ChangesAt};
+ghost use Rattle.lc_frame.specs.Channel.{number_of};
+ghost use Rattle.lc_frame.specs.Frame.{IsValid, lane_of, channel_of};
+ghost use Rattle.lc_frame.specs.FrameRef.{frame_of};
+ghost use Rattle.lc_frame.specs.Kind.{max_amount};
+ghost use Rattle.lc_credit.specs.Sides.{IsAdded, IsNotAdded};
+ghost use Rattle.lc_inbox.specs.Sides.{IsSameSide};
+ghost use Rattle.lc_session.specs.Channels.{channels};
+ghost use Rattle.lc_session.specs.Reading.{channel_of_side, Hears, Refuses, ToCredit, ToInbox, Arrives, Violates};
+
+use lc_book::Violation;
+use lc_credit::CreditIn;
+use lc_frame::{Channel, FrameRef};
+use lc_inbox::InboxIn;
+use lc_peer::FrameSink;
+use lc_wake::{End, Pump, Wakers};
+use std::alloc::Global;
+use std::marker::Model;
+use std::sync::{Arc, Wait};
+
+/// The reading side of each channel's credit and inbox, with what wakes their ends.
+#[derive(Drop)]
+pub(crate) struct ReadingSide {
+    pub(crate) credits: CreditIn,
+    pub(crate) inboxes: [InboxIn; 7],
+    pub(crate) wakers: Arc<Wakers, Global>,
+}
+
+impl Model for ReadingSide {
+    ghost use Rattle.lc_session.specs.Reading.{ReadingSide as State, IsReadingSide};
+
+    ghost Value = { State };
+
+    ghost view = { λ r. record { credits = r.credits; inboxes = r.inboxes } };
+
+    ghost invariant = { λ r. IsReadingSide (record { credits = r.credits; inboxes = r.inboxes }) };
+}
+
+// A frame arrives at an inbox.
+fn hear<R: Wait>(rt: &R, inbox: &mut InboxIn, frame: FrameRef<'_>) -> Result<(), Violation>
+    requires valid { IsValid (frame_of frame) }
+    requires lane { lane_of (frame_of frame) ≡ number_of inbox.old.key.channel }
+    ensures ok { OnOk result (Hears (frame_of frame.entry) inbox.old inbox.new) }
+    ensures err { IfErr result (λ v. Refuses v (frame_of frame.entry) inbox.old inbox.new) }
+    ensures same { IsSameSide inbox.old inbox.new }
+{
+    inbox.arrive(rt, frame)
+}
+
+// A frame arrives at the inbox of its channel.
+fn hear_at<R: Wait>(
+    rt: &R,
+    inboxes: &mut [InboxIn; 7],
+    channel: Channel,
+    frame: FrameRef<'_>,
+) -> Result<(), Violation>
+    requires places { map channel_of_side inboxes.old ≡ channels }
+    requires valid { IsValid (frame_of frame) }
+    requires lane { lane_of (frame_of frame) ≡ number_of channel }
+    ensures ok { OnOk result (ChangesAt (number_of channel) (Hears (frame_of frame.entry)) inboxes.old inboxes.new) }
+    ensures err { IfErr result (λ v. ChangesAt (number_of channel) (Refuses v (frame_of frame.entry)) inboxes.old inboxes.new) }
+    ensures places { map channel_of_side inboxes.new ≡ channels }
+{
+    let inbox = &mut inboxes[channel.index()];
+    hear(rt, inbox, frame)
+}
+
+impl ReadingSide {
+    pub(crate) fn begin_run(&self) {
+        self.wakers.begin_run(Pump::Reading);
+    }
+
+    pub(crate) fn end_run(&self) {
+        self.wakers.end_run(Pump::Reading);
+    }
+
+    // Guarantees arrive on a channel.
+    fn add(&mut self, channel: Channel, amount: u32) -> Result<(), Violation>
+        requires { amount ≤ max_amount }
+        ensures ok { OnOk result (ToCredit channel (IsAdded amount) self.old self.new) }
+        ensures err { IfErr result (λ v. ToCredit channel (IsNotAdded v amount) self.old self.new) }
+    {
+        self.credits.add(channel, amount)?;
+        self.wakers.frame_came(End::Sending(channel));
+        Ok(())
+    }
+
+    // A frame of the client's lane arrives on a channel.
+    fn hear<R: Wait>(&mut self, rt: &R, channel: Channel, frame: FrameRef<'_>) -> Result<(), Violation>
+        requires valid { IsValid (frame_of frame) }
+        requires lane { lane_of (frame_of frame) ≡ number_of channel }
+        ensures ok { OnOk result (ToInbox channel (Hears (frame_of frame.entry)) self.old self.new) }
+        ensures err { IfErr result (λ v. ToInbox channel (Refuses v (frame_of frame.entry)) self.old self.new) }
+    {
+        hear_at(rt, &mut self.inboxes, channel, frame)
+    }
+}
+
+impl<R: Wait> FrameSink<R> for ReadingSide {
+    ghost use Rattle.lc_session.specs.Reading.{Arrives, Violates};
+
+    ghost arrived = { Arrives };
+
+    ghost violated = { Violates };
+
+    fn arrive_in(&mut self, rt: &R, frame: FrameRef<'_>) -> Result<(), Violation> {
+        match frame {
+            FrameRef::Issue { channel, amount } => self.add(channel, amount),
+            FrameRef::Plead { channel, target } => {
+                self.credits.ask(channel, target);
+                self.wakers.frame_came(End::Sending(channel));
+                Ok(())
+            }
+            FrameRef::LimitReceiving { channel, bound } => {
+                self.credits.receiving_limited(channel, bound)
+            }
+            FrameRef::Send { channel, .. }
+            | FrameRef::Absolve { channel, .. }
+            | FrameRef::LimitSending { channel, .. } => {
+                self.hear(rt, channel, frame)?;
+                self.wakers.frame_came(End::Receiving(channel));
+                Ok(())
+            }
+        }
+    }
+}

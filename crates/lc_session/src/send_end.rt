@@ -1,0 +1,134 @@
+//! The sending end of a channel.
+ghost use Rattle.std.specs.Prelude.{◌≡◌, ◌≤◌, IfOk, IfErr, OnOk};
+ghost use Rattle.lc_frame.specs.Kind.{max_total};
+ghost use Rattle.lc_credit.specs.Sides.{LoadsOut};
+ghost use Rattle.lc_outbox.specs.Outbox.{IsOutbox, IsSameOutbox};
+ghost use Rattle.lc_outbox.specs.Calls.{IsSent, IsNotSent, IsAbsolved, IsNotAbsolved, IsLimited, IsNotLimited};
+ghost use Rattle.lc_outbox.specs.Honours.{IsHonoured, IsPutOff};
+
+use crate::heeding::heed;
+use lc_book::Refusal;
+use lc_frame::Channel;
+use lc_outbox::Outbox;
+use lc_wake::{Wake, Waiter};
+use std::marker::Model;
+use std::sync::Wait;
+use std::time::{Clock, Duration};
+
+/// The sending end of a channel, which one thread has: an outbox that wakes the writing pump, and
+/// what that thread waits by. All numbers count bytes of messages.
+#[derive(Drop)]
+pub struct SendEnd {
+    outbox: Outbox,
+    waiter: Waiter,
+}
+
+impl Model for SendEnd {
+    ghost use Rattle.lc_outbox.specs.Outbox.{OutboxState};
+
+    ghost Value = { OutboxState };
+
+    ghost view = { λ e. e.outbox };
+}
+
+impl SendEnd {
+    pub(crate) fn new(outbox: Outbox, waiter: Waiter) -> SendEnd
+        ensures { result ≡ outbox }
+    {
+        SendEnd { outbox, waiter }
+    }
+
+    /// The channel.
+    pub fn channel(&self) -> Channel
+        ensures value { result ≡ self.now.channel }
+        ensures kept { IsOutbox self.now }
+    {
+        self.outbox.channel()
+    }
+
+    /// As [`Outbox::held`].
+    pub fn held(&mut self) -> u64
+        ensures loads { LoadsOut result self.old.credit self.new.credit }
+        ensures small { result ≤ max_total }
+        ensures after { self.new ≡ record self.old { credit = self.new.credit } }
+        ensures kept { IsOutbox self.new }
+        ensures same { IsSameOutbox self.old self.new }
+    {
+        self.waiter.look();
+        self.outbox.held()
+    }
+
+    /// As [`Outbox::send`].
+    pub fn send<R: Wait>(&mut self, rt: &R, body: &[u8]) -> Result<(), Refusal>
+        ensures ok { OnOk result (IsSent body.now self.old self.new) }
+        ensures err { IfErr result (λ e. IsNotSent e body.now self.old self.new) }
+        ensures kept { IsOutbox self.new }
+        ensures same { IsSameOutbox self.old self.new }
+    {
+        self.waiter.look();
+        let answer = self.outbox.send(rt, body);
+        heed(&mut self.waiter, &answer);
+        answer
+    }
+
+    /// As [`Outbox::absolve`].
+    pub fn absolve<R: Wait>(&mut self, rt: &R, n: u32) -> Result<(), Refusal>
+        ensures ok { OnOk result (IsAbsolved n self.old self.new) }
+        ensures err { IfErr result (λ e. IsNotAbsolved e n self.old self.new) }
+        ensures kept { IsOutbox self.new }
+        ensures same { IsSameOutbox self.old self.new }
+    {
+        self.waiter.look();
+        let answer = self.outbox.absolve(rt, n);
+        heed(&mut self.waiter, &answer);
+        answer
+    }
+
+    /// As [`Outbox::honour`].
+    pub fn honour<R: Wait>(&mut self, rt: &R) -> Result<Option<u32>, Refusal>
+        ensures ok { IfOk result (λ amount. IsHonoured amount self.old self.new) }
+        ensures err { IfErr result (λ e. IsPutOff e self.old self.new) }
+        ensures kept { IsOutbox self.new }
+        ensures same { IsSameOutbox self.old self.new }
+    {
+        self.waiter.look();
+        let answer = self.outbox.honour(rt);
+        heed(&mut self.waiter, &answer);
+        answer
+    }
+
+    /// As [`Outbox::limit`].
+    pub fn limit<R: Wait>(&mut self, rt: &R, bound: u64) -> Result<(), Refusal>
+        ensures ok { OnOk result (IsLimited bound self.old self.new) }
+        ensures err { IfErr result (λ e. IsNotLimited e bound self.old self.new) }
+        ensures kept { IsOutbox self.new }
+        ensures same { IsSameOutbox self.old self.new }
+    {
+        self.waiter.look();
+        let answer = self.outbox.limit(rt, bound);
+        heed(&mut self.waiter, &answer);
+        answer
+    }
+
+    /// Sleeps until something came that concerns this end since its last call: guarantees or a plead
+    /// on its channel, a free slot where a call was refused by 13, or the end of a pump's run.
+    pub fn wait<R: Wait>(&mut self, rt: &R) -> Wake
+        ensures same { self.new ≡ self.old }
+    {
+        self.waiter.wait(rt)
+    }
+
+    /// The same, and no longer than this. It may end earlier without a reason.
+    pub fn wait_timeout<R: Wait + Clock>(&mut self, rt: &R, timeout: Duration) -> Wake
+        ensures same { self.new ≡ self.old }
+    {
+        self.waiter.wait_timeout(rt, timeout)
+    }
+
+    pub(crate) fn into_outbox(self) -> Outbox
+        ensures { result ≡ self }
+    {
+        let SendEnd { outbox, waiter: _ } = self;
+        outbox
+    }
+}
