@@ -1,3 +1,4 @@
+use Rattle.std.proofs.Common.{rules}
 use Rattle.lc_outbox.proofs.Kept.{is_counted, is_given_back, kept_answers, kept_loads, kept_back, kept_absolved, kept_target}
 use Rattle.lc_outbox.proofs.outbox.Outbox.honour.Goals as goal
 
@@ -32,3 +33,6 @@ invariant_of-self-in-Err g c =
 
 pub returns-in-Err-clause-kept : goal.returns-in-Err-clause-kept
 returns-in-Err-clause-kept g c = invariant_of-self-in-Err g c
+
+pub returns-in-Err-clause-err : goal.returns-in-Err-clause-err
+returns-in-Err-clause-err g c = search rules

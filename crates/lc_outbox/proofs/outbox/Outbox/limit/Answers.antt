@@ -1,4 +1,4 @@
-use Rattle.std.proofs.Common.{subst, sym}
+use Rattle.std.proofs.Common.{rules, subst, sym}
 use Rattle.lc_outbox.specs.Outbox.{IsOutbox}
 use Rattle.lc_outbox.proofs.Kept.{kept_lane, kept_limited}
 use Rattle.lc_outbox.proofs.outbox.Outbox.limit.Goals.{in-Ok, in-Err}
@@ -10,3 +10,6 @@ invariant_of-self g c = kept_limited _ c.self.invariant _ _ c.in-Ok.ensures.afte
 pub returns-clause-kept : goal.returns-clause-kept
 returns-clause-kept g c =
     elim c.match-push.branch [ in-Ok w ↦ subst IsOutbox (sym w.self-is) (kept_limited _ c.self.invariant _ _ w.in-Ok.ensures.after) | in-Err w ↦ subst IsOutbox (sym w.self-is) (kept_lane _ _ w.in-Err.ensures.after.1 c.self.invariant) ]
+
+pub returns-clause-ok : goal.returns-clause-ok
+returns-clause-ok g c = search rules
