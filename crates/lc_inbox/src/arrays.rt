@@ -2,10 +2,10 @@
 ghost use Rattle.std.specs.Prelude.{◌≡◌, ◌∷◌, [], length};
 
 /// Seven of a kind, in order.
-pub(crate) type Seven<T> = (T, T, T, T, T, T, T);
+pub type Seven<T> = (T, T, T, T, T, T, T);
 
 /// The seven by themselves.
-pub(crate) fn apart<T>(all: [T; 7]) -> Seven<T>
+pub fn apart<T>(all: [T; 7]) -> Seven<T>
     requires { length all ≡ 7 }
     ensures { all ≡ result.0 ∷ result.1 ∷ result.2 ∷ result.3 ∷ result.4 ∷ result.5 ∷ result.6 ∷ [] }
 {

@@ -45,7 +45,7 @@ fn first_bad(capacities: &[u32; 7]) -> Option<Channel>
 
 impl Config {
     /// What is wrong: the first channel whose ring may not have its capacity, then the slots.
-    pub(crate) fn judge(&self) -> Result<(), PeerFault>
+    pub fn judge(&self) -> Result<(), PeerFault>
         ensures { result_err result ≡ config_fault self.now }
     {
         if let Some(channel) = first_bad(&self.capacities) {

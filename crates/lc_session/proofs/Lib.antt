@@ -1,3 +1,4 @@
 pub mod Batches
 pub mod Pumped
 pub mod Places
+pub mod Begun

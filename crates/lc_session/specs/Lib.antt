@@ -3,3 +3,5 @@ pub mod Pumping
 pub mod Channels
 pub mod Reading
 pub mod Report
+pub mod Session
+pub mod Parts

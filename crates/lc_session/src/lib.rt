@@ -3,13 +3,17 @@
 
 mod batch;
 mod heeding;
+mod parts;
 mod read_pump;
 mod reading_side;
 mod recv_end;
 mod send_end;
+mod session;
 mod write_pump;
 
+pub use parts::Parts;
 pub use read_pump::ReadPump;
 pub use recv_end::RecvEnd;
 pub use send_end::SendEnd;
+pub use session::Session;
 pub use write_pump::{WriteEnd, WritePump};

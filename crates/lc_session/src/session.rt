@@ -1,0 +1,184 @@
+//! How a session is made and stopped.
+ghost use Rattle.std.specs.Prelude.{◌≡◌, ◌<◌, ◌∷◌, [], take, map, IfOk};
+ghost use Rattle.std.specs.Result.{result_err};
+ghost use Rattle.lc_frame.specs.Channel.{number_of};
+ghost use Rattle.lc_peer.specs.Config.{IsNewAnswer};
+ghost use Rattle.lc_queue.specs.Parts.{QueueId, new_ends, new_outlet};
+ghost use Rattle.lc_credit.specs.Sides.{new_outgoing};
+ghost use Rattle.lc_credit.specs.Channels.{credit_out};
+ghost use Rattle.lc_outbox.specs.Outbox.{new_outbox};
+ghost use Rattle.lc_session.specs.Channels.{channels};
+ghost use Rattle.lc_session.specs.Reading.{channel_of_side};
+ghost use Rattle.lc_session.specs.Pumping.{new_pumping};
+ghost use Rattle.lc_session.specs.Session.{listed, new_outboxes, IsNewSession};
+ghost use Rattle.lc_session.specs.Parts.{state_of};
+
+use crate::batch::Batch;
+use crate::parts::Parts;
+use crate::read_pump::ReadPump;
+use crate::reading_side::ReadingSide;
+use crate::recv_end::RecvEnd;
+use crate::send_end::SendEnd;
+use crate::write_pump::WritePump;
+use lc_credit::{CreditOut, CreditParts, credits};
+use lc_driver::Intake;
+use lc_frame::Channel;
+use lc_inbox::{InboxOut, Inboxes, Seven, apart, share_all};
+use lc_outbox::Outbox;
+use lc_peer::{Config, PeerFault};
+use lc_queue::{Drain, LaneEnd, lanes};
+use lc_wake::{Waiter, Waking, Wakers};
+use std::alloc::{AllocError, Global};
+use std::sync::Arc;
+
+/// Who has this can stop the session's writing pump. It can be cloned, for any thread that may fail.
+#[derive(Drop)]
+pub struct Session {
+    wakers: Arc<Wakers, Global>,
+}
+
+// A new sending end of a channel.
+fn send_end(
+    alloc: Global,
+    channel: Channel,
+    lane: LaneEnd,
+    credit: CreditOut,
+    waiter: Waiter,
+) -> SendEnd
+    requires lane { lane.lane ≡ number_of channel }
+    requires put { lane.put ≡ [] }
+    requires credit { credit ≡ new_outgoing credit.credit }
+    ensures { result ≡ new_outbox channel lane credit }
+{
+    SendEnd::new(Outbox::new(alloc, lane, credit), waiter)
+}
+
+// The new sending ends of all channels.
+fn send_ends(
+    alloc: Global,
+    lanes: Seven<LaneEnd>,
+    credits: Seven<CreditOut>,
+    waiters: Seven<Waiter>,
+) -> [SendEnd; 7]
+    requires lanes { (queue : QueueId) × (listed lanes ≡ take 7 (new_ends queue)) }
+    requires credits { listed credits ≡ map new_outgoing (map credit_out (listed credits)) }
+    ensures { result ≡ new_outboxes channels (listed lanes) (listed credits) }
+{
+    let [a, b, c, d, e, f, g] = Channel::ALL;
+    [
+        send_end(alloc, a, lanes.0, credits.0, waiters.0),
+        send_end(alloc, b, lanes.1, credits.1, waiters.1),
+        send_end(alloc, c, lanes.2, credits.2, waiters.2),
+        send_end(alloc, d, lanes.3, credits.3, waiters.3),
+        send_end(alloc, e, lanes.4, credits.4, waiters.4),
+        send_end(alloc, f, lanes.5, credits.5, waiters.5),
+        send_end(alloc, g, lanes.6, credits.6, waiters.6),
+    ]
+}
+
+// The new receiving ends of all channels.
+fn recv_ends(inboxes: Seven<InboxOut>, waiters: Seven<Waiter>) -> [RecvEnd; 7]
+    requires { map channel_of_side (listed inboxes) ≡ channels }
+    ensures { result ≡ listed inboxes }
+{
+    let [a, b, c, d, e, f, g] = Channel::ALL;
+    [
+        RecvEnd::new(a, inboxes.0, waiters.0),
+        RecvEnd::new(b, inboxes.1, waiters.1),
+        RecvEnd::new(c, inboxes.2, waiters.2),
+        RecvEnd::new(d, inboxes.3, waiters.3),
+        RecvEnd::new(e, inboxes.4, waiters.4),
+        RecvEnd::new(f, inboxes.5, waiters.5),
+        RecvEnd::new(g, inboxes.6, waiters.6),
+    ]
+}
+
+// The parts that share a queue, credits and inboxes, put together.
+fn put_together(
+    alloc: Global,
+    inboxes: Inboxes,
+    credits: CreditParts,
+    waking: Waking,
+    intake: Intake,
+    outgo: (Drain, Batch),
+    wakers: Arc<Wakers, Global>,
+) -> Parts
+    requires clients { (queue : QueueId) × (inboxes.clients ≡ take 7 (new_ends queue)) }
+    requires credits { credits.outgoing ≡ map new_outgoing (map credit_out credits.outgoing) }
+    requires incoming { map channel_of_side inboxes.incoming ≡ channels }
+    requires outgoing { map channel_of_side inboxes.outgoing ≡ channels }
+    requires drain { outgo.0 ≡ new_outlet outgo.0.queue }
+    requires batch { (outgo.1.begun ≡ []) × (outgo.1.waiting ≡ []) }
+    ensures sending { result.send_ends ≡ new_outboxes channels inboxes.clients credits.outgoing }
+    ensures receiving { result.recv_ends ≡ inboxes.outgoing }
+    ensures reading { result.read_pump ≡ record { side = record { credits = credits.incoming; inboxes = inboxes.incoming }; intake = intake } }
+    ensures writing { result.write_pump ≡ new_pumping outgo.0 }
+{
+    let side = ReadingSide {
+        credits: credits.incoming,
+        inboxes: inboxes.incoming,
+        wakers: waking.wakers,
+    };
+    Parts {
+        session: Session { wakers },
+        send_ends: send_ends(
+            alloc,
+            apart(inboxes.clients),
+            apart(credits.outgoing),
+            apart(waking.sending),
+        ),
+        recv_ends: recv_ends(apart(inboxes.outgoing), apart(waking.receiving)),
+        read_pump: ReadPump::new(side, intake),
+        write_pump: WritePump::new(outgo.0, outgo.1, waking.pump),
+    }
+}
+
+// The parts of a session of a lawful configuration. The error is want of memory.
+fn make(alloc: Global, config: Config) -> Result<Parts, AllocError>
+    ensures { IfOk result (λ parts. IsNewSession config (state_of parts)) }
+{
+    let Ok(lanes) = lanes(alloc, config.slots) else {
+        return Err(AllocError);
+    };
+    let (capacities, ends) = (config.capacities, lanes.ends);
+    let Ok(inboxes) = share_all(alloc, capacities, ends) else {
+        return Err(AllocError);
+    };
+    let credits = credits(alloc)?;
+    let intake = Intake::new(alloc)?;
+    let outgo = (lanes.drain, Batch::new(alloc)?);
+    let waking = Waking::new(alloc)?;
+    let wakers = Arc::try_clone(&waking.wakers)?;
+    Ok(put_together(
+        alloc, inboxes, credits, waking, intake, outgo, wakers,
+    ))
+}
+
+impl Session {
+    /// The parts of a new session: rings of the capacities, and room for `slots` frames that wait to
+    /// go out. Faults come in this order: the first channel whose ring would not have 1 to 2^24
+    /// bytes, slots that are not 1 to 65,536, want of memory. It takes all the memory of the session;
+    /// of all later calls only `SendEnd::send` takes some, for its copy of the message.
+    pub fn new(alloc: Global, config: Config) -> Result<Parts, PeerFault>
+        ensures answer { IsNewAnswer config (result_err result) }
+        ensures new { IfOk result (λ parts. IsNewSession config (state_of parts)) }
+    {
+        config.judge()?;
+        match make(alloc, config) {
+            Ok(parts) => Ok(parts),
+            Err(AllocError) => Err(PeerFault::OutOfMemory),
+        }
+    }
+
+    /// Asks the writing pump to stop, once it has written all that is queued then. A reading pump
+    /// ends by its transport.
+    pub fn stop(&self) {
+        self.wakers.stop();
+    }
+
+    /// Another hold of the same session.
+    pub fn try_clone(&self) -> Result<Session, AllocError> {
+        let wakers = Arc::try_clone(&self.wakers)?;
+        Ok(Session { wakers })
+    }
+}
