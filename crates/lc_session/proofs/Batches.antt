@@ -1,7 +1,7 @@
 -- The bytes of a batch: where its frames begin and end, and what is left once some of them were written.
 use Rattle.std.proofs.Common.{◌≡◌, ℕ, zero, suc, ◌+◌, ◌-◌, ◌<◌, ◌≤◌, ◌⊎◌, inl, inr, List, [], ◌∷◌, ◌++◌, length, take, drop, refl, sym, ap, subst, ◌∙◌, append-nil, arith, length-append, add-one}
 use Rattle.std.specs.List.{flat_map, AllByRecursion}
-use Rattle.std.proofs.lemmas.List.{length-drop, length-take-le, take-append-drop, take_at, drop_at, drop-drop, drop-append-le, flat_map_more}
+use Rattle.std.proofs.lemmas.List.{length-drop, length-take-le, take-append-drop, take_at, drop_at, drop-drop, drop-append-le, flat_map_more, nil_from_length}
 use Rattle.std.proofs.lemmas.List.Concat.{flat_map-append, flat_map-cons}
 use Rattle.std.proofs.Math.Seq.{take-add}
 use Rattle.lc_frame.specs.declared.frame.Frame.{Frame}
@@ -11,7 +11,7 @@ use Rattle.lc_frame.specs.Kind.{max_frame}
 use Rattle.lc_frame.specs.Decoded.{OnlyFrame}
 use Rattle.lc_frame.specs.Splits.{frames_of}
 use Rattle.lc_frame.proofs.Frames.{joined_law}
-use Rattle.lc_driver.proofs.Frames.{all_fit, length-split, length-take-more}
+use Rattle.lc_driver.proofs.Frames.{all_fit, length-split, length-take-more, no_bytes_no_frames}
 use Rattle.lc_session.specs.Batch.{waiting_in, batch_of, AreWhole, EndsAt, HasBegun, LetsGo}
 
 -- the bytes of valid frames have these frames
@@ -63,15 +63,18 @@ next_stands begun bytes gone end h at more =
     let found = next_of ws gone (drop gone ws) refl (each_drop gone ws h.valid) (drop end bytes) is (omega (arith, length-drop end bytes, more)) in
     record { frame = found.0; stands = found.1; more = found.2; longer = found.3 }
 
+some_bytes : (f : Frame) → 0 < length (encoding f)
+some_bytes f = omega arith
+
 -- an end of a frame is sought: before each of the frames so far, fewer bytes stand than were written
-pub record IsOnItsWay (begun : ℕ) (bytes : List ℕ) (written end : ℕ) : Type 0 where
-  pub gone : ℕ
+pub record IsOnItsWay (begun : ℕ) (bytes : List ℕ) (written end gone : ℕ) : Type 0 where
   pub some : gone ≤ length (waiting_in begun bytes)
+  pub few : gone ≤ end
   pub end_is : end ≡ begun + length (flat_map encoding (take gone (waiting_in begun bytes)))
   pub first : (k : ℕ) → k < gone → begun + length (flat_map encoding (take k (waiting_in begun bytes))) < written
 
-pub none_yet : (begun : ℕ) (bytes : List ℕ) (written : ℕ) → IsOnItsWay begun bytes written begun
-none_yet begun bytes written = record { gone = 0; some = omega arith; end_is = omega arith; first = λ k h. absurd (omega arith) }
+pub none_yet : (begun : ℕ) (bytes : List ℕ) (written : ℕ) → IsOnItsWay begun bytes written begun 0
+none_yet begun bytes written = record { some = omega arith; few = omega arith; end_is = omega arith; first = λ k h. absurd (omega arith) }
 
 less_or_same : (k n : ℕ) → k ≤ n → (k < n) ⊎ (k ≡ n)
 less_or_same k n h = grind arith
@@ -79,16 +82,23 @@ less_or_same k n h = grind arith
 cases_last : {P : Type 0} (k n : ℕ) → k ≤ n → (k < n → P) → (k ≡ n → P) → P
 cases_last k n h less same = elim (less_or_same k n h) [ inl p ↦ less p | inr e ↦ same e ]
 
-pub goes_on : (begun : ℕ) (bytes : List ℕ) (written end used : ℕ) (at : IsOnItsWay begun bytes written end) (n : NextStands begun bytes at.gone end) → used ≡ length (encoding n.frame) → end < written → IsOnItsWay begun bytes written (end + used)
-goes_on begun bytes written end used at n e before = record {
-  gone = at.gone + 1;
+pub goes_on : (begun : ℕ) (bytes : List ℕ) (written end gone used : ℕ) → IsOnItsWay begun bytes written end gone → (n : NextStands begun bytes gone end) → used ≡ length (encoding n.frame) → end < written → IsOnItsWay begun bytes written (end + used) (gone + 1)
+goes_on begun bytes written end gone used at n e before = record {
   some = omega (arith, n.more);
+  few = omega (arith, at.few, e, some_bytes n.frame);
   end_is = omega (arith, at.end_is, e, n.longer);
-  first = λ k h. cases_last k at.gone (omega (arith, h)) (λ less. at.first k less) (λ same. subst (λ (j : ℕ). begun + length (flat_map encoding (take j (waiting_in begun bytes))) < written) (sym same) (omega (arith, at.end_is, before)));
+  first = λ k h. cases_last k gone (omega (arith, h)) (λ less. at.first k less) (λ same. subst (λ (j : ℕ). begun + length (flat_map encoding (take j (waiting_in begun bytes))) < written) (sym same) (omega (arith, at.end_is, before)));
 }
 
-pub found : (begun : ℕ) (bytes : List ℕ) (written end : ℕ) → IsOnItsWay begun bytes written end → written ≤ end → EndsAt begun bytes written end
-found begun bytes written end at there = record { gone = at.gone; some = at.some; written_to = there; end_is = at.end_is; first = at.first }
+pub found : (begun : ℕ) (bytes : List ℕ) (written end gone : ℕ) → IsOnItsWay begun bytes written end gone → written ≤ end → EndsAt begun bytes written end gone
+found begun bytes written end gone at there = record { some = at.some; written_to = there; end_is = at.end_is; first = at.first }
+
+-- all frames end where the bytes do
+pub all_frames : (begun : ℕ) (bytes : List ℕ) (end gone : ℕ) → AreWhole begun bytes → EndsAt begun bytes (length bytes) end gone → gone ≡ length (waiting_in begun bytes)
+all_frames begun bytes end gone h at =
+    let ws : List Frame = waiting_in begun bytes in
+    let none : length (flat_map encoding (drop gone ws)) ≡ 0 = omega (arith, at.end_is, at.written_to, length-split gone ws, ap length h.whole, length-drop begun bytes, h.within) in
+    omega (arith, at.some, ap length (no_bytes_no_frames (drop gone ws) (nil_from_length (flat_map encoding (drop gone ws)) none)), length-drop gone ws)
 
 -- the same bytes by another name
 pub stands_in : (bytes rest : List ℕ) (f : Frame) → rest ≡ bytes → FrameStands f bytes → FrameStands f rest
@@ -186,36 +196,36 @@ pub record IsWritten (begun : ℕ) (bytes : List ℕ) (count left : ℕ) (others
   pub whole : AreWhole left others
   pub goes : (free free' : ℕ) → LetsGo count (batch_of begun bytes free) (batch_of left others free')
 
-pub written_off : (begun : ℕ) (bytes : List ℕ) (count end left : ℕ) (others : List ℕ) → AreWhole begun bytes → count ≤ length bytes → EndsAt begun bytes count end → left ≡ end - count → others ≡ drop count bytes → IsWritten begun bytes count left others
-written_off begun bytes count end left others h within at left_is e =
+written_off : (begun : ℕ) (bytes : List ℕ) (count end gone left : ℕ) (others : List ℕ) → AreWhole begun bytes → count ≤ length bytes → EndsAt begun bytes count end gone → left ≡ end - count → others ≡ drop count bytes → IsWritten begun bytes count left others
+written_off begun bytes count end gone left others h within at left_is e =
     let ws : List Frame = waiting_in begun bytes in
-    let gone : List Frame = take at.gone ws in
+    let first : List Frame = take gone ws in
     let sum : count + left ≡ end = omega (arith, left_is, at.written_to) in
-    let front = up_to begun bytes at.gone end h at.end_is in
-    let behind : drop left others ≡ flat_map encoding (drop at.gone ws) =
-    ap (λ (xs : List ℕ). drop left xs) e ∙ drop-drop left count bytes ∙ ap (λ (n : ℕ). drop n bytes) (sum ∙ at.end_is) ∙ behind_frames begun bytes at.gone h in
-    let is : waiting_in left others ≡ drop at.gone ws = ap frames_of behind ∙ frames_again (drop at.gone ws) (each_drop at.gone ws h.valid) in
-    let text : take begun bytes ++ flat_map encoding gone ≡ take count bytes ++ take left others =
+    let front = up_to begun bytes gone end h at.end_is in
+    let behind : drop left others ≡ flat_map encoding (drop gone ws) =
+    ap (λ (xs : List ℕ). drop left xs) e ∙ drop-drop left count bytes ∙ ap (λ (n : ℕ). drop n bytes) (sum ∙ at.end_is) ∙ behind_frames begun bytes gone h in
+    let is : waiting_in left others ≡ drop gone ws = ap frames_of behind ∙ frames_again (drop gone ws) (each_drop gone ws h.valid) in
+    let text : take begun bytes ++ flat_map encoding first ≡ take count bytes ++ take left others =
     sym front ∙ ap (λ (n : ℕ). take n bytes) (sym sum) ∙ take-add count left bytes ∙ ap (λ (xs : List ℕ). take count bytes ++ take left xs) (sym e) in
     let few : length (take count bytes) ≡ count = length-take-le count bytes within in
     let begun_len : length (take begun bytes) ≡ begun = length-take-le begun bytes h.within in
     record {
       whole = record {
-        within = omega (arith, left_is, ap length e, length-drop count bytes, at.end_is, length-split at.gone ws, ap length h.whole, length-drop begun bytes, h.within);
+        within = omega (arith, left_is, ap length e, length-drop count bytes, at.end_is, length-split gone ws, ap length h.whole, length-drop begun bytes, h.within);
         whole = behind ∙ ap (λ (fs : List Frame). flat_map encoding fs) (sym is);
-        valid = subst (λ (fs : List Frame). AllByRecursion IsValid fs) (sym is) (each_drop at.gone ws h.valid);
+        valid = subst (λ (fs : List Frame). AllByRecursion IsValid fs) (sym is) (each_drop gone ws h.valid);
       };
       goes = λ free free'. record {
-        gone = gone;
+        gone = first;
         written = take count bytes;
         count_is = sym few;
-        waiting = sym (take-append-drop at.gone ws) ∙ ap (λ (fs : List Frame). gone ++ fs) (sym is);
+        waiting = sym (take-append-drop gone ws) ∙ ap (λ (fs : List Frame). first ++ fs) (sym is);
         text_is = text;
-        rest = begun_last (take begun bytes) ws at.gone (take count bytes) (take left others) at.some (λ k less. omega (arith, at.first k less, begun_len, few)) text;
+        rest = begun_last (take begun bytes) ws gone (take count bytes) (take left others) at.some (λ k less. omega (arith, at.first k less, begun_len, few)) text;
       };
     }
 
 -- the same in the buffer, of which bytes before a start were written
-pub written_on : (start begun count end : ℕ) (items given : List ℕ) → AreWhole begun (drop start items) → given ≡ drop start items → count ≤ length given → EndsAt begun given count end → IsWritten begun (drop start items) count (end - count) (drop (start + count) items)
-written_on start begun count end items given h same within at =
-    written_off begun (drop start items) count end (end - count) (drop (start + count) items) h (omega (arith, within, ap length same)) (subst (λ (xs : List ℕ). EndsAt begun xs count end) same at) refl (sym (drop-drop count start items))
+pub written_on : (start begun count end gone : ℕ) (items given : List ℕ) → AreWhole begun (drop start items) → given ≡ drop start items → count ≤ length given → EndsAt begun given count end gone → IsWritten begun (drop start items) count (end - count) (drop (start + count) items)
+written_on start begun count end gone items given h same within at =
+    written_off begun (drop start items) count end gone (end - count) (drop (start + count) items) h (omega (arith, within, ap length same)) (subst (λ (xs : List ℕ). EndsAt begun xs count end gone) same at) refl (sym (drop-drop count start items))

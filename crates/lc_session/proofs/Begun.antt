@@ -9,15 +9,13 @@ use Rattle.lc_peer.specs.declared.config.Config.{Config}
 use Rattle.lc_queue.specs.Parts.{QueueId, End, Outlet, new_end, new_ends, new_outlet, slots_of}
 use Rattle.lc_credit.specs.Sides.{Incoming, Outgoing}
 use Rattle.lc_credit.specs.Channels as credits
-use Rattle.lc_inbox.specs.declared.rule.Key.{Key}
 use Rattle.lc_inbox.specs.Sides.{Side, IsNew}
 use Rattle.lc_inbox.specs.Inboxes as inboxes
-use Rattle.lc_outbox.specs.Outbox.{OutboxState}
 use Rattle.lc_driver.specs.Intake.{IntakeState}
 use Rattle.lc_session.specs.Channels.{channels}
 use Rattle.lc_session.specs.Reading.{channel_of_side}
 use Rattle.lc_session.specs.Pumping.{new_pumping}
-use Rattle.lc_session.specs.Report.{SessionState, channel_of_outbox, credit_of_outbox, outgoing_of, PutsOn, ServesOn, AreOfOneSession}
+use Rattle.lc_session.specs.Report.{SessionState, channel_of_outbox, credit_of_outbox, PutsOn, ServesOn}
 use Rattle.lc_session.specs.Session.{new_outboxes, IsNewSession}
 
 -- the ends of these channels' lanes, on which clients put and on which servers do
@@ -50,17 +48,16 @@ credits_of q (c ∷ cs) (o ∷ out) e = ap (λ (os : List Outgoing). o ∷ os) (
 pub record AreInPlace (q : QueueId) (cs : List Channel) (incoming outgoing : List Side) : Type 0 where
   pub reading : map channel_of_side incoming ≡ cs
   pub receiving : map channel_of_side outgoing ≡ cs
-  pub serve : All (ServesOn q) outgoing
+  pub serve : All (ServesOn q) incoming
 
 channel_is : (q : QueueId) (c : Channel) (capacity : ℕ) (i o : Side) → IsNew capacity (new_end q (7 + number_of c)) i o → i.key.channel ≡ c
 channel_is q c capacity i o h = same_from_number _ _ (omega (arith, h.channel_is))
 
-serves : (q : QueueId) (c : Channel) (capacity : ℕ) (i o : Side) → IsNew capacity (new_end q (7 + number_of c)) i o → ServesOn q o
-serves q c capacity i o h =
-    subst (ServesOn q) (sym h.one) (record {
-        queue_is = sym (ap (λ (l : End). l.queue) h.lane_is);
-        lane_is = ap (λ (l : End). l.lane) h.lane_is ∙ h.channel_is;
-    })
+serves : (q : QueueId) (c : Channel) (capacity : ℕ) (i o : Side) → IsNew capacity (new_end q (7 + number_of c)) i o → ServesOn q i
+serves q c capacity i o h = record {
+  queue_is = sym (ap (λ (l : End). l.queue) h.lane_is);
+  lane_is = ap (λ (l : End). l.lane) h.lane_is ∙ h.channel_is;
+}
 
 in_place : (q : QueueId) (capacities : List ℕ) (cs : List Channel) (incoming outgoing : List Side) → inboxes.AreNew capacities (servers q cs) incoming outgoing → AreInPlace q cs incoming outgoing
 in_place q capacities [] [] [] h = record { reading = refl; receiving = refl; serve = All-nil (ServesOn q) }
@@ -74,7 +71,7 @@ in_place q capacities (c ∷ cs) (i ∷ incoming) (o ∷ outgoing) h =
     record {
       reading = ap₂ (λ (d : Channel) (ds : List Channel). d ∷ ds) here rest.reading;
       receiving = ap₂ (λ (d : Channel) (ds : List Channel). d ∷ ds) (ap (λ (s : Side). s.key.channel) h.0.one ∙ here) rest.receiving;
-      serve = All-cons (ServesOn q) o outgoing (serves q c _ i o h.0) rest.serve;
+      serve = All-cons (ServesOn q) i incoming (serves q c _ i o h.0) rest.serve;
     }
 
 pub sides_in_place : (q : QueueId) (ends : List End) (capacities : List ℕ) (incoming outgoing : List Side) → ends ≡ new_ends q → inboxes.AreNew capacities (drop 7 ends) incoming outgoing → AreInPlace q channels incoming outgoing
@@ -100,7 +97,7 @@ begun_is_new config q ins out incoming outgoing intake seven new matched sides p
     record {
       one = record {
         senders = senders q channels out seven;
-        receivers = places.receiving;
+        receivers = places.reading;
         clients_put = put_on q channels out;
         servers_put = places.serve;
         credits_match = matched ∙ ap (map credits.credit_out) (sym same);
@@ -122,10 +119,10 @@ pub new_session : (config : Config) (s : SessionState) (drain : Outlet) (ends la
     → IsNewSession config s
 new_session config s drain ends lanes ins out incoming outgoing intake sending receiving reading writing empty are first seven new matched sides pairs nothing slots =
     subst (IsNewSession config)
-        (λ i. record {
-            sending = sym (sending ∙ ap (λ (ls : List End). new_outboxes channels ls out) (first ∙ ap (take 7) are)) i;
-            receiving = sym receiving i;
-            reading = sym reading i;
-            writing = sym (writing ∙ ap new_pumping empty) i;
-        })
-        (begun_is_new config drain.queue ins out incoming outgoing intake seven new matched (subst (λ (ls : List End). inboxes.AreNew config.capacities (drop 7 ls) incoming outgoing) are sides) pairs nothing slots)
+    (λ i. record {
+      sending = sym (sending ∙ ap (λ (ls : List End). new_outboxes channels ls out) (first ∙ ap (take 7) are)) i;
+      receiving = sym receiving i;
+      reading = sym reading i;
+      writing = sym (writing ∙ ap new_pumping empty) i;
+    })
+    (begun_is_new config drain.queue ins out incoming outgoing intake seven new matched (subst (λ (ls : List End). inboxes.AreNew config.capacities (drop 7 ls) incoming outgoing) are sides) pairs nothing slots)

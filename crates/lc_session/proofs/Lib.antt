@@ -2,3 +2,4 @@ pub mod Batches
 pub mod Pumped
 pub mod Places
 pub mod Begun
+pub mod Ended

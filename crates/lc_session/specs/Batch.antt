@@ -37,8 +37,7 @@ pub record IsBatch (len capacity start begun : ℕ) (bytes : List ℕ) : Type 0 
   pub whole : AreWhole begun bytes
 
 -- where the frame ends that was begun last, once so many of these bytes were written: so many frames more were begun, each with its first byte
-pub record EndsAt (begun : ℕ) (bytes : List ℕ) (written end : ℕ) : Type 0 where
-  pub gone : ℕ
+pub record EndsAt (begun : ℕ) (bytes : List ℕ) (written end gone : ℕ) : Type 0 where
   pub some : gone ≤ length (waiting_in begun bytes)
   pub written_to : written ≤ end
   pub end_is : end ≡ begun + length (flat_map encoding (take gone (waiting_in begun bytes)))

@@ -5,3 +5,4 @@ pub mod Reading
 pub mod Report
 pub mod Session
 pub mod Parts
+pub mod Ending

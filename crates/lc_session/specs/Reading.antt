@@ -1,5 +1,5 @@
 -- What contracts see of the pump that reads, and what each frame that arrives does there. That a server's book judges what arrives and that guarantees are counted as they arrive is LCMUX's; that each frame goes to its channel's shared inbox or credit is this project's own.
-use Rattle.std.specs.Prelude.{◌≡◌, ℕ, ◌∷◌, ◌++◌, List, [], map, slice_get, IsSomeAnd}
+use Rattle.std.specs.Prelude.{◌≡◌, List, map, slice_get, IsSomeAnd}
 use Rattle.lc_history.specs.Places.{ChangesAt}
 use Rattle.lc_frame.specs.declared.channel.Channel.{Channel}
 use Rattle.lc_frame.specs.declared.frame.Frame.{Frame}

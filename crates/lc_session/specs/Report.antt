@@ -44,9 +44,9 @@ pub record ServesOn (queue : QueueId) (side : Side) : Type 0 where
 -- all parts are of one session: both kinds of ends are there for each channel, in order; they put on the queue that the writing pump drains, and share their credits and inboxes with the reading pump
 pub record AreOfOneSession (s : SessionState) : Type 0 where
   pub senders : map channel_of_outbox s.sending ≡ channels
-  pub receivers : map channel_of_side s.receiving ≡ channels
+  pub receivers : map channel_of_side s.reading.side.inboxes ≡ channels
   pub clients_put : All (PutsOn s.writing.drain.queue) s.sending
-  pub servers_put : All (ServesOn s.writing.drain.queue) s.receiving
+  pub servers_put : All (ServesOn s.writing.drain.queue) s.reading.side.inboxes
   pub credits_match : credits.AreMatched s.reading.side.credits (outgoing_of s)
   pub inboxes_match : inboxes.AreMatched s.reading.side.inboxes s.receiving
 

@@ -1,10 +1,9 @@
 -- A session when it begins. These rules are this project's own.
-use Rattle.std.specs.Prelude.{◌≡◌, ℕ, List, [], ◌∷◌, take, drop, map, None}
-use Rattle.std.specs.List.{All}
+use Rattle.std.specs.Prelude.{◌≡◌, List, [], ◌∷◌, take, drop, None}
 use Rattle.lc_frame.specs.declared.channel.Channel.{Channel}
 use Rattle.lc_peer.specs.declared.config.Config.{Config}
-use Rattle.lc_queue.specs.Parts.{QueueId, End, slots_of, new_ends, new_outlet}
-use Rattle.lc_credit.specs.Sides.{Outgoing, new_outgoing}
+use Rattle.lc_queue.specs.Parts.{End, slots_of, new_ends, new_outlet}
+use Rattle.lc_credit.specs.Sides.{Outgoing}
 use Rattle.lc_credit.specs.Channels as credits
 use Rattle.lc_inbox.specs.Inboxes as inboxes
 use Rattle.lc_outbox.specs.Outbox.{OutboxState, new_outbox}

@@ -33,21 +33,24 @@ impl Model for Batch {
     ghost invariant = { λ batch. IsBatch (vec_len batch.buffer) (vec_capacity batch.buffer) batch.start batch.begun (drop batch.start batch.buffer.items) };
 }
 
-// Where the frame ends that is begun last, once so many of these bytes are written.
-fn frame_end(bytes: &[u8], begun: usize, written: usize) -> usize
+// Where the frame ends that is begun last, once so many of these bytes are written, and how many
+// frames are begun by that.
+fn frame_end(bytes: &[u8], begun: usize, written: usize) -> (usize, usize)
     requires whole { AreWhole begun bytes.now }
     requires within { written ≤ length bytes.now }
-    ensures { EndsAt begun bytes.now written result }
+    ensures { EndsAt begun bytes.now written result.0 result.1 }
 {
     let mut end = begun;
+    let mut frames = 0;
     'frames: while end < written {
         match decode(bytes.split_at(end).1) {
             Decoded::Whole { frame: _, used } => end += used,
             Decoded::More => unreachable!(),
             Decoded::Fault(_) => unreachable!(),
         }
+        frames += 1;
     }
-    end
+    (end, frames)
 }
 
 // Puts the bytes of a frame last in a buffer that has room for them.
@@ -87,6 +90,21 @@ impl Batch {
         self.start == self.buffer.len()
     }
 
+    // How many bytes are left of the frame that was begun.
+    pub(crate) fn begun(&self) -> usize
+        ensures { result ≡ length self.now.begun }
+    {
+        self.begun
+    }
+
+    // How many frames wait.
+    pub(crate) fn waiting(&self) -> usize
+        ensures { result ≡ length self.now.waiting }
+    {
+        let bytes = self.bytes();
+        frame_end(bytes, self.begun, bytes.len()).1
+    }
+
     // All that is pending was written.
     pub(crate) fn clear(&mut self)
         ensures begun { self.new.begun ≡ [] }
@@ -115,7 +133,7 @@ impl Batch {
         requires { count ≤ length (text self.old.begun self.old.waiting) }
         ensures { LetsGo count self.old self.new }
     {
-        let end = frame_end(self.bytes(), self.begun, count);
+        let (end, _) = frame_end(self.bytes(), self.begun, count);
         self.start += count;
         self.begun = end - count;
     }

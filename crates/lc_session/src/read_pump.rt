@@ -4,7 +4,9 @@ ghost use Rattle.lc_driver.specs.Reading.{ReadsInto, CountsReads, EndsInput, end
 ghost use Rattle.lc_session.specs.Reading.{Arrives, Violates, IsSameReading};
 
 use crate::reading_side::ReadingSide;
+use lc_credit::CreditIn;
 use lc_driver::{CountedRead, Intake, ReadEnd, read_into};
+use lc_inbox::InboxIn;
 use std::marker::Model;
 use std::sync::Wait;
 
@@ -51,5 +53,13 @@ impl ReadPump {
         let end = read_into(&mut self.side, rt, reader, &mut self.intake, max_reads);
         self.side.end_run();
         end
+    }
+
+    // The reading sides of the credits and of the inboxes, when the session ends.
+    pub(crate) fn into_parts(self) -> (CreditIn, [InboxIn; 7])
+        ensures { self.side ≡ record { credits = result.0; inboxes = result.1 } }
+    {
+        let ReadPump { side, intake: _ } = self;
+        side.into_parts()
     }
 }

@@ -76,6 +76,17 @@ impl ReadingSide {
         self.wakers.end_run(Pump::Reading);
     }
 
+    pub(crate) fn into_parts(self) -> (CreditIn, [InboxIn; 7])
+        ensures { self ≡ record { credits = result.0; inboxes = result.1 } }
+    {
+        let ReadingSide {
+            credits,
+            inboxes,
+            wakers: _,
+        } = self;
+        (credits, inboxes)
+    }
+
     // Guarantees arrive on a channel.
     fn add(&mut self, channel: Channel, amount: u32) -> Result<(), Violation>
         requires { amount ≤ max_amount }
@@ -88,7 +99,12 @@ impl ReadingSide {
     }
 
     // A frame of the client's lane arrives on a channel.
-    fn hear<R: Wait>(&mut self, rt: &R, channel: Channel, frame: FrameRef<'_>) -> Result<(), Violation>
+    fn hear<R: Wait>(
+        &mut self,
+        rt: &R,
+        channel: Channel,
+        frame: FrameRef<'_>,
+    ) -> Result<(), Violation>
         requires valid { IsValid (frame_of frame) }
         requires lane { lane_of (frame_of frame) ≡ number_of channel }
         ensures ok { OnOk result (ToInbox channel (Hears (frame_of frame.entry)) self.old self.new) }

@@ -10,7 +10,7 @@ use lc_book::{Refusal, ServerBook};
 use lc_frame::Channel;
 use lc_inbox::InboxOut;
 use lc_peer::Take;
-use lc_wake::{Wake, Waiter};
+use lc_wake::{Waiter, Wake};
 use std::marker::Model;
 use std::sync::Wait;
 use std::time::{Clock, Duration};

@@ -10,7 +10,7 @@ use crate::heeding::heed;
 use lc_book::Refusal;
 use lc_frame::Channel;
 use lc_outbox::Outbox;
-use lc_wake::{Wake, Waiter};
+use lc_wake::{Waiter, Wake};
 use std::marker::Model;
 use std::sync::Wait;
 use std::time::{Clock, Duration};

@@ -27,7 +27,7 @@ use lc_inbox::{InboxOut, Inboxes, Seven, apart, share_all};
 use lc_outbox::Outbox;
 use lc_peer::{Config, PeerFault};
 use lc_queue::{Drain, LaneEnd, lanes};
-use lc_wake::{Waiter, Waking, Wakers};
+use lc_wake::{Waiter, Wakers, Waking};
 use std::alloc::{AllocError, Global};
 use std::sync::Arc;
 
@@ -149,9 +149,7 @@ fn make(alloc: Global, config: Config) -> Result<Parts, AllocError>
     let outgo = (lanes.drain, Batch::new(alloc)?);
     let waking = Waking::new(alloc)?;
     let wakers = Arc::try_clone(&waking.wakers)?;
-    Ok(put_together(
-        alloc, inboxes, credits, waking, intake, outgo, wakers,
-    ))
+    Ok(put_together(alloc, inboxes, credits, waking, intake, outgo, wakers))
 }
 
 impl Session {

@@ -178,4 +178,16 @@ impl WritePump {
         self.waiter.end_run();
         end
     }
+
+    // The drain and what is pending, when the session ends.
+    pub(crate) fn into_parts(self) -> (Drain, Batch)
+        ensures { self ≡ pumping_of result.0 result.1 }
+    {
+        let WritePump {
+            drain,
+            batch,
+            waiter: _,
+        } = self;
+        (drain, batch)
+    }
 }

@@ -11,4 +11,4 @@ hear-requires-clause-lane g c = c.requires.lane ∙ ap number_of (sym (channel_h
 pub returns-clause-places : goal.returns-clause-places
 returns-clause-places g c =
     channels_kept channel_of_side c.args.channel c.args.inboxes.now c.index.result c.hear.new.inbox c.requires.places c.index.ensures.value
-        (ap (λ (k : Key). k.channel) c.hear.ensures.same.key ∙ channel_here channel_of_side c.args.channel c.args.inboxes.now c.index.result _ c.requires.places c.index.ensures.value)
+    (ap (λ (k : Key). k.channel) c.hear.ensures.same.key ∙ channel_here channel_of_side c.args.channel c.args.inboxes.now c.index.result _ c.requires.places c.index.ensures.value)

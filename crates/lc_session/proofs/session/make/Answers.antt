@@ -1,4 +1,4 @@
-use Rattle.std.proofs.Common.{refl, rules}
+use Rattle.std.proofs.Common.{rules}
 use Rattle.lc_session.proofs.Begun.{new_session, sides_in_place}
 use Rattle.lc_session.proofs.session.make.Goals as goal
 
