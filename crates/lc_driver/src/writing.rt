@@ -96,6 +96,7 @@ pub fn write_all<W: CountedWrite>(writer: &mut W, bytes: &[u8]) -> Result<u64, W
     ensures all { IfOk result (λ n. n ≡ length bytes.now) }
     ensures none { bytes.now ≡ [] → writer.new ≡ writer.old }
     ensures counts { CountsWrites result (W.counts writer.old) (W.counts writer.new) }
+    ensures calls { (W.counts writer.new).calls ≤ (W.counts writer.old).calls + written_in result + 1 }
 {
     let mut done = 0;
     'writes: while done < bytes.len() {

@@ -1,4 +1,4 @@
-use Rattle.std.proofs.Common.{◌≡◌, ◌-◌, ◌≤◌, length, take}
+use Rattle.std.proofs.Common.{◌≡◌, ◌+◌, ◌-◌, ◌≤◌, length, take}
 use Rattle.std.specs.Io.KnownBytes.{Appends}
 use Rattle.lc_driver.proofs.Counting.{NoneTold}
 use Rattle.lc_driver.proofs.writing.write_all.Given as goal
@@ -8,6 +8,7 @@ invariant-writes g l = record {
   within : l.done ≤ length l.bytes;
   grown : Appends (g.W.Write.contents l.initial.writer) (g.W.Write.contents l.writer) (take l.done l.bytes);
   counts : NoneTold (g.W.Failures.counts l.initial.writer) (g.W.Failures.counts l.writer);
+  calls : (g.W.Failures.counts l.writer).calls ≤ (g.W.Failures.counts l.initial.writer).calls + l.done;
   untouched : length l.bytes ≡ 0 → l.writer ≡ l.initial.writer;
 }
 
