@@ -1,4 +1,6 @@
 //! An inbox that two sides share, and those of seven channels.
+mod alone;
+mod carried;
 mod pair;
 mod seven;
 mod worked;

@@ -1,16 +1,27 @@
 //! The inboxes of seven channels.
+ghost use Rattle.lc_inbox.specs.Sides.{IsSameSide};
+ghost use Rattle.lc_inbox.specs.Inboxes.{AreSameSides};
+
 use crate::tests::pair::text;
 use crate::tests::same;
-use lc_inbox::share_all;
+use lc_inbox::{FinishedInboxes, InboxOut, finish_all, share_all};
 use lc_peer::PeerFault;
 use lc_queue::lanes;
 use std::alloc::Global;
+use std::sync::Wait;
 use std::test::Fail;
 
-/// Capacities, and what comes of them: the fault, or the channels' numbers in order.
+/// Capacities, and what comes of them: the fault, or the lanes of the servers, and what is
+/// outstanding where each has issued as much as its ring has room for.
 const CAPACITIES: [([u32; 7], &str); 4] = [
-    ([8; 7], "Ok([0, 1, 2, 3, 4, 5, 6])"),
-    ([16_777_216, 1, 2, 3, 4, 5, 6], "Ok([0, 1, 2, 3, 4, 5, 6])"),
+    (
+        [8; 7],
+        "Ok(([7, 8, 9, 10, 11, 12, 13], [8, 8, 8, 8, 8, 8, 8]))",
+    ),
+    (
+        [16_777_216, 1, 2, 3, 4, 5, 6],
+        "Ok(([7, 8, 9, 10, 11, 12, 13], [16777216, 1, 2, 3, 4, 5, 6]))",
+    ),
     (
         [8, 8, 0, 8, 8, 0, 8],
         "Err(BadCapacity { channel: OverlapChannel })",
@@ -21,15 +32,45 @@ const CAPACITIES: [([u32; 7], &str); 4] = [
     ),
 ];
 
-fn numbers(alloc: Global, capacities: [u32; 7]) -> Option<Result<[u8; 7], PeerFault>> {
-    let parts = lanes(alloc, 1).ok()?;
-    match share_all(alloc, capacities, parts.ends) {
+// Each side issues as much as its ring has room for.
+fn issue_each<R: Wait>(rt: &R, outgoing: &mut [InboxOut; 7])
+    ensures { AreSameSides outgoing.old outgoing.new }
+{
+    for place in 0..7 {
+        issue_room(rt, &mut outgoing[place]);
+    }
+}
+
+fn issue_room<R: Wait>(rt: &R, outgoing: &mut InboxOut)
+    ensures { IsSameSide outgoing.old outgoing.new }
+{
+    if let Ok(room) = u32::try_from(outgoing.book(rt).room()) {
+        let _answer = outgoing.issue(rt, room);
+    }
+}
+
+fn lanes_and_outstanding(finished: &FinishedInboxes) -> ([u8; 7], [u64; 7]) {
+    let (mut lanes, mut outstanding) = ([0; 7], [0; 7]);
+    for place in 0..7 {
+        lanes[place] = finished.lanes[place].lane();
+        outstanding[place] = finished.books[place].outstanding();
+    }
+    (lanes, outstanding)
+}
+
+fn shared<R: Wait>(
+    rt: &R,
+    alloc: Global,
+    capacities: [u32; 7],
+) -> Option<Result<([u8; 7], [u64; 7]), PeerFault>> {
+    let parts = lanes(alloc, 7).ok()?;
+    let ends = parts.ends;
+    match share_all(alloc, capacities, ends) {
         Ok(inboxes) => {
-            let mut numbers = [9; 7];
-            for (place, side) in inboxes.incoming.iter().enumerate() {
-                numbers[place] = side.channel().number();
-            }
-            Some(Ok(numbers))
+            let incoming = inboxes.incoming;
+            let mut outgoing = inboxes.outgoing;
+            issue_each(rt, &mut outgoing);
+            Some(Ok(lanes_and_outstanding(&finish_all(incoming, outgoing))))
         }
         Err(fault) => Some(Err(fault)),
     }
@@ -38,7 +79,7 @@ fn numbers(alloc: Global, capacities: [u32; 7]) -> Option<Result<[u8; 7], PeerFa
 #[test]
 fn seven_inboxes(rt: HostRuntime) -> Result<(), Fail> {
     for &(capacities, want) in &CAPACITIES {
-        let found = numbers(rt.alloc(), capacities).ok_or("no memory")?;
+        let found = shared(&rt, rt.alloc(), capacities).ok_or("no memory")?;
         same(&rt, "share_all", text(rt.alloc(), &found), want);
     }
     Ok(())

@@ -1,14 +1,15 @@
-//! Worked sequences of calls on both sides of one inbox.
+//! Worked sequences of calls on both sides of one inbox, each side in a thread of its own.
 use crate::tests::pair::works;
 use crate::tests::same;
 use lc_sharing::new_pair;
 use std::alloc::Global;
 use std::process::Abort;
 use std::sync::Wait;
+use std::thread::Threads;
 
 /// Of each example: the channel, the bytes of the ring, the calls with what they answer, and what
 /// is outstanding, buffered and free at the end.
-const WORKED: [(u8, u32, &str, &str); 13] = [
+const WORKED: [(u8, u32, &str, &str); 14] = [
     (
         1,
         8,
@@ -84,6 +85,21 @@ const WORKED: [(u8, u32, &str, &str); 13] = [
         take 2 => (Ok(Empty), [238, 238])",
         "(0, 0, 8)",
     ),
+    // A message that is lent, also where it goes round the end of the ring.
+    (
+        1,
+        4,
+        "issue 4 => Ok(())
+        lend => Empty
+        hear 110003010203 => Ok(())
+        lend => Read(Some([1, 2, 3]))
+        issue 3 => Ok(())
+        hear 110003040506 => Ok(())
+        hear 510000000000000000 => Ok(())
+        lend => Read(Some([4, 5, 6]))
+        lend => Ended",
+        "(1, 0, 3)",
+    ),
     // A frame that breaks the rules changes nothing.
     (
         1,
@@ -140,7 +156,7 @@ const WORKED: [(u8, u32, &str, &str); 13] = [
 
 // A script on a new inbox of this channel, over a ring of so many bytes, which puts into a new queue
 // of so many slots: what is left at the end.
-fn left<R: Wait + Abort>(
+fn left<R: Threads + Wait + Abort + Sync>(
     rt: &R,
     alloc: Global,
     (channel, capacity, slots): (u8, u32, u32),
