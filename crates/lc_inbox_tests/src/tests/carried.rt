@@ -3,8 +3,8 @@ use crate::tests::same;
 use lc_frame::Body;
 use lc_sharing::carries;
 use std::alloc::Global;
-use std::test::Fail;
 use std::sync::Wait;
+use std::test::Fail;
 use std::thread::Threads;
 
 /// Bodies in hexadecimal that are given, and those that are taken: all up to the first that is
@@ -43,7 +43,8 @@ fn digits(alloc: Global, bodies: &[Body]) -> Option<String> {
         if !text.is_empty() {
             text.push(' ').ok()?;
         }
-        text.push_str(&hex::encode(alloc, body.as_slice()).ok()?).ok()?;
+        text.push_str(&hex::encode(alloc, body.as_slice()).ok()?)
+            .ok()?;
     }
     Some(text)
 }

@@ -100,17 +100,17 @@ fn own<R: Wait>(
 }
 
 // What a call of the receiving side answers, or a pop of the drain.
-fn answer<R: Wait>(
-    rt: &R,
-    alloc: Global,
-    receiver: &mut Receiver,
-    call: &str,
-) -> Option<String>
+fn answer<R: Wait>(rt: &R, alloc: Global, receiver: &mut Receiver, call: &str) -> Option<String>
     ensures { receiver.new.outgoing.inbox ≡ receiver.old.outgoing.inbox }
 {
     let (verb, word) = call.split_once(' ').unwrap_or((call, ""));
     match verb {
-        "take" => take(rt, alloc, &mut receiver.outgoing, word.parse::<usize>().ok()?),
+        "take" => take(
+            rt,
+            alloc,
+            &mut receiver.outgoing,
+            word.parse::<usize>().ok()?,
+        ),
         "lend" => lend(rt, alloc, &mut receiver.outgoing),
         "book" => book(rt, alloc, &mut receiver.outgoing),
         "pop" => text(alloc, &receiver.drain.pop(rt)),
