@@ -1,0 +1,5 @@
+//! Tests of `lc_outbox`.
+#![tactic(auto)]
+
+#[cfg(test)]
+mod tests;

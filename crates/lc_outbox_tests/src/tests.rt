@@ -1,0 +1,12 @@
+//! An outbox, by worked calls and where a message's copy gets no memory.
+mod desk;
+mod memory;
+mod worked;
+
+use std::process::Abort;
+
+/// Fails where there is no text, or not the one that is wanted, and names what was compared.
+fn same(rt: &impl Abort, what: &str, found: Option<String>, wanted: &str) {
+    let found = found.as_deref().unwrap_or("nothing");
+    assert!(rt; found == wanted, "{what}: {found}, not {wanted}");
+}

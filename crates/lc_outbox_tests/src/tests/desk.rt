@@ -1,0 +1,200 @@
+//! The outbox of channel 1 with what it stands on, and the calls of a script on it: a call a line,
+//! and after `=>` what it answers. `add` and `ask` are the reading side's, `other` is a limit of an
+//! outbox of channel 2 over the same queue, and `pop` is the drain's, which writes a frame as its
+//! bytes. `long` sends so many bytes, and `popped` says whether the next frame is that message.
+ghost use Rattle.std.specs.Prelude.{◌≡◌, IfSome, slice_set};
+ghost use Rattle.lc_queue.specs.Parts.{QueueId, new_end, new_ends};
+ghost use Rattle.lc_credit.specs.Sides.{new_outgoing};
+ghost use Rattle.lc_credit.specs.Channels.{AreMatched, SameCredit, SameCredits};
+
+use crate::tests::same;
+use lc_credit::{CreditIn, CreditOut, CreditParts, credits, settle};
+use lc_frame::{Body, Channel, Frame, MAX_AMOUNT};
+use lc_outbox::Outbox;
+use lc_queue::{Drain, LaneEnd, Lanes, lanes};
+use std::alloc::Global;
+use std::fmt::Debug;
+use std::mem::replace;
+use std::process::Abort;
+use std::sync::Wait;
+
+const CHANNEL: Channel = Channel::DataChannel;
+
+/// Two outboxes, the reading side of the credits, and the drain.
+#[derive(Drop)]
+pub struct Desk {
+    pub incoming: CreditIn,
+    pub outbox: Outbox,
+    pub other: Outbox,
+    pub drain: Drain,
+}
+
+/// What a value is written as.
+pub fn text<T: Debug>(alloc: Global, value: &T) -> Option<String> {
+    format!(in alloc; "{value:?}").ok()
+}
+
+// The ends of the lanes 1 and 2.
+fn two_ends(alloc: Global, ends: [LaneEnd; 14]) -> Option<(LaneEnd, LaneEnd)>
+    requires { (queue : QueueId) × (ends ≡ new_ends queue) }
+    ensures own { IfSome result (λ two. two.0 ≡ new_end two.0.queue 1) }
+    ensures other { IfSome result (λ two. two.1 ≡ new_end two.1.queue 2) }
+{
+    let mut ends = Vec::from_array(alloc, ends).ok()?;
+    let other = ends.swap_remove(2);
+    let own = ends.swap_remove(1);
+    Some((own, other))
+}
+
+// The end of a credit that nothing else is done with.
+fn spare_end(alloc: Global) -> Option<CreditOut>
+    ensures { IfSome result (λ end. end ≡ new_outgoing end.credit) }
+{
+    let parts = credits(alloc).ok()?;
+    parts.outgoing.into_iter().next()
+}
+
+/// A new desk over a queue of so many slots, and the ends of all credits, with another at the place
+/// of the outbox's.
+pub fn new_desk(alloc: Global, slots: u32) -> Option<(Desk, [CreditOut; 7])>
+    ensures { IfSome result (λ new. AreMatched new.0.incoming (slice_set new.1 1 new.0.outbox.credit)) }
+{
+    let Lanes { ends, drain } = lanes(alloc, slots).ok()?;
+    let (lane, other_lane) = two_ends(alloc, ends)?;
+    let other = Outbox::new(alloc, other_lane, spare_end(alloc)?);
+    let spare = spare_end(alloc)?;
+    let CreditParts {
+        incoming,
+        mut outgoing,
+    } = credits(alloc).ok()?;
+    let credit = replace(&mut outgoing[1], spare);
+    let outbox = Outbox::new(alloc, lane, credit);
+    let desk = Desk {
+        incoming,
+        outbox,
+        other,
+        drain,
+    };
+    Some((desk, outgoing))
+}
+
+// What the reading side does.
+fn read(alloc: Global, incoming: &mut CreditIn, verb: &str, n: u64) -> Option<String>
+    ensures { SameCredits incoming.old incoming.new }
+{
+    let amount = u32::try_from(n).ok()?;
+    if amount > MAX_AMOUNT {
+        return None;
+    }
+    if verb == "add" {
+        return text(alloc, &incoming.add(CHANNEL, amount));
+    }
+    incoming.ask(CHANNEL, amount);
+    text(alloc, &())
+}
+
+// A message of so many bytes.
+fn long(alloc: Global, len: u64) -> Option<Vec<u8>> {
+    vec![in alloc; 7_u8; len as usize].ok()
+}
+
+// What a call of the outbox answers, which names a number.
+fn own<R: Wait>(rt: &R, alloc: Global, outbox: &mut Outbox, verb: &str, n: u64) -> Option<String>
+    ensures { SameCredit outbox.old.credit outbox.new.credit }
+{
+    let answer = match verb {
+        "long" => outbox.send(rt, &long(alloc, n)?),
+        "absolve" => outbox.absolve(rt, u32::try_from(n).ok()?),
+        "limit" => outbox.limit(rt, n),
+        _ => return None,
+    };
+    text(alloc, &answer)
+}
+
+fn send<R: Wait>(rt: &R, alloc: Global, outbox: &mut Outbox, digits: &str) -> Option<String>
+    ensures { SameCredit outbox.old.credit outbox.new.credit }
+{
+    let body = hex::decode(alloc, digits).ok()?;
+    text(alloc, &outbox.send(rt, &body))
+}
+
+// The bytes of the next frame.
+fn pop<R: Wait>(rt: &R, alloc: Global, drain: &mut Drain) -> Option<String> {
+    let frame = drain.pop(rt)?;
+    let mut bytes = Vec::new(alloc);
+    frame.encode_into(&mut bytes).ok()?;
+    hex::encode(alloc, &bytes).ok()
+}
+
+// Whether the next frame is a message of so many bytes.
+fn popped<R: Wait>(rt: &R, alloc: Global, drain: &mut Drain, n: u64) -> Option<String> {
+    let body = Body::from_vec(long(alloc, n)?);
+    let message = Frame::Send {
+        channel: CHANNEL,
+        body,
+    };
+    text(alloc, &(drain.pop(rt) == Some(message)))
+}
+
+// What a call answers, which names a number.
+fn numbered<R: Wait>(rt: &R, alloc: Global, desk: &mut Desk, verb: &str, n: u64) -> Option<String>
+    ensures incoming { SameCredits desk.old.incoming desk.new.incoming }
+    ensures outbox { SameCredit desk.old.outbox.credit desk.new.outbox.credit }
+{
+    match verb {
+        "add" | "ask" => read(alloc, &mut desk.incoming, verb, n),
+        "other" => text(alloc, &desk.other.limit(rt, n)),
+        "popped" => popped(rt, alloc, &mut desk.drain, n),
+        _ => own(rt, alloc, &mut desk.outbox, verb, n),
+    }
+}
+
+// What a call answers.
+fn answer<R: Wait>(rt: &R, alloc: Global, desk: &mut Desk, call: &str) -> Option<String>
+    ensures incoming { SameCredits desk.old.incoming desk.new.incoming }
+    ensures outbox { SameCredit desk.old.outbox.credit desk.new.outbox.credit }
+{
+    let (verb, word) = call.split_once(' ').unwrap_or((call, ""));
+    match verb {
+        "send" => send(rt, alloc, &mut desk.outbox, word),
+        "honour" => text(alloc, &desk.outbox.honour(rt)),
+        "held" => text(alloc, &desk.outbox.held()),
+        "pop" => pop(rt, alloc, &mut desk.drain),
+        _ => numbered(rt, alloc, desk, verb, word.parse::<u64>().ok()?),
+    }
+}
+
+// What became of the channel's guarantees: those received, held, spent and absolved.
+fn settled(alloc: Global, desk: Desk, rest: [CreditOut; 7]) -> Option<String>
+    requires { AreMatched desk.incoming (slice_set rest 1 desk.outbox.credit) }
+{
+    let (_lane, credit) = desk.outbox.into_parts();
+    let mut outgoing = rest;
+    outgoing[1] = credit;
+    if !outgoing.iter().all(|end| end.pending().is_none()) {
+        return None;
+    }
+    let incoming = desk.incoming;
+    let balance = settle(CreditParts { incoming, outgoing })[1];
+    text(
+        alloc,
+        &(
+            balance.received,
+            balance.held,
+            balance.spent,
+            balance.absolved,
+        ),
+    )
+}
+
+/// Each call of a script, in turn, answers what stands after it. Then the credits are settled: what
+/// was received on the channel, and is held, spent and absolved.
+pub fn works<R: Wait + Abort>(rt: &R, alloc: Global, slots: u32, script: &str) -> Option<String> {
+    let (mut desk, rest) = new_desk(alloc, slots)?;
+    for line in script.lines() {
+        let line = line.trim();
+        let (call, wanted) = line.split_once(" => ").unwrap_or((line, "an answer"));
+        same(rt, line, answer(rt, alloc, &mut desk, call), wanted);
+    }
+    settled(alloc, desk, rest)
+}
