@@ -1,14 +1,16 @@
 -- What every outbox keeps, after each step of a call.
-use Rattle.std.proofs.Common.{◌≡◌, ℕ, ◌+◌, List, [], ◌∷◌, ◌++◌, length, Option, Some, None, refl, sym, ap, ◌∙◌, subst, append-nil}
+use Rattle.std.proofs.Common.{◌≡◌, ℕ, ◌+◌, ◌<◌, ◌≤◌, List, [], ◌∷◌, ◌++◌, length, Option, Some, None, refl, sym, ap, ◌∙◌, subst, append-nil}
 use Rattle.std.specs.Prelude.{Result, Ok, Err, IfSome, OnOk, OnErr}
 use Rattle.lc_frame.specs.declared.channel.Channel.{Channel}
 use Rattle.lc_frame.specs.declared.frame.Frame.{Frame}
 use Rattle.lc_frame.specs.declared.frame.Frame.TheVariants.{Send, Absolve, LimitSending}
 use Rattle.lc_frame.specs.Frame.{channel_of}
+use Rattle.lc_frame.specs.Kind.{max_amount}
+use Rattle.lc_history.proofs.Histories.{history-push}
 use Rattle.lc_book.specs.declared.fault.Refusal.{Refusal}
 use Rattle.lc_book.specs.declared.fault.Refusal.TheVariants.{NoGuarantee, NotHeld}
-use Rattle.lc_book.specs.Limit.{less}
-use Rattle.lc_book.specs.Client.{Client}
+use Rattle.lc_book.specs.Limit.{less, limit_refusal}
+use Rattle.lc_book.specs.Client.{Client, message_refusal}
 use Rattle.lc_book.specs.Sums.{client_of, client_after_put}
 use Rattle.lc_book.proofs.SumsKept.{books_keep_sums}
 use Rattle.lc_queue.specs.Parts.{End}
@@ -19,7 +21,7 @@ use Rattle.lc_credit.specs.declared.credit_out.Pending.{Pending}
 use Rattle.lc_credit.specs.History.{is_outgoing, Makes}
 use Rattle.lc_credit.specs.Sides.{Outgoing, IsIdle, LoadsOut, IsUsed, IsNotSpent, IsNotAbsolved, counted, given_back}
 use Rattle.lc_outbox.specs.Uses.{uses, amounts}
-use Rattle.lc_outbox.specs.Outbox.{OutboxState, IsOutbox}
+use Rattle.lc_outbox.specs.Outbox.{OutboxState, MayPut, IsOutbox}
 use Rattle.lc_outbox.specs.Calls.{IsCounted, IsGivenBack}
 use Rattle.lc_outbox.specs.Honours.{AnswersFor}
 use Rattle.lc_outbox.proofs.Uses.{amounts-push, learned_uses, looked_uses, counted_uses, given_back_uses}
@@ -63,7 +65,7 @@ kept_lane o lane same is = subst (λ (l : End). IsOutbox (record o { lane = l })
 module _ (o : OutboxState) (is : IsOutbox o) where
   -- nothing was put
   kept_unput : (new : Outgoing) → IsIdle new → new.spent ≡ o.credit.spent → new.absolved ≡ o.credit.absolved → uses new.seen ≡ uses o.credit.seen → IsOutbox (record o { credit = new })
-  kept_unput new idle spent absolved used = record { lane = is.lane; idle = idle; spent = spent ∙ is.spent; absolved = absolved ∙ is.absolved; uses = used ∙ is.uses; left = is.left }
+  kept_unput new idle spent absolved used = record { lane = is.lane; idle = idle; spent = spent ∙ is.spent; absolved = absolved ∙ is.absolved; uses = used ∙ is.uses; left = is.left; rules = is.rules }
 
   pub kept_loads : (held : ℕ) (new : Outgoing) → LoadsOut held o.credit new → IsOutbox (record o { credit = new })
   kept_loads held new h =
@@ -86,10 +88,10 @@ module _ (o : OutboxState) (is : IsOutbox o) where
   abbrev mine : Client
   mine = record (client_of o.channel o.lane.put [] None) { spent = o.credit.spent; absolved = o.credit.absolved; send_left = o.send_left }
 
-  -- a frame was put, and what is counted and left is by its book's rule
-  kept_put : (f : Frame) (lane : End) (new : Outgoing) (left : Option ℕ) → lane ≡ record o.lane { put = o.lane.put ++ f ∷ [] } → o.channel ≡ channel_of f → IsIdle new → new.spent ≡ (client_after_put f mine).spent → new.absolved ≡ (client_after_put f mine).absolved
+  -- a frame was put that might be, and what is counted and left is by its book's rule
+  kept_put : (f : Frame) (lane : End) (new : Outgoing) (left : Option ℕ) → MayPut o.channel o.lane.put f → lane ≡ record o.lane { put = o.lane.put ++ f ∷ [] } → o.channel ≡ channel_of f → IsIdle new → new.spent ≡ (client_after_put f mine).spent → new.absolved ≡ (client_after_put f mine).absolved
       → uses new.seen ≡ uses o.credit.seen ++ amounts (f ∷ []) → left ≡ (client_after_put f mine).send_left → IsOutbox (record o { lane = lane; credit = new; send_left = left })
-  kept_put f lane new left same on idle spent absolved used left_is =
+  kept_put f lane new left may same on idle spent absolved used left_is =
       let sums : client_after_put f mine ≡ client_of o.channel (o.lane.put ++ f ∷ []) [] None =
       ap (client_after_put f) (λ i. record (client_of o.channel o.lane.put [] None) { spent = is.spent i; absolved = is.absolved i; send_left = is.left i })
       ∙ subst (λ (c : Channel). client_after_put f (client_of c o.lane.put [] None) ≡ client_of c (o.lane.put ++ f ∷ []) [] None) (sym on) (books_keep_sums 0 o.lane.put [] None 0 f).0.put_here in
@@ -100,34 +102,36 @@ module _ (o : OutboxState) (is : IsOutbox o) where
         absolved = absolved ∙ ap (λ (b : Client). b.absolved) sums;
         uses = used ∙ (ap (λ (xs : List ℕ). xs ++ amounts (f ∷ [])) is.uses ∙ sym (amounts-push o.lane.put f));
         left = left_is ∙ ap (λ (b : Client). b.send_left) sums;
+        rules = history-push (MayPut o.channel) o.lane.put f may is.rules;
       })
 
-  pub kept_sent : (n : ℕ) (body : List ℕ) (lane : End) (new : Outgoing) (left : Option ℕ) → n ≡ length body → lane ≡ record o.lane { put = o.lane.put ++ Send o.channel body ∷ [] } → left ≡ less o.send_left n → IsCounted kinds.Spend n o.credit new
+  pub kept_sent : (n : ℕ) (body : List ℕ) (lane : End) (new : Outgoing) (left : Option ℕ) → n ≡ length body → message_refusal o.send_left n ≡ None → lane ≡ record o.lane { put = o.lane.put ++ Send o.channel body ∷ [] } → left ≡ less o.send_left n → IsCounted kinds.Spend n o.credit new
       → IsOutbox (record o { lane = lane; credit = new; send_left = left })
-  kept_sent n body lane new left len same left_is h =
-      kept_put (Send o.channel body) lane new left same refl (ap (λ (c : Outgoing). c.pending) h.after)
+  kept_sent n body lane new left len allowed same left_is h =
+      kept_put (Send o.channel body) lane new left (refl, subst (λ (left : Option ℕ). message_refusal left (length body) ≡ None) is.left (subst (λ (m : ℕ). message_refusal o.send_left m ≡ None) len allowed)) same refl (ap (λ (c : Outgoing). c.pending) h.after)
       (ap (λ (c : Outgoing). c.spent) h.after ∙ (ap (λ m. m + n) (used_spent kinds.Spend n o.credit h.pending h.used) ∙ ap (λ m. o.credit.spent + m) len))
       (ap (λ (c : Outgoing). c.absolved) h.after ∙ used_absolved kinds.Spend n o.credit h.pending h.used)
       (counted_uses kinds.Spend n o.credit new h ∙ ap (λ m. uses o.credit.seen ++ m ∷ []) len)
       (left_is ∙ ap (less o.send_left) len)
 
-  pub kept_absolved : (n : ℕ) (lane : End) (new : Outgoing) → lane ≡ record o.lane { put = o.lane.put ++ Absolve o.channel n ∷ [] } → IsCounted kinds.Absolve n o.credit new → IsOutbox (record o { lane = lane; credit = new })
-  kept_absolved n lane new same h =
-      kept_put (Absolve o.channel n) lane new o.send_left same refl (ap (λ (c : Outgoing). c.pending) h.after)
+  pub kept_absolved : (n : ℕ) (lane : End) (new : Outgoing) → 0 < n → n ≤ max_amount → lane ≡ record o.lane { put = o.lane.put ++ Absolve o.channel n ∷ [] } → IsCounted kinds.Absolve n o.credit new → IsOutbox (record o { lane = lane; credit = new })
+  kept_absolved n lane new some small same h =
+      kept_put (Absolve o.channel n) lane new o.send_left (refl, some, small) same refl (ap (λ (c : Outgoing). c.pending) h.after)
       (ap (λ (c : Outgoing). c.spent) h.after ∙ used_spent kinds.Absolve n o.credit h.pending h.used)
       (ap (λ (c : Outgoing). c.absolved) h.after ∙ ap (λ m. m + n) (used_absolved kinds.Absolve n o.credit h.pending h.used))
       (counted_uses kinds.Absolve n o.credit new h)
       refl
 
   -- it was, or came back
-  pub kept_either : {A E : Type 0} (r : Result A E) (n : ℕ) (lane : End) (between new : Outgoing) → IsUsed kinds.Absolve n o.credit between → OnOk r (lane ≡ record o.lane { put = o.lane.put ++ Absolve o.channel n ∷ [] }) → OnOk r (IfSome between.pending (λ p. new ≡ counted p between)) → OnErr r (lane ≡ o.lane)
+  pub kept_either : {A E : Type 0} (r : Result A E) (n : ℕ) (lane : End) (between new : Outgoing) → 0 < n → n ≤ max_amount → IsUsed kinds.Absolve n o.credit between → OnOk r (lane ≡ record o.lane { put = o.lane.put ++ Absolve o.channel n ∷ [] }) → OnOk r (IfSome between.pending (λ p. new ≡ counted p between)) → OnErr r (lane ≡ o.lane)
       → OnErr r (IfSome between.pending (λ p. Makes is_outgoing between.seen (Returned p.amount) new.seen)) → OnErr r (IfSome between.pending (λ p. new ≡ given_back p new.seen between)) → IsOutbox (record o { lane = lane; credit = new })
-  kept_either (Ok u) n lane between new used same counts unput makes gives = kept_absolved n lane new same (is_counted kinds.Absolve n o.credit between new used counts)
-  kept_either (Err e) n lane between new used same counts unput makes gives = kept_back kinds.Absolve n lane new unput (is_given_back kinds.Absolve n o.credit between new used makes gives)
+  kept_either (Ok u) n lane between new some small used same counts unput makes gives = kept_absolved n lane new some small same (is_counted kinds.Absolve n o.credit between new used counts)
+  kept_either (Err e) n lane between new some small used same counts unput makes gives = kept_back kinds.Absolve n lane new unput (is_given_back kinds.Absolve n o.credit between new used makes gives)
 
-  pub kept_limited : (bound : ℕ) (lane : End) → lane ≡ record o.lane { put = o.lane.put ++ LimitSending o.channel bound ∷ [] } → IsOutbox (record o { lane = lane; send_left = Some bound })
-  kept_limited bound lane same = kept_put (LimitSending o.channel bound) lane o.credit (Some bound) same refl is.idle refl refl (sym (append-nil (uses o.credit.seen))) refl
+  pub kept_limited : (bound : ℕ) (lane : End) → limit_refusal o.send_left bound ≡ None → lane ≡ record o.lane { put = o.lane.put ++ LimitSending o.channel bound ∷ [] } → IsOutbox (record o { lane = lane; send_left = Some bound })
+  kept_limited bound lane allowed same =
+      kept_put (LimitSending o.channel bound) lane o.credit (Some bound) (refl, subst (λ (left : Option ℕ). limit_refusal left bound ≡ None) is.left allowed) same refl is.idle refl refl (sym (append-nil (uses o.credit.seen))) refl
 
   -- another target is kept
   pub kept_target : (asked : Option ℕ) → IsOutbox (record o { asked = asked })
-  kept_target asked = record { lane = is.lane; idle = is.idle; spent = is.spent; absolved = is.absolved; uses = is.uses; left = is.left }
+  kept_target asked = record { lane = is.lane; idle = is.idle; spent = is.spent; absolved = is.absolved; uses = is.uses; left = is.left; rules = is.rules }

@@ -19,8 +19,9 @@ returns-in_default-lower_to-clause-kept g c = invariant_of-self-in_default-lower
 pub invariant_of-self-in-Ok : goal.invariant_of-self-in-Ok
 invariant_of-self-in-Ok g c =
     let low = c.in-Some-lower_to.ensures.some in
+    let range = c.in-Some-lower_to.ensures.range in
     let e = c.in-Ok.ensures in
-    kept_target _ (kept_absolved _ (kept_loads _ (kept_answers _ c.self.invariant _ _ _ c.take_target-self-inside.ensures.answers) low.held low.loaded low.loads) _ _ _ e.put (is_counted _ _ _ _ _ low.used e.counted)) _
+    kept_target _ (kept_absolved _ (kept_loads _ (kept_answers _ c.self.invariant _ _ _ c.take_target-self-inside.ensures.answers) low.held low.loaded low.loads) _ _ _ range.0 range.1 e.put (is_counted _ _ _ _ _ low.used e.counted)) _
 
 pub returns-in-Ok-clause-kept : goal.returns-in-Ok-clause-kept
 returns-in-Ok-clause-kept g c = invariant_of-self-in-Ok g c
