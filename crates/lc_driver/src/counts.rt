@@ -26,6 +26,7 @@ fn count_up(count: u64) -> u64
 
 impl Counts {
     // A read or a write, asked for so many bytes, gave this answer.
+    #[inline]
     pub(crate) fn note_call(&mut self, answer: &io::Result<usize>, asked: usize)
         ensures { CountsCall answer.now asked self.old self.new }
     {
