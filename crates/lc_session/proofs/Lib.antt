@@ -3,3 +3,4 @@ pub mod Pumped
 pub mod Places
 pub mod Begun
 pub mod Ended
+pub mod Heard

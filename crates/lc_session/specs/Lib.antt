@@ -6,3 +6,4 @@ pub mod Report
 pub mod Session
 pub mod Parts
 pub mod Ending
+pub mod Heard

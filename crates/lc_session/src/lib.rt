@@ -3,6 +3,7 @@
 
 mod batch;
 mod heeding;
+pub mod laws;
 mod parts;
 mod read_pump;
 mod reading_side;
