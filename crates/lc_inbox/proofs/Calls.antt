@@ -1,5 +1,5 @@
 -- What a call does to a side, from what it did to the inbox.
-use Rattle.std.proofs.Common.{◌≡◌, ℕ, ◌+◌, Bool, true, false, List, [], ◌∷◌, ◌++◌, Option, Some, None, refl, sym, ◌∙◌, ap, subst, append-nil}
+use Rattle.std.proofs.Common.{◌≡◌, ℕ, ◌+◌, Bool, true, false, List, [], ◌∷◌, ◌++◌, take, Option, Some, None, refl, sym, ◌∙◌, ap, subst, append-nil}
 use Rattle.std.specs.Prelude.{IfSome}
 use Rattle.lc_history.specs.History.{IsHistory, Knows, Learns, Makes}
 use Rattle.lc_history.proofs.Histories.{history-push, known_same, learned_same, made_one}
@@ -7,10 +7,10 @@ use Rattle.lc_frame.specs.declared.frame.Frame.{Frame}
 use Rattle.lc_frame.specs.Channel.{number_of}
 use Rattle.lc_frame.specs.Frame.{lane_of}
 use Rattle.lc_book.specs.declared.fault.Violation.{Violation}
-use Rattle.lc_ring.specs.Ring.{front}
+use Rattle.lc_ring.specs.Ring.{front, with_front}
 use Rattle.lc_peer.specs.Inbox.{take_answer, take_first}
 use Rattle.lc_peer.specs.declared.inbox.Take.{Take}
-use Rattle.lc_peer.specs.declared.inbox.Take.TheVariants.{Empty as NoneWaits, Ended as NoneComes}
+use Rattle.lc_peer.specs.declared.inbox.Take.TheVariants.{Took as TookMessage, Empty as NoneWaits, Ended as NoneComes}
 use Rattle.lc_queue.specs.Parts.{End}
 use Rattle.lc_book.specs.Server.{Server}
 use Rattle.lc_inbox.specs.declared.history.Entry.{Entry}
@@ -21,9 +21,9 @@ use Rattle.lc_inbox.specs.History.{heard_of, put_of, took_of, heard, put, took, 
 use Rattle.lc_inbox.specs.declared.lent.Lent.{Lent}
 use Rattle.lc_inbox.specs.declared.lent.Lent.TheVariants.{Read, Empty, Ended}
 use Rattle.lc_inbox.specs.Lends.{Reader, first_taken, taken_entry, IsLent, IsLentBy}
-use Rattle.lc_inbox.specs.Sides.{Half, Side, side_of, IsHeard, IsViolated, HasLooked, IsPutBy, IsTaken, IsFinished}
+use Rattle.lc_inbox.specs.Sides.{Half, Side, side_of, IsHeard, IsViolated, HasLooked, IsPutBy, IsTaken, IsTakeAnswer, IsFinished}
 use Rattle.lc_inbox.proofs.Histories.{in_order, left_took}
-use Rattle.lc_inbox.proofs.Takes.{IsNone, nothing_taken, unlent_left}
+use Rattle.lc_inbox.proofs.Takes.{IsNone, nothing_taken, unlent_left, took_front, length_front, filled_is, none_filled}
 
 -- whose entries carry what
 heard_by : (e : Entry) → is_reading e ≡ false → heard_of e ≡ None
@@ -113,7 +113,7 @@ puts old new log held after f side_is knows left on p is =
 pub wrong_as : (key : Key) (log : List Entry) (held : Held) (f : Frame) (v : Violation) → IsLeftBy key held log → Some v ≡ violation_of f held.inbox.book → violation_of f (book_after key log) ≡ Some v
 wrong_as key log held f v left wrong = ap (λ (h : Held). violation_of f h.inbox.book) (sym left.is) ∙ sym wrong
 
-pub takes_one : (old new : Half) (log : List Entry) (held : Held) (body : List ℕ) → old.side ≡ false → Knows (is_of old.side) old.seen log → IsLeftBy old.key held log → front held.inbox.ring ≡ Some body → new ≡ record old { seen = log ++ Took body ∷ []; turns = old.turns + 1; lent = None } → IsTaken body (side_of old) (side_of new)
+takes_one : (old new : Half) (log : List Entry) (held : Held) (body : List ℕ) → old.side ≡ false → Knows (is_of old.side) old.seen log → IsLeftBy old.key held log → front held.inbox.ring ≡ Some body → new ≡ record old { seen = log ++ Took body ∷ []; turns = old.turns + 1; lent = None } → IsTaken body (side_of old) (side_of new)
 unfolding makes_one
 takes_one old new log held body side_is knows left first is =
     let waits : front (inbox_after old.key log).ring ≡ Some body = ap (λ (h : Held). front h.inbox.ring) (sym left.is) ∙ first in
@@ -135,25 +135,39 @@ left_first key log old new left is = at (front old.inbox.ring) refl
         let same : new ≡ old = unlent_left old new e is in
         subst (λ (o : Option (List ℕ)). IsLeftBy key new (log ++ taken_entry o)) (sym e) (subst (λ (p : Held × List Entry). IsLeftBy key p.0 p.1) (λ i. (sym same i, sym (append-nil log) i)) left)
 
--- the first message was lent and taken; or none waits, and nothing changed
-module _ {F T : Type 0} (g : Reader F T) (read : F) where
-  none_lent : (t : Take) (old new : Half) (log : List Entry) (held : Held) → IsNone t → t ≡ take_answer held.inbox → old.side ≡ false → Knows (is_of old.side) old.seen log → IsLeftBy old.key held log → new ≡ record old { seen = log ++ first_taken held; turns = old.turns + 1; lent = None }
-      → HasLooked (side_of old) (side_of new) × (take_answer (inbox_after old.key new.seen) ≡ t)
-  none_lent t old new log held none is side_is knows left gives =
-      let same : log ++ first_taken held ≡ log = ap (λ (es : List Entry). log ++ es) (nothing_taken held t none is) ∙ append-nil log in
-      let now : new ≡ record old { seen = log; turns = old.turns + 1; lent = None } = gives ∙ ap (λ (es : List Entry). record old { seen = es; turns = old.turns + 1; lent = None }) same in (
-        looked_up old new log side_is knows left.legal now,
-        subst (λ (h : Held). take_answer h.inbox ≡ t) (left.is ∙ (λ i. held_after old.key (sym now i).seen)) (sym is),
-      )
+-- where none waits, nothing changed
+nothing_took : (t : Take) (old new : Half) (log : List Entry) (held : Held) → IsNone t → t ≡ take_answer held.inbox → old.side ≡ false → Knows (is_of old.side) old.seen log → IsLeftBy old.key held log → new ≡ record old { seen = log ++ first_taken held; turns = old.turns + 1; lent = None }
+    → HasLooked (side_of old) (side_of new) × (t ≡ take_answer (inbox_after old.key new.seen))
+nothing_took t old new log held none is side_is knows left gives =
+    let same : log ++ first_taken held ≡ log = ap (λ (es : List Entry). log ++ es) (nothing_taken held t none is) ∙ append-nil log in
+    let now : new ≡ record old { seen = log; turns = old.turns + 1; lent = None } = gives ∙ ap (λ (es : List Entry). record old { seen = es; turns = old.turns + 1; lent = None }) same in (
+      looked_up old new log side_is knows left.legal now,
+      subst (λ (h : Held). t ≡ take_answer h.inbox) (left.is ∙ (λ i. held_after old.key (sym now i).seen)) is,
+    )
 
-  pub lent_by : (lent : Lent T) (old new : Half) (log : List Entry) (held : Held) → IsLent g read lent held.inbox → old.side ≡ false → Knows (is_of old.side) old.seen log → IsLeftBy old.key held log → new ≡ record old { seen = log ++ first_taken held; turns = old.turns + 1; lent = None }
-      → IsLentBy g read lent (side_of old) (side_of new)
-  lent_by (Read made) old new log held l side_is knows left gives =
-      let body : List ℕ = l.0 ++ l.1 in
-      let now = gives ∙ ap (λ (o : Option (List ℕ)). record old { seen = log ++ taken_entry o; turns = old.turns + 1; lent = None }) l.2 in
-      (l.0, l.1, takes_one old new log held body side_is knows left l.2 now, l.3)
-  lent_by Empty old new log held l side_is knows left gives = none_lent NoneWaits old new log held tt (sym l) side_is knows left gives
-  lent_by Ended old new log held l side_is knows left gives = none_lent NoneComes old new log held tt (sym l) side_is knows left gives
+-- the first message was taken
+first_took : (body : List ℕ) (old new : Half) (log : List Entry) (held : Held) → front held.inbox.ring ≡ Some body → old.side ≡ false → Knows (is_of old.side) old.seen log → IsLeftBy old.key held log → new ≡ record old { seen = log ++ first_taken held; turns = old.turns + 1; lent = None } → IsTaken body (side_of old) (side_of new)
+first_took body old new log held first side_is knows left gives =
+    takes_one old new log held body side_is knows left first (gives ∙ ap (λ (o : Option (List ℕ)). record old { seen = log ++ taken_entry o; turns = old.turns + 1; lent = None }) first)
+
+pub taken_by : (t : Take) (buffer filled : List ℕ) (old new : Half) (log : List Entry) (held : Held) → t ≡ take_answer held.inbox → filled ≡ with_front (front held.inbox.ring) buffer → old.side ≡ false → Knows (is_of old.side) old.seen log → IsLeftBy old.key held log → new ≡ record old { seen = log ++ first_taken held; turns = old.turns + 1; lent = None }
+    → IsTakeAnswer t buffer filled (side_of old) (side_of new)
+taken_by (TookMessage len) buffer filled old new log held is fills side_is knows left gives =
+    let first = took_front held.inbox len buffer filled is fills in (
+      take len filled,
+      first_took (take len filled) old new log held first side_is knows left gives,
+      length_front held.inbox len (take len filled) is first,
+      filled_is held.inbox (take len filled) buffer filled first fills,
+    )
+taken_by NoneWaits buffer filled old new log held is fills side_is knows left gives = let n = nothing_took NoneWaits old new log held tt is side_is knows left gives in (n.0, n.1, none_filled held NoneWaits buffer filled tt is fills)
+taken_by NoneComes buffer filled old new log held is fills side_is knows left gives = let n = nothing_took NoneComes old new log held tt is side_is knows left gives in (n.0, n.1, none_filled held NoneComes buffer filled tt is fills)
+
+-- the same of a take that lends the message
+pub lent_by : {F T : Type 0} (g : Reader F T) (read : F) (lent : Lent T) (old new : Half) (log : List Entry) (held : Held) → IsLent g read lent held.inbox → old.side ≡ false → Knows (is_of old.side) old.seen log → IsLeftBy old.key held log → new ≡ record old { seen = log ++ first_taken held; turns = old.turns + 1; lent = None }
+    → IsLentBy g read lent (side_of old) (side_of new)
+lent_by g read (Read made) old new log held l side_is knows left gives = (l.0, l.1, first_took (l.0 ++ l.1) old new log held l.2 side_is knows left gives, l.3)
+lent_by g read Empty old new log held l side_is knows left gives = let n = nothing_took NoneWaits old new log held tt (sym l) side_is knows left gives in (n.0, sym n.1)
+lent_by g read Ended old new log held l side_is knows left gives = let n = nothing_took NoneComes old new log held tt (sym l) side_is knows left gives in (n.0, sym n.1)
 
 -- both sides have ended
 pub finished : (incoming outgoing : Side) (held : Held) (book : Server) (lane : End) (history : List Entry) → Knows (is_of true) incoming.seen history → Knows (is_of false) outgoing.seen history → IsLeftBy incoming.key held history → book ≡ held.inbox.book → lane ≡ held.lane → IsFinished incoming outgoing book lane

@@ -168,6 +168,21 @@ impl InboxEnd {
         self.put(rt, Frame::LimitReceiving { channel, bound }, book)
     }
 
+    /// The call that would put this frame.
+    pub(crate) fn own<R: Wait>(&mut self, rt: &R, frame: &Frame) -> Result<(), Refusal>
+        requires server { lane_of frame.now ≡ 7 + number_of self.old.channel }
+        requires channel { channel_of frame.now ≡ self.old.channel }
+        ensures ok { OnOk result (IsPut frame.now self.old self.new) }
+        ensures err { IfErr result (λ e. IsNotPut e frame.now self.old self.new) }
+    {
+        match frame {
+            Frame::Issue { amount, .. } => self.issue(rt, *amount),
+            Frame::Plead { target, .. } => self.plead(rt, *target),
+            Frame::LimitReceiving { bound, .. } => self.limit(rt, *bound),
+            _ => unreachable!(),
+        }
+    }
+
     // Puts a frame that the book accepted, with the book that it leaves.
     fn put<R: Wait>(&mut self, rt: &R, frame: Frame, book: ServerBook) -> Result<(), Refusal>
         requires valid { IsValid frame }

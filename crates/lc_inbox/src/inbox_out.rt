@@ -1,5 +1,7 @@
 //! The receiving side of a shared inbox.
-ghost use Rattle.std.specs.Prelude.{◌≡◌, [], ◌∷◌, ◌++◌, List, length, take, IfOk, OnOk, IfErr, IfSome, false, None, Some};
+ghost use Rattle.std.specs.Prelude.{◌≡◌, ◌+◌, [], ◌∷◌, ◌++◌, List, length, take, IfOk, OnOk, IfErr, IfSome, false, None, Some};
+ghost use Rattle.lc_frame.specs.Channel.{number_of};
+ghost use Rattle.lc_frame.specs.Frame.{lane_of, channel_of};
 ghost use Rattle.lc_frame.specs.declared.frame.Frame.TheVariants.{Issue, Plead, LimitReceiving};
 ghost use Rattle.lc_peer.specs.Inbox.{IsTake};
 ghost use Rattle.lc_inbox.specs.declared.history.Entry.{Entry as AnyEntry};
@@ -22,19 +24,20 @@ use std::sync::{Arc, Mutex, Wait};
 /// A shared inbox, as the channel's receiving end has it.
 #[derive(Drop)]
 pub struct InboxOut {
+    pub(crate) channel: Channel,
     pub(crate) turn: Arc<Mutex<()>, Global>,
     pub(crate) half: Half,
 }
 
 impl Model for InboxOut {
-    ghost use Rattle.std.specs.Prelude.{false};
+    ghost use Rattle.std.specs.Prelude.{◌≡◌, false};
     ghost use Rattle.lc_inbox.specs.Sides.{Side, IsIdle, side_of};
 
     ghost Value = { Side };
 
     ghost view = { λ i. side_of i.half };
 
-    ghost invariant = { λ i. IsIdle false i.half };
+    ghost invariant = { λ i. IsIdle false i.half × (i.half.key.channel ≡ i.channel) };
 }
 
 // Gives the inbox back, where the frame was put.
@@ -46,15 +49,6 @@ fn give_put(half: &mut Half, end: InboxEnd, frame: &Frame)
     half.give::<Brand, Frame>(end, frame);
 }
 
-// Gives the inbox back, out of which the message was taken.
-fn give_took(half: &mut Half, end: InboxEnd, body: &[u8])
-    requires side { half.old.side ≡ false }
-    requires fits { (history : List AnyEntry) × (half.old.lent ≡ Some history) × IsLeftBy half.old.key end (history ++ Took body.now ∷ []) }
-    ensures { IfSome half.old.lent (λ history. half.new ≡ record half.old { seen = history ++ Took body.now ∷ []; lent = None }) }
-{
-    half.give::<Brand, &[u8]>(end, &body);
-}
-
 // Gives the inbox back, out of which the first message was taken, if there was one.
 fn give_first(half: &mut Half, end: InboxEnd, before: &Snapshot<InboxEnd>)
     requires side { half.old.side ≡ false }
@@ -64,69 +58,21 @@ fn give_first(half: &mut Half, end: InboxEnd, before: &Snapshot<InboxEnd>)
     half.give::<Brand, Snapshot<InboxEnd>>(end, before);
 }
 
-// Guarantees are issued.
-fn issue<R: Wait>(half: &mut Half, rt: &R, n: u32) -> Result<(), Refusal>
+// The call that would put this frame.
+fn put<R: Wait>(half: &mut Half, rt: &R, frame: &Frame) -> Result<(), Refusal>
     requires idle { IsIdle false half.old }
+    requires server { lane_of frame.now ≡ 7 + number_of half.old.key.channel }
+    requires channel { channel_of frame.now ≡ half.old.key.channel }
     ensures idle { IsIdle false half.new }
     ensures same { IsSameSide (side_of half.old) (side_of half.new) }
     ensures turn { HadOneTurn (side_of half.old) (side_of half.new) }
-    ensures ok { OnOk result (IsPutBy (Issue half.old.key.channel n) (side_of half.old) (side_of half.new)) }
-    ensures err { IfErr result (λ e. IsNotPutBy e (Issue half.old.key.channel n) (side_of half.old) (side_of half.new)) }
+    ensures ok { OnOk result (IsPutBy frame.now (side_of half.old) (side_of half.new)) }
+    ensures err { IfErr result (λ e. IsNotPutBy e frame.now (side_of half.old) (side_of half.new)) }
 {
     let mut end = half.take(rt);
-    let channel = end.channel();
-    match end.issue(rt, n) {
+    match end.own(rt, frame) {
         Ok(()) => {
-            let frame = Frame::Issue { channel, amount: n };
-            give_put(half, end, &frame);
-            Ok(())
-        }
-        Err(refusal) => {
-            half.give_same(end);
-            Err(refusal)
-        }
-    }
-}
-
-// The client is asked to absolve.
-fn plead<R: Wait>(half: &mut Half, rt: &R, target: u32) -> Result<(), Refusal>
-    requires idle { IsIdle false half.old }
-    ensures idle { IsIdle false half.new }
-    ensures same { IsSameSide (side_of half.old) (side_of half.new) }
-    ensures turn { HadOneTurn (side_of half.old) (side_of half.new) }
-    ensures ok { OnOk result (IsPutBy (Plead half.old.key.channel target) (side_of half.old) (side_of half.new)) }
-    ensures err { IfErr result (λ e. IsNotPutBy e (Plead half.old.key.channel target) (side_of half.old) (side_of half.new)) }
-{
-    let mut end = half.take(rt);
-    let channel = end.channel();
-    match end.plead(rt, target) {
-        Ok(()) => {
-            let frame = Frame::Plead { channel, target };
-            give_put(half, end, &frame);
-            Ok(())
-        }
-        Err(refusal) => {
-            half.give_same(end);
-            Err(refusal)
-        }
-    }
-}
-
-// What may be issued is limited.
-fn limit<R: Wait>(half: &mut Half, rt: &R, bound: u64) -> Result<(), Refusal>
-    requires idle { IsIdle false half.old }
-    ensures idle { IsIdle false half.new }
-    ensures same { IsSameSide (side_of half.old) (side_of half.new) }
-    ensures turn { HadOneTurn (side_of half.old) (side_of half.new) }
-    ensures ok { OnOk result (IsPutBy (LimitReceiving half.old.key.channel bound) (side_of half.old) (side_of half.new)) }
-    ensures err { IfErr result (λ e. IsNotPutBy e (LimitReceiving half.old.key.channel bound) (side_of half.old) (side_of half.new)) }
-{
-    let mut end = half.take(rt);
-    let channel = end.channel();
-    match end.limit(rt, bound) {
-        Ok(()) => {
-            let frame = Frame::LimitReceiving { channel, bound };
-            give_put(half, end, &frame);
+            give_put(half, end, frame);
             Ok(())
         }
         Err(refusal) => {
@@ -147,18 +93,11 @@ fn take_into<R: Wait>(half: &mut Half, rt: &R, buffer: &mut [u8]) -> Result<Take
     ensures err { IfErr result (λ e. IsNotTaken e buffer.old buffer.new (side_of half.old) (side_of half.new)) }
 {
     let mut end = half.take(rt);
+    let before = Snapshot::of(&end);
     match end.take_into(buffer) {
-        Ok(Take::Took(len)) => {
-            give_took(half, end, &buffer[..len]);
-            Ok(Take::Took(len))
-        }
-        Ok(Take::Empty) => {
-            half.give_same(end);
-            Ok(Take::Empty)
-        }
-        Ok(Take::Ended) => {
-            half.give_same(end);
-            Ok(Take::Ended)
+        Ok(take) => {
+            give_first(half, end, &before);
+            Ok(take)
         }
         Err(refusal) => {
             half.give_same(end);
@@ -199,6 +138,13 @@ fn book<R: Wait>(half: &mut Half, rt: &R) -> ServerBook
 }
 
 impl InboxOut {
+    /// The channel.
+    pub fn channel(&self) -> Channel
+        ensures { result ≡ self.now.key.channel }
+    {
+        self.channel
+    }
+
     /// `n` guarantees are issued. Refused by 5, 9, 10 and 12, each exactly where the book has it
     /// that the whole history up to here leaves, and by 13 where the queue gave the frame back.
     pub fn issue<R: Wait>(&mut self, rt: &R, n: u32) -> Result<(), Refusal>
@@ -207,8 +153,10 @@ impl InboxOut {
         ensures turn { HadOneTurn self.old self.new }
         ensures same { IsSameSide self.old self.new }
     {
+        let channel = self.channel;
+        let frame = Frame::Issue { channel, amount: n };
         let turn = self.turn.lock(rt);
-        let answer = issue(&mut self.half, rt, n);
+        let answer = put(&mut self.half, rt, &frame);
         drop(turn);
         answer
     }
@@ -221,8 +169,10 @@ impl InboxOut {
         ensures turn { HadOneTurn self.old self.new }
         ensures same { IsSameSide self.old self.new }
     {
+        let channel = self.channel;
+        let frame = Frame::Plead { channel, target };
         let turn = self.turn.lock(rt);
-        let answer = plead(&mut self.half, rt, target);
+        let answer = put(&mut self.half, rt, &frame);
         drop(turn);
         answer
     }
@@ -235,8 +185,10 @@ impl InboxOut {
         ensures turn { HadOneTurn self.old self.new }
         ensures same { IsSameSide self.old self.new }
     {
+        let channel = self.channel;
+        let frame = Frame::LimitReceiving { channel, bound };
         let turn = self.turn.lock(rt);
-        let answer = limit(&mut self.half, rt, bound);
+        let answer = put(&mut self.half, rt, &frame);
         drop(turn);
         answer
     }

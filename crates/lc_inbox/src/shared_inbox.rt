@@ -1,9 +1,9 @@
 //! How an inbox comes to be shared, and how that ends.
-ghost use Rattle.std.specs.Prelude.{IfOk};
+ghost use Rattle.std.specs.Prelude.{◌≡◌, true, false, IfOk};
 ghost use Rattle.lc_inbox.specs.Ends.{IsNewHeld};
-ghost use Rattle.lc_inbox.specs.Sides.{AreOfOne, IsNew, IsFinished};
+ghost use Rattle.lc_inbox.specs.Sides.{AreOfOne, IsNew, IsFinished, IsIdle, side_of};
 
-use crate::half::halves;
+use crate::half::{Half, halves};
 use crate::inbox_end::InboxEnd;
 use crate::inbox_in::InboxIn;
 use crate::inbox_out::InboxOut;
@@ -45,6 +45,7 @@ pub fn share(alloc: Global, end: InboxEnd) -> Result<SharedInbox, AllocError>
         half: reading,
     };
     let outgoing = InboxOut {
+        channel,
         turn: theirs,
         half: receiving,
     };
@@ -63,9 +64,20 @@ pub fn finish(incoming: InboxIn, outgoing: InboxOut) -> (ServerBook, LaneEnd)
         half: reading,
     } = incoming;
     let InboxOut {
+        channel: _,
         turn: _,
         half: receiving,
     } = outgoing;
+    end_both(reading, receiving)
+}
+
+// Both halves of the lock end, and the inbox with them.
+fn end_both(reading: Half, receiving: Half) -> (ServerBook, LaneEnd)
+    requires one { reading.inbox ≡ receiving.inbox }
+    requires reading { IsIdle true reading }
+    requires receiving { IsIdle false receiving }
+    ensures { IsFinished (side_of reading) (side_of receiving) result.0 result.1 }
+{
     let end = reading.take_last(receiving);
     end.into_parts()
 }
