@@ -6,3 +6,4 @@ pub mod Between
 pub mod Lawful
 pub mod Parts
 pub mod Sessions
+pub mod Examples
