@@ -1,5 +1,5 @@
 -- Sides whose ends kept the rules, in one order, are a state of two peers; and what that state keeps.
-use Rattle.std.proofs.Common.{◌≡◌, ℕ, ◌+◌, List, [], ◌++◌, length, drop, refl, sym, ap, subst, ◌∙◌, arith}
+use Rattle.std.proofs.Common.{◌≡◌, ℕ, ◌+◌, None, List, [], ◌++◌, length, drop, refl, sym, ap, subst, ◌∙◌, arith}
 use Rattle.std.specs.Prelude.{sum_by}
 use Rattle.std.proofs.lemmas.List.{drop_at, take_all}
 use Rattle.lc_frame.specs.declared.channel.Channel.{Channel}
@@ -13,18 +13,18 @@ use Rattle.lc_inbox.specs.History as inboxes
 use Rattle.lc_world.specs.declared.event.Side.TheVariants.{A, B}
 use Rattle.lc_world.specs.State.{State, Line, opening, stream, kept_plead, taken_messages, client_book, server_book}
 use Rattle.lc_world.specs.Histories.{History, IsHistory}
-use Rattle.lc_world.specs.Guarantee.{state_of, IsPrefix, FitsBuffer, AddsUp, IsBalanced}
+use Rattle.lc_world.specs.Guarantee.{state_of, IsPrefix, IsBalanced}
 use Rattle.lc_world.proofs.Guarantees.{keeps_guarantees}
 use Rattle.lc_interleaving.specs.Steps.{Step, took}
 use Rattle.lc_interleaving.specs.Interleaving.{Trace, Joint, of_a, of_b, IsOrderOf, IsInterleaving}
 use Rattle.lc_interleaving.specs.History.{history_of}
 use Rattle.lc_interleaving.specs.State.{IsLineBetween, IsStateOfBoth}
-use Rattle.lc_interleaving.specs.Promises.{last_client, last_server, under_way, KeepsBetween, KeepPromises}
+use Rattle.lc_interleaving.specs.Promises.{under_way, in_flight}
 use Rattle.lc_interleaving.proofs.Lines.{IsLineOf, GoesOn, MayStepAll, taken_off, whole}
 use Rattle.lc_interleaving.proofs.Sides.{KeepsRules, entries_took, took_lasting, may_step_all}
 
 -- what a side took is what its inboxes handed out
-took_is : (t : Trace) (steps : List Step) (c : Channel) → IsOrderOf t steps → took c steps ≡ inboxes.took (t.inbox c)
+pub took_is : (t : Trace) (steps : List Step) (c : Channel) → IsOrderOf t steps → took c steps ≡ inboxes.took (t.inbox c)
 took_is t steps c o = sym (entries_took c steps) ∙ (ap inboxes.took (o.inboxes c) ∙ took_lasting (t.inbox c))
 
 line_between : (l : Line) (writer reader : Trace) (w r : List Step) → IsOrderOf writer w → IsOrderOf reader r → IsLineOf l w r → IsLineBetween l writer reader
@@ -53,6 +53,18 @@ module _ (capacity : ℕ) (k : IsCapacity capacity) (a b : Trace) (ka : KeepsRul
     guarantees = keeps_guarantees capacity (history_of order) legal;
   }
 
+-- the books of a channel that a session ends with, by its trace
+abbrev pub last_client : Channel → Trace → Client
+last_client c t = client_of c t.put t.heard None
+
+abbrev pub last_server : ℕ → Channel → Trace → Server
+last_server capacity c t = server_of capacity c t.put t.heard (sum_by length (inboxes.took (t.inbox c)))
+
+-- what the last state keeps of one channel direction
+pub record Keeps (k : ℕ) (c : Channel) (client server : Trace) : Type 0 where
+  pub in_order : IsPrefix (inboxes.took (server.inbox c)) (messages c client.put)
+  pub somewhere : outstanding (last_server k c server) ≡ held (last_client c client) + in_flight c client server
+
 -- what is in flight on a line is what was put and not heard
 in_flight_is : (l : Line) (from to : Trace) → stream l ≡ from.put → l.arrived ≡ to.heard → l.in_flight ≡ under_way from to
 in_flight_is l from to es ea =
@@ -72,17 +84,9 @@ module _ (k n : ℕ) (c : Channel) (mine theirs : Line) (client server : Trace) 
       ∙ (ap (λ (fs : List Frame). server_of n c server.put fs (sum_by length (taken_messages c mine))) m.heard
       ∙ ap (λ (ms : List (List ℕ)). server_of n c server.put server.heard (sum_by length ms)) (m.took c))
 
-  sums : AddsUp (client_book c mine theirs) → AddsUp (last_client c client)
-  sums h = let a : AddsUp (client_of c client.put client.heard (kept_plead c theirs)) = subst (λ (b : Client). AddsUp b) client_is h in record { not_overspent = a.not_overspent; sum = a.sum }
-
-  buffer : FitsBuffer k (server_book n c theirs mine) → FitsBuffer k (last_server k c server)
-  buffer h = let b : FitsBuffer k (last_server n c server) = subst (λ (x : Server). FitsBuffer k x) server_is h in record { not_overdrawn = b.not_overdrawn; taken_of_arrived = b.taken_of_arrived; fits = b.fits }
-
-  between : (sent got : List (List ℕ)) → IsPrefix got sent → got ≡ taken_messages c mine → sent ≡ messages c (stream mine) → AddsUp (client_book c mine theirs) → FitsBuffer k (server_book n c theirs mine) → outstanding (server_book n c theirs mine) ≡ held (client_book c mine theirs) + issued c theirs.in_flight + cost c mine.in_flight + absolved c mine.in_flight → KeepsBetween k c client server
-  between sent got p eg es a f o = record {
+  between : (sent got : List (List ℕ)) → IsPrefix got sent → got ≡ taken_messages c mine → sent ≡ messages c (stream mine) → outstanding (server_book n c theirs mine) ≡ held (client_book c mine theirs) + issued c theirs.in_flight + cost c mine.in_flight + absolved c mine.in_flight → Keeps k c client server
+  between sent got p eg es o = record {
     in_order = (p.0, ap (λ (ms : List (List ℕ)). ms ++ p.0) (sym (eg ∙ m.took c)) ∙ (p.1 ∙ (es ∙ ap (messages c) m.put)));
-    adds_up = sums a;
-    fits = buffer f;
     somewhere = omega (
       arith,
       o,
@@ -94,12 +98,11 @@ module _ (k n : ℕ) (c : Channel) (mine theirs : Line) (client server : Trace) 
     );
   }
 
-pub keep_promises : (capacity : ℕ) (a b : Trace) (h : History) → IsStateOfBoth capacity a b h → KeepPromises capacity a b
-keep_promises k a b h s =
+pub last_keeps : (capacity : ℕ) (a b : Trace) (h : History) (c : Channel) → IsStateOfBoth capacity a b h → Keeps capacity c a b × Keeps capacity c b a
+last_keeps k a b h c s =
     let w : State = state_of k h in
     let g = s.guarantees in
-    let x : IsBalanced k w = subst (λ (past : History). IsBalanced k (state_of k past)) (take_all (length h) h (omega arith)) (g.balanced (length h)) in
-    record {
-      a_sends = λ c. between k w.capacity c w.a w.b a b s.a_line s.b_line _ _ (g.in_order A c) (g.taken_is A c) (g.accepted_is A c) (x.sums A c) (x.buffer B c) (x.in_flight A c);
-      b_sends = λ c. between k w.capacity c w.b w.a b a s.b_line s.a_line _ _ (g.in_order B c) (g.taken_is B c) (g.accepted_is B c) (x.sums B c) (x.buffer A c) (x.in_flight B c);
-    }
+    let x : IsBalanced k w = subst (λ (past : History). IsBalanced k (state_of k past)) (take_all (length h) h (omega arith)) (g.balanced (length h)) in (
+      between k w.capacity c w.a w.b a b s.a_line s.b_line _ _ (g.in_order A c) (g.taken_is A c) (g.accepted_is A c) (x.in_flight A c),
+      between k w.capacity c w.b w.a b a s.b_line s.a_line _ _ (g.in_order B c) (g.taken_is B c) (g.accepted_is B c) (x.in_flight B c),
+    )

@@ -28,7 +28,7 @@ use Rattle.lc_interleaving.specs.Steps.Step.{puts, hears, takes}
 use Rattle.lc_interleaving.specs.Interleaving.{Joint, of_a, of_b, IsInterleaving}
 use Rattle.lc_interleaving.specs.Interleaving.Joint.{at_a, at_b}
 use Rattle.lc_interleaving.specs.Finished.{Finished, IsFinished, trace}
-use Rattle.lc_interleaving.specs.Sessions.{WereOne}
+use Rattle.lc_interleaving.specs.Sessions.{WereOne, PremisesCanBeMet}
 
 all_of : {X : Type 0} (P : X → Type 0) (xs : List X) → AllByRecursion P xs → All P xs
 all_of P [] h k d below = absurd (omega (arith, below))
@@ -301,3 +301,14 @@ module _ (id : TableId) (base : Side) where
     b_rings = all_of (λ (s : Side). s.key.capacity ≤ 6) b.session.reading.side.inboxes (omega arith, (omega arith, (omega arith, (omega arith, (omega arith, (omega arith, (omega arith, tt)))))));
     interleaving = interleaving;
   }
+
+pub premises_can_be_met : PremisesCanBeMet
+premises_can_be_met id base = record {
+  capacity = 6;
+  a = a id base;
+  b = b id base;
+  a_finished = a_finished id base;
+  b_finished = b_finished id base;
+  order = order;
+  were_one = were_one id base;
+}

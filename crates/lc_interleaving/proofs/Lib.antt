@@ -4,6 +4,8 @@ pub mod Paid
 pub mod Sides
 pub mod Between
 pub mod Lawful
+pub mod Books
 pub mod Parts
 pub mod Sessions
+pub mod TwoReports
 pub mod Examples

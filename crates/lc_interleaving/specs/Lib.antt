@@ -6,3 +6,4 @@ pub mod Promises
 pub mod Lawful
 pub mod Finished
 pub mod Sessions
+pub mod Reports

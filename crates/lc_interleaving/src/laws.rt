@@ -2,7 +2,7 @@
 //! of them rest on one premise that no part of a program can prove: that the steps of both fell
 //! into one order, in which nothing was heard before it was put.
 ghost use Rattle.lc_interleaving.specs.Sessions.{ReportsAreAState, FinishedSessionsKeepPromises};
-ghost use Rattle.lc_interleaving.specs.Sessions.{NextFramesAreLawful, RefusedFramesAreBreaches};
+ghost use Rattle.lc_interleaving.specs.Sessions.{NextFramesAreLawful, PremisesCanBeMet, RefusedFramesAreBreaches};
 
 /// The order is a legal history of two peers, and leaves both streams as the sessions wrote, heard
 /// and took them.
@@ -24,4 +24,9 @@ pub fn next_frames_are_lawful()
 /// A frame that an inbox refused was not the next that the other session had put.
 pub fn refused_frames_are_breaches()
     ensures { RefusedFramesAreBreaches }
+{}
+
+/// There are two finished sessions and an order of their steps of which these laws speak.
+pub fn premises_can_be_met()
+    ensures { PremisesCanBeMet }
 {}

@@ -3,3 +3,6 @@
 #![tactic(auto)]
 
 pub mod laws;
+mod reports;
+
+pub use reports::finish_both;
