@@ -30,13 +30,13 @@ use Rattle.lc_interleaving.specs.Interleaving.Joint.{at_a, at_b}
 use Rattle.lc_interleaving.specs.Finished.{Finished, IsFinished, trace}
 use Rattle.lc_interleaving.specs.Sessions.{WereOne, PremisesCanBeMet}
 
-all_of : {X : Type 0} (P : X → Type 0) (xs : List X) → AllByRecursion P xs → All P xs
+pub all_of : {X : Type 0} (P : X → Type 0) (xs : List X) → AllByRecursion P xs → All P xs
 all_of P [] h k d below = absurd (omega (arith, below))
 all_of P (x ∷ xs) h zero d below = h.0
 all_of P (x ∷ xs) h (suc k) d below = all_of P xs h.1 k d (omega (arith, below))
 
 -- what holds on each channel, shown on each
-each : (P : Channel → Type 0) → P ReconciliationChannel → P DataChannel → P OverlapChannel → P CapabilityChannel → P AreaOfInterestChannel → P PayloadRequestChannel → P StaticTokenChannel → (c : Channel) → P c
+pub each : (P : Channel → Type 0) → P ReconciliationChannel → P DataChannel → P OverlapChannel → P CapabilityChannel → P AreaOfInterestChannel → P PayloadRequestChannel → P StaticTokenChannel → (c : Channel) → P c
 each P p0 p1 p2 p3 p4 p5 p6 ReconciliationChannel = p0
 each P p0 p1 p2 p3 p4 p5 p6 DataChannel = p1
 each P p0 p1 p2 p3 p4 p5 p6 OverlapChannel = p2
@@ -46,33 +46,33 @@ each P p0 p1 p2 p3 p4 p5 p6 PayloadRequestChannel = p5
 each P p0 p1 p2 p3 p4 p5 p6 StaticTokenChannel = p6
 
 -- the same thing at every channel but the data channel
-abbrev listed : {X : Type 0} → (Channel → X) → X → List X
+abbrev pub listed : {X : Type 0} → (Channel → X) → X → List X
 listed of other = of ReconciliationChannel ∷ other ∷ of OverlapChannel ∷ of CapabilityChannel ∷ of AreaOfInterestChannel ∷ of PayloadRequestChannel ∷ of StaticTokenChannel ∷ []
 
-abbrev message : List ℕ
+abbrev pub message : List ℕ
 message = 1 ∷ 2 ∷ 3 ∷ []
 
-abbrev a_frames : List Frame
+abbrev pub a_frames : List Frame
 a_frames = LimitSending DataChannel 10 ∷ Send DataChannel message ∷ Absolve DataChannel 1 ∷ []
 
-abbrev b_frames : List Frame
+abbrev pub b_frames : List Frame
 b_frames = LimitReceiving DataChannel 9 ∷ Issue DataChannel 5 ∷ Plead DataChannel 1 ∷ Issue DataChannel 2 ∷ []
 
 -- what each had heard at the end
-abbrev a_heard : List Frame
+abbrev pub a_heard : List Frame
 a_heard = LimitReceiving DataChannel 9 ∷ Issue DataChannel 5 ∷ Plead DataChannel 1 ∷ []
 
 -- the history of A's credit, and of B's inbox, as far as the other thread had seen it
-abbrev credit_begun : List credit.Entry
+abbrev pub credit_begun : List credit.Entry
 credit_begun = Received 5 ∷ Used 4 ∷ Returned 4 ∷ Used 3 ∷ Asked 1 ∷ []
 
-abbrev credit_whole : List credit.Entry
+abbrev pub credit_whole : List credit.Entry
 credit_whole = Received 5 ∷ Used 4 ∷ Returned 4 ∷ Used 3 ∷ Asked 1 ∷ Taken 1 ∷ Used 1 ∷ []
 
-abbrev inbox_begun : List Entry
+abbrev pub inbox_begun : List Entry
 inbox_begun = Put (LimitReceiving DataChannel 9) ∷ Put (Issue DataChannel 5) ∷ Put (Plead DataChannel 1) ∷ Heard (LimitSending DataChannel 10) ∷ Heard (Send DataChannel message) ∷ Took message ∷ Heard (Absolve DataChannel 1) ∷ []
 
-abbrev inbox_whole : List Entry
+abbrev pub inbox_whole : List Entry
 inbox_whole = Put (LimitReceiving DataChannel 9) ∷ Put (Issue DataChannel 5) ∷ Put (Plead DataChannel 1) ∷ Heard (LimitSending DataChannel 10) ∷ Heard (Send DataChannel message) ∷ Took message ∷ Heard (Absolve DataChannel 1) ∷ Put (Issue DataChannel 2) ∷ []
 
 abbrev pub order : List Joint
@@ -81,25 +81,25 @@ order =
     ∷ at_b (puts (Plead DataChannel 1)) ∷ at_a (hears (Plead DataChannel 1)) ∷ at_a (puts (Absolve DataChannel 1)) ∷ at_b (hears (LimitSending DataChannel 10)) ∷ at_b (hears (Send DataChannel message)) ∷ at_b (takes DataChannel message) ∷ at_b (hears (Absolve DataChannel 1))
     ∷ at_b (puts (Issue DataChannel 2)) ∷ []
 
-abbrev nothing : Balance
+abbrev pub nothing : Balance
 nothing = record { received = 0; held = 0; spent = 0; absolved = 0 }
 
 -- which queue, which credits and which inboxes they are does not matter
 module _ (id : TableId) (base : Side) where
-  abbrev end_of : ℕ → List Frame → End
+  abbrev pub end_of : ℕ → List Frame → End
   end_of lane frames = record { queue = id; lane = lane; put = frames }
 
-  abbrev outbox : Channel → List Frame → Outgoing → Option ℕ → OutboxState
+  abbrev pub outbox : Channel → List Frame → Outgoing → Option ℕ → OutboxState
   outbox c frames credit left = record { channel = c; lane = end_of (number_of c) frames; credit = credit; send_left = left; asked = None }
 
-  abbrev key : Channel → Key
+  abbrev pub key : Channel → Key
   key c = record base.key { channel = c; capacity = 6; lane = record base.key.lane { value = end_of (7 + number_of c) [] } }
 
-  abbrev side : Channel → List Entry → Side
+  abbrev pub side : Channel → List Entry → Side
   side c seen = record { inbox = id; key = key c; seen = seen; turns = 0 }
 
   -- a session of which only the data channel was used
-  abbrev session : OutboxState → Incoming → List Entry → List Entry → SessionState
+  abbrev pub session : OutboxState → Incoming → List Entry → List Entry → SessionState
   session o i reads receives = record {
     sending = listed (λ c. outbox c [] (new_outgoing id) None) o;
     receiving = listed (λ c. side c []) (side DataChannel receives);
@@ -110,14 +110,14 @@ module _ (id : TableId) (base : Side) where
     writing = record { drain = record { queue = id; popped = []; joined = [] }; begun = []; waiting = [] };
   }
 
-  abbrev books : List Entry → List Server
+  abbrev pub books : List Entry → List Server
   books history = listed (λ c. book_after (key c) []) (book_after (key DataChannel) history)
 
-  abbrev lanes : List Entry → List End
+  abbrev pub lanes : List Entry → List End
   lanes history = listed (λ c. lane_after (key c) []) (lane_after (key DataChannel) history)
 
   -- a channel that was not used
-  unused : (c : Channel) → IsSettled (new_incoming id) (new_outgoing id) nothing
+  unfoldable pub unused : (c : Channel) → IsSettled (new_incoming id) (new_outgoing id) nothing
   unused c = record {
     received_is = refl;
     spent_is = refl;
@@ -131,10 +131,10 @@ module _ (id : TableId) (base : Side) where
     all_used = refl;
   }
 
-  unused_outbox : (c : Channel) → IsOutbox (outbox c [] (new_outgoing id) None)
+  pub unused_outbox : (c : Channel) → IsOutbox (outbox c [] (new_outgoing id) None)
   unused_outbox c = record { lane = refl; idle = refl; spent = refl; absolved = refl; uses = refl; left = refl; rules = tt }
 
-  unused_inbox : (c : Channel) → sides.IsFinished (side c []) (side c []) (book_after (key c) []) (lane_after (key c) [])
+  unfoldable pub unused_inbox : (c : Channel) → sides.IsFinished (side c []) (side c []) (book_after (key c) []) (lane_after (key c) [])
   unused_inbox c = record {
     history = [];
     legal = tt;
@@ -149,10 +149,10 @@ module _ (id : TableId) (base : Side) where
   }
 
   -- A, which sent
-  abbrev a_outbox : OutboxState
+  abbrev pub a_outbox : OutboxState
   a_outbox = outbox DataChannel a_frames (record { credit = id; seen = credit_whole; looks = 0; spent = 3; absolved = 1; pending = None; least = 0 }) (Some 7)
 
-  abbrev a_incoming : Incoming
+  abbrev pub a_incoming : Incoming
   a_incoming = record { credit = id; seen = credit_begun; looks = 0; received = 5; left = Some 4 }
 
   abbrev pub a : Finished
@@ -165,7 +165,7 @@ module _ (id : TableId) (base : Side) where
     partly = 0;
   }
 
-  a_settled : IsSettled a_incoming a_outbox.credit (record { received = 5; held = 1; spent = 3; absolved = 1 })
+  unfoldable pub a_settled : IsSettled a_incoming a_outbox.credit (record { received = 5; held = 1; spent = 3; absolved = 1 })
   a_settled = record {
     received_is = refl;
     spent_is = refl;
@@ -179,10 +179,10 @@ module _ (id : TableId) (base : Side) where
     all_used = refl;
   }
 
-  a_is_outbox : IsOutbox a_outbox
+  pub a_is_outbox : IsOutbox a_outbox
   a_is_outbox = record { lane = refl; idle = refl; spent = refl; absolved = refl; uses = refl; left = refl; rules = ((refl, refl), ((refl, refl), ((refl, omega arith, omega arith), tt))) }
 
-  one_session : (o : OutboxState) (i : Incoming) (reads receives : List Entry) → o.channel ≡ DataChannel → o.lane.queue ≡ id → o.credit.credit ≡ i.credit → i.credit ≡ id → AreOfOneSession (session o i reads receives)
+  pub one_session : (o : OutboxState) (i : Incoming) (reads receives : List Entry) → o.channel ≡ DataChannel → o.lane.queue ≡ id → o.credit.credit ≡ i.credit → i.credit ≡ id → AreOfOneSession (session o i reads receives)
   one_session o i reads receives channel queue credits known = record {
     senders = cc;
     receivers = refl;
@@ -195,7 +195,7 @@ module _ (id : TableId) (base : Side) where
       serves : (c : Channel) (seen : List Entry) → ServesOn id (side c seen)
       serves c seen = record { queue_is = refl; lane_is = refl }
 
-  a_report : IsReport a.session a.clients a.servers a.left a.partly
+  unfoldable pub a_report : IsReport a.session a.clients a.servers a.left a.partly
   a_report = record {
     last = a_frames;
     outboxes = all_of IsOutbox a.session.sending (unused_outbox ReconciliationChannel, (a_is_outbox, (unused_outbox OverlapChannel, (unused_outbox CapabilityChannel, (unused_outbox AreaOfInterestChannel, (unused_outbox PayloadRequestChannel, (unused_outbox StaticTokenChannel, tt)))))));
@@ -208,7 +208,7 @@ module _ (id : TableId) (base : Side) where
     partly_is = refl;
   }
 
-  a_has_heard : HasHeardAll a.session.reading.side a_heard
+  pub a_has_heard : HasHeardAll a.session.reading.side a_heard
   a_has_heard = each (λ c. HasHeard c a.session.reading.side a_heard)
       (record { inbox = refl; received = refl; left = refl; asked = refl })
       (record { inbox = refl; received = refl; left = refl; asked = refl })
@@ -218,7 +218,7 @@ module _ (id : TableId) (base : Side) where
       (record { inbox = refl; received = refl; left = refl; asked = refl })
       (record { inbox = refl; received = refl; left = refl; asked = refl })
 
-  pub a_finished : IsFinished a
+  unfoldable pub a_finished : IsFinished a
   a_finished = record { one = one_session a_outbox a_incoming [] [] refl refl refl refl; heard = a_has_heard; report = a_report }
 
   -- B, which took
@@ -232,7 +232,7 @@ module _ (id : TableId) (base : Side) where
     partly = 0;
   }
 
-  b_inbox : sides.IsFinished (side DataChannel inbox_begun) (side DataChannel inbox_whole) (book_after (key DataChannel) inbox_whole) (lane_after (key DataChannel) inbox_whole)
+  unfoldable pub b_inbox : sides.IsFinished (side DataChannel inbox_begun) (side DataChannel inbox_whole) (book_after (key DataChannel) inbox_whole) (lane_after (key DataChannel) inbox_whole)
   b_inbox = record {
     history = inbox_whole;
     legal = ((refl, refl), ((refl, refl), ((refl, refl), ((refl, refl), ((refl, refl), (refl, ((refl, refl), ((refl, refl), tt))))))));
@@ -246,7 +246,7 @@ module _ (id : TableId) (base : Side) where
     in_order = refl;
   }
 
-  b_report : IsReport b.session b.clients b.servers b.left b.partly
+  unfoldable pub b_report : IsReport b.session b.clients b.servers b.left b.partly
   b_report = record {
     last = b_frames;
     outboxes = all_of IsOutbox b.session.sending (unused_outbox ReconciliationChannel, (unused_outbox DataChannel, (unused_outbox OverlapChannel, (unused_outbox CapabilityChannel, (unused_outbox AreaOfInterestChannel, (unused_outbox PayloadRequestChannel, (unused_outbox StaticTokenChannel, tt)))))));
@@ -259,7 +259,7 @@ module _ (id : TableId) (base : Side) where
     partly_is = refl;
   }
 
-  b_has_heard : HasHeardAll b.session.reading.side a_frames
+  pub b_has_heard : HasHeardAll b.session.reading.side a_frames
   b_has_heard = each (λ c. HasHeard c b.session.reading.side a_frames)
       (record { inbox = refl; received = refl; left = refl; asked = refl })
       (record { inbox = refl; received = refl; left = refl; asked = refl })
@@ -269,7 +269,7 @@ module _ (id : TableId) (base : Side) where
       (record { inbox = refl; received = refl; left = refl; asked = refl })
       (record { inbox = refl; received = refl; left = refl; asked = refl })
 
-  pub b_finished : IsFinished b
+  unfoldable pub b_finished : IsFinished b
   b_finished = record { one = one_session (outbox DataChannel [] (new_outgoing id) None) (new_incoming id) inbox_begun inbox_whole refl refl refl refl; heard = b_has_heard; report = b_report }
 
   -- the order is one of their steps

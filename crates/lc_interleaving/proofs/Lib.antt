@@ -9,3 +9,4 @@ pub mod Parts
 pub mod Sessions
 pub mod TwoReports
 pub mod Examples
+pub mod Refuted
