@@ -1,5 +1,7 @@
 -- The next frame of a stream is lawful where it arrives, and a frame that was refused is not the next.
-use Rattle.std.proofs.Common.{◌≡◌, ℕ, ◌≤◌, List, [], ◌∷◌, ◌++◌, Option, Some, None, refl, sym, ap, subst, ◌∙◌}
+use Rattle.std.proofs.Common.{◌≡◌, ℕ, ◌+◌, ◌<◌, ◌≤◌, Bool, true, false, List, [], ◌∷◌, ◌++◌, Option, Some, None, refl, sym, ap, subst, ◌∙◌, arith}
+use Rattle.std.specs.Prelude.{nat_lt, if◌then◌else◌}
+use Rattle.std.proofs.lemmas.Bool.Decides.{nat_tests}
 use Rattle.std.proofs.lemmas.List.Elements.{filter_map-append}
 use Rattle.lc_history.specs.History.{IsHistoryAfter}
 use Rattle.lc_history.proofs.Histories.{follows_each}
@@ -8,9 +10,13 @@ use Rattle.lc_frame.specs.declared.frame.Frame.{Frame}
 use Rattle.lc_frame.specs.declared.frame.Frame.TheVariants.{Send, Issue, Absolve, Plead, LimitSending, LimitReceiving}
 use Rattle.lc_frame.specs.Channel.{number_of}
 use Rattle.lc_frame.specs.Frame.{channel_of, lane_of}
-use Rattle.lc_frame.specs.Kind.{max_amount}
+use Rattle.lc_frame.specs.Kind.{max_amount, max_total}
 use Rattle.lc_frame.proofs.Channels.{same_from_number}
 use Rattle.lc_book.specs.declared.fault.Violation.{Violation}
+use Rattle.lc_book.specs.declared.fault.Violation.TheVariants.{IssuedPastLimit, TooManyGuarantees, TotalPassed, ReceiveLimitRaised}
+use Rattle.lc_book.specs.Limit.{is_past}
+use Rattle.lc_book.specs.Client.{held, issued_violation}
+use Rattle.lc_credit.specs.Sides.{Incoming, IsNotAdded}
 use Rattle.lc_book.specs.Server.{Server}
 use Rattle.lc_book.specs.Sums.{client_of}
 use Rattle.lc_peer.specs.Arrivals.{violation}
@@ -27,7 +33,7 @@ use Rattle.lc_world.proofs.Lawful.{SoundTo, no_violation, sound_to_a, sound_to_b
 use Rattle.lc_interleaving.specs.Steps.{Step, put, heard, client_then, server_then}
 use Rattle.lc_interleaving.specs.Interleaving.{Trace, Joint, a_step, b_step, of_a, of_b, IsCausal}
 use Rattle.lc_interleaving.specs.History.{history_of}
-use Rattle.lc_interleaving.specs.Lawful.{NextIsLawful, IsLawfulAfter, RefusedIsNotNext}
+use Rattle.lc_interleaving.specs.Lawful.{NextIsLawful, IsLawfulAfter, RefusedIsNotNext, IsCreditThen, RefusedByCredit}
 use Rattle.lc_interleaving.proofs.Cuts.{begins_after}
 use Rattle.lc_interleaving.proofs.Lines.{MayStep, IsLineOf, StandsFor, MayStepAll, first_in_flight, server_is, whole}
 use Rattle.lc_interleaving.proofs.Sides.{KeepsReceiving, book_is, book_lasting}
@@ -92,3 +98,34 @@ refused_is_not_next capacity t here there receiving next c before later f is so_
     let may : inboxes.MayFollow r.key before (Refused f) = follows_each (inboxes.MayFollow r.key) (t.inbox c) before (Refused f) later r.legal is in
     let book : server_then r.key.capacity c here ≡ book_after r.key before = sym (book_is r.key c here r.channel_is) ∙ (ap (book_after r.key) so_far ∙ book_lasting r.key before) in
     refused_by c r.key.capacity capacity here f may.1.0 (may.0 ∙ ap number_of r.channel_is) (ap (violation_of f) book ∙ may.1.1) (next f first)
+
+-- what a credit refuses, the books of its side refuse
+no_reason : {E : Type 0} (b : Bool) (r : E) (x : Option E) → b ≡ true → (if b then Some r else x) ≡ None → ⊥
+no_reason true r x is e = cc
+no_reason false r x is e = cc
+
+later_reason : {E : Type 0} (b : Bool) (r : E) (x : Option E) → (if b then Some r else x) ≡ None → x ≡ None
+later_reason true r x e = absurd (cc)
+later_reason false r x e = e
+
+beyond : (most n : ℕ) → most < n → nat_lt most n ≡ true
+beyond most n more = grind (arith, nat_tests, more)
+
+issue_refused : (c : Channel) (n : ℕ) (v : Violation) (here : List Step) (old new : Incoming) → IsNotAdded v n old new → IsCreditThen c here old new → issued_violation (client_then c here) n ≡ None → ⊥
+issue_refused c n IssuedPastLimit here old new refused is none = no_reason (is_past (client_then c here).receive_left n) IssuedPastLimit _ (ap (λ (o : Option ℕ). is_past o n) (sym is.left_is) ∙ refused.past) none
+issue_refused c n TooManyGuarantees here old new refused is none =
+    let room = refused.1 in
+    let held_is : room.held ≤ held (client_then c here) = omega (arith, room.loads.held, is.counted, is.received_is, is.paid) in
+    no_reason (nat_lt max_amount (held (client_then c here) + n)) TooManyGuarantees _ (beyond max_amount (held (client_then c here) + n) (omega (arith, held_is, room.over)))
+    (later_reason (is_past (client_then c here).receive_left n) IssuedPastLimit _ none)
+issue_refused c n TotalPassed here old new refused is none =
+    let over = refused.2 in
+    no_reason (nat_lt max_total ((client_then c here).received + n)) TotalPassed _ (beyond max_total ((client_then c here).received + n) (omega (arith, over, is.received_is)))
+    (later_reason (nat_lt max_amount (held (client_then c here) + n)) TooManyGuarantees _ (later_reason (is_past (client_then c here).receive_left n) IssuedPastLimit _ none))
+issue_refused c n v here old new refused is none = absurd refused
+
+pub refused_by_credit : (capacity : ℕ) (here there : List Step) → NextIsLawful capacity here there → RefusedByCredit here there
+refused_by_credit capacity here there next = record {
+  issue = λ c n v old new refused is first. issue_refused c n v here old new refused is (next (Issue c n) first);
+  limit = λ c bound old new refused left first. no_reason (is_past (client_then c here).receive_left bound) ReceiveLimitRaised None (ap (λ (o : Option ℕ). is_past o bound) (sym left) ∙ refused.past) (next (LimitReceiving c bound) first);
+}

@@ -22,7 +22,7 @@ use Rattle.lc_interleaving.specs.Sessions.{ReportsAreAState, FinishedSessionsKee
 use Rattle.lc_interleaving.proofs.Sides.{book_is, book_lasting}
 use Rattle.lc_interleaving.proofs.Between.{Keeps, last_server, may_all, state_of_both, took_is, last_keeps}
 use Rattle.lc_interleaving.proofs.Books.{book_fits}
-use Rattle.lc_interleaving.proofs.Lawful.{lawful_after, refused_is_not_next}
+use Rattle.lc_interleaving.proofs.Lawful.{lawful_after, refused_is_not_next, refused_by_credit}
 use Rattle.lc_interleaving.proofs.Parts.{KeepsAt, Sends, Serves, sends_at, serves_at, received_is, keeps_rules}
 
 pub reports_are_a_state : ReportsAreAState
@@ -82,4 +82,6 @@ refused_frames_are_breaches k a b fa fb order w earlier later is =
     record {
       at_a = refused_is_not_next k (trace a fa) (of_a earlier) (of_b earlier) (keeps_rules k a fa w.a_rings).receiving next.at_a;
       at_b = refused_is_not_next k (trace b fb) (of_b earlier) (of_a earlier) (keeps_rules k b fb w.b_rings).receiving next.at_b;
+      a_credits = refused_by_credit k (of_a earlier) (of_b earlier) next.at_a;
+      b_credits = refused_by_credit k (of_b earlier) (of_a earlier) next.at_b;
     }
