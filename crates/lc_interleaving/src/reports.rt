@@ -14,5 +14,7 @@ pub fn finish_both<R: Wait>(rt: &R, a: Parts, b: Parts) -> (Report, Report)
     requires b_one { AreOfOneSession (state_of b) }
     ensures { AreTwoReports (state_of a) (state_of b) result.0 result.1 }
 {
-    (finish(rt, a), finish(rt, b))
+    let first = finish(rt, a);
+    let second = finish(rt, b);
+    (first, second)
 }
