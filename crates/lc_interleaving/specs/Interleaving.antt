@@ -1,15 +1,15 @@
 -- One order of the steps of two sessions: the premise of every law of two of them. That a stream keeps its order and carries nothing that was not put is what LCMUX asks of the channel below it; that guarantees are used only once they were received is its rule for clients.
-use Rattle.std.specs.Prelude.{◌≡◌, ℕ, ◌+◌, ◌-◌, ◌≤◌, List, [], ◌∷◌, ◌++◌, length, take, slice_index_or, Option, Some, None}
+use Rattle.std.specs.Prelude.{◌≡◌, ℕ, ◌+◌, ◌-◌, ◌≤◌, List, [], ◌∷◌, ◌++◌, length, take, slice_index_or, Option, Some, None, IfSome}
 use Rattle.std.specs.List.{fold, filter_map}
 use Rattle.lc_history.specs.History.{IsHistory}
 use Rattle.lc_frame.specs.declared.channel.Channel.{Channel}
 use Rattle.lc_frame.specs.declared.frame.Frame.{Frame}
-use Rattle.lc_frame.specs.declared.frame.Frame.TheVariants.{Send, Absolve}
 use Rattle.lc_frame.specs.Channel.{number_of}
+use Rattle.lc_frame.specs.Frame.{channel_of}
 use Rattle.lc_frame.specs.Stream.{of_lane, issued}
 use Rattle.lc_credit.specs.declared.history.Entry.{Entry}
 use Rattle.lc_credit.specs.declared.history.Entry.TheVariants.{Received, Used, Returned}
-use Rattle.lc_outbox.specs.Uses.{amounts}
+use Rattle.lc_outbox.specs.Uses.{amount_of, amounts}
 use Rattle.lc_inbox.specs.declared.history.Entry as inbox
 use Rattle.lc_interleaving.specs.Steps.{Step, put, heard, entries, without_refusals}
 use Rattle.lc_interleaving.specs.Steps.Step.{puts, hears}
@@ -40,8 +40,7 @@ abbrev pub IsFunded : Trace → List Step → Channel → Type 0
 IsFunded t before c = slice_index_or (before_uses (t.credit c)) (length (amounts (of_lane (number_of c) (put before)))) 0 ≤ issued c (heard before)
 
 abbrev pub IsInTime : Trace → List Step → Step → Type 0
-IsInTime t before (puts (Send c body)) = IsFunded t before c
-IsInTime t before (puts (Absolve c amount)) = IsFunded t before c
+IsInTime t before (puts f) = IfSome (amount_of f) (λ n. IsFunded t before (channel_of f))
 IsInTime t before step = Unit {0}
 
 -- an order of a session's steps: that of its queue, that of its reading pump, and that of each inbox; and no message and no absolving before what pays it was heard
