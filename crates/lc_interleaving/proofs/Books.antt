@@ -28,7 +28,7 @@ use Rattle.lc_inbox.specs.History.{heard_of, put_of, took_of, heard, put, took, 
 use Rattle.lc_world.specs.Guarantee.{FitsBuffer}
 
 -- where a reason does not hold, the next may; and what the last of them leaves
-later_reason : {E : Type 0} (b : Bool) (r : E) (x : Option E) → (if b then Some r else x) ≡ None → x ≡ None
+pub later_reason : {E : Type 0} (b : Bool) (r : E) (x : Option E) → (if b then Some r else x) ≡ None → x ≡ None
 later_reason true r x e = absurd (cc)
 later_reason false r x e = e
 
@@ -63,9 +63,6 @@ same_server : (c d : Channel) → 7 + number_of d ≡ 7 + number_of c → d ≡ 
 same_server c d e = same_from_number d c (omega (arith, e))
 
 module _ (capacity : ℕ) (c : Channel) (ps hs : List Frame) (taken : ℕ) (h : Fits capacity c ps hs taken) where
-  book : Server
-  book = server_of capacity c ps hs taken
-
   heard_fits : (f : Frame) → lane_of f ≡ number_of c → violation_of f (server_of capacity c ps hs taken) ≡ None → Fits capacity c ps (hs ++ f ∷ []) taken
   heard_fits (Send d body) lane none =
       let f : Frame = Send d body in

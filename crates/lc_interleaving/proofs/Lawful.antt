@@ -34,6 +34,7 @@ use Rattle.lc_interleaving.specs.Steps.{Step, put, heard, client_then, server_th
 use Rattle.lc_interleaving.specs.Interleaving.{Trace, Joint, a_step, b_step, of_a, of_b, IsCausal}
 use Rattle.lc_interleaving.specs.History.{history_of}
 use Rattle.lc_interleaving.specs.Lawful.{NextIsLawful, IsLawfulAfter, RefusedIsNotNext, IsCreditThen, RefusedByCredit}
+use Rattle.lc_interleaving.proofs.Books.{later_reason}
 use Rattle.lc_interleaving.proofs.Cuts.{begins_after}
 use Rattle.lc_interleaving.proofs.Lines.{MayStep, IsLineOf, StandsFor, MayStepAll, first_in_flight, server_is, whole}
 use Rattle.lc_interleaving.proofs.Sides.{KeepsReceiving, book_is, book_lasting}
@@ -103,10 +104,6 @@ refused_is_not_next capacity t here there receiving next c before later f is so_
 no_reason : {E : Type 0} (b : Bool) (r : E) (x : Option E) → b ≡ true → (if b then Some r else x) ≡ None → ⊥
 no_reason true r x is e = cc
 no_reason false r x is e = cc
-
-later_reason : {E : Type 0} (b : Bool) (r : E) (x : Option E) → (if b then Some r else x) ≡ None → x ≡ None
-later_reason true r x e = absurd (cc)
-later_reason false r x e = e
 
 beyond : (most n : ℕ) → most < n → nat_lt most n ≡ true
 beyond most n more = grind (arith, nat_tests, more)

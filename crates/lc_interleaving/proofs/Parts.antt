@@ -152,6 +152,40 @@ receive_all capacity (i ∷ incoming) (o ∷ outgoing) (book ∷ books) (lane �
   receive_all capacity incoming outgoing books lanes h.1 (all_rest (FitsRing capacity) i incoming small),
 )
 
+-- the ends of a channel: what the sending one put, and what the receiving one took
+pub record SenderAt (frames : List Frame) (c : Channel) (ends : List OutboxState) (n : ℕ) : Type 0 where
+  pub end : OutboxState
+  pub there : slice_get ends n ≡ Some end
+  pub gave : of_lane (number_of c) frames ≡ end.lane.put
+
+sender_at : (frames : List Frame) (n : ℕ) (c : Channel) (ends : List OutboxState) → slice_get (map channel_of_outbox ends) n ≡ Some c → All (GaveAll frames) ends → SenderAt frames c ends n
+sender_at frames n c [] is gave = absurd (cc)
+sender_at frames zero c (o ∷ ends) is gave = let same : o.channel ≡ c = cc in record { end = o; there = refl; gave = subst (λ (d : Channel). of_lane (number_of d) frames ≡ o.lane.put) same (all_first (GaveAll frames) o ends gave) }
+sender_at frames (suc n) c (o ∷ ends) is gave =
+    let rest : SenderAt frames c ends n = sender_at frames n c ends is (all_rest (GaveAll frames) o ends gave) in
+    record { end = rest.end; there = rest.there; gave = rest.gave }
+
+pub record ReceiverAt (history : List Entry) (ends : List Side) (n : ℕ) : Type 0 where
+  pub end : Side
+  pub there : slice_get ends n ≡ Some end
+  pub took_is : inboxes.took history ≡ inboxes.took end.seen
+
+receiver_at : (n : ℕ) (c : Channel) (incoming outgoing : List Side) (books : List Server) (lanes : List End) (h : AreFinished incoming outgoing books lanes) → slice_get (map channel_of_side incoming) n ≡ Some c → ReceiverAt (slice_index_or (inbox_histories incoming outgoing books lanes h) n []) outgoing n
+receiver_at n c [] outgoing books lanes h is = absurd (cc)
+receiver_at n c (i ∷ incoming) [] books lanes h is = absurd h
+receiver_at n c (i ∷ incoming) (o ∷ outgoing) [] lanes h is = absurd h
+receiver_at n c (i ∷ incoming) (o ∷ outgoing) (book ∷ books) [] h is = absurd h
+receiver_at zero c (i ∷ incoming) (o ∷ outgoing) (book ∷ books) (lane ∷ lanes) h is = record { end = o; there = refl; took_is = h.0.took }
+receiver_at (suc n) c (i ∷ incoming) (o ∷ outgoing) (book ∷ books) (lane ∷ lanes) h is =
+    let rest : ReceiverAt (slice_index_or (inbox_histories incoming outgoing books lanes h.1) n []) outgoing n = receiver_at n c incoming outgoing books lanes h.1 is in
+    record { end = rest.end; there = rest.there; took_is = rest.took_is }
+
+pub sender_of : (r : Finished) (f : IsFinished r) (c : Channel) → SenderAt (trace r f).put c r.session.sending (number_of c)
+sender_of r f c = sender_at (trace r f).put (number_of c) c r.session.sending (ap (λ (cs : List Channel). slice_get cs (number_of c)) f.one.senders ∙ channel_there c) f.report.clients_gave
+
+pub receiver_of : (r : Finished) (f : IsFinished r) (c : Channel) → ReceiverAt ((trace r f).inbox c) r.session.receiving (number_of c)
+receiver_of r f c = receiver_at (number_of c) c r.session.reading.side.inboxes r.session.receiving r.servers f.report.lanes f.report.finished (ap (λ (cs : List Channel). slice_get cs (number_of c)) f.one.receivers ∙ channel_there c)
+
 module _ (capacity : ℕ) (r : Finished) (f : IsFinished r) (small : FitsRings capacity r) where
   abbrev s : SessionState
   s = r.session

@@ -1,12 +1,13 @@
 -- The laws of two finished sessions.
-use Rattle.std.proofs.Common.{◌≡◌, ℕ, ◌+◌, List, length, sym, ap, subst, ◌∙◌, arith}
+use Rattle.std.proofs.Common.{◌≡◌, ℕ, ◌+◌, List, ◌++◌, length, sym, ap, subst, ◌∙◌, arith}
 use Rattle.std.specs.Prelude.{sum_by}
 use Rattle.lc_frame.specs.declared.channel.Channel.{Channel}
 use Rattle.lc_frame.specs.declared.frame.Frame.{Frame}
 use Rattle.lc_frame.specs.Channel.{number_of}
-use Rattle.lc_frame.specs.Stream.{issued}
+use Rattle.lc_frame.specs.Stream.{messages, issued}
 use Rattle.lc_book.specs.Server.{Server, outstanding}
 use Rattle.lc_book.specs.Sums.{server_of}
+use Rattle.lc_book.proofs.Lanes.{every_sum_is_of_its_lane}
 use Rattle.lc_credit.specs.declared.balance.Balance.{Balance}
 use Rattle.lc_inbox.specs.declared.rule.Key.{Key}
 use Rattle.lc_inbox.specs.History.{book_after}
@@ -23,7 +24,7 @@ use Rattle.lc_interleaving.proofs.Sides.{book_is, book_lasting}
 use Rattle.lc_interleaving.proofs.Between.{Keeps, last_server, may_all, state_of_both, took_is, last_keeps}
 use Rattle.lc_interleaving.proofs.Books.{book_fits}
 use Rattle.lc_interleaving.proofs.Lawful.{lawful_after, refused_is_not_next, refused_by_credit}
-use Rattle.lc_interleaving.proofs.Parts.{KeepsAt, Sends, Serves, sends_at, serves_at, received_is, keeps_rules}
+use Rattle.lc_interleaving.proofs.Parts.{SenderAt, ReceiverAt, sender_of, receiver_of, KeepsAt, Sends, Serves, sends_at, serves_at, received_is, keeps_rules}
 
 pub reports_are_a_state : ReportsAreAState
 reports_are_a_state k a b fa fb order w = state_of_both k w.is_capacity (trace a fa) (trace b fb) (keeps_rules k a fa w.a_rings) (keeps_rules k b fb w.b_rings) order w.interleaving
@@ -53,12 +54,19 @@ between k c x y fx fy rx ry steps o keeps =
     let fits : FitsBuffer book.capacity book = subst (λ (n : ℕ). FitsBuffer n book) (sym capacity_is) (subst (λ (s : Server). FitsBuffer key.capacity s) (sym serves.keeps.book_is) (book_fits key ((trace y fy).inbox c) serves.keeps.receiving.legal serves.keeps.ordered)) in
     let received : b.received ≡ issued c (trace x fx).heard = received_is k x fx rx c in
     let somewhere : outstanding book ≡ b.held + in_flight c (trace x fx) (trace y fy) = omega (arith, keeps.somewhere, ap outstanding is, received, sends.keeps.spent_is, sends.keeps.absolved_is, sends.keeps.adds_up) in
+    let sender : SenderAt (trace x fx).put c x.session.sending (number_of c) = sender_of x fx c in
+    let receiver : ReceiverAt ((trace y fy).inbox c) y.session.receiving (number_of c) = receiver_of y fy c in
+    let sent_is : messages c (trace x fx).put ≡ messages c sender.end.lane.put = sym ((every_sum_is_of_its_lane c (trace x fx).put).messages_are) ∙ ap (messages c) sender.gave in
     record {
+      sender = sender.end;
+      receiver = receiver.end;
+      sender_there = sender.there;
+      receiver_there = receiver.there;
       balance = b;
       book = book;
       balance_there = sends.there;
       book_there = serves.there;
-      in_order = keeps.in_order;
+      in_order = (keeps.in_order.0, ap (λ (ms : List (List ℕ)). ms ++ keeps.in_order.0) (sym receiver.took_is) ∙ (keeps.in_order.1 ∙ sent_is));
       adds_up = record { received_is = received; spent_is = sends.keeps.spent_is; absolved_is = sends.keeps.absolved_is; adds_up = sends.keeps.adds_up };
       fits = fits;
       somewhere = somewhere;

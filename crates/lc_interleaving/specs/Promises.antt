@@ -6,7 +6,9 @@ use Rattle.lc_frame.specs.Channel.{number_of}
 use Rattle.lc_frame.specs.Stream.{messages, cost, issued, absolved}
 use Rattle.lc_book.specs.Server.{Server, outstanding, buffered, room}
 use Rattle.lc_credit.specs.declared.balance.Balance.{Balance}
+use Rattle.lc_outbox.specs.Outbox.{OutboxState}
 use Rattle.lc_inbox.specs.History.{took}
+use Rattle.lc_inbox.specs.Sides.{Side}
 use Rattle.lc_world.specs.Guarantee.{IsPrefix, FitsBuffer}
 use Rattle.lc_interleaving.specs.Interleaving.{Trace}
 use Rattle.lc_interleaving.specs.Finished.{Finished, IsFinished, trace}
@@ -28,12 +30,17 @@ pub record IsBalanceOf (c : Channel) (t : Trace) (b : Balance) : Type 0 where
 
 -- of a channel, where the first session is its client, and the second its server
 pub record KeepsBetween (c : Channel) (client server : Finished) (sent received : Trace) : Type 0 where
+  -- the two ends, and what `finish` gave for them
+  pub sender : OutboxState
+  pub receiver : Side
   pub balance : Balance
   pub book : Server
+  pub sender_there : slice_get client.session.sending (number_of c) ≡ Some sender
+  pub receiver_there : slice_get server.session.receiving (number_of c) ≡ Some receiver
   pub balance_there : slice_get client.clients (number_of c) ≡ Some balance
   pub book_there : slice_get server.servers (number_of c) ≡ Some book
   -- the messages taken are a prefix of those sent
-  pub in_order : IsPrefix (took (received.inbox c)) (messages c sent.put)
+  pub in_order : IsPrefix (took receiver.seen) (messages c sender.lane.put)
   pub adds_up : IsBalanceOf c sent balance
   -- the ring holds what is buffered and all that may still come
   pub fits : FitsBuffer book.capacity book

@@ -17,7 +17,7 @@ finished s arrived r = record { session = s; arrived = arrived; clients = r.clie
 pub record KeepTogether (a b : Finished) : Type 0 where
   pub a_finished : IsFinished a
   pub b_finished : IsFinished b
-  pub promises : (capacity : ℕ) (order : List Joint) → WereOne capacity a b a_finished b_finished order → KeepPromises a b a_finished b_finished
+  pub promises : (capacity : ℕ) (fa : IsFinished a) (fb : IsFinished b) (order : List Joint) → WereOne capacity a b fa fb order → KeepPromises a b fa fb
 
 -- whatever frames had arrived
 abbrev pub AreTwoReports : SessionState → SessionState → Report → Report → Type 0
