@@ -281,6 +281,6 @@ where
     let alloc = host.alloc();
     measure_alone(rt, host, plan, "inbox.16", new_shared(alloc)?)?;
     measure_alone(rt, host, plan, "mutex_inbox.16", new_locked(alloc)?)?;
-    measure_threads(rt, host, plan, "inbox.16.two", new_shared(alloc)?)?;
-    measure_threads(rt, host, plan, "mutex_inbox.16.two", new_locked(alloc)?)
+    measure_threads(rt, host, plan, "inbox_1to1.16", new_shared(alloc)?)?;
+    measure_threads(rt, host, plan, "mutex_inbox_1to1.16", new_locked(alloc)?)
 }

@@ -4,12 +4,12 @@ use Rattle.std.specs.Prelude.{sum, slice_index_or, unwrap_or, IfSome}
 use Rattle.std.specs.List.{fold, filter_map, cons_option}
 use Rattle.std.proofs.lemmas.List.Elements.{filter_map-append}
 use Rattle.std.proofs.lemmas.List.Sums.{sum_by-append, sum_by-cons, fold-append}
-use Rattle.std.proofs.Math.Seq.{take-append_seam}
 use Rattle.lc_history.specs.History.{IsHistoryAfter}
 use Rattle.lc_credit.specs.declared.history.Entry.{Entry}
 use Rattle.lc_credit.specs.declared.history.Entry.TheVariants.{Received, Used, Returned, Asked, Taken}
 use Rattle.lc_credit.specs.History.{received_of, used_of, returned_of, last_use_after, received, used, returned, last_use, MayFollow, IsHistory}
 use Rattle.lc_outbox.specs.Uses.{uses_after, uses}
+use Rattle.lc_outbox.proofs.Uses.{last_gone}
 use Rattle.lc_interleaving.specs.Interleaving.{Funds, funds_after, before_uses}
 
 -- the sums of a history with one entry more
@@ -135,12 +135,6 @@ leaves_returned before xs funds n sums h =
       last_is = last-push before e (Some n) h.last_is;
       ends = tt;
     }
-
--- without the last
-last_gone : (xs : List ℕ) (n : ℕ) → take (length (xs ++ n ∷ []) - 1) (xs ++ n ∷ []) ≡ xs
-last_gone xs n =
-    let count : length (xs ++ n ∷ []) - 1 ≡ length xs = omega (arith, length-append xs (n ∷ [])) in
-    ap (λ (m : ℕ). take m (xs ++ n ∷ [])) count ∙ take-append_seam xs (n ∷ [])
 
 one_less : (xs : List ℕ) (n : ℕ) (funds : List ℕ) → AreCovered 0 (xs ++ n ∷ []) funds → length funds - 1 ≡ length xs
 one_less xs n funds h = omega (arith, covered-length 0 (xs ++ n ∷ []) funds h, length-append xs (n ∷ []))

@@ -1,9 +1,7 @@
 -- The ends of a finished session kept the rules, each by its own history.
 use Rattle.std.proofs.Common.{◌≡◌, ℕ, zero, suc, ◌+◌, ◌≤◌, List, [], ◌∷◌, ◌++◌, map, Option, Some, None, refl, sym, ap, subst, ◌∙◌, arith}
-use Rattle.std.specs.Prelude.{All, slice_get, slice_index_or, filter, IsSomeAnd}
-use Rattle.std.specs.List.{fold}
-use Rattle.std.proofs.lemmas.List.Sums.{fold-append}
-use Rattle.lc_history.specs.History.{IsHistory, Knows}
+use Rattle.std.specs.Prelude.{All, slice_get, slice_index_or, IsSomeAnd}
+use Rattle.lc_history.specs.History.{IsHistory}
 use Rattle.lc_frame.specs.declared.channel.Channel.{Channel}
 use Rattle.lc_frame.specs.declared.channel.Channel.TheVariants.{ReconciliationChannel, DataChannel, OverlapChannel, CapabilityChannel, AreaOfInterestChannel, PayloadRequestChannel, StaticTokenChannel}
 use Rattle.lc_frame.specs.declared.frame.Frame.{Frame}
@@ -15,12 +13,11 @@ use Rattle.lc_book.proofs.Lanes.{every_sum_is_of_its_lane}
 use Rattle.lc_queue.specs.Parts.{End}
 use Rattle.lc_credit.specs.declared.balance.Balance.{Balance}
 use Rattle.lc_credit.specs.declared.history.Entry as credit
-use Rattle.lc_credit.specs.declared.history.Entry.TheVariants.{Received, Used, Returned, Asked, Taken}
-use Rattle.lc_credit.specs.History.{is_outgoing}
 use Rattle.lc_credit.specs.Sides.{Incoming, Outgoing, IsSettled}
 use Rattle.lc_credit.specs.Channels.{AreSettled}
-use Rattle.lc_outbox.specs.Uses.{uses_after, uses, amounts}
+use Rattle.lc_outbox.specs.Uses.{amounts}
 use Rattle.lc_outbox.specs.Outbox.{OutboxState, MayPut, IsOutbox}
+use Rattle.lc_outbox.proofs.Uses.{uses_same}
 use Rattle.lc_inbox.specs.declared.history.Entry.{Entry}
 use Rattle.lc_inbox.specs.History as inboxes
 use Rattle.lc_inbox.specs.Sides.{Side}
@@ -60,18 +57,6 @@ channel_there CapabilityChannel = refl
 channel_there AreaOfInterestChannel = refl
 channel_there PayloadRequestChannel = refl
 channel_there StaticTokenChannel = refl
-
--- the entries of a credit's other side are no uses
-uses_others : (before : List ℕ) (later : List credit.Entry) → filter is_outgoing later ≡ [] → fold uses_after before later ≡ before
-uses_others before [] none = refl
-uses_others before (Received n ∷ later) none = uses_others before later none
-uses_others before (Used n ∷ later) none = absurd (cc)
-uses_others before (Returned n ∷ later) none = absurd (cc)
-uses_others before (Asked target ∷ later) none = uses_others before later none
-uses_others before (Taken target ∷ later) none = absurd (cc)
-
-uses_same : (seen history : List credit.Entry) → Knows is_outgoing seen history → uses history ≡ uses seen
-uses_same seen history h = ap uses h.begins ∙ (fold-append uses_after [] seen h.later ∙ uses_others (uses seen) h.later h.others)
 
 -- a list without its first still has what each of it has
 all_rest : {X : Type 0} (P : X → Type 0) (x : X) (xs : List X) → All P (x ∷ xs) → All P xs
