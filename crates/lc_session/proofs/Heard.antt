@@ -29,6 +29,7 @@ use Rattle.lc_peer.specs.Deliveries.{violation_of}
 use Rattle.lc_peer.specs.Sinks.{AllArrive, IsNext}
 use Rattle.lc_session.specs.Reading.{ReadingSide, ToCredit, ToInbox, Hears, Refuses, Arrives, Violates, HasHeard, HasHeardAll}
 use Rattle.lc_session.specs.Heard.{RunsAreHeard}
+use Rattle.lc_session.proofs.Places.{some_map}
 
 -- ---- a place of a list
 
@@ -220,10 +221,6 @@ keep P (x ∷ xs) zero zero y step p = step p
 keep P (x ∷ xs) zero (suc b) y step p = p
 keep P (x ∷ xs) (suc at) zero y step p = p
 keep P (x ∷ xs) (suc at) (suc b) y step p = keep P xs at b y step p
-
-some_map : {A : Type 0} (P Q : A → Type 0) (o : Option A) → ((a : A) → P a → Q a) → IsSomeAnd o P → IsSomeAnd o Q
-some_map P Q None f p = p
-some_map P Q (Some a) f p = f a p
 
 changes_keep : {A : Type 0} (Changes : A → A → Type 0) (P : A → Type 0) (at b : ℕ) (old new : List A) → ((was is : A) → Changes was is → P was → P is) → ChangesAt at Changes old new → IsSomeAnd (slice_get old b) P → IsSomeAnd (slice_get new b) P
 changes_keep Changes P at b old new step h p =

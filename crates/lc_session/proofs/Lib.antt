@@ -4,3 +4,4 @@ pub mod Places
 pub mod Begun
 pub mod Ended
 pub mod Heard
+pub mod Same

@@ -1,5 +1,6 @@
 -- What is kept for each channel, at the place of its number.
-use Rattle.std.proofs.Common.{◌≡◌, ℕ, List, map, get_or, set, refl, sym, ap, ◌∙◌}
+use Rattle.std.proofs.Common.{◌≡◌, ℕ, zero, suc, List, [], ◌∷◌, map, get_or, set, Option, Some, None, refl, sym, ap, ◌∙◌}
+use Rattle.std.specs.Prelude.{slice_get, slice_set, IsSomeAnd}
 use Rattle.std.proofs.Math.ListN.{get_or-map}
 use Rattle.std.proofs.lemmas.List.{map-set}
 use Rattle.lc_frame.specs.declared.channel.Channel.{Channel}
@@ -33,3 +34,15 @@ channel_here f c xs i d places e = sym (get_or-map f xs i d) ∙ ap (λ (cs : Li
 pub channels_kept : {A : Type 0} (f : A → Channel) (c : Channel) (xs : List A) (i : ℕ) (y : A) → map f xs ≡ channels → i ≡ number_of c → f y ≡ c → map f (set xs i y) ≡ channels
 channels_kept f c xs i y places e same =
     map-set f xs i y ∙ ap (λ (cs : List Channel). set cs i (f y)) places ∙ ap (λ (n : ℕ). set channels n (f y)) e ∙ ap (λ (d : Channel). set channels (number_of c) d) same ∙ channel_set c
+
+-- ---- any place that changes
+
+pub some_map : {A : Type 0} (P Q : A → Type 0) (o : Option A) → ((a : A) → P a → Q a) → IsSomeAnd o P → IsSomeAnd o Q
+some_map P Q None f p = p
+some_map P Q (Some a) f p = f a p
+
+-- where f of it stays, f of all does
+pub set_keeps : {A B : Type 0} (f : A → B) (xs : List A) (at : ℕ) (y : A) → IsSomeAnd (slice_get xs at) (λ was. f y ≡ f was) → map f (slice_set xs at y) ≡ map f xs
+set_keeps f [] at y h = refl
+set_keeps f (x ∷ xs) zero y h = ap (λ bs. bs ∷ map f xs) h
+set_keeps f (x ∷ xs) (suc at) y h = ap (λ bs. f x ∷ bs) (set_keeps f xs at y h)

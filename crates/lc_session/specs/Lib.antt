@@ -7,3 +7,4 @@ pub mod Session
 pub mod Parts
 pub mod Ending
 pub mod Heard
+pub mod Same

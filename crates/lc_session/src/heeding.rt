@@ -3,7 +3,7 @@ use lc_book::Refusal;
 use lc_wake::Waiter;
 
 /// A frame that was put wakes the writing pump where it sleeps; a full queue is noted, so that a
-/// freed slot wakes the end.
+/// slot which is freed after that ends the end's next wait.
 pub(crate) fn heed<T>(waiter: &mut Waiter, answer: &Result<T, Refusal>) {
     match answer {
         Ok(_) => waiter.frame_put(),

@@ -1,5 +1,6 @@
 //! Laws of sessions, each the contract of a function that does nothing.
 ghost use Rattle.lc_session.specs.Heard.{NewSessionsHeardNothing, RunsAreHeard};
+ghost use Rattle.lc_session.specs.Same.{SessionsStay};
 
 /// A new session has heard nothing.
 pub fn new_sessions_heard_nothing()
@@ -9,4 +10,9 @@ pub fn new_sessions_heard_nothing()
 /// The frames that arrive in a run of a reading pump are heard after those of the runs before it.
 pub fn runs_are_heard()
     ensures { RunsAreHeard }
+{}
+
+/// Parts of one session that threads give back are parts of one session.
+pub fn sessions_stay()
+    ensures { SessionsStay }
 {}

@@ -48,6 +48,7 @@ impl ReadPump {
         ensures at_end { EndsInput result (D.remaining reader.new) }
         ensures counts { CountsReads result (D.counts reader.old) (D.counts reader.new) }
         ensures calls { (D.counts reader.new).calls ≤ (D.counts reader.old).calls + max_reads }
+        ensures same { IsSameReading self.old.side self.new.side }
     {
         self.side.begin_run();
         let end = read_into(&mut self.side, rt, reader, &mut self.intake, max_reads);

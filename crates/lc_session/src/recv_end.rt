@@ -61,7 +61,6 @@ impl RecvEnd {
         ensures turn { HadOneTurn self.old self.new }
         ensures same { IsSameSide self.old self.new }
     {
-        self.waiter.look();
         let answer = self.inbox.issue(rt, n);
         heed(&mut self.waiter, &answer);
         answer
@@ -74,7 +73,6 @@ impl RecvEnd {
         ensures turn { HadOneTurn self.old self.new }
         ensures same { IsSameSide self.old self.new }
     {
-        self.waiter.look();
         let answer = self.inbox.plead(rt, target);
         heed(&mut self.waiter, &answer);
         answer
@@ -87,7 +85,6 @@ impl RecvEnd {
         ensures turn { HadOneTurn self.old self.new }
         ensures same { IsSameSide self.old self.new }
     {
-        self.waiter.look();
         let answer = self.inbox.limit(rt, bound);
         heed(&mut self.waiter, &answer);
         answer
@@ -101,7 +98,6 @@ impl RecvEnd {
         ensures turn { HadOneTurn self.old self.new }
         ensures same { IsSameSide self.old self.new }
     {
-        self.waiter.look();
         self.inbox.take_into(rt, buffer)
     }
 
@@ -112,13 +108,13 @@ impl RecvEnd {
         ensures turn { HadOneTurn self.old self.new }
         ensures same { IsSameSide self.old self.new }
     {
-        self.waiter.look();
         self.inbox.book(rt)
     }
 
-    /// Sleeps until something came that concerns this end since its last call: a message, an
-    /// absolving or a limit on its channel, a free slot where a call was refused by 13, or the end of
-    /// a pump's run.
+    /// Sleeps until something came that concerns this end since its last wait ended, or since the
+    /// session began: a message, an absolving or a limit on its channel, a free slot where a call
+    /// since then was refused by 13, or the end of a pump's run. What calls have found meanwhile ends
+    /// it too: look again after each wait.
     pub fn wait<R: Wait>(&mut self, rt: &R) -> Wake
         ensures same { self.new ≡ self.old }
     {

@@ -54,7 +54,6 @@ impl SendEnd {
         ensures kept { IsOutbox self.new }
         ensures same { IsSameOutbox self.old self.new }
     {
-        self.waiter.look();
         self.outbox.held()
     }
 
@@ -65,7 +64,6 @@ impl SendEnd {
         ensures kept { IsOutbox self.new }
         ensures same { IsSameOutbox self.old self.new }
     {
-        self.waiter.look();
         let answer = self.outbox.send(rt, body);
         heed(&mut self.waiter, &answer);
         answer
@@ -78,7 +76,6 @@ impl SendEnd {
         ensures kept { IsOutbox self.new }
         ensures same { IsSameOutbox self.old self.new }
     {
-        self.waiter.look();
         let answer = self.outbox.absolve(rt, n);
         heed(&mut self.waiter, &answer);
         answer
@@ -91,7 +88,6 @@ impl SendEnd {
         ensures kept { IsOutbox self.new }
         ensures same { IsSameOutbox self.old self.new }
     {
-        self.waiter.look();
         let answer = self.outbox.honour(rt);
         heed(&mut self.waiter, &answer);
         answer
@@ -104,14 +100,15 @@ impl SendEnd {
         ensures kept { IsOutbox self.new }
         ensures same { IsSameOutbox self.old self.new }
     {
-        self.waiter.look();
         let answer = self.outbox.limit(rt, bound);
         heed(&mut self.waiter, &answer);
         answer
     }
 
-    /// Sleeps until something came that concerns this end since its last call: guarantees or a plead
-    /// on its channel, a free slot where a call was refused by 13, or the end of a pump's run.
+    /// Sleeps until something came that concerns this end since its last wait ended, or since the
+    /// session began: guarantees or a plead on its channel, a free slot where a call since then was
+    /// refused by 13, or the end of a pump's run. What calls have found meanwhile ends it too: look
+    /// again after each wait.
     pub fn wait<R: Wait>(&mut self, rt: &R) -> Wake
         ensures same { self.new ≡ self.old }
     {

@@ -1,6 +1,6 @@
 //! The pump that writes.
 ghost use Rattle.std.specs.Prelude.{◌≡◌, [], Some, IfSome, OnOk, OnErr, None};
-ghost use Rattle.lc_queue.specs.Parts.{AllPopped, new_outlet};
+ghost use Rattle.lc_queue.specs.Parts.{IsSame, AllPopped, new_outlet};
 ghost use Rattle.lc_session.specs.Pumping.{Pops, Pumps, IsPumping, IsEnd, IsFault, CountsEnd, Writes, new_pumping, pumping_of};
 
 use crate::batch::Batch;
@@ -172,6 +172,7 @@ impl WritePump {
         ensures end { IsEnd result self.new }
         ensures counts { CountsEnd (Some result) (W.counts writer.old) (W.counts writer.new) }
         ensures kept { IsPumping self.new }
+        ensures same { IsSame self.new.drain.queue self.old.drain.queue }
     {
         self.waiter.begin_run();
         let end = self.pump(rt, writer);

@@ -1,9 +1,9 @@
 //! How the threads of a session sleep and are woken. Waking is advice: nothing that a session
 //! promises rests on it, and `docs/architecture.md` says why no wake-up is lost.
 //!
-//! Each end notes what it was told of before it looks at its channel or at the queue
-//! ([`Waiter::look`]), and sleeps only while nothing was told since. So whatever came after it
-//! looked wakes it.
+//! Each end notes what it was told of when a wait of it ends, and sleeps only while nothing was told
+//! since. So whatever comes after any look at its channel or at the queue wakes it; what came before
+//! the look wakes it once too often at most.
 #![tactic(auto)]
 
 mod pump_waiter;

@@ -25,10 +25,10 @@ pub struct Waiter {
     shared: Arc<Wakers, Global>,
     parker: Parker,
     end: End,
-    // The counts as they stood when the end last looked.
+    // The counts as they stood when its last wait ended.
     told: u64,
     freed: u64,
-    // Whether it met a full queue since it last waited.
+    // Whether it met a full queue since then.
     wants_slot: bool,
 }
 
@@ -44,24 +44,17 @@ impl Waiter {
         }
     }
 
-    /// The end is about to look at its channel or at the queue. What it is told of from here on ends
-    /// its next wait.
-    pub fn look(&mut self) {
-        self.told = self.shared.told(self.end);
-        self.freed = self.shared.freed();
-    }
-
     /// The end put a frame.
     pub fn frame_put(&self) {
         self.shared.frame_put();
     }
 
-    /// The end met a full queue, after it looked: a slot that is freed ends its next wait.
+    /// The end met a full queue: a slot that was freed since its last wait ended ends its next one.
     pub fn met_full_queue(&mut self) {
         self.wants_slot = true;
     }
 
-    // What the end was told since it looked, if anything.
+    // What the end was told since its last wait ended, if anything.
     fn news(&self) -> Option<Wake> {
         if self.shared.is_over() {
             return Some(Wake::Over);
@@ -105,17 +98,20 @@ impl Waiter {
         }
     }
 
-    // The wait has ended: what came so far is told by that.
+    // The wait has ended: what came so far is told by that. The counts are noted here alone, so
+    // however often the end looks before its next wait, that misses nothing which came after a look.
     fn end_wait(&mut self) {
         if self.wants_slot {
             self.shared.want_no_slot(self.end);
             self.wants_slot = false;
         }
-        self.look();
+        self.told = self.shared.told(self.end);
+        self.freed = self.shared.freed();
     }
 
-    /// Sleeps until something came that concerns this end since it last looked or waited: a frame on
-    /// its channel, a free slot where it met a full queue, or the end of a pump's run.
+    /// Sleeps until something came that concerns this end since its last wait ended, or since it was
+    /// made: a frame on its channel, a free slot where it met a full queue, or the end of a pump's
+    /// run. What came since then, and was found by a look already, ends it too.
     pub fn wait<R: Wait>(&mut self, rt: &R) -> Wake {
         self.ask();
         let wake = match self.yield_first() {

@@ -1,0 +1,189 @@
+-- Parts of a session that stay of it, through calls and runs, and when threads give them back.
+use Rattle.std.proofs.Common.{◌≡◌, ℕ, ◌+◌, List, [], ◌∷◌, map, Option, Some, None, refl, sym, ap, subst, ◌∙◌}
+use Rattle.std.specs.Prelude.{IfSome}
+use Rattle.std.specs.List.{All, AllZip}
+use Rattle.std.proofs.lemmas.List.Elements.{All-cons, All-head, All-nil, All-tail}
+use Rattle.lc_history.specs.Places.{ChangesAt}
+use Rattle.lc_frame.specs.declared.channel.Channel.{Channel}
+use Rattle.lc_frame.specs.declared.frame.Frame.{Frame}
+use Rattle.lc_frame.specs.declared.frame.Frame.TheVariants.{Send, Issue, Absolve, Plead, LimitSending, LimitReceiving}
+use Rattle.lc_frame.specs.Channel.{number_of}
+use Rattle.lc_book.specs.declared.fault.Violation.{Violation}
+use Rattle.lc_book.specs.declared.fault.Violation.TheVariants.{NotGuaranteed, SentPastLimit, AbsolvedTooMuch, SendLimitRaised, IssuedPastLimit, TooManyGuarantees, ReceiveLimitRaised, TotalPassed}
+use Rattle.lc_peer.specs.declared.delivery.Stop.{Stop}
+use Rattle.lc_peer.specs.Deliveries.{violation_of}
+use Rattle.lc_peer.specs.Sinks.{AllArrive, IsNext}
+use Rattle.lc_queue.specs.Parts.{QueueId, Outlet, IsSame}
+use Rattle.lc_credit.specs.Sides.{Incoming, IsAdded, IsNotAdded, IsLimited, IsPastLimit, IsAsked}
+use Rattle.lc_credit.specs.Channels.{credit_in, credit_out}
+use Rattle.lc_inbox.specs.declared.rule.Key.{Key}
+use Rattle.lc_inbox.specs.Sides.{InboxId, Side, IsSameSide}
+use Rattle.lc_inbox.specs.Inboxes.{origin_of, AreSameSides}
+use Rattle.lc_inbox.proofs.Places.{matched_in, matched_out}
+use Rattle.lc_outbox.specs.Outbox.{OutboxState, IsSameOutbox}
+use Rattle.lc_driver.specs.declared.reading.ReadEnd.{ReadEnd}
+use Rattle.lc_driver.specs.Intake.{IntakeState}
+use Rattle.lc_driver.specs.Reading.{ReadsInto, stop_of, end_of}
+use Rattle.lc_session.specs.Pumping.{Pumping, Pumps}
+use Rattle.lc_session.specs.Reading.{ReadingSide, channel_of_side, ToCredit, ToInbox, Hears, Refuses, Arrives, Violates, IsSameReading}
+use Rattle.lc_session.specs.Report.{SessionState, channel_of_outbox, credit_of_outbox, PutsOn, ServesOn, AreOfOneSession}
+use Rattle.lc_session.specs.Same.{SessionsStay}
+use Rattle.lc_session.proofs.Places.{some_map, set_keeps}
+
+-- ---- one part, after nothing and after one call and another
+
+pub outbox_itself : (o : OutboxState) → IsSameOutbox o o
+outbox_itself o = record { channel = refl; lane = (refl, refl); credit = refl }
+
+pub outbox_then : (a b c : OutboxState) → IsSameOutbox a b → IsSameOutbox b c → IsSameOutbox a c
+outbox_then a b c p q = record { channel = q.channel ∙ p.channel; lane = (q.lane.0 ∙ p.lane.0, q.lane.1 ∙ p.lane.1); credit = q.credit ∙ p.credit }
+
+pub side_itself : (s : Side) → IsSameSide s s
+side_itself s = record { inbox = refl; key = refl }
+
+pub side_then : (a b c : Side) → IsSameSide a b → IsSameSide b c → IsSameSide a c
+side_then a b c p q = record { inbox = q.inbox ∙ p.inbox; key = q.key ∙ p.key }
+
+pub reading_itself : (r : ReadingSide) → IsSameReading r r
+reading_itself r = record { credits = refl; inboxes = refl }
+
+pub reading_then : (a b c : ReadingSide) → IsSameReading a b → IsSameReading b c → IsSameReading a c
+reading_then a b c p q = record { credits = q.credits ∙ p.credits; inboxes = q.inboxes ∙ p.inboxes }
+
+-- ---- the reading side, after one frame
+
+-- one place changed, and what matters of it stayed
+changes_keep : {A B : Type 0} (f : A → B) (Changes : A → A → Type 0) (at : ℕ) (old new : List A) → ((was is : A) → Changes was is → f is ≡ f was) → ChangesAt at Changes old new → map f new ≡ map f old
+changes_keep f Changes at old new same h =
+    ap (map f) h.2 ∙ set_keeps f old at h.0 (some_map (λ was. Changes was h.0) (λ was. f h.0 ≡ f was) _ (λ was change. same was h.0 change) h.1)
+
+credit_same : (c : Channel) (Changes : Incoming → Incoming → Type 0) (old new : ReadingSide) → ((was is : Incoming) → Changes was is → is.credit ≡ was.credit) → ToCredit c Changes old new → IsSameReading old new
+credit_same c Changes old new same change = record {
+  credits = changes_keep credit_in Changes (number_of c) old.credits new.credits same change.0;
+  inboxes = ap (map origin_of) change.1;
+}
+
+inbox_same : (c : Channel) (Changes : Side → Side → Type 0) (old new : ReadingSide) → ((was is : Side) → Changes was is → IsSameSide was is) → ToInbox c Changes old new → IsSameReading old new
+inbox_same c Changes old new same change = record {
+  credits = ap (map credit_in) change.1;
+  inboxes = changes_keep origin_of Changes (number_of c) old.inboxes new.inboxes (λ was is made. let one = same was is made in (λ i. (one.inbox i, one.key i))) change.0;
+}
+
+added_same : (n : ℕ) (was is : Incoming) → IsAdded n was is → is.credit ≡ was.credit
+added_same n was is a = ap credit_in a.after ∙ ap credit_in a.loads.after
+
+not_added_same : (v : Violation) (n : ℕ) (was is : Incoming) → IsNotAdded v n was is → is.credit ≡ was.credit
+not_added_same IssuedPastLimit n was is h = ap credit_in h.after
+not_added_same TooManyGuarantees n was is h = ap credit_in h.1.loads.after
+not_added_same TotalPassed n was is h = ap credit_in h.1.loads.after
+not_added_same NotGuaranteed n was is h = absurd h
+not_added_same SentPastLimit n was is h = absurd h
+not_added_same AbsolvedTooMuch n was is h = absurd h
+not_added_same SendLimitRaised n was is h = absurd h
+not_added_same ReceiveLimitRaised n was is h = absurd h
+
+arrives_same : (old new : ReadingSide) (f : Frame) → Arrives old f new → IsSameReading old new
+arrives_same old new (Send c body) is = inbox_same c (Hears (Send c body)) old new (λ was now h. h.same) is
+arrives_same old new (Absolve c amount) is = inbox_same c (Hears (Absolve c amount)) old new (λ was now h. h.same) is
+arrives_same old new (LimitSending c bound) is = inbox_same c (Hears (LimitSending c bound)) old new (λ was now h. h.same) is
+arrives_same old new (Issue c amount) is = credit_same c (IsAdded amount) old new (added_same amount) is
+arrives_same old new (Plead c target) is = credit_same c (IsAsked target) old new (λ was now h. ap credit_in h.after) is
+arrives_same old new (LimitReceiving c bound) is = credit_same c (IsLimited bound) old new (λ was now h. ap credit_in h.after) is
+
+violates_same : (v : Violation) (old new : ReadingSide) (f : Frame) → Violates v old f new → IsSameReading old new
+violates_same v old new (Send c body) is = inbox_same c (Refuses v (Send c body)) old new (λ was now h. h.same) is
+violates_same v old new (Absolve c amount) is = inbox_same c (Refuses v (Absolve c amount)) old new (λ was now h. h.same) is
+violates_same v old new (LimitSending c bound) is = inbox_same c (Refuses v (LimitSending c bound)) old new (λ was now h. h.same) is
+violates_same v old new (Issue c amount) is = credit_same c (IsNotAdded v amount) old new (not_added_same v amount) is
+violates_same v old new (Plead c target) is = absurd is
+violates_same v old new (LimitReceiving c bound) is = credit_same c (IsPastLimit bound) old new (λ was now h. ap credit_in h.after) is.1
+
+-- ---- and after a run
+
+all_same : (frames : List Frame) (old new : ReadingSide) → AllArrive Arrives old frames new → IsSameReading old new
+all_same [] old new is = subst (IsSameReading old) (sym is) (reading_itself old)
+all_same (f ∷ frames) old new is = reading_then old is.0 new (arrives_same old is.0 f is.1) (all_same frames is.0 new is.2)
+
+next_same : (violation : Option Violation) (old new : ReadingSide) (frames : List Frame) (count : ℕ) → IsNext Violates violation old frames count new → IsSameReading old new
+next_same None old new frames count is = subst (IsSameReading old) (sym is.1) (reading_itself old)
+next_same (Some v) old new frames count is = violates_same v old new is.0 is.2
+
+read_same : (before after : Option (List ℕ)) (held : List ℕ) (old : ReadingSide) (intake : IntakeState) (new : ReadingSide) (max_reads : ℕ) (end : ReadEnd) → ReadsInto Arrives Violates before after held old intake new max_reads end → IsSameReading old new
+read_same before after held old intake new max_reads end run =
+    reading_then old run.came.at new (all_same _ old run.came.at run.came.arrived) (next_same (violation_of (stop_of end)) run.came.at new _ run.frames run.came.next)
+
+-- a stream that was given up leaves all as it was
+pub run_same : {D : Type 0} (stop : Option Stop) (reader reader' : D) (before after : Option (List ℕ)) (held : List ℕ) (old : ReadingSide) (was intake : IntakeState) (new : ReadingSide) (max_reads : ℕ) (end : ReadEnd)
+    → IfSome stop (λ s. (end ≡ end_of s) × (new ≡ old) × (reader' ≡ reader) × (intake ≡ was)) → (stop ≡ None → ReadsInto Arrives Violates before after held old intake new max_reads end) → IsSameReading old new
+run_same None reader reader' before after held old was intake new max_reads end given reads = read_same before after held old intake new max_reads end (reads refl)
+run_same (Some s) reader reader' before after held old was intake new max_reads end given reads = subst (IsSameReading old) (sym given.1) (reading_itself old)
+
+pub pumps_same_queue : (before after : Option (List ℕ)) (p q : Pumping) → Pumps before after p q → IsSame q.drain.queue p.drain.queue
+pumps_same_queue before after p q h = ap (λ (o : Outlet). o.queue) h.drain
+
+-- ---- all parts
+
+zip_keeps : {A B : Type 0} (f : A → B) (R : A → A → Type 0) (xs ys : List A) → ((x y : A) → R x y → f y ≡ f x) → AllZip R xs ys → map f ys ≡ map f xs
+zip_keeps f R [] [] same all = refl
+zip_keeps f R [] (y ∷ ys) same all = absurd all
+zip_keeps f R (x ∷ xs) [] same all = absurd all
+zip_keeps f R (x ∷ xs) (y ∷ ys) same all = let here = same x y all.0 in let later = zip_keeps f R xs ys same all.1 in (λ i. here i ∷ later i)
+
+zip_all : {A : Type 0} (P Q : A → Type 0) (R : A → A → Type 0) (xs ys : List A) → ((x y : A) → R x y → P x → Q y) → AllZip R xs ys → All P xs → All Q ys
+zip_all P Q R [] [] step zip all = All-nil Q
+zip_all P Q R [] (y ∷ ys) step zip all = absurd zip
+zip_all P Q R (x ∷ xs) [] step zip all = absurd zip
+zip_all P Q R (x ∷ xs) (y ∷ ys) step zip all = All-cons Q y ys (step x y zip.0 (All-head P x xs all)) (zip_all P Q R xs ys step zip.1 (All-tail P x xs all))
+
+-- sides that stay of their inboxes, place by place
+sides_zip : (old new : List Side) → AreSameSides old new → AllZip IsSameSide old new
+sides_zip [] [] same = tt
+sides_zip [] (s ∷ new) same = absurd (cc)
+sides_zip (s ∷ old) [] same = absurd (cc)
+sides_zip (s ∷ old) (t ∷ new) same =
+    let both : origin_of t ≡ origin_of s = cc in
+    (record { inbox = ap (λ (o : InboxId × Key). o.0) both; key = ap (λ (o : InboxId × Key). o.1) both }, sides_zip old new (cc))
+
+zip_sides : (old new : List Side) → AllZip IsSameSide old new → AreSameSides old new
+zip_sides old new all = zip_keeps origin_of IsSameSide old new (λ s t one. (λ i. (one.inbox i, one.key i))) all
+
+credits_stay : (old new : List OutboxState) → AllZip IsSameOutbox old new → map credit_out (map credit_of_outbox new) ≡ map credit_out (map credit_of_outbox old)
+credits_stay [] [] all = refl
+credits_stay [] (o ∷ new) all = absurd all
+credits_stay (o ∷ old) [] all = absurd all
+credits_stay (o ∷ old) (n ∷ new) all = let here = all.0.credit in let later = credits_stay old new all.1 in (λ i. here i ∷ later i)
+
+still_puts : (q r : QueueId) → IsSame r q → (o n : OutboxState) → IsSameOutbox o n → PutsOn q o → PutsOn r n
+still_puts q r same o n one puts = same ∙ puts ∙ sym one.lane.0
+
+still_serves : (q r : QueueId) → IsSame r q → (s t : Side) → IsSameSide s t → ServesOn q s → ServesOn r t
+still_serves q r same s t one serves = record {
+  queue_is = same ∙ serves.queue_is ∙ ap (λ (k : Key). k.lane.value.queue) (sym one.key);
+  lane_is = ap (λ (k : Key). k.lane.value.lane) one.key ∙ serves.lane_is ∙ ap (λ (k : Key). 7 + number_of k.channel) (sym one.key);
+}
+
+pub session_stays : SessionsStay
+session_stays old new one same =
+    let sides = sides_zip old.reading.side.inboxes new.reading.side.inboxes same.reading.inboxes in
+    let old_queue = old.writing.drain.queue in
+    let queue = new.writing.drain.queue in
+    record {
+      senders = zip_keeps channel_of_outbox IsSameOutbox old.sending new.sending (λ o n stays. stays.channel) same.sending ∙ one.senders;
+      receivers = zip_keeps channel_of_side IsSameSide old.reading.side.inboxes new.reading.side.inboxes (λ s t stays. ap (λ (k : Key). k.channel) stays.key) sides ∙ one.receivers;
+      clients_put = zip_all (PutsOn old_queue) (PutsOn queue) IsSameOutbox old.sending new.sending (still_puts old_queue queue same.writing) same.sending one.clients_put;
+      servers_put = zip_all (ServesOn old_queue) (ServesOn queue) IsSameSide old.reading.side.inboxes new.reading.side.inboxes (still_serves old_queue queue same.writing) sides one.servers_put;
+      credits_match = same.reading.credits ∙ one.credits_match ∙ sym (credits_stay old.sending new.sending same.sending);
+      inboxes_match = matched_out new.reading.side.inboxes old.receiving new.receiving (zip_sides old.receiving new.receiving same.receiving)
+          (matched_in old.reading.side.inboxes new.reading.side.inboxes old.receiving same.reading.inboxes one.inboxes_match);
+    }
+
+-- the same for a caller that took the ends apart: each end that comes back is that at its place
+pub gathered : (old new : SessionState) (ends : List OutboxState) (sides : List Side) → AreOfOneSession old → old.sending ≡ ends → old.receiving ≡ sides
+    → AllZip IsSameOutbox ends new.sending → AllZip IsSameSide sides new.receiving → IsSameReading old.reading.side new.reading.side → IsSame new.writing.drain.queue old.writing.drain.queue
+    → AreOfOneSession new
+gathered old new ends sides one sending receiving outboxes inboxes reading writing = session_stays old new one (record {
+  sending = subst (λ (xs : List OutboxState). AllZip IsSameOutbox xs new.sending) (sym sending) outboxes;
+  receiving = subst (λ (xs : List Side). AllZip IsSameSide xs new.receiving) (sym receiving) inboxes;
+  reading = reading;
+  writing = writing;
+})
