@@ -1,6 +1,7 @@
 //! Readers and writers over a pipe in memory, which give and take as much as a plan says.
 ghost use Rattle.std.specs.Prelude.{◌≤◌, IfOk};
 
+use std::alloc::{AllocError, Global};
 use std::io;
 use std::io::{ErrorKind, Read, Write};
 
@@ -58,11 +59,36 @@ pub struct Pipe {
     pub read: usize,
 }
 
+impl Pipe {
+    /// A pipe in which these bytes wait.
+    pub fn of(bytes: Vec<u8>) -> Pipe {
+        Pipe { bytes, read: 0 }
+    }
+
+    /// The same, of a copy of them.
+    pub fn holding(alloc: Global, bytes: &[u8]) -> Result<Pipe, AllocError> {
+        Ok(Pipe::of(Vec::from_slice(alloc, bytes)?))
+    }
+}
+
 /// The writing end of a pipe.
 #[derive(Drop)]
 pub struct PipeWriter {
     pub plan: Plan,
+    /// What its flushes do, which move no bytes.
+    pub flushes: Plan,
     pub pipe: Pipe,
+}
+
+impl PipeWriter {
+    /// One whose flushes do not fail.
+    pub fn new(plan: Plan, pipe: Pipe) -> PipeWriter {
+        PipeWriter {
+            plan,
+            flushes: Plan::whole(),
+            pipe,
+        }
+    }
 }
 
 impl Write for PipeWriter {
@@ -72,9 +98,9 @@ impl Write for PipeWriter {
         Ok(count)
     }
 
-    // Nothing is to be flushed, and the tests want one that fails.
     fn flush(&mut self) -> io::Result<()> {
-        Err(io::Error::from(ErrorKind::Other))
+        self.flushes.next(0)?;
+        Ok(())
     }
 }
 
