@@ -14,6 +14,10 @@ mod script;
 
 pub use answer::write_answer;
 pub use command::run;
-pub use input::MAX_INPUT;
+pub use fault::{Fault, Status};
+pub use input::{MAX_INPUT, read_all};
 pub use listing::frames;
+pub use number::parse_decimal;
+pub use output::buffered;
 pub use replaying::replay;
+pub use script::parse_script;

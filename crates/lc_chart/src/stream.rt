@@ -1,0 +1,192 @@
+//! The picture of a captured stream: its frames along one lifeline.
+ghost use Rattle.std.specs.Prelude.{◌≡◌, ◌≤◌};
+
+use crate::fault::ChartFault;
+use crate::page::{MARGIN, close, close_description, frame_mark, key, name_of, open, row};
+use crate::session::MAX_EVENTS;
+use crate::shapes::{Paint, Point, disc, line, text};
+use crate::words::{Bytes, Phrase};
+use lc_cli::Fault;
+use lc_frame::{Decoded, FrameFault, FrameRef, decode};
+use std::fmt::Display;
+use std::io::Write;
+use std::{fmt, io};
+
+// The lifeline, where an arrow ends, and where the rows begin.
+const LINE: u64 = 140;
+
+const TIP: u64 = 460;
+
+const WIDTH: u64 = 600;
+
+const TOP: u64 = 60;
+
+/// What a stream has: how many frames before its end or its first fault.
+#[derive(Clone, Copy, Debug)]
+pub(crate) struct Survey {
+    pub frames: u16,
+    pub fault: Option<Fault>,
+}
+
+impl Survey {
+    /// Reads the stream, which is refused where it has more frames than a picture.
+    pub(crate) fn new(bytes: &[u8]) -> Result<Survey, ChartFault> {
+        let mut frames = Frames::new(bytes);
+        for count in 0..=MAX_EVENTS {
+            match frames.next_frame() {
+                Ok(Some(_)) => {}
+                Ok(None) => {
+                    return Ok(Survey {
+                        frames: count,
+                        fault: None,
+                    });
+                }
+                Err(fault) => {
+                    return Ok(Survey {
+                        frames: count,
+                        fault: Some(fault),
+                    });
+                }
+            }
+        }
+        Err(ChartFault::TooManyEvents)
+    }
+}
+
+// A frame, and the place of its first byte in the stream.
+#[derive(Clone, Copy)]
+struct Placed<'a> {
+    frame: FrameRef<'a>,
+    offset: usize,
+}
+
+// The frames of a stream that are not read yet.
+#[derive(Clone, Copy)]
+struct Frames<'a> {
+    rest: &'a [u8],
+    offset: usize,
+}
+
+impl<'a> Frames<'a> {
+    fn new(bytes: &'a [u8]) -> Frames<'a> {
+        Frames {
+            rest: bytes,
+            offset: 0,
+        }
+    }
+
+    fn next_frame(&mut self) -> Result<Option<Placed<'a>>, Fault> {
+        let (rest, offset) = (self.rest, self.offset);
+        if rest.is_empty() {
+            return Ok(None);
+        }
+        match decode(rest) {
+            Decoded::Whole { frame, used } => {
+                self.rest = rest.split_at(used).1;
+                self.offset = offset.saturating_add(used);
+                Ok(Some(Placed { frame, offset }))
+            }
+            Decoded::More => Err(fault_at(FrameFault::Truncated, offset)),
+            Decoded::Fault(fault) => Err(fault_at(fault, offset)),
+        }
+    }
+}
+
+fn fault_at(fault: FrameFault, offset: usize) -> Fault {
+    Fault::BadFrame {
+        number: fault.number(),
+        offset,
+    }
+}
+
+// A frame's kind and number.
+#[derive(Clone, Copy)]
+struct Kind<'a>(FrameRef<'a>);
+
+impl Display for Kind<'_> {
+    fn fmt<W: fmt::Write>(&self, f: &mut fmt::Formatter<W>) -> fmt::Result {
+        match self.0 {
+            FrameRef::Send { body, .. } => {
+                let size = Bytes(body.len() as u64);
+                write!(f, "send {size}")
+            }
+            FrameRef::Issue { amount, .. } => write!(f, "issue {amount}"),
+            FrameRef::Absolve { amount, .. } => write!(f, "absolve {amount}"),
+            FrameRef::Plead { target, .. } => write!(f, "plead to hold {target}"),
+            FrameRef::LimitSending { bound, .. } => write!(f, "limit sending to {bound}"),
+            FrameRef::LimitReceiving { bound, .. } => write!(f, "limit receiving to {bound}"),
+        }
+    }
+}
+
+/// Draws the frames that were counted, and the fault behind them.
+pub(crate) fn draw_stream<W: Write>(bytes: &[u8], survey: Survey, out: &mut W) -> io::Result<()> {
+    let frames = survey.frames;
+    let title = Phrase::Stream { frames };
+    let end = survey.frames.saturating_add(1);
+    let height = row(TOP, end) + 40;
+    open(out, WIDTH, height, &title)?;
+    describe(bytes, survey, out)?;
+    close_description(out, WIDTH, height, &title)?;
+    let (top, bottom) = (on_line(0), on_line(end));
+    line(out, Paint::plain("life"), top, bottom)?;
+    draw_frames(bytes, survey, out)?;
+    if let Some(fault) = survey.fault {
+        disc(out, Paint::plain("wrong"), bottom, 6)?;
+        let words = Point::new(LINE + 18, bottom.y + 4);
+        text(out, Paint::plain("bad"), words, &fault)?;
+    }
+    close(out)
+}
+
+// The frames, one a line.
+fn describe<W: Write>(bytes: &[u8], survey: Survey, out: &mut W) -> io::Result<()> {
+    let mut frames = Frames::new(bytes);
+    for number in 1..=survey.frames {
+        let Ok(Some(Placed { frame, offset })) = frames.next_frame() else {
+            return Ok(());
+        };
+        let (kind, channel) = (Kind(frame), frame.channel().number());
+        writeln!(
+            out,
+            "{number}. At byte {offset}: {kind} on channel {channel}."
+        )?;
+    }
+    Ok(())
+}
+
+fn draw_frames<W: Write>(bytes: &[u8], survey: Survey, out: &mut W) -> io::Result<()> {
+    let mut frames = Frames::new(bytes);
+    for number in 1..=survey.frames {
+        let Ok(Some(placed)) = frames.next_frame() else {
+            return Ok(());
+        };
+        draw_frame(number, placed, out)?;
+    }
+    Ok(())
+}
+
+fn draw_frame<W: Write>(number: u16, placed: Placed<'_>, out: &mut W) -> io::Result<()> {
+    let Placed { frame, offset } = placed;
+    let (at, channel) = (on_line(number), frame.channel());
+    let tip = Point::new(TIP, at.y);
+    line(out, Paint::of("arrow", channel), at, tip)?;
+    frame_mark(out, channel, at)?;
+    let above = Point::new(LINE + 18, at.y - 8);
+    text(out, Paint::of("asked", channel), above, &Kind(frame))?;
+    let before = Point::new(LINE - 18, at.y + 4);
+    text(
+        out,
+        Paint::plain("soft end"),
+        before,
+        &Phrase::Offset(offset),
+    )?;
+    key(out, Point::new(TIP, at.y), name_of(channel))
+}
+
+fn on_line(number: u16) -> Point
+    ensures x { result.x ≡ 140 }
+    ensures y { (60 ≤ result.y) × (result.y ≤ 10000000) }
+{
+    Point::new(LINE, row(TOP, number))
+}
