@@ -25,25 +25,46 @@ pub struct Figure<'a> {
     pub bytes: Option<usize>,
 }
 
+/// What is left to do for a figure.
+pub enum Due {
+    Nothing,
+    /// Run so many turns.
+    Turns(u64),
+    /// Take the seconds of a turn, and print the figure.
+    Seconds,
+}
+
 impl Figure<'_> {
     /// Prints the figure, its names, what a turn has, or nothing, as the plan says.
     pub fn take<T: Turns>(&self, rt: &HostRuntime, plan: &Plan, subject: &mut T) -> io::Result<()> {
-        if !plan.wants(self.name) {
-            return Ok(());
+        match self.begin(rt, plan)? {
+            Due::Nothing => Ok(()),
+            Due::Turns(turns) => subject.run(turns, &mut 0),
+            Due::Seconds => self.print(rt, seconds(rt, plan, subject)?),
         }
-        if plan.listing {
-            return self.list(rt);
-        }
-        if let Some(turns) = plan.fixed {
-            self.print_turn(rt)?;
-            return subject.run(turns, &mut 0);
-        }
-        let turn = seconds(rt, plan, subject)?;
-        self.print(rt, turn)
     }
 
-    /// Prints the names.
-    pub fn list(&self, rt: &HostRuntime) -> io::Result<()> {
+    /// Prints the names, or what a turn has, where the plan asks for that, and says what else it
+    /// asks for.
+    pub fn begin(&self, rt: &HostRuntime, plan: &Plan) -> io::Result<Due> {
+        if !plan.wants(self.name) {
+            return Ok(Due::Nothing);
+        }
+        if plan.listing {
+            self.list(rt)?;
+            return Ok(Due::Nothing);
+        }
+        match plan.fixed {
+            Some(turns) => {
+                self.print_turn(rt)?;
+                Ok(Due::Turns(turns))
+            }
+            None => Ok(Due::Seconds),
+        }
+    }
+
+    // Prints the names.
+    fn list(&self, rt: &HostRuntime) -> io::Result<()> {
         println!(rt; "{}.{}", self.name, self.things)?;
         if self.bytes.is_some() {
             println!(rt; "{}.bytes", self.name)?;
@@ -51,8 +72,8 @@ impl Figure<'_> {
         Ok(())
     }
 
-    /// Prints how many things a turn has.
-    pub fn print_turn(&self, rt: &HostRuntime) -> io::Result<()> {
+    // Prints how many things a turn has.
+    fn print_turn(&self, rt: &HostRuntime) -> io::Result<()> {
         println!(rt; "{} {} per_turn", self.name, self.count)
     }
 

@@ -1,5 +1,5 @@
-//! How fast the codec, the stream decoder, the receiving ring, the peer, the queue and the credit
-//! are.
+//! How fast the codec, the stream decoder, the receiving ring, the peer, the queue, the credit and
+//! the shared inbox are.
 //!
 //! Prints a line `name value unit` for each figure, or with the argument `list` the names alone.
 //! Another argument is what the names of the figures begin with that are taken. The environment
@@ -11,6 +11,7 @@
 mod credit;
 mod figures;
 mod frames;
+mod inbox;
 mod operation;
 mod peer;
 mod plan;
@@ -19,6 +20,7 @@ mod receiver;
 mod ring;
 
 use credit::measure_credits;
+use inbox::measure_inboxes;
 use lc_frame::{Body, Channel, Frame, MAX_BODY};
 use operation::{Operation, measure};
 use peer::measure_peers;
@@ -74,5 +76,6 @@ fn main(rt: HostRuntime) -> io::Result<()> {
     measure_rings(&rt, &plan)?;
     measure_peers(&rt, &plan)?;
     measure_queues(rt, &rt, &plan)?;
-    measure_credits(&rt, &plan)
+    measure_credits(&rt, &plan)?;
+    measure_inboxes(rt, &rt, &plan)
 }

@@ -1,6 +1,6 @@
 //! Queues: an Issue in, and out again, in one thread; and Issues of four threads, which a fifth
 //! takes out.
-use crate::figures::{Figure, Turns, middle, nanoseconds};
+use crate::figures::{Due, Figure, Turns, middle, nanoseconds};
 use crate::frames::{Inlet, Outlet, new_lanes, new_shared};
 use crate::plan::Plan;
 use std::alloc::Global;
@@ -150,25 +150,23 @@ where
     I: Inlet + Drop + Send + 'static,
     O: Outlet + Drop,
 {
-    if !plan.wants(name) {
-        return Ok(());
-    }
     let figure = Figure {
         name,
         things: "frames",
         count: inlets.len(),
         bytes: None,
     };
-    if plan.listing {
-        return figure.list(host);
+    match figure.begin(host, plan)? {
+        Due::Nothing => Ok(()),
+        Due::Turns(turns) => {
+            cross(rt, host.alloc(), inlets, &mut outlet, turns)?;
+            Ok(())
+        }
+        Due::Seconds => {
+            let turn = seconds(rt, host.alloc(), plan, inlets, &mut outlet)?;
+            figure.print(host, turn)
+        }
     }
-    if let Some(turns) = plan.fixed {
-        figure.print_turn(host)?;
-        cross(rt, host.alloc(), inlets, &mut outlet, turns)?;
-        return Ok(());
-    }
-    let turn = seconds(rt, host.alloc(), plan, inlets, &mut outlet)?;
-    figure.print(host, turn)
 }
 
 /// Takes the figures of both queues.

@@ -1,6 +1,5 @@
 //! One side of a session over devices that follow a plan.
 mod counted;
-mod devices;
 mod failing;
 mod hostile;
 mod script;

@@ -2,7 +2,6 @@
 ghost use Rattle.std.specs.Prelude.{◌≡◌, ◌∷◌, [], IfOk, take, drop, length};
 ghost use Rattle.std.specs.List.{All, AllZip};
 ghost use Rattle.std.specs.Result.{result_err};
-ghost use Rattle.lc_peer.specs.Config.{first_bad};
 ghost use Rattle.lc_queue.specs.Parts.{QueueId, new_ends};
 ghost use Rattle.lc_inbox.specs.Inboxes.{IsServerEnd, IsNewShared, AreParts, AreNew, AreMatched, IsSharingAnswer};
 
@@ -11,8 +10,7 @@ use crate::inbox_end::InboxEnd;
 use crate::inbox_in::InboxIn;
 use crate::inbox_out::InboxOut;
 use crate::shared_inbox::{SharedInbox, share};
-use lc_frame::{Channel, is_capacity};
-use lc_peer::{Inbox, PeerFault};
+use lc_peer::{Config, Inbox, PeerFault};
 use lc_queue::LaneEnd;
 use lc_ring::NewFault;
 use std::alloc::{AllocError, Global};
@@ -26,20 +24,6 @@ pub struct Inboxes {
     pub outgoing: [InboxOut; 7],
     /// The ends of the lanes on which the clients put.
     pub clients: [LaneEnd; 7],
-}
-
-// The first channel whose ring may not have its capacity.
-fn first_bad(capacities: &[u32; 7]) -> Option<Channel>
-    ensures { result ≡ first_bad capacities.now }
-{
-    let mut number = 0;
-    for capacity in capacities {
-        if !is_capacity(*capacity) {
-            return Channel::from_number(number);
-        }
-        number += 1;
-    }
-    None
 }
 
 // The ends of the first seven lanes, on which clients put, and those of the others.
@@ -138,9 +122,12 @@ pub fn share_all(
     ensures matched { IfOk result (λ inboxes. AreMatched inboxes.incoming inboxes.outgoing) }
     ensures clients { IfOk result (λ inboxes. inboxes.clients ≡ take 7 ends) }
 {
-    if let Some(channel) = first_bad(&capacities) {
-        return Err(PeerFault::BadCapacity { channel });
+    // One slot is as many as a peer may have, so that a capacity alone can be at fault.
+    Config {
+        capacities,
+        slots: 1,
     }
+    .judge()?;
     match share_all_of(alloc, &capacities, ends) {
         Ok(inboxes) => Ok(inboxes),
         Err(AllocError) => Err(PeerFault::OutOfMemory),

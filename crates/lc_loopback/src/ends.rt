@@ -66,6 +66,22 @@ fn join_all<R: Threads, W: Part>(rt: &R, works: [Work<W>; 7]) -> Back<W>
     }
 }
 
+fn start_senders<R>(rt: R, hold: &Hold, ends: [SendEnd; 7], count: u32) -> [Work<SendEnd>; 7]
+where
+    R: Threads + Wait + Copy + Send + 'static,
+    ensures { result ≡ ends }
+{
+    start_all(rt, hold, ends, count)
+}
+
+fn start_takers<R>(rt: R, hold: &Hold, ends: [RecvEnd; 7], count: u32) -> [Work<RecvEnd>; 7]
+where
+    R: Threads + Wait + Copy + Send + 'static,
+    ensures { result ≡ ends }
+{
+    start_all(rt, hold, ends, count)
+}
+
 /// Each end sends or takes so many messages.
 pub(crate) fn start_ends<R>(
     rt: R,
@@ -78,10 +94,9 @@ where
     R: Threads + Wait + Copy + Send + 'static,
     ensures { result ≡ record { senders = senders; takers = takers } }
 {
-    Playing {
-        senders: start_all(rt, hold, senders, count),
-        takers: start_all(rt, hold, takers, count),
-    }
+    let senders = start_senders(rt, hold, senders, count);
+    let takers = start_takers(rt, hold, takers, count);
+    Playing { senders, takers }
 }
 
 /// Waits for all of them.

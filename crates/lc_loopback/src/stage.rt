@@ -11,7 +11,8 @@ use crate::opening::{Opened, open};
 use crate::pumping::{join_pumps, start_pumps};
 use crate::report::{LoopReport, agree};
 use crate::worker::{Done, Outcome};
-use lc_session::{Parts, ReadPump, RecvEnd, SendEnd, Session, WritePump, finish};
+use lc_interleaving::finish_both;
+use lc_session::{Parts, ReadPump, RecvEnd, SendEnd, Session, WritePump};
 use std::alloc::Global;
 use std::io::{Read, Write};
 use std::net::Net;
@@ -121,8 +122,7 @@ fn conclude<R: Wait>(rt: &R, a: Played, b: Played, count: u32) -> Result<LoopRep
 {
     let fault = b.fault_after(a.fault_after(Ok(())));
     let (a_bytes, b_bytes) = (a.bytes(), b.bytes());
-    let a_report = finish(rt, a.parts);
-    let b_report = finish(rt, b.parts);
+    let (a_report, b_report) = finish_both(rt, a.parts, b.parts);
     fault?;
     let report = LoopReport {
         messages: [[u64::from(count); 7]; 2],

@@ -1,2 +1,2 @@
-mod Uses
+pub mod Uses
 mod Kept

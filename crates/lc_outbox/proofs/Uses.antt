@@ -31,7 +31,7 @@ uses_others before (Returned n ∷ later) none = absurd (cc)
 uses_others before (Asked target ∷ later) none = uses_others before later none
 uses_others before (Taken target ∷ later) none = absurd (cc)
 
-uses_same : (seen history : List Entry) → Knows is_outgoing seen history → uses history ≡ uses seen
+pub uses_same : (seen history : List Entry) → Knows is_outgoing seen history → uses history ≡ uses seen
 uses_same seen history h = ap uses h.begins ∙ (fold-append uses_after [] seen h.later ∙ uses_others (uses seen) h.later h.others)
 
 pub learned_uses : (old new : List Entry) → Learns is_outgoing old new → uses new ≡ uses old
@@ -46,7 +46,7 @@ looked_uses None old new h = learned_uses old.seen new.seen h.none.0
 looked_uses (Some target) old new h = made_uses old.seen new.seen (Taken target) h.some
 
 -- without the last
-last_gone : (xs : List ℕ) (n : ℕ) → take (length (xs ++ n ∷ []) - 1) (xs ++ n ∷ []) ≡ xs
+pub last_gone : (xs : List ℕ) (n : ℕ) → take (length (xs ++ n ∷ []) - 1) (xs ++ n ∷ []) ≡ xs
 last_gone [] n = refl
 last_gone (x ∷ xs) n = first_stays x (length (xs ++ n ∷ [])) (xs ++ n ∷ []) xs (length-append xs (n ∷ [])) (last_gone xs n)
   where

@@ -38,7 +38,7 @@ pub record Pumps (before after : Option (List ℕ)) (old new : Pumping) : Type 0
   pub drain : new.drain ≡ record old.drain { popped = old.drain.popped ++ popped }
   pub text_is : text old.begun (old.waiting ++ popped) ≡ taken ++ text new.begun new.waiting
 
--- where the pump stopped, nothing is pending, and the queue was found empty
+-- where the pump stopped, nothing is pending, and of the lanes that have ended all was popped
 abbrev pub IsEnd : WriteEnd → Pumping → Type 0
 IsEnd Stopped p = (p.begun ≡ []) × (p.waiting ≡ []) × AllPopped p.drain
 IsEnd end p = Unit {0}

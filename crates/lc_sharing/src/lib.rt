@@ -10,4 +10,4 @@ mod taking;
 pub use carrying::carries;
 pub use order::keeps_order;
 pub use sharing::balances_agree;
-pub use taking::{new_pair, takes_what_arrives};
+pub use taking::{hear, new_pair, takes_what_arrives};

@@ -55,8 +55,8 @@ pub(crate) fn await_guarantees<R: Wait>(rt: &R, drain: &mut Drain, held: u64, ne
     unreachable!()
 }
 
-/// Whether a message that arrives is lawful.
-pub(crate) fn hear<R: Wait>(rt: &R, incoming: &mut InboxIn, body: &[u8]) -> bool
+/// A message arrives, and this says whether it was lawful. One that no frame can carry is not.
+pub fn hear<R: Wait>(rt: &R, incoming: &mut InboxIn, body: &[u8]) -> bool
     ensures same { IsSameSide incoming.old incoming.new }
     ensures arrived { arrived incoming.new ≡ (if result then arrived incoming.old ++ body.now ∷ [] else arrived incoming.old) }
 {

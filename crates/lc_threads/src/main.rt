@@ -1,15 +1,24 @@
-//! Runs what threads share, under load: `lc_threads queue FRAMES` sends so many frames through each
-//! lane of a queue, and `lc_threads credits ROUNDS` gives so many rounds of guarantees to the ends
-//! of seven credits, which use them up. `lc_threads inbox MESSAGES` reads so many messages into an
-//! inbox in one thread and takes them out in another. `lc_threads lanes SLOTS` makes a queue, and
-//! `lc_threads inboxes SLOTS` seven inboxes over one, which then end: both say whether there was
-//! memory.
+//! Runs what threads share, under load. The arguments are words, each with a number behind it:
+//! `queue FRAMES` sends so many frames through each lane of a queue, `credits ROUNDS` gives so many
+//! rounds of guarantees to the ends of seven credits, which use them up, and `inbox MESSAGES` reads
+//! so many messages into an inbox in one thread and takes them out in another.
+//!
+//! `ends ROUNDS`, `pump ROUNDS`, `both ROUNDS` and `over ROUNDS` have the threads of a session wait
+//! for each other so often: an end for a pump, the writing pump for an end, all ends and the pump for
+//! each other, and an end for the end of a pump's run.
+//!
+//! `lanes SLOTS` makes a queue, and `inboxes SLOTS` seven inboxes over one, which then end: both say
+//! whether there was memory.
 #![tactic(auto)]
 
+mod waking;
+
+use crate::waking::{Load, wakes_all, wakes_at_ends};
 use lc_inbox::{finish_all, share_all};
 use lc_queue::{LanesFault, lanes};
 use lc_sharing::{balances_agree, keeps_order, takes_what_arrives};
 use std::alloc::{AllocError, Global};
+use std::fs::Files;
 use std::sync::Wait;
 use std::thread::Threads;
 use std::{env, io};
@@ -48,6 +57,32 @@ fn run_inbox<R: Threads + Wait + Sync>(rt: &R, alloc: Global, messages: u32) -> 
     }
 }
 
+// What it is that waits in a session, by the word for it.
+fn load_of(what: &str, rounds: u32) -> Load {
+    let (capacity, slots, channels) = match what {
+        // A ring of one message: its sender waits for guarantees, and its taker for the message.
+        "ends" => (4, 16, 1),
+        // One slot: the pump waits for a frame, and who puts one for the slot.
+        "pump" => (1 << 16, 1, 1),
+        // Both, on all channels.
+        _ => (4, 1, 7),
+    };
+    Load {
+        capacity,
+        slots,
+        channels,
+        messages: rounds / channels as u32,
+    }
+}
+
+fn waked(answer: Option<bool>) -> &'static str {
+    match answer {
+        Some(true) => "all were woken",
+        Some(false) => "some gave up",
+        None => "no session",
+    }
+}
+
 fn make_inboxes(alloc: Global, slots: u32) -> &'static str {
     let Ok(parts) = lanes(alloc, slots) else {
         return "out of memory";
@@ -72,25 +107,33 @@ fn make_lanes(alloc: Global, slots: u32) -> &'static str {
     }
 }
 
+// What the program says of so many rounds, if it knows the word.
+fn answer_to<R>(rt: R, files: &impl Files, alloc: Global, what: &str, count: u32) -> &'static str
+where
+    R: Threads + Wait + Copy + Send + Sync + 'static,
+{
+    match what {
+        "queue" => run_queue(rt, alloc, count),
+        "credits" => run_credits(&rt, alloc, count),
+        "inbox" => run_inbox(&rt, alloc, count),
+        "lanes" => make_lanes(alloc, count),
+        "inboxes" => make_inboxes(alloc, count),
+        "ends" | "pump" | "both" => { waked(wakes_all(&rt, files, alloc, load_of(what, count))) }
+        "over" => waked(wakes_at_ends(&rt, files, alloc, count)),
+        _ => "not known",
+    }
+}
+
 fn main(rt: HostRuntime) -> io::Result<()> {
-    let mut arguments = env::args(&rt)?.skip(1);
-    let what = arguments.next().unwrap_or(String::new(rt.alloc()));
-    let count = match arguments.next() {
-        Some(text) => text.parse::<u32>().unwrap_or(0),
-        None => 0,
-    };
-    let answer = match what.as_str() {
-        "queue" => run_queue(rt, rt.alloc(), count),
-        "credits" => run_credits(&rt, rt.alloc(), count),
-        "inbox" => run_inbox(&rt, rt.alloc(), count),
-        "lanes" => make_lanes(rt.alloc(), count),
-        "inboxes" => make_inboxes(rt.alloc(), count),
-        _ => {
-            return println!(rt;
-                "usage: lc_threads queue FRAMES, credits ROUNDS, inbox MESSAGES, lanes SLOTS or \
-                 inboxes SLOTS"
-            );
-        }
-    };
-    println!(rt; "{what}: {answer}")
+    let mut word = None;
+    for argument in env::args(&rt)?.skip(1) {
+        let Some(what) = word.replace(argument) else {
+            continue;
+        };
+        let text = word.take().unwrap_or(String::new(rt.alloc()));
+        let count = text.parse::<u32>().unwrap_or(0);
+        let answer = answer_to(rt, &rt, rt.alloc(), what.as_str(), count);
+        println!(rt; "{what}: {answer}")?;
+    }
+    Ok(())
 }

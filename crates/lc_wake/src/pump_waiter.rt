@@ -6,7 +6,7 @@ use std::sync::{Arc, Wait};
 use std::thread;
 
 /// How often the pump yields the processor before it sleeps, where it finds the queue empty.
-/// Measured: see `docs/performance.md`.
+/// What a wait takes with that is in `docs/performance.md`.
 const YIELDS: u32 = 1;
 
 /// What the writing pump waits by.

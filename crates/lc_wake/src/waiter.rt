@@ -6,8 +6,8 @@ use std::sync::{Arc, Wait};
 use std::thread;
 use std::time::{Clock, Duration};
 
-/// How often an end that found nothing yields the processor before it sleeps. Measured: see
-/// `docs/performance.md`.
+/// How often an end that found nothing yields the processor before it sleeps. What a wait takes
+/// with that is in `docs/performance.md`.
 const YIELDS: u32 = 1;
 
 /// Why a wait ended. It is advice: nothing is promised of it.

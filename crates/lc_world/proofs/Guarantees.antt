@@ -1,5 +1,5 @@
 -- Every history keeps the guarantees.
-use Rattle.std.proofs.Common.{◌≡◌, ℕ, zero, suc, ◌+◌, ◌≤◌, [], ◌∷◌, take, refl, ◌∙◌, subst, arith}
+use Rattle.std.proofs.Common.{◌≡◌, ℕ, zero, suc, ◌+◌, ◌≤◌, [], ◌∷◌, take, subst, arith}
 use Rattle.lc_frame.specs.declared.channel.Channel.{Channel}
 use Rattle.lc_frame.specs.Stream.{cost, issued, absolved}
 use Rattle.lc_book.specs.Client.{held}
@@ -8,11 +8,12 @@ use Rattle.lc_world.specs.declared.event.Side.{Side}
 use Rattle.lc_world.specs.declared.event.Side.TheVariants.{A, B}
 use Rattle.lc_world.specs.State.{State, opening, Line, stream, client, server, client_book, server_book}
 use Rattle.lc_world.specs.Answers.{after}
-use Rattle.lc_world.specs.Histories.{History, after_all, IsLegal, IsHistory}
+use Rattle.lc_world.specs.Histories.{History, IsLegal, IsHistory}
 use Rattle.lc_world.specs.Guarantee.{state_at, FitsBuffer, AddsUp, IsSomewhere, IsBalanced, EveryHistoryKeepsGuarantees}
 use Rattle.lc_world.specs.Sound.{Sound, IsSound}
 use Rattle.lc_world.proofs.Sound.{cost-cut, issued-cut, absolved-cut, taken_cost, paid}
-use Rattle.lc_world.proofs.Steps.{sound_all, sound_opened, same_capacity}
+use Rattle.lc_world.proofs.Steps.{sound_all, sound_opened}
+use Rattle.lc_world.proofs.Histories.{capacity_stays}
 use Rattle.lc_world.proofs.Lawful.{lawful_history}
 use Rattle.lc_world.proofs.Order.{accepted_messages, taken_is_taken, takes_in_order}
 use Rattle.lc_world.proofs.Pleads.{keeps_last_plead}
@@ -46,15 +47,11 @@ somewhere w g B c = outstanding_is w.capacity c w.b w.a (g.sums B c)
 is_balanced : (w : State) → IsSound w → IsBalanced w.capacity w
 is_balanced w g = record { buffer = buffers w g; sums = sums w g; in_flight = somewhere w g }
 
--- the first events of a history are one, and no event changes the capacity
+-- the first events of a history are one
 legal_take : (w : State) (n : ℕ) (history : History) → IsLegal w history → IsLegal w (take n history)
 legal_take w zero history h = tt
 legal_take w (suc n) [] h = tt
 legal_take w (suc n) (p ∷ history) h = (h.0, legal_take (after w p.0 p.1) n history h.1)
-
-capacity_stays : (w : State) (history : History) → (after_all w history).capacity ≡ w.capacity
-capacity_stays w [] = refl
-capacity_stays w (p ∷ history) = capacity_stays (after w p.0 p.1) history ∙ same_capacity w p.0.side p.0.act p.1
 
 balanced_at : (capacity : ℕ) (history : History) → IsHistory capacity history → (n : ℕ) → IsBalanced capacity (state_at capacity history n)
 balanced_at capacity history h n =

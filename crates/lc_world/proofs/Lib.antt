@@ -5,6 +5,7 @@ pub mod Allowed
 pub mod Streams
 pub mod Sound
 pub mod Steps
+pub mod Histories
 pub mod Lawful
 pub mod Order
 pub mod LimitsHold
@@ -20,3 +21,8 @@ pub mod Deliveries
 pub mod Takes
 pub mod New
 pub mod Runs
+pub mod Quiet
+pub mod Credit
+pub mod Ways
+pub mod Drains
+pub mod Restored

@@ -22,6 +22,7 @@ use Rattle.lc_world.specs.declared.event.Answer.TheVariants.{Absolved, NothingTo
 use Rattle.lc_world.specs.State.{State, opening, Line, new_line, line, other, kept_plead, keep_pleads, arrive_on, deliver_on, forget_on}
 use Rattle.lc_world.specs.Answers.{put_any, frame_put, theirs_after, state_after, after}
 use Rattle.lc_world.proofs.Delivers.{deliver_keeps}
+use Rattle.lc_world.proofs.Histories.{after_append}
 use Rattle.lc_world.specs.Histories.{History, after_all, at_side, honoured_amount, honours}
 use Rattle.lc_world.specs.Guarantee.{state_of, heard, plead_kept, last_plead, IsHonoured, KeepsLastPlead}
 
@@ -219,10 +220,6 @@ line_forgets mine l c a h places = absurd h
 honour_forgets : (w : State) (s : Side) (c : Channel) (a : Answer) → IsHonoured a → number_of c < length (line w (other s)).asked → Forgot s c w (state_after w s (Honour c) a)
 honour_forgets w A c a h places = line_forgets w.a w.b c a h places
 honour_forgets w B c a h places = line_forgets w.b w.a c a h places
-
-after_append : (w : State) (xs ys : History) → after_all w (xs ++ ys) ≡ after_all (after_all w xs) ys
-after_append w [] ys = refl
-after_append w (p ∷ xs) ys = after_append (after w p.0 p.1) xs ys
 
 never : (capacity : ℕ) (history : History) (s : Side) (c : Channel) → honours c s history ≡ [] → plead_kept s c (state_of capacity history) ≡ last_plead c (heard s (state_of capacity history))
 never capacity history s c none =

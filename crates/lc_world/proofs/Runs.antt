@@ -7,14 +7,13 @@ use Rattle.lc_world.specs.declared.event.Answer.{Answer}
 use Rattle.lc_world.specs.State.{State}
 use Rattle.lc_world.specs.Answers.{IsAnswer, after}
 use Rattle.lc_world.specs.Histories.{History, IsLegal, after_all}
+use Rattle.lc_world.proofs.Histories.{legal_append, after_append}
 
 pub legal_push : (w : State) (h : History) (e : Event) (a : Answer) → IsLegal w h → IsAnswer (after_all w h) e a → IsLegal w (h ++ (e, a) ∷ [])
-legal_push w [] e a l s = (s, tt)
-legal_push w (p ∷ h) e a l s = (l.0, legal_push (after w p.0 p.1) h e a l.1 s)
+legal_push w h e a l s = legal_append w h ((e, a) ∷ []) l (s, tt)
 
 pub after_push : (w : State) (h : History) (e : Event) (a : Answer) → after_all w (h ++ (e, a) ∷ []) ≡ after (after_all w h) e a
-after_push w [] e a = refl
-after_push w (p ∷ h) e a = after_push (after w p.0 p.1) h e a
+after_push w h e a = after_append w h ((e, a) ∷ [])
 
 zip_push : {A B : Type 0} (xs : List A) (ys : List B) (x : A) (y : B) → length xs ≡ length ys → zip (xs ++ x ∷ []) (ys ++ y ∷ []) ≡ zip xs ys ++ (x, y) ∷ []
 zip_push [] [] x y e = refl

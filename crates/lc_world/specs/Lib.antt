@@ -3,6 +3,8 @@ pub mod Answers
 pub mod Histories
 pub mod Guarantee
 pub mod Delivery
+pub mod Credit
+pub mod Progress
 pub mod Sound
 pub mod Endpoint
 pub mod Calls

@@ -1,9 +1,9 @@
 //! A session whose devices fail, stop short or move nothing at each of their calls in turn.
-use crate::tests::devices::{Odd, Pipe, Plan};
 use crate::tests::side::Side;
 use lc_driver::{ReadEnd, WriteFault};
 use lc_frame::Channel;
 use lc_peer::{Peer, Take};
+use lc_testing::{Odd, Pipe, Plan};
 use std::alloc::Global;
 use std::process::Abort;
 use std::test::Fail;
@@ -114,10 +114,7 @@ fn session(rt: &impl Abort, alloc: Global, writing: Plan, reading: Plan) -> Resu
     let link = Link {
         writing,
         reading,
-        pipe: Pipe {
-            bytes: Vec::new(alloc),
-            read: 0,
-        },
+        pipe: Pipe::of(Vec::new(alloc)),
         failed: 0,
         empty: 0,
     };

@@ -1,55 +1,25 @@
 //! Scripts of calls on one side of a session: a call a line, and after `=>` what it answers.
-use crate::tests::devices::{Odd, Pipe, Plan};
-use crate::tests::side::{Side, pipe};
+use crate::tests::side::Side;
 use lc_driver::ReadEnd;
 use lc_frame::Channel;
 use lc_peer::{Peer, Take};
+use lc_testing::{Pipe, Plan, channel, number, plan_of, text};
 use std::alloc::Global;
 use std::mem::replace;
 use std::process::Abort;
 use std::test::Fail;
-
-fn number(word: &str) -> Option<u64> {
-    word.parse::<u64>().ok()
-}
-
-fn channel(word: &str) -> Option<Channel> {
-    Channel::from_number(word.parse::<u8>().ok()?)
-}
-
-// What a device does at one of its calls: `fails` or the most bytes that it moves, and the number of
-// the call.
-fn odd_plan(text: &str) -> Option<Plan> {
-    let (what, at) = text.split_once(' ').unwrap_or((text, "0"));
-    let odd = if what == "fails" {
-        Odd::Fails
-    } else {
-        Odd::Moves(number(what)? as usize)
-    };
-    Some(Plan::odd(odd, number(at)?))
-}
-
-// The most bytes of a call, or `all`, and what happens at one call, if anything does.
-fn plan_of(text: &str) -> Option<Plan> {
-    let (most, odd) = text.split_once(' ').unwrap_or((text, "fails"));
-    let mut plan = odd_plan(odd)?;
-    if most != "all" {
-        plan.most = number(most)? as usize;
-    }
-    Some(plan)
-}
 
 // What the first message of a channel is.
 fn take(alloc: Global, peer: &mut Peer, at: Channel) -> Option<String> {
     let mut buffer = [0; 64];
     match peer.take_into(at, &mut buffer) {
         Ok(Take::Took(len)) => hex::encode(alloc, buffer.get(..len as usize).unwrap_or(&[])).ok(),
-        other => format!(in alloc; "{other:?}").ok(),
+        other => text(alloc, &other),
     }
 }
 
 fn write(alloc: Global, side: &mut Side, plan: &str) -> Option<String> {
-    let (answer, writer) = side.write(plan_of(plan)?, pipe(alloc, &[]).ok()?);
+    let (answer, writer) = side.write(plan_of(plan)?, Pipe::of(Vec::new(alloc)));
     let bytes = hex::encode(alloc, &writer.pipe.bytes).ok()?;
     let calls = writer.plan.calls;
     let (pending, waiting) = (side.outgo.pending(), side.peer.waiting());
@@ -63,7 +33,7 @@ fn own(alloc: Global, peer: &mut Peer, verb: &str, at: Channel, last: &str) -> O
         "send" => peer.send(at, &hex::decode(alloc, last).ok()?),
         _ => return None,
     };
-    format!(in alloc; "{answer:?}").ok()
+    text(alloc, &answer)
 }
 
 // What a call on a channel answers.
@@ -109,10 +79,7 @@ fn read_on(
     plan: Plan,
     max_reads: u64,
 ) -> (ReadEnd, u64) {
-    let empty = Pipe {
-        bytes: Vec::new(alloc),
-        read: 0,
-    };
+    let empty = Pipe::of(Vec::new(alloc));
     let (end, reader) = side.read(plan, replace(input, empty), max_reads);
     *input = reader.pipe;
     (end, reader.plan.calls)
@@ -129,7 +96,7 @@ fn read(
     let (end, calls) = read_on(alloc, side, input, plan_of(plan)?, number(max_reads)?);
     match verb {
         "count" => format!(in alloc; "{end:?} calls {calls}").ok(),
-        _ => format!(in alloc; "{end:?}").ok(),
+        _ => text(alloc, &end),
     }
 }
 
@@ -150,10 +117,7 @@ fn answers(rt: &impl Abort, alloc: Global, side: &mut Side, input: &mut Pipe, sc
 
 /// A new side, whose input are the bytes of these digits, answers each line of a script as it says.
 pub fn run(rt: &impl Abort, alloc: Global, digits: &str, script: &str) -> Result<(), Fail> {
-    let mut input = Pipe {
-        bytes: hex::decode(alloc, digits)?,
-        read: 0,
-    };
+    let mut input = Pipe::of(hex::decode(alloc, digits)?);
     let mut side = Side::new(alloc, 8, 4)?;
     answers(rt, alloc, &mut side, &mut input, script);
     Ok(())

@@ -1,8 +1,8 @@
 //! One side of a session with its pipes.
-use crate::tests::devices::{Pipe, PipeReader, PipeWriter, Plan};
 use lc_driver::{Counted, Intake, Outgo, ReadEnd, WriteFault, read_in, write_out};
 use lc_peer::{Config, Peer};
-use std::alloc::{AllocError, Global};
+use lc_testing::{Odd, Pipe, PipeReader, PipeWriter, Plan};
+use std::alloc::Global;
 use std::test::Fail;
 
 /// One side of a session, with what it holds for its two streams.
@@ -42,7 +42,7 @@ impl Side {
 
     /// Writes what waits into the pipe.
     pub fn write(&mut self, plan: Plan, pipe: Pipe) -> (Result<u64, WriteFault>, PipeWriter) {
-        let mut writer = Counted::new(PipeWriter { plan, pipe });
+        let mut writer = Counted::new(unflushed(plan, pipe));
         let answer = write_out(&mut self.peer, &mut self.outgo, &mut writer);
         (answer, writer.into_inner())
     }
@@ -55,10 +55,10 @@ impl Side {
     }
 }
 
-/// A pipe in which these bytes wait.
-pub fn pipe(alloc: Global, bytes: &[u8]) -> Result<Pipe, AllocError> {
-    Ok(Pipe {
-        bytes: Vec::from_slice(alloc, bytes)?,
-        read: 0,
-    })
+/// A writer whose first flush fails: no writing flushes.
+pub fn unflushed(plan: Plan, pipe: Pipe) -> PipeWriter {
+    PipeWriter {
+        flushes: Plan::odd(Odd::Fails, 1),
+        ..PipeWriter::new(plan, pipe)
+    }
 }

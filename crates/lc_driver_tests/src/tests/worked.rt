@@ -1,15 +1,13 @@
 //! Worked examples of writing and reading, and the counts of a device.
-use crate::tests::devices::{Odd, Pipe, PipeReader, PipeWriter, Plan};
 use crate::tests::script::run;
-use crate::tests::side::{Side, pipe};
+use crate::tests::side::{Side, unflushed};
 use lc_driver::{Counted, CountedRead, CountedWrite, Failures, ReadEnd};
 use lc_frame::Channel;
+use lc_testing::{FAILED_WRITES, Odd, Pipe, PipeReader, Plan, THREE_FRAMES};
+use std::alloc::Global;
 use std::io::{Read, Write};
 use std::process::Abort;
 use std::test::Fail;
-
-/// A Send of `hi` and an Issue of 5 on channel 1, and a LimitReceiving of 10 on channel 0.
-const THREE_FRAMES: &str = "1100026869210000000560000000000000000a";
 
 /// Of each example: the bytes of the stream that comes, and the calls with what they answer.
 const WORKED: [(&str, &str); 8] = [
@@ -83,55 +81,29 @@ fn worked_calls(rt: HostRuntime) -> Result<(), Fail> {
     Ok(())
 }
 
-/// An Issue of 5 on channel 1 and one of 3 on channel 2, and a write of them that fails at each of their
-/// bytes in turn.
-const FAILED_WRITES: [&str; 10] = [
-    "issue 1 5 => Ok(())
-    issue 2 3 => Ok(())
-    write 1 fails 1 => Err(Failed { written: 0 })  calls 1 pending 0 waiting 2
-    write all => Ok(10) 21000000052200000003 calls 1 pending 0 waiting 0",
-    "issue 1 5 => Ok(())
-    issue 2 3 => Ok(())
-    write 1 fails 2 => Err(Failed { written: 1 }) 21 calls 2 pending 4 waiting 1
-    write all => Ok(9) 000000052200000003 calls 1 pending 0 waiting 0",
-    "issue 1 5 => Ok(())
-    issue 2 3 => Ok(())
-    write 1 fails 3 => Err(Failed { written: 2 }) 2100 calls 3 pending 3 waiting 1
-    write all => Ok(8) 0000052200000003 calls 1 pending 0 waiting 0",
-    "issue 1 5 => Ok(())
-    issue 2 3 => Ok(())
-    write 1 fails 4 => Err(Failed { written: 3 }) 210000 calls 4 pending 2 waiting 1
-    write all => Ok(7) 00052200000003 calls 1 pending 0 waiting 0",
-    "issue 1 5 => Ok(())
-    issue 2 3 => Ok(())
-    write 1 fails 5 => Err(Failed { written: 4 }) 21000000 calls 5 pending 1 waiting 1
-    write all => Ok(6) 052200000003 calls 1 pending 0 waiting 0",
-    "issue 1 5 => Ok(())
-    issue 2 3 => Ok(())
-    write 1 fails 6 => Err(Failed { written: 5 }) 2100000005 calls 6 pending 0 waiting 1
-    write all => Ok(5) 2200000003 calls 1 pending 0 waiting 0",
-    "issue 1 5 => Ok(())
-    issue 2 3 => Ok(())
-    write 1 fails 7 => Err(Failed { written: 6 }) 210000000522 calls 7 pending 4 waiting 0
-    write all => Ok(4) 00000003 calls 1 pending 0 waiting 0",
-    "issue 1 5 => Ok(())
-    issue 2 3 => Ok(())
-    write 1 fails 8 => Err(Failed { written: 7 }) 21000000052200 calls 8 pending 3 waiting 0
-    write all => Ok(3) 000003 calls 1 pending 0 waiting 0",
-    "issue 1 5 => Ok(())
-    issue 2 3 => Ok(())
-    write 1 fails 9 => Err(Failed { written: 8 }) 2100000005220000 calls 9 pending 2 waiting 0
-    write all => Ok(2) 0003 calls 1 pending 0 waiting 0",
-    "issue 1 5 => Ok(())
-    issue 2 3 => Ok(())
-    write 1 fails 10 => Err(Failed { written: 9 }) 210000000522000000 calls 10 pending 1 waiting 0
-    write all => Ok(1) 03 calls 1 pending 0 waiting 0",
-];
+// The script of a write that fails after so many bytes, and of the one after it.
+fn failing(
+    alloc: Global,
+    written: &str,
+    rest: &str,
+    pending: u64,
+    waiting: u64,
+) -> Result<String, Fail> {
+    let (before, after) = (written.len() / 2, rest.len() / 2);
+    let call = before + 1;
+    Ok(format!(in alloc;
+        "issue 1 5 => Ok(())
+        issue 2 3 => Ok(())
+        write 1 fails {call} => Err(Failed {{ written: {before} }}) {written} calls {call} pending {pending} waiting {waiting}
+        write all => Ok({after}) {rest} calls 1 pending 0 waiting 0"
+    )?)
+}
 
 #[test]
 fn a_write_fails_at_each_byte(rt: HostRuntime) -> Result<(), Fail> {
-    for script in &FAILED_WRITES {
-        run(&rt, rt.alloc(), "", script)?;
+    for &(written, rest, pending, waiting) in &FAILED_WRITES {
+        let script = failing(rt.alloc(), written, rest, pending, waiting)?;
+        run(&rt, rt.alloc(), "", script.as_str())?;
     }
     Ok(())
 }
@@ -167,7 +139,7 @@ fn counts(
 // A writer fails at its second call and at each flush.
 fn a_writer_fails(rt: &impl Abort, pipe: Pipe) -> Pipe {
     let plan = Plan::odd(Odd::Fails, 2);
-    let mut writer = Counted::new(PipeWriter { plan, pipe });
+    let mut writer = Counted::new(unflushed(plan, pipe));
     let wrote = writer.write_counted(b"ab").ok();
     counts(rt, &writer, wrote, (Some(2), 0, 0));
     let wrote = writer.write(b"cd").ok();
@@ -182,7 +154,7 @@ fn a_writer_fails(rt: &impl Abort, pipe: Pipe) -> Pipe {
 // A writer takes nothing at its first call.
 fn a_writer_ends(rt: &impl Abort, pipe: Pipe) -> Pipe {
     let plan = Plan::odd(Odd::Moves(0), 1);
-    let mut writer = Counted::new(PipeWriter { plan, pipe });
+    let mut writer = Counted::new(unflushed(plan, pipe));
     let wrote = writer.write(b"cd").ok();
     counts(rt, &writer, wrote, (Some(0), 0, 1));
     writer.into_inner().pipe
@@ -206,7 +178,7 @@ fn a_reader_ends_and_fails(rt: &impl Abort, pipe: Pipe) {
 
 #[test]
 fn a_device_counts(rt: HostRuntime) -> Result<(), Fail> {
-    let empty = pipe(rt.alloc(), &[])?;
+    let empty = Pipe::of(Vec::new(rt.alloc()));
     let written = a_writer_fails(&rt, empty);
     a_reader_ends_and_fails(&rt, a_writer_ends(&rt, written));
     Ok(())
@@ -226,11 +198,8 @@ fn moves(rt: &impl Abort, side: &mut Side, empty: Pipe, full: Pipe) {
 // is the test's own.
 #[test]
 fn memory_is_asked_for_where_they_are_made(rt: HostRuntime) -> Result<(), Fail> {
-    let empty = Pipe {
-        bytes: Vec::with_capacity(rt.alloc(), 32)?,
-        read: 0,
-    };
-    let full = pipe(rt.alloc(), &[0x21, 0, 0, 0, 5])?;
+    let empty = Pipe::of(Vec::with_capacity(rt.alloc(), 32)?);
+    let full = Pipe::holding(rt.alloc(), &[0x21, 0, 0, 0, 5])?;
     let mut side = Side::new(rt.alloc(), 8, 2)?;
     moves(&rt, &mut side, empty, full);
     let _: Vec<u8> = Vec::with_capacity(rt.alloc(), 1)?;

@@ -1,0 +1,314 @@
+-- There are two finished sessions and an order of their steps of which the laws speak. Session B limits what it issues to 9, issues 5 and pleads for 1; session A limits what it sends to 10, takes 4 out of its credit and gives them back, sends three bytes, and honours the plead by absolving 1; B takes the message, and issues 2 more, which are under way at the end. Nothing was written: the frames were left in the queues.
+use Rattle.std.proofs.Common.{◌≡◌, ℕ, zero, suc, ◌+◌, ◌≤◌, List, [], ◌∷◌, Option, Some, None, refl, arith}
+use Rattle.std.specs.Prelude.{All}
+use Rattle.std.specs.List.{AllByRecursion}
+use Rattle.atomic_table.specs.Seated.{TableId}
+use Rattle.lc_frame.specs.declared.channel.Channel.{Channel}
+use Rattle.lc_frame.specs.declared.channel.Channel.TheVariants.{ReconciliationChannel, DataChannel, OverlapChannel, CapabilityChannel, AreaOfInterestChannel, PayloadRequestChannel, StaticTokenChannel}
+use Rattle.lc_frame.specs.declared.frame.Frame.{Frame}
+use Rattle.lc_frame.specs.declared.frame.Frame.TheVariants.{Send, Issue, Absolve, Plead, LimitSending, LimitReceiving}
+use Rattle.lc_frame.specs.Channel.{number_of}
+use Rattle.lc_book.specs.Server.{Server}
+use Rattle.lc_queue.specs.Parts.{End}
+use Rattle.lc_credit.specs.declared.balance.Balance.{Balance}
+use Rattle.lc_credit.specs.declared.history.Entry as credit
+use Rattle.lc_credit.specs.declared.history.Entry.TheVariants.{Received, Used, Returned, Asked, Taken}
+use Rattle.lc_credit.specs.Sides.{Incoming, Outgoing, new_incoming, new_outgoing, IsSettled}
+use Rattle.lc_outbox.specs.Outbox.{OutboxState, IsOutbox}
+use Rattle.lc_inbox.specs.declared.history.Entry.{Entry}
+use Rattle.lc_inbox.specs.declared.history.Entry.TheVariants.{Heard, Put, Took}
+use Rattle.lc_inbox.specs.declared.rule.Key.{Key}
+use Rattle.lc_inbox.specs.History.{book_after, lane_after}
+use Rattle.lc_inbox.specs.Sides as sides
+use Rattle.lc_inbox.specs.Sides.{Side}
+use Rattle.lc_session.specs.Reading.{HasHeard, HasHeardAll}
+use Rattle.lc_session.specs.Report.{SessionState, AreOfOneSession, PutsOn, ServesOn, GaveAll, GaveAllOf, IsReport}
+use Rattle.lc_interleaving.specs.Steps.{entries, without_refusals}
+use Rattle.lc_interleaving.specs.Steps.Step.{puts, hears, takes}
+use Rattle.lc_interleaving.specs.Interleaving.{Joint, of_a, of_b, IsInterleaving}
+use Rattle.lc_interleaving.specs.Interleaving.Joint.{at_a, at_b}
+use Rattle.lc_interleaving.specs.Finished.{Finished, IsFinished, trace}
+use Rattle.lc_interleaving.specs.Sessions.{WereOne, PremisesCanBeMet}
+
+pub all_of : {X : Type 0} (P : X → Type 0) (xs : List X) → AllByRecursion P xs → All P xs
+all_of P [] h k d below = absurd (omega (arith, below))
+all_of P (x ∷ xs) h zero d below = h.0
+all_of P (x ∷ xs) h (suc k) d below = all_of P xs h.1 k d (omega (arith, below))
+
+-- what holds on each channel, shown on each
+pub each : (P : Channel → Type 0) → P ReconciliationChannel → P DataChannel → P OverlapChannel → P CapabilityChannel → P AreaOfInterestChannel → P PayloadRequestChannel → P StaticTokenChannel → (c : Channel) → P c
+each P p0 p1 p2 p3 p4 p5 p6 ReconciliationChannel = p0
+each P p0 p1 p2 p3 p4 p5 p6 DataChannel = p1
+each P p0 p1 p2 p3 p4 p5 p6 OverlapChannel = p2
+each P p0 p1 p2 p3 p4 p5 p6 CapabilityChannel = p3
+each P p0 p1 p2 p3 p4 p5 p6 AreaOfInterestChannel = p4
+each P p0 p1 p2 p3 p4 p5 p6 PayloadRequestChannel = p5
+each P p0 p1 p2 p3 p4 p5 p6 StaticTokenChannel = p6
+
+-- the same thing at every channel but the data channel
+abbrev pub listed : {X : Type 0} → (Channel → X) → X → List X
+listed of other = of ReconciliationChannel ∷ other ∷ of OverlapChannel ∷ of CapabilityChannel ∷ of AreaOfInterestChannel ∷ of PayloadRequestChannel ∷ of StaticTokenChannel ∷ []
+
+abbrev pub message : List ℕ
+message = 1 ∷ 2 ∷ 3 ∷ []
+
+abbrev pub a_frames : List Frame
+a_frames = LimitSending DataChannel 10 ∷ Send DataChannel message ∷ Absolve DataChannel 1 ∷ []
+
+abbrev pub b_frames : List Frame
+b_frames = LimitReceiving DataChannel 9 ∷ Issue DataChannel 5 ∷ Plead DataChannel 1 ∷ Issue DataChannel 2 ∷ []
+
+-- what each had heard at the end
+abbrev pub a_heard : List Frame
+a_heard = LimitReceiving DataChannel 9 ∷ Issue DataChannel 5 ∷ Plead DataChannel 1 ∷ []
+
+-- the history of A's credit, and of B's inbox, as far as the other thread had seen it
+abbrev pub credit_begun : List credit.Entry
+credit_begun = Received 5 ∷ Used 4 ∷ Returned 4 ∷ Used 3 ∷ Asked 1 ∷ []
+
+abbrev pub credit_whole : List credit.Entry
+credit_whole = Received 5 ∷ Used 4 ∷ Returned 4 ∷ Used 3 ∷ Asked 1 ∷ Taken 1 ∷ Used 1 ∷ []
+
+abbrev pub inbox_begun : List Entry
+inbox_begun = Put (LimitReceiving DataChannel 9) ∷ Put (Issue DataChannel 5) ∷ Put (Plead DataChannel 1) ∷ Heard (LimitSending DataChannel 10) ∷ Heard (Send DataChannel message) ∷ Took message ∷ Heard (Absolve DataChannel 1) ∷ []
+
+abbrev pub inbox_whole : List Entry
+inbox_whole = Put (LimitReceiving DataChannel 9) ∷ Put (Issue DataChannel 5) ∷ Put (Plead DataChannel 1) ∷ Heard (LimitSending DataChannel 10) ∷ Heard (Send DataChannel message) ∷ Took message ∷ Heard (Absolve DataChannel 1) ∷ Put (Issue DataChannel 2) ∷ []
+
+abbrev pub order : List Joint
+order =
+    at_b (puts (LimitReceiving DataChannel 9)) ∷ at_b (puts (Issue DataChannel 5)) ∷ at_a (hears (LimitReceiving DataChannel 9)) ∷ at_a (hears (Issue DataChannel 5)) ∷ at_a (puts (LimitSending DataChannel 10)) ∷ at_a (puts (Send DataChannel message))
+    ∷ at_b (puts (Plead DataChannel 1)) ∷ at_a (hears (Plead DataChannel 1)) ∷ at_a (puts (Absolve DataChannel 1)) ∷ at_b (hears (LimitSending DataChannel 10)) ∷ at_b (hears (Send DataChannel message)) ∷ at_b (takes DataChannel message) ∷ at_b (hears (Absolve DataChannel 1))
+    ∷ at_b (puts (Issue DataChannel 2)) ∷ []
+
+abbrev pub nothing : Balance
+nothing = record { received = 0; held = 0; spent = 0; absolved = 0 }
+
+-- which queue, which credits and which inboxes they are does not matter
+module _ (id : TableId) (base : Side) where
+  abbrev pub end_of : ℕ → List Frame → End
+  end_of lane frames = record { queue = id; lane = lane; put = frames }
+
+  abbrev pub outbox : Channel → List Frame → Outgoing → Option ℕ → OutboxState
+  outbox c frames credit left = record { channel = c; lane = end_of (number_of c) frames; credit = credit; send_left = left; asked = None }
+
+  abbrev pub key : Channel → Key
+  key c = record base.key { channel = c; capacity = 6; lane = record base.key.lane { value = end_of (7 + number_of c) [] } }
+
+  abbrev pub side : Channel → List Entry → Side
+  side c seen = record { inbox = id; key = key c; seen = seen; turns = 0 }
+
+  -- a session of which only the data channel was used
+  abbrev pub session : OutboxState → Incoming → List Entry → List Entry → SessionState
+  session o i reads receives = record {
+    sending = listed (λ c. outbox c [] (new_outgoing id) None) o;
+    receiving = listed (λ c. side c []) (side DataChannel receives);
+    reading = record {
+      side = record { credits = listed (λ c. new_incoming id) i; inboxes = listed (λ c. side c []) (side DataChannel reads) };
+      intake = record { held = []; stop = None };
+    };
+    writing = record { drain = record { queue = id; popped = []; joined = [] }; begun = []; waiting = [] };
+  }
+
+  abbrev pub books : List Entry → List Server
+  books history = listed (λ c. book_after (key c) []) (book_after (key DataChannel) history)
+
+  abbrev pub lanes : List Entry → List End
+  lanes history = listed (λ c. lane_after (key c) []) (lane_after (key DataChannel) history)
+
+  -- a channel that was not used
+  unfoldable pub unused : (c : Channel) → IsSettled (new_incoming id) (new_outgoing id) nothing
+  unused c = record {
+    received_is = refl;
+    spent_is = refl;
+    absolved_is = refl;
+    adds_up = refl;
+    history = [];
+    legal = tt;
+    incoming_knows = record { later = []; begins = refl; others = refl };
+    outgoing_knows = record { later = []; begins = refl; others = refl };
+    all_received = refl;
+    all_used = refl;
+  }
+
+  pub unused_outbox : (c : Channel) → IsOutbox (outbox c [] (new_outgoing id) None)
+  unused_outbox c = record { lane = refl; idle = refl; spent = refl; absolved = refl; uses = refl; left = refl; rules = tt }
+
+  unfoldable pub unused_inbox : (c : Channel) → sides.IsFinished (side c []) (side c []) (book_after (key c) []) (lane_after (key c) [])
+  unused_inbox c = record {
+    history = [];
+    legal = tt;
+    reads = record { later = []; begins = refl; others = refl };
+    receives = record { later = []; begins = refl; others = refl };
+    book_is = refl;
+    lane_is = refl;
+    heard = refl;
+    put = refl;
+    took = refl;
+    in_order = refl;
+  }
+
+  -- A, which sent
+  abbrev pub a_outbox : OutboxState
+  a_outbox = outbox DataChannel a_frames (record { credit = id; seen = credit_whole; looks = 0; spent = 3; absolved = 1; pending = None; least = 0 }) (Some 7)
+
+  abbrev pub a_incoming : Incoming
+  a_incoming = record { credit = id; seen = credit_begun; looks = 0; received = 5; left = Some 4 }
+
+  abbrev pub a : Finished
+  a = record {
+    session = session a_outbox a_incoming [] [];
+    arrived = a_heard;
+    clients = listed (λ c. nothing) (record { received = 5; held = 1; spent = 3; absolved = 1 });
+    servers = books [];
+    left = 3;
+    partly = 0;
+  }
+
+  unfoldable pub a_settled : IsSettled a_incoming a_outbox.credit (record { received = 5; held = 1; spent = 3; absolved = 1 })
+  a_settled = record {
+    received_is = refl;
+    spent_is = refl;
+    absolved_is = refl;
+    adds_up = refl;
+    history = credit_whole;
+    legal = (tt, (omega arith, (refl, (omega arith, (tt, (refl, (omega arith, tt)))))));
+    incoming_knows = record { later = Taken 1 ∷ Used 1 ∷ []; begins = refl; others = refl };
+    outgoing_knows = record { later = []; begins = refl; others = refl };
+    all_received = refl;
+    all_used = refl;
+  }
+
+  pub a_is_outbox : IsOutbox a_outbox
+  a_is_outbox = record { lane = refl; idle = refl; spent = refl; absolved = refl; uses = refl; left = refl; rules = ((refl, refl), ((refl, refl), ((refl, omega arith, omega arith), tt))) }
+
+  pub one_session : (o : OutboxState) (i : Incoming) (reads receives : List Entry) → o.channel ≡ DataChannel → o.lane.queue ≡ id → o.credit.credit ≡ i.credit → i.credit ≡ id → AreOfOneSession (session o i reads receives)
+  one_session o i reads receives channel queue credits known = record {
+    senders = cc;
+    receivers = refl;
+    clients_put = all_of (PutsOn id) (session o i reads receives).sending (refl, (cc, (refl, (refl, (refl, (refl, (refl, tt)))))));
+    servers_put = all_of (ServesOn id) (session o i reads receives).reading.side.inboxes (serves ReconciliationChannel [], (serves DataChannel reads, (serves OverlapChannel [], (serves CapabilityChannel [], (serves AreaOfInterestChannel [], (serves PayloadRequestChannel [], (serves StaticTokenChannel [], tt)))))));
+    credits_match = cc;
+    inboxes_match = refl;
+  }
+    where
+      serves : (c : Channel) (seen : List Entry) → ServesOn id (side c seen)
+      serves c seen = record { queue_is = refl; lane_is = refl }
+
+  unfoldable pub a_report : IsReport a.session a.clients a.servers a.left a.partly
+  a_report = record {
+    last = a_frames;
+    outboxes = all_of IsOutbox a.session.sending (unused_outbox ReconciliationChannel, (a_is_outbox, (unused_outbox OverlapChannel, (unused_outbox CapabilityChannel, (unused_outbox AreaOfInterestChannel, (unused_outbox PayloadRequestChannel, (unused_outbox StaticTokenChannel, tt)))))));
+    clients_gave = all_of (GaveAll a_frames) a.session.sending (refl, (refl, (refl, (refl, (refl, (refl, (refl, tt)))))));
+    settled = (unused ReconciliationChannel, (a_settled, (unused OverlapChannel, (unused CapabilityChannel, (unused AreaOfInterestChannel, (unused PayloadRequestChannel, (unused StaticTokenChannel, tt)))))));
+    lanes = lanes [];
+    finished = (unused_inbox ReconciliationChannel, (unused_inbox DataChannel, (unused_inbox OverlapChannel, (unused_inbox CapabilityChannel, (unused_inbox AreaOfInterestChannel, (unused_inbox PayloadRequestChannel, (unused_inbox StaticTokenChannel, tt)))))));
+    servers_gave = all_of (GaveAllOf a_frames) (lanes []) (refl, (refl, (refl, (refl, (refl, (refl, (refl, tt)))))));
+    left_is = refl;
+    partly_is = refl;
+  }
+
+  pub a_has_heard : HasHeardAll a.session.reading.side a_heard
+  a_has_heard = each (λ c. HasHeard c a.session.reading.side a_heard)
+      (record { inbox = refl; received = refl; left = refl; asked = refl })
+      (record { inbox = refl; received = refl; left = refl; asked = refl })
+      (record { inbox = refl; received = refl; left = refl; asked = refl })
+      (record { inbox = refl; received = refl; left = refl; asked = refl })
+      (record { inbox = refl; received = refl; left = refl; asked = refl })
+      (record { inbox = refl; received = refl; left = refl; asked = refl })
+      (record { inbox = refl; received = refl; left = refl; asked = refl })
+
+  unfoldable pub a_finished : IsFinished a
+  a_finished = record { one = one_session a_outbox a_incoming [] [] refl refl refl refl; heard = a_has_heard; report = a_report }
+
+  -- B, which took
+  abbrev pub b : Finished
+  b = record {
+    session = session (outbox DataChannel [] (new_outgoing id) None) (new_incoming id) inbox_begun inbox_whole;
+    arrived = a_frames;
+    clients = listed (λ c. nothing) nothing;
+    servers = books inbox_whole;
+    left = 4;
+    partly = 0;
+  }
+
+  unfoldable pub b_inbox : sides.IsFinished (side DataChannel inbox_begun) (side DataChannel inbox_whole) (book_after (key DataChannel) inbox_whole) (lane_after (key DataChannel) inbox_whole)
+  b_inbox = record {
+    history = inbox_whole;
+    legal = ((refl, refl), ((refl, refl), ((refl, refl), ((refl, refl), ((refl, refl), (refl, ((refl, refl), ((refl, refl), tt))))))));
+    reads = record { later = Put (Issue DataChannel 2) ∷ []; begins = refl; others = refl };
+    receives = record { later = []; begins = refl; others = refl };
+    book_is = refl;
+    lane_is = refl;
+    heard = refl;
+    put = refl;
+    took = refl;
+    in_order = refl;
+  }
+
+  unfoldable pub b_report : IsReport b.session b.clients b.servers b.left b.partly
+  b_report = record {
+    last = b_frames;
+    outboxes = all_of IsOutbox b.session.sending (unused_outbox ReconciliationChannel, (unused_outbox DataChannel, (unused_outbox OverlapChannel, (unused_outbox CapabilityChannel, (unused_outbox AreaOfInterestChannel, (unused_outbox PayloadRequestChannel, (unused_outbox StaticTokenChannel, tt)))))));
+    clients_gave = all_of (GaveAll b_frames) b.session.sending (refl, (refl, (refl, (refl, (refl, (refl, (refl, tt)))))));
+    settled = (unused ReconciliationChannel, (unused DataChannel, (unused OverlapChannel, (unused CapabilityChannel, (unused AreaOfInterestChannel, (unused PayloadRequestChannel, (unused StaticTokenChannel, tt)))))));
+    lanes = lanes inbox_whole;
+    finished = (unused_inbox ReconciliationChannel, (b_inbox, (unused_inbox OverlapChannel, (unused_inbox CapabilityChannel, (unused_inbox AreaOfInterestChannel, (unused_inbox PayloadRequestChannel, (unused_inbox StaticTokenChannel, tt)))))));
+    servers_gave = all_of (GaveAllOf b_frames) (lanes inbox_whole) (refl, (refl, (refl, (refl, (refl, (refl, (refl, tt)))))));
+    left_is = refl;
+    partly_is = refl;
+  }
+
+  pub b_has_heard : HasHeardAll b.session.reading.side a_frames
+  b_has_heard = each (λ c. HasHeard c b.session.reading.side a_frames)
+      (record { inbox = refl; received = refl; left = refl; asked = refl })
+      (record { inbox = refl; received = refl; left = refl; asked = refl })
+      (record { inbox = refl; received = refl; left = refl; asked = refl })
+      (record { inbox = refl; received = refl; left = refl; asked = refl })
+      (record { inbox = refl; received = refl; left = refl; asked = refl })
+      (record { inbox = refl; received = refl; left = refl; asked = refl })
+      (record { inbox = refl; received = refl; left = refl; asked = refl })
+
+  unfoldable pub b_finished : IsFinished b
+  b_finished = record { one = one_session (outbox DataChannel [] (new_outgoing id) None) (new_incoming id) inbox_begun inbox_whole refl refl refl refl; heard = b_has_heard; report = b_report }
+
+  -- the order is one of their steps
+  pub enough : 5 ≤ 5
+  enough = omega arith
+
+  interleaving : IsInterleaving (trace a a_finished) (trace b b_finished) order
+  unfolding a_finished a_report a_settled b_finished b_report b_inbox unused unused_inbox
+  interleaving = record {
+    a_order = record {
+      put = refl;
+      heard = refl;
+      inboxes = each (λ c. entries c (of_a order) ≡ without_refusals ((trace a a_finished).inbox c)) refl refl refl refl refl refl refl;
+      in_time = (tt, (tt, (tt, (enough, (tt, (enough, tt))))));
+    };
+    b_order = record {
+      put = refl;
+      heard = refl;
+      inboxes = each (λ c. entries c (of_b order) ≡ without_refusals ((trace b b_finished).inbox c)) refl refl refl refl refl refl refl;
+      in_time = (tt, (tt, (tt, (tt, (tt, (tt, (tt, (tt, tt))))))));
+    };
+    causal = (tt, (tt, ((Issue DataChannel 5 ∷ [], refl), (([], refl), (tt, (tt, (tt, (([], refl), (tt, ((Send DataChannel message ∷ Absolve DataChannel 1 ∷ [], refl), ((Absolve DataChannel 1 ∷ [], refl), (tt, (([], refl), (tt, tt))))))))))))));
+  }
+
+  pub were_one : WereOne 6 a b a_finished b_finished order
+  were_one = record {
+    is_capacity = record { at_least = omega arith; at_most = omega arith };
+    a_rings = all_of (λ (s : Side). s.key.capacity ≤ 6) a.session.reading.side.inboxes (omega arith, (omega arith, (omega arith, (omega arith, (omega arith, (omega arith, (omega arith, tt)))))));
+    b_rings = all_of (λ (s : Side). s.key.capacity ≤ 6) b.session.reading.side.inboxes (omega arith, (omega arith, (omega arith, (omega arith, (omega arith, (omega arith, (omega arith, tt)))))));
+    interleaving = interleaving;
+  }
+
+pub premises_can_be_met : PremisesCanBeMet
+premises_can_be_met id base = record {
+  capacity = 6;
+  a = a id base;
+  b = b id base;
+  a_finished = a_finished id base;
+  b_finished = b_finished id base;
+  order = order;
+  were_one = were_one id base;
+}

@@ -1,0 +1,12 @@
+pub mod Cuts
+pub mod Lines
+pub mod Paid
+pub mod Sides
+pub mod Between
+pub mod Lawful
+pub mod Books
+pub mod Parts
+pub mod Sessions
+pub mod TwoReports
+pub mod Examples
+pub mod Refuted

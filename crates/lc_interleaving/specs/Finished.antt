@@ -1,0 +1,53 @@
+-- A session that was finished, and what it did. The record of its end is lc_session's.
+use Rattle.std.specs.Prelude.{ℕ, ◌≤◌, List, [], ◌∷◌, ◌++◌, All, slice_index_or}
+use Rattle.lc_frame.specs.declared.frame.Frame.{Frame}
+use Rattle.lc_frame.specs.Channel.{number_of}
+use Rattle.lc_book.specs.Server.{Server}
+use Rattle.lc_queue.specs.Parts.{End}
+use Rattle.lc_credit.specs.declared.balance.Balance.{Balance}
+use Rattle.lc_credit.specs.declared.history.Entry.{Entry}
+use Rattle.lc_credit.specs.Sides.{Incoming, Outgoing}
+use Rattle.lc_credit.specs.Channels.{AreSettled}
+use Rattle.lc_inbox.specs.declared.history.Entry as inbox
+use Rattle.lc_inbox.specs.Sides.{Side}
+use Rattle.lc_inbox.specs.Inboxes.{AreFinished}
+use Rattle.lc_session.specs.Reading.{HasHeardAll}
+use Rattle.lc_session.specs.Report.{SessionState, outgoing_of, AreOfOneSession, IsReport}
+use Rattle.lc_interleaving.specs.Interleaving.{Trace}
+
+-- the parts of a session when it ended, the frames that had arrived, and what `finish` gave
+pub record Finished : Type 0 where
+  pub session : SessionState
+  pub arrived : List Frame
+  pub clients : List Balance
+  pub servers : List Server
+  pub left : ℕ
+  pub partly : ℕ
+
+-- what `finish` asks for, what the runs of the reading pump said, and what `finish` ensured
+pub record IsFinished (r : Finished) : Type 0 where
+  pub one : AreOfOneSession r.session
+  pub heard : HasHeardAll r.session.reading.side r.arrived
+  pub report : IsReport r.session r.clients r.servers r.left r.partly
+
+-- the histories that the report tells of, by channel
+abbrev pub credit_histories : (incoming : List Incoming) (outgoing : List Outgoing) (balances : List Balance) → AreSettled incoming outgoing balances → List (List Entry)
+credit_histories (i ∷ incoming) (o ∷ outgoing) (b ∷ balances) h = h.0.history ∷ credit_histories incoming outgoing balances h.1
+credit_histories incoming outgoing balances h = []
+
+abbrev pub inbox_histories : (incoming outgoing : List Side) (books : List Server) (lanes : List End) → AreFinished incoming outgoing books lanes → List (List inbox.Entry)
+inbox_histories (i ∷ incoming) (o ∷ outgoing) (book ∷ books) (lane ∷ lanes) h = h.0.history ∷ inbox_histories incoming outgoing books lanes h.1
+inbox_histories incoming outgoing books lanes h = []
+
+-- what a finished session did
+abbrev pub trace : (r : Finished) → IsFinished r → Trace
+trace r h = record {
+  put = r.session.writing.drain.popped ++ h.report.last;
+  heard = r.arrived;
+  credit = λ c. slice_index_or (credit_histories r.session.reading.side.credits (outgoing_of r.session) r.clients h.report.settled) (number_of c) [];
+  inbox = λ c. slice_index_or (inbox_histories r.session.reading.side.inboxes r.session.receiving r.servers h.report.lanes h.report.finished) (number_of c) [];
+}
+
+-- no ring of the session is larger
+abbrev pub FitsRings : ℕ → Finished → Type 0
+FitsRings capacity r = All (λ (side : Side). side.key.capacity ≤ capacity) r.session.reading.side.inboxes

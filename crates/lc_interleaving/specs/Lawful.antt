@@ -1,0 +1,46 @@
+-- In one order of two sessions no frame is refused. That a client that sends within its guarantees never has a message dropped is LCMUX's promise; which violations there are is this project's own.
+use Rattle.std.specs.Prelude.{◌≡◌, ℕ, ◌+◌, ◌≤◌, List, ◌∷◌, ◌++◌, None}
+use Rattle.lc_frame.specs.declared.channel.Channel.{Channel}
+use Rattle.lc_frame.specs.declared.frame.Frame.{Frame}
+use Rattle.lc_frame.specs.declared.frame.Frame.TheVariants.{Issue, LimitReceiving}
+use Rattle.lc_frame.specs.Frame.{channel_of}
+use Rattle.lc_frame.specs.Stream.{cost, absolved, issued, receive_left}
+use Rattle.lc_book.specs.declared.fault.Violation.{Violation}
+use Rattle.lc_credit.specs.History.{received, used, returned}
+use Rattle.lc_credit.specs.Sides.{Incoming, IsNotAdded, IsPastLimit}
+use Rattle.lc_peer.specs.Arrivals.{violation}
+use Rattle.lc_inbox.specs.declared.history.Entry.{Entry}
+use Rattle.lc_inbox.specs.declared.history.Entry.TheVariants.{Refused}
+use Rattle.lc_interleaving.specs.Steps.{Step, put, heard, entries, without_refusals, client_then, server_then}
+use Rattle.lc_interleaving.specs.Interleaving.{Trace, Joint, of_a, of_b, IsNext}
+
+-- the next frame that the first side would hear breaks no rule, by the side's own books
+abbrev pub NextIsLawful : ℕ → List Step → List Step → Type 0
+NextIsLawful capacity here there = (f : Frame) → IsNext there here f → violation (client_then (channel_of f) here) (server_then capacity (channel_of f) here) f ≡ None
+
+-- at each moment of the order, at both sides
+pub record IsLawfulAfter (capacity : ℕ) (earlier : List Joint) : Type 0 where
+  pub at_a : NextIsLawful capacity (of_a earlier) (of_b earlier)
+  pub at_b : NextIsLawful capacity (of_b earlier) (of_a earlier)
+
+-- a frame that the inbox of a channel refused is not the next of the other side's stream at the moment of the refusal: the other side has not put it
+abbrev pub RefusedIsNotNext : Trace → List Step → List Step → Type 0
+RefusedIsNotNext t here there = (c : Channel) (before later : List Entry) (f : Frame) → t.inbox c ≡ before ++ Refused f ∷ later → entries c here ≡ without_refusals before → IsNext there here f → ⊥
+
+-- what a credit had received and its limit were those of what had arrived, and what its client had put was paid
+pub record IsCreditThen (c : Channel) (here : List Step) (old new : Incoming) : Type 0 where
+  pub received_is : old.received ≡ issued c (heard here)
+  pub left_is : old.left ≡ receive_left c (heard here)
+  pub counted : received new.seen ≡ old.received
+  pub paid : cost c (put here) + absolved c (put here) + returned new.seen ≤ used new.seen
+
+-- and so with a frame that the credit of a channel refused
+pub record RefusedByCredit (here there : List Step) : Type 0 where
+  pub issue : (c : Channel) (n : ℕ) (v : Violation) (old new : Incoming) → IsNotAdded v n old new → IsCreditThen c here old new → IsNext there here (Issue c n) → ⊥
+  pub limit : (c : Channel) (bound : ℕ) (old new : Incoming) → IsPastLimit bound old new → old.left ≡ receive_left c (heard here) → IsNext there here (LimitReceiving c bound) → ⊥
+
+pub record AreBreaches (a b : Trace) (earlier : List Joint) : Type 0 where
+  pub at_a : RefusedIsNotNext a (of_a earlier) (of_b earlier)
+  pub at_b : RefusedIsNotNext b (of_b earlier) (of_a earlier)
+  pub a_credits : RefusedByCredit (of_a earlier) (of_b earlier)
+  pub b_credits : RefusedByCredit (of_b earlier) (of_a earlier)

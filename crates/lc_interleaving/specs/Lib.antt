@@ -1,0 +1,9 @@
+pub mod Steps
+pub mod Interleaving
+pub mod History
+pub mod State
+pub mod Promises
+pub mod Lawful
+pub mod Finished
+pub mod Sessions
+pub mod Reports

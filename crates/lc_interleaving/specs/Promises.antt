@@ -1,0 +1,54 @@
+-- What two finished sessions keep of one channel direction, in what `finish` gave: the headline of running sessions. That a client that sends within its guarantees never has a message dropped is LCMUX's promise.
+use Rattle.std.specs.Prelude.{◌≡◌, ℕ, ◌+◌, List, length, drop, slice_get, Some}
+use Rattle.lc_frame.specs.declared.channel.Channel.{Channel}
+use Rattle.lc_frame.specs.declared.frame.Frame.{Frame}
+use Rattle.lc_frame.specs.Channel.{number_of}
+use Rattle.lc_frame.specs.Stream.{messages, cost, issued, absolved}
+use Rattle.lc_book.specs.Server.{Server, outstanding, buffered, room}
+use Rattle.lc_credit.specs.declared.balance.Balance.{Balance}
+use Rattle.lc_outbox.specs.Outbox.{OutboxState}
+use Rattle.lc_inbox.specs.History.{took}
+use Rattle.lc_inbox.specs.Sides.{Side}
+use Rattle.lc_world.specs.Guarantee.{IsPrefix, FitsBuffer}
+use Rattle.lc_interleaving.specs.Interleaving.{Trace}
+use Rattle.lc_interleaving.specs.Finished.{Finished, IsFinished, trace}
+
+-- what the first put and the second has not heard
+abbrev pub under_way : Trace → Trace → List Frame
+under_way from to = drop (length to.heard) from.put
+
+-- the guarantees of a channel that are under way: as issues, and as messages and absolvings
+abbrev pub in_flight : Channel → Trace → Trace → ℕ
+in_flight c client server = issued c (under_way server client) + cost c (under_way client server) + absolved c (under_way client server)
+
+-- the balance is that of what the client put and heard, and no guarantee is lost or made up
+pub record IsBalanceOf (c : Channel) (t : Trace) (b : Balance) : Type 0 where
+  pub received_is : b.received ≡ issued c t.heard
+  pub spent_is : b.spent ≡ cost c t.put
+  pub absolved_is : b.absolved ≡ absolved c t.put
+  pub adds_up : b.held + b.spent + b.absolved ≡ b.received
+
+-- of a channel, where the first session is its client, and the second its server
+pub record KeepsBetween (c : Channel) (client server : Finished) (sent received : Trace) : Type 0 where
+  -- the two ends, and what `finish` gave for them
+  pub sender : OutboxState
+  pub receiver : Side
+  pub balance : Balance
+  pub book : Server
+  pub sender_there : slice_get client.session.sending (number_of c) ≡ Some sender
+  pub receiver_there : slice_get server.session.receiving (number_of c) ≡ Some receiver
+  pub balance_there : slice_get client.clients (number_of c) ≡ Some balance
+  pub book_there : slice_get server.servers (number_of c) ≡ Some book
+  -- the messages taken are a prefix of those sent
+  pub in_order : IsPrefix (took receiver.seen) (messages c sender.lane.put)
+  pub adds_up : IsBalanceOf c sent balance
+  -- the ring holds what is buffered and all that may still come
+  pub fits : FitsBuffer book.capacity book
+  -- what is outstanding is held by the client or under way, so every byte of the ring is in one place
+  pub somewhere : outstanding book ≡ balance.held + in_flight c sent received
+  pub conserved : balance.held + in_flight c sent received + buffered book + room book ≡ book.capacity
+
+-- each session is the client of every channel, and the server of every channel
+pub record KeepPromises (a b : Finished) (fa : IsFinished a) (fb : IsFinished b) : Type 0 where
+  pub a_sends : (c : Channel) → KeepsBetween c a b (trace a fa) (trace b fb)
+  pub b_sends : (c : Channel) → KeepsBetween c b a (trace b fb) (trace a fa)

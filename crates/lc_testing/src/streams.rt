@@ -1,0 +1,141 @@
+//! Streams, and what comes of them at a side with rings of 8 bytes and 4 slots.
+
+/// A Send of `hi` and an Issue of 5 on channel 1, and a LimitReceiving of 10 on channel 0.
+pub const THREE_FRAMES: &str = "1100026869210000000560000000000000000a";
+
+/// A stream of a hostile peer.
+#[derive(Clone, Copy)]
+pub struct Hostile {
+    /// An own call before it, as a line of a script.
+    pub own: &'static str,
+    /// Its bytes, in hexadecimal.
+    pub bytes: &'static str,
+    /// How the reading ends.
+    pub end: &'static str,
+    /// The channel that is looked at then.
+    pub channel: u8,
+    /// Its server's book: what is outstanding, buffered, and left of the limit on sending.
+    pub server: &'static str,
+    /// What its client holds.
+    pub held: u64,
+    /// What is left of the limit on what its client receives.
+    pub receive_left: Option<u64>,
+    /// What a take answers: the bytes of a message, or that there is none.
+    pub taken: &'static str,
+}
+
+/// No own call, and nothing changes on channel 1.
+const NOTHING: Hostile = Hostile {
+    own: "",
+    bytes: "",
+    end: "Clean",
+    channel: 1,
+    server: "outstanding 0 buffered 0 None",
+    held: 0,
+    receive_left: None,
+    taken: "Ok(Empty)",
+};
+
+/// One for each violation but the last and for each fault, one that is cut, and one that is lawful.
+pub const HOSTILE: [Hostile; 13] = [
+    Hostile {
+        own: "issue 1 1 => Ok(())\n",
+        bytes: "1100026162",
+        end: "Violated(NotGuaranteed)",
+        server: "outstanding 1 buffered 0 None",
+        ..NOTHING
+    },
+    Hostile {
+        own: "issue 1 4 => Ok(())\n",
+        bytes: "5100000000000000011100026162",
+        end: "Violated(SentPastLimit)",
+        server: "outstanding 4 buffered 0 Some(1)",
+        ..NOTHING
+    },
+    Hostile {
+        own: "issue 1 4 => Ok(())\n",
+        bytes: "3100000005",
+        end: "Violated(AbsolvedTooMuch)",
+        server: "outstanding 4 buffered 0 None",
+        ..NOTHING
+    },
+    Hostile {
+        bytes: "510000000000000001510000000000000002",
+        end: "Violated(SendLimitRaised)",
+        server: "outstanding 0 buffered 0 Some(1)",
+        ..NOTHING
+    },
+    Hostile {
+        bytes: "6100000000000000002100000001",
+        end: "Violated(IssuedPastLimit)",
+        receive_left: Some(0),
+        ..NOTHING
+    },
+    Hostile {
+        bytes: "21010000002100000001",
+        end: "Violated(TooManyGuarantees)",
+        held: 16_777_216,
+        ..NOTHING
+    },
+    Hostile {
+        bytes: "610000000000000005610000000000000006",
+        end: "Violated(ReceiveLimitRaised)",
+        receive_left: Some(5),
+        ..NOTHING
+    },
+    // What is not guaranteed comes before a limit that is passed.
+    Hostile {
+        own: "issue 1 1 => Ok(())\n",
+        bytes: "5100000000000000011100026162",
+        end: "Violated(NotGuaranteed)",
+        server: "outstanding 1 buffered 0 Some(1)",
+        ..NOTHING
+    },
+    Hostile {
+        bytes: "210000000577",
+        end: "Fault(BadTag)",
+        held: 5,
+        ..NOTHING
+    },
+    Hostile {
+        bytes: "110000",
+        end: "Fault(ZeroLength)",
+        ..NOTHING
+    },
+    Hostile {
+        bytes: "604000000000000001",
+        end: "Fault(BadNumber)",
+        channel: 0,
+        ..NOTHING
+    },
+    Hostile {
+        own: "issue 1 8 => Ok(())\n",
+        bytes: "11000261621100",
+        end: "Truncated",
+        server: "outstanding 6 buffered 2 None",
+        taken: "6162",
+        ..NOTHING
+    },
+    Hostile {
+        bytes: "604000000000000000",
+        channel: 0,
+        receive_left: Some(4_611_686_018_427_387_904),
+        ..NOTHING
+    },
+];
+
+/// Of a write of one byte per call, of an Issue of 5 on channel 1 and one of 3 on channel 2, by the
+/// call that failed, from the first on: the bytes that were written and those that were not, how many
+/// of those are of the frame that was begun, and how many frames were not begun.
+pub const FAILED_WRITES: [(&str, &str, u64, u64); 10] = [
+    ("", "21000000052200000003", 0, 2),
+    ("21", "000000052200000003", 4, 1),
+    ("2100", "0000052200000003", 3, 1),
+    ("210000", "00052200000003", 2, 1),
+    ("21000000", "052200000003", 1, 1),
+    ("2100000005", "2200000003", 0, 1),
+    ("210000000522", "00000003", 4, 0),
+    ("21000000052200", "000003", 3, 0),
+    ("2100000005220000", "0003", 2, 0),
+    ("210000000522000000", "03", 1, 0),
+];

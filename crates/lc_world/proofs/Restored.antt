@@ -1,0 +1,99 @@
+-- Where nothing is in flight and nothing waits, an issue of the room gives the client the whole capacity.
+use Rattle.std.proofs.Common.{◌≡◌, ℕ, ◌+◌, ◌≤◌, Bool, false, List, [], ◌∷◌, ◌++◌, Option, Some, None, refl, sym, ap, ◌∙◌, inl, arith}
+use Rattle.std.specs.Prelude.{◌==◌, nat_lt, if◌then◌else◌}
+use Rattle.std.proofs.lemmas.Bool.Decides.{nat_tests}
+use Rattle.lc_frame.specs.declared.channel.Channel.{Channel}
+use Rattle.lc_frame.specs.declared.frame.Frame.{Frame}
+use Rattle.lc_frame.specs.declared.frame.Frame.TheVariants as frame
+use Rattle.lc_frame.specs.Kind.{max_body, max_total}
+use Rattle.lc_frame.specs.Stream.{issued}
+use Rattle.lc_frame.proofs.Measures.{issued-append, issued-one}
+use Rattle.lc_book.specs.declared.fault.Refusal.{Refusal}
+use Rattle.lc_book.specs.Limit.{is_past}
+use Rattle.lc_book.specs.Client.{Client, held, spend_refusal}
+use Rattle.lc_book.specs.Server.{Server, room, issue_refusal}
+use Rattle.lc_world.specs.declared.event.Side.{Side}
+use Rattle.lc_world.specs.declared.event.Side.TheVariants.{A, B}
+use Rattle.lc_world.specs.declared.event.Act.TheVariants.{Issue, Arrive}
+use Rattle.lc_world.specs.declared.event.Event.{Event}
+use Rattle.lc_world.specs.declared.event.Answer.TheVariants.{Accepted, Arrived}
+use Rattle.lc_world.specs.State.{State, opening, Line, other, client, server, client_book, put_on, arrive_on, arrive_first}
+use Rattle.lc_world.specs.Answers.{judged, IsAnswer, after}
+use Rattle.lc_world.specs.Histories.{History, after_all, IsLegal}
+use Rattle.lc_world.specs.Guarantee.{state_of}
+use Rattle.lc_world.specs.Sound.{Sound}
+use Rattle.lc_world.proofs.Lawful.{sound_to_a, sound_to_b}
+use Rattle.lc_world.specs.Credit.{IsQuiet, reissue, CreditComesBack}
+use Rattle.lc_world.proofs.Histories.{legal_append, after_append, capacity_stays, sound_of}
+use Rattle.lc_world.proofs.Credit.{whole_of}
+use Rattle.lc_world.proofs.Ways.{Good, good_step, arrives}
+
+not_this : (b : Bool) (r : Refusal) (rest : Option Refusal) → b ≡ false → rest ≡ None → (if b then Some r else rest) ≡ None
+not_this b r rest e h = ap (λ (d : Bool). if d then Some r else rest) e ∙ h
+
+not_below : (m n : ℕ) → n ≤ m → nat_lt m n ≡ false
+not_below m n le = grind (arith, nat_tests)
+
+not_zero : (n : ℕ) → 1 ≤ n → (n == 0) ≡ false
+not_zero n le = grind (arith, nat_tests)
+
+may_issue : (b : Server) (n : ℕ) → 1 ≤ n → is_past b.receive_left n ≡ false → n ≤ room b → b.issued + n ≤ max_total → issue_refusal b n ≡ None
+may_issue b n some free fits total =
+    not_this (n == 0) _ _ (not_zero n some) (not_this (is_past b.receive_left n) _ _ free (not_this (nat_lt (room b) n) _ _ (not_below (room b) n fits) (not_this (nat_lt max_total (b.issued + n)) _ _ (not_below max_total (b.issued + n) total) refl)))
+
+may_send : (b : Client) (n : ℕ) → 1 ≤ n → n ≤ max_body → is_past b.send_left n ≡ false → n ≤ held b → spend_refusal b n ≡ None
+may_send b n some small free fits =
+    not_this (n == 0) _ _ (not_zero n some) (not_this (nat_lt max_body n) _ _ (not_below max_body n small) (not_this (is_past b.send_left n) _ _ free (not_this (nat_lt (held b) n) _ _ (not_below (held b) n fits) refl)))
+
+-- the frame that was put is the only one in flight, and it arrives
+only_one : (l : Line) (f : Frame) → l.in_flight ≡ [] → (put_on l f).in_flight ≡ f ∷ []
+only_one l f e = ap (λ (fs : List Frame). fs ++ f ∷ []) e
+
+arrived_is : (l : Line) (f : Frame) → l.in_flight ≡ [] → (arrive_on (put_on l f)).arrived ≡ l.arrived ++ f ∷ []
+arrived_is l f e = ap (λ (fs : List Frame). (arrive_first (put_on l f) fs).arrived) (only_one l f e)
+
+more_issued : (c : Channel) (l : Line) (n : ℕ) → l.in_flight ≡ [] → issued c (arrive_on (put_on l (frame.Issue c n))).arrived ≡ issued c l.arrived + n
+more_issued c l n e =
+    let f : Frame = frame.Issue c n in
+    omega (arith, ap (issued c) (arrived_is l f e), issued-append c l.arrived (f ∷ []), issued-one f)
+
+more_held : (capacity : ℕ) (c : Channel) (mine theirs : Line) (n : ℕ) → Sound capacity c mine theirs → theirs.in_flight ≡ [] → held (client_book c mine (arrive_on (put_on theirs (frame.Issue c n)))) ≡ held (client_book c mine theirs) + n
+more_held capacity c mine theirs n s e = omega (arith, s.solvent, more_issued c theirs n e)
+
+-- both events
+record Goes (w : State) (s : Side) (c : Channel) (n : ℕ) : Type 0 where
+  legal : IsLegal w (reissue s c n)
+  held_is : held (client (after_all w (reissue s c n)) s c) ≡ held (client w s c) + n
+
+goes : (w : State) (s : Side) (c : Channel) (n : ℕ) → Good w → IsQuiet w → issue_refusal (server w (other s) c) n ≡ None → Goes w s c n
+goes w A c n g q free =
+    let e1 : Event = record { side = B; act = Issue c n } in
+    let right1 : IsAnswer w e1 Accepted = inl (sym (ap judged free)) in
+    let v : State = after w e1 Accepted in
+    let gv : Good v = good_step w e1 Accepted right1 g in
+    let right2 : IsAnswer v (record { side = A; act = Arrive }) Arrived = arrives v.capacity gv.small v.a v.b (frame.Issue c n) [] (sound_to_a v gv.sound) (only_one w.b (frame.Issue c n) (q.in_flight B)) in
+    record { legal = (right1, (right2, tt)); held_is = more_held w.capacity c w.a w.b n (g.sound.sums A c) (q.in_flight B) }
+goes w B c n g q free =
+    let e1 : Event = record { side = A; act = Issue c n } in
+    let right1 : IsAnswer w e1 Accepted = inl (sym (ap judged free)) in
+    let v : State = after w e1 Accepted in
+    let gv : Good v = good_step w e1 Accepted right1 g in
+    let right2 : IsAnswer v (record { side = B; act = Arrive }) Arrived = arrives v.capacity gv.small v.b v.a (frame.Issue c n) [] (sound_to_b v gv.sound) (only_one w.a (frame.Issue c n) (q.in_flight A)) in
+    record { legal = (right1, (right2, tt)); held_is = more_held w.capacity c w.b w.a n (g.sound.sums B c) (q.in_flight A) }
+
+pub credit_comes_back : CreditComesBack
+credit_comes_back capacity history h q s c dry some free total =
+    let w : State = state_of capacity history in
+    let n : ℕ = room (server w (other s) c) in
+    let kept : w.capacity ≡ capacity = capacity_stays (opening capacity) history in
+    let g : Good w = record { sound = sound_of capacity history h; small = omega (arith, h.is_capacity.at_most, kept) } in
+    let both : Goes w s c n = goes w s c n g q (may_issue (server w (other s) c) n some free (omega arith) total) in
+    let joined : History = history ++ reissue s c n in
+    let v : State = state_of capacity joined in
+    let is : held (client v s c) ≡ held (client w s c) + n = ap (λ (x : State). held (client x s c)) (after_append (opening capacity) history (reissue s c n)) ∙ both.held_is in
+    let full : held (client v s c) ≡ capacity = is ∙ (whole_of w g.sound q s c dry ∙ kept) in
+    record {
+      legal = record { is_capacity = h.is_capacity; legal = legal_append (opening capacity) history (reissue s c n) h.legal both.legal };
+      full = full;
+      sends = λ len one most unlimited. may_send (client v s c) len one (omega (arith, most)) unlimited (omega (arith, most, full));
+    }

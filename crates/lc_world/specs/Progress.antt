@@ -1,0 +1,30 @@
+-- Nothing wedges: whatever two peers did, arrivals and takes alone can bring every message that was accepted to be taken. This is this project's own.
+use Rattle.std.specs.Prelude.{◌≡◌, ℕ, [], ◌++◌}
+use Rattle.std.specs.List.{AllByRecursion}
+use Rattle.lc_frame.specs.declared.channel.Channel.{Channel}
+use Rattle.lc_world.specs.declared.event.Side.{Side}
+use Rattle.lc_world.specs.declared.event.Act.{Act}
+use Rattle.lc_world.specs.declared.event.Act.TheVariants.{Arrive, Take}
+use Rattle.lc_world.specs.State.{line, other}
+use Rattle.lc_world.specs.Answers.{waiting}
+use Rattle.lc_world.specs.Guarantee.{state_of}
+use Rattle.lc_world.specs.Credit.{IsQuiet}
+use Rattle.lc_world.specs.Histories.{History, IsHistory, accepted, taken}
+
+-- an arrival or a take
+abbrev pub ComesOrTakes : Act → Type 0
+ComesOrTakes Arrive = Unit {0}
+ComesOrTakes (Take c) = Unit {0}
+ComesOrTakes act = ⊥
+
+-- arrivals and takes go on from the history, and leave every message that it accepted taken, on every channel and both ways
+pub record IsDrained (capacity : ℕ) (history later : History) : Type 0 where
+  pub only : AllByRecursion (λ p. ComesOrTakes p.0.act) later
+  pub legal : IsHistory capacity (history ++ later)
+  pub all_taken : (s : Side) (c : Channel) → taken c (other s) (history ++ later) ≡ accepted c s (history ++ later)
+  pub none_added : (s : Side) (c : Channel) → accepted c s (history ++ later) ≡ accepted c s history
+  pub quiet : IsQuiet (state_of capacity (history ++ later))
+  pub dry : (s : Side) (c : Channel) → waiting c (line (state_of capacity (history ++ later)) s) ≡ []
+
+abbrev pub NothingWedges : Type 0
+NothingWedges = (capacity : ℕ) (history : History) → IsHistory capacity history → (later : History) × IsDrained capacity history later
