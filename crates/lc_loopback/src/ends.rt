@@ -25,25 +25,6 @@ pub(crate) struct Back<W> {
     pub(crate) outcomes: [Outcome; 7],
 }
 
-fn start_all<R, W>(rt: R, hold: &Hold, workers: [W; 7], count: u32) -> [Work<W>; 7]
-where
-    R: Threads + Wait + Copy + Send + 'static,
-    W: Worker<u32>,
-    requires { length workers ≡ 7 }
-    ensures { result ≡ workers }
-{
-    let (a, b, c, d, e, f, g) = apart(workers);
-    [
-        start(rt, hold, a, count),
-        start(rt, hold, b, count),
-        start(rt, hold, c, count),
-        start(rt, hold, d, count),
-        start(rt, hold, e, count),
-        start(rt, hold, f, count),
-        start(rt, hold, g, count),
-    ]
-}
-
 fn join_all<R: Threads, W: Part>(rt: &R, works: [Work<W>; 7]) -> Back<W>
     requires { length works ≡ 7 }
     ensures { AllZip W.same works result.workers }
@@ -69,17 +50,37 @@ fn join_all<R: Threads, W: Part>(rt: &R, works: [Work<W>; 7]) -> Back<W>
 fn start_senders<R>(rt: R, hold: &Hold, ends: [SendEnd; 7], count: u32) -> [Work<SendEnd>; 7]
 where
     R: Threads + Wait + Copy + Send + 'static,
+    requires { length ends ≡ 7 }
     ensures { result ≡ ends }
 {
-    start_all(rt, hold, ends, count)
+    let (a, b, c, d, e, f, g) = apart(ends);
+    [
+        start(rt, hold, a, count),
+        start(rt, hold, b, count),
+        start(rt, hold, c, count),
+        start(rt, hold, d, count),
+        start(rt, hold, e, count),
+        start(rt, hold, f, count),
+        start(rt, hold, g, count),
+    ]
 }
 
 fn start_takers<R>(rt: R, hold: &Hold, ends: [RecvEnd; 7], count: u32) -> [Work<RecvEnd>; 7]
 where
     R: Threads + Wait + Copy + Send + 'static,
+    requires { length ends ≡ 7 }
     ensures { result ≡ ends }
 {
-    start_all(rt, hold, ends, count)
+    let (a, b, c, d, e, f, g) = apart(ends);
+    [
+        start(rt, hold, a, count),
+        start(rt, hold, b, count),
+        start(rt, hold, c, count),
+        start(rt, hold, d, count),
+        start(rt, hold, e, count),
+        start(rt, hold, f, count),
+        start(rt, hold, g, count),
+    ]
 }
 
 /// Each end sends or takes so many messages.
