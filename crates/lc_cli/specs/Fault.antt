@@ -3,7 +3,7 @@ use Rattle.std.specs.Prelude.{ℕ, ⊤}
 use Rattle.lc_cli.specs.declared.fault.Status.{Status}
 use Rattle.lc_cli.specs.declared.fault.Status.TheVariants.{Done, Failed, Bad}
 use Rattle.lc_cli.specs.declared.fault.Fault.{Fault}
-use Rattle.lc_cli.specs.declared.fault.Fault.TheVariants.{Usage, BadLine, BadFrame, InputTooLong, OutOfMemory, ReadFailed, WriteFailed}
+use Rattle.lc_cli.specs.declared.fault.Fault.TheVariants.{Usage, BadLine, BadFrame, InputTooLong, OutOfMemory, ReadFailed, WriteFailed, LoopbackFailed}
 
 -- memory and devices fail; arguments and input are bad
 abbrev pub status_of : Fault → Status
@@ -14,6 +14,7 @@ status_of InputTooLong = Bad
 status_of OutOfMemory = Failed
 status_of ReadFailed = Failed
 status_of WriteFailed = Failed
+status_of LoopbackFailed = Failed
 
 abbrev pub code_of : Status → ℕ
 code_of Done = 0
@@ -29,3 +30,4 @@ IsOfReading InputTooLong = ⊤
 IsOfReading OutOfMemory = ⊤
 IsOfReading ReadFailed = ⊤
 IsOfReading WriteFailed = ⊥
+IsOfReading LoopbackFailed = ⊥

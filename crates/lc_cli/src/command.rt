@@ -1,27 +1,40 @@
 //! The command line, and what each command does.
 use crate::fault::Fault;
 use crate::listing::frames;
+use crate::looping::print_loopback;
 use crate::number::parse_decimal;
 use crate::replaying::replay;
 use lc_frame::is_capacity;
+use lc_loopback::{LoopFault, LoopReport};
 use std::alloc::Global;
 use std::env::Args;
 use std::io;
 use std::io::{ErrorKind, Read, Write};
 
+/// The most messages that two sessions exchange on each channel.
+const MAX_COUNT: u32 = 100_000;
+
 /// Runs the program on these arguments, of which the first is its name, with these three streams,
-/// and answers the exit status: 0 done, 1 memory or a device failed, 2 the arguments or the input
-/// are bad. Arguments that could not be read, as those that are not text, name no command.
-pub fn run<R: Read, W: Write, E: Write>(
+/// and answers the exit status: 0 done, 1 memory, a device or a loopback failed, 2 the arguments or
+/// the input are bad. Arguments that could not be read, as those that are not text, name no command.
+///
+/// Two sessions exchange messages by `loopback`, which is handed in: so nothing here starts a thread.
+pub fn run<I: Read, W: Write, E: Write, F>(
     alloc: Global,
     arguments: io::Result<Args>,
-    input: &mut R,
+    input: &mut I,
     out: &mut W,
     err: &mut E,
-) -> u8 {
+    loopback: F,
+) -> u8
+where
+    F: FnOnce(u32) -> Result<LoopReport, LoopFault>,
+    requires { F.IsAlwaysCallable loopback }
+{
     match Command::from_arguments(alloc, arguments) {
         Ok(Command::Replay { capacity }) => replay(alloc, capacity, input, out, err),
         Ok(Command::Frames) => frames(alloc, input, out, err),
+        Ok(Command::Loopback { count }) => { print_loopback(alloc, loopback(count), out, err) }
         Err(fault) => fault.report(err),
     }
 }
@@ -33,6 +46,8 @@ enum Command {
     Replay { capacity: u32 },
     // Print the frames of a stream.
     Frames,
+    // Let two sessions exchange so many messages on each channel.
+    Loopback { count: u32 },
 }
 
 impl Command {
@@ -51,6 +66,9 @@ impl Command {
                 capacity: parse_capacity(capacity.as_str())?,
             }),
             [_, name] if name.as_str() == "frames" => Some(Command::Frames),
+            [_, name, count] if name.as_str() == "loopback" => Some(Command::Loopback {
+                count: parse_count(count.as_str())?,
+            }),
             _ => None,
         }
     }
@@ -59,4 +77,9 @@ impl Command {
 fn parse_capacity(text: &str) -> Option<u32> {
     let capacity = u32::try_from(parse_decimal(text)?).ok()?;
     is_capacity(capacity).then_some(capacity)
+}
+
+fn parse_count(text: &str) -> Option<u32> {
+    let count = u32::try_from(parse_decimal(text)?).ok()?;
+    (1 <= count && count <= MAX_COUNT).then_some(count)
 }

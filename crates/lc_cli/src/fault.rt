@@ -46,6 +46,9 @@ pub enum Fault {
     ReadFailed,
     #[error("write failed")]
     WriteFailed,
+    /// What two sessions exchanged failed, whatever the reason.
+    #[error("loopback failed")]
+    LoopbackFailed,
 }
 
 impl Fault {
@@ -56,7 +59,8 @@ impl Fault {
         match self {
             Fault::Usage | Fault::BadLine { .. } | Fault::BadFrame { .. } | Fault::InputTooLong =>
                 Status::Bad,
-            Fault::OutOfMemory | Fault::ReadFailed | Fault::WriteFailed => Status::Failed,
+            Fault::OutOfMemory | Fault::ReadFailed | Fault::WriteFailed | Fault::LoopbackFailed =>
+                Status::Failed,
         }
     }
 

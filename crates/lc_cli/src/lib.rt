@@ -1,5 +1,5 @@
 //! What the program `lcmux` does, over readers, writers and arguments: it replays scripts of events
-//! between two peers, and prints the frames of a stream.
+//! between two peers, prints the frames of a stream, and lets two sessions exchange messages.
 #![tactic(auto)]
 
 mod answer;
@@ -7,6 +7,7 @@ mod command;
 mod fault;
 mod input;
 mod listing;
+mod looping;
 mod number;
 mod output;
 mod replaying;
@@ -17,6 +18,7 @@ pub use command::run;
 pub use fault::{Fault, Status};
 pub use input::{MAX_INPUT, read_all};
 pub use listing::frames;
+pub use looping::print_loopback;
 pub use number::parse_decimal;
 pub use output::buffered;
 pub use replaying::replay;

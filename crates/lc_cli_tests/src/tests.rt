@@ -6,6 +6,8 @@ mod bounds;
 mod commands;
 mod devices;
 mod failures;
+mod loops;
+mod nets;
 mod sessions;
 mod streams;
 mod transcript;

@@ -1,11 +1,21 @@
 //! The program `lcmux`: what `lc_cli` does, on the arguments and the standard streams of a process.
 #![tactic(auto)]
 
+use lc_loopback::loopback;
 use std::env;
 use std::process::ExitCode;
 
 fn main(rt: HostRuntime) -> ExitCode {
     let (mut input, mut out, mut err) = (rt.stdin(), rt.stdout(), rt.stderr());
-    let status = lc_cli::run(rt.alloc(), env::args(&rt), &mut input, &mut out, &mut err);
+    let exchange = |count| loopback(&rt, rt, rt.alloc(), count);
+    let arguments = env::args(&rt);
+    let status = lc_cli::run(
+        rt.alloc(),
+        arguments,
+        &mut input,
+        &mut out,
+        &mut err,
+        exchange,
+    );
     ExitCode::from(status)
 }

@@ -72,7 +72,22 @@ lcmux Frames
 lcmux frame
 lcmux framess
 lcmux loopback
-lcmux loopback 1
+lcmux loopback ''
+lcmux loopback 0
+lcmux loopback 00
+lcmux loopback 01
+lcmux loopback +1
+lcmux loopback -1
+lcmux loopback 1x
+lcmux loopback one
+lcmux loopback 100001
+lcmux loopback 4294967296
+lcmux loopback 4294967297
+lcmux loopback 18446744073709551617
+lcmux loopback 1 1
+lcmux loopback 1 ''
+lcmux Loopback 1
+lcmux 1 loopback
 lcmux help
 lcmux --help
 lcmux -h

@@ -1,7 +1,7 @@
 //! Devices that fail at each call in turn.
 use super::devices::{ShortReader, ShortWriter};
 use super::same;
-use super::transcript::{arguments, end, shown};
+use super::transcript::{arguments, end, no_sessions, shown};
 use lc_cli::run;
 use std::alloc::Global;
 use std::io::{Read, Write};
@@ -220,7 +220,14 @@ fn status(alloc: Global, command: &str, call: u32) -> Option<String> {
     let arguments = arguments(alloc, command)?;
     let (mut out, mut err) = (Vec::new(alloc), ShortWriter::new(alloc, call));
     let mut input = b"x".as_slice();
-    let status = run(alloc, Ok(arguments), &mut input, &mut out, &mut err);
+    let status = run(
+        alloc,
+        Ok(arguments),
+        &mut input,
+        &mut out,
+        &mut err,
+        no_sessions,
+    );
     format!(in alloc; "{status}, {} bytes", out.len()).ok()
 }
 

@@ -6,6 +6,7 @@
 use super::devices::ShortReader;
 use super::same;
 use lc_cli::run;
+use lc_loopback::{LoopFault, LoopReport};
 use std::alloc::Global;
 use std::env::Args;
 use std::io::{Read, Write};
@@ -33,12 +34,40 @@ pub fn shown_with<R: Read>(
     arguments: io::Result<Args>,
     input: &mut R,
 ) -> Option<String> {
+    shown_by(alloc, arguments, input, no_sessions)
+}
+
+/// What a command line shows that is run with this loopback, on an empty input.
+pub fn shown_of<F>(alloc: Global, command: &str, loopback: F) -> Option<String>
+where
+    F: FnOnce(u32) -> Result<LoopReport, LoopFault>,
+    requires { F.IsAlwaysCallable loopback }
+{
+    let mut input = b"".as_slice();
+    shown_by(alloc, Ok(arguments(alloc, command)?), &mut input, loopback)
+}
+
+fn shown_by<R: Read, F>(
+    alloc: Global,
+    arguments: io::Result<Args>,
+    input: &mut R,
+    loopback: F,
+) -> Option<String>
+where
+    F: FnOnce(u32) -> Result<LoopReport, LoopFault>,
+    requires { F.IsAlwaysCallable loopback }
+{
     let mut out = Vec::new(alloc);
-    let end = end(alloc, arguments, input, &mut out)?;
+    let end = end_by(alloc, arguments, input, &mut out, loopback)?;
     let mut shown = String::new(alloc);
     show(&mut shown, "> ", out.as_slice())?;
     shown.push_str(end.as_str()).ok()?;
     Some(shown)
+}
+
+/// No sessions are made.
+pub fn no_sessions(_count: u32) -> Result<LoopReport, LoopFault> {
+    Err(LoopFault::Over)
 }
 
 /// How a run ends: its lines of standard error, and the status.
@@ -48,8 +77,22 @@ pub fn end<R: Read, W: Write>(
     input: &mut R,
     out: &mut W,
 ) -> Option<String> {
+    end_by(alloc, arguments, input, out, no_sessions)
+}
+
+fn end_by<R: Read, W: Write, F>(
+    alloc: Global,
+    arguments: io::Result<Args>,
+    input: &mut R,
+    out: &mut W,
+    loopback: F,
+) -> Option<String>
+where
+    F: FnOnce(u32) -> Result<LoopReport, LoopFault>,
+    requires { F.IsAlwaysCallable loopback }
+{
     let mut err = Vec::new(alloc);
-    let status = run(alloc, arguments, input, out, &mut err);
+    let status = run(alloc, arguments, input, out, &mut err, loopback);
     let mut shown = String::new(alloc);
     show(&mut shown, "! ", err.as_slice())?;
     writeln!(shown, "= {status}").ok()?;

@@ -1,0 +1,24 @@
+//! Two sessions in one process, over sockets: every end and every pump in a thread of its own, and
+//! every message compared with the one that was due.
+#![tactic(auto)]
+
+mod bouncing;
+mod config;
+mod connection;
+mod ends;
+mod fault;
+mod hold;
+mod message;
+mod opening;
+mod patience;
+mod pumping;
+mod report;
+mod sending;
+mod stage;
+mod taking;
+mod worker;
+
+pub use bouncing::ping_pong;
+pub use fault::LoopFault;
+pub use report::LoopReport;
+pub use stage::loopback;

@@ -1,0 +1,102 @@
+//! What the pumps do.
+ghost use Rattle.std.specs.Prelude.{◌≡◌};
+ghost use Rattle.lc_queue.specs.Parts.{IsSame};
+ghost use Rattle.lc_session.specs.Reading.{IsSameReading};
+
+use crate::connection::{Wire, Wires};
+use crate::fault::LoopFault;
+use crate::hold::Hold;
+use crate::worker::{Done, Outcome, Part, Work, Worker, join, start};
+use lc_driver::{Counted, ReadEnd};
+use lc_session::{ReadPump, WriteEnd, WritePump};
+use std::io::{Read, Write};
+use std::sync::Wait;
+use std::thread::Threads;
+
+impl Part for ReadPump {
+    ghost same = { λ old new. IsSameReading old.side new.side };
+}
+
+impl Part for WritePump {
+    ghost same = { λ old new. IsSame new.drain.queue old.drain.queue };
+}
+
+// Reads until the stream ends. Its reader goes then, so that the other side's writes fail where it
+// writes on.
+impl<S: Read + Drop> Worker<S> for ReadPump {
+    fn work<R: Wait>(&mut self, rt: &R, _hold: &Hold, stream: S) -> Outcome {
+        let mut reader = Counted::new(stream);
+        match self.run(rt, &mut reader, u64::MAX) {
+            ReadEnd::Clean => Ok(0),
+            ReadEnd::ReadFailed => Err(LoopFault::Device),
+            _ => Err(LoopFault::BadMessage),
+        }
+    }
+}
+
+// Writes until the session is stopped. Its writer goes then, which ends the stream.
+impl<S: Write + Drop> Worker<S> for WritePump {
+    fn work<R: Wait>(&mut self, rt: &R, _hold: &Hold, stream: S) -> Outcome {
+        let mut writer = Counted::new(stream);
+        match self.run(rt, &mut writer) {
+            WriteEnd::Stopped => Ok(0),
+            WriteEnd::Failed | WriteEnd::Zero => Err(LoopFault::Device),
+        }
+    }
+}
+
+/// Both pumps of a side at work.
+#[derive(Drop)]
+pub(crate) struct Pumping {
+    reading: Work<ReadPump>,
+    writing: Work<WritePump>,
+}
+
+/// Starts the pumps of both sides. The writing pumps come first: where a reading pump gets no
+/// thread, it reads here until the other side's stream ends.
+pub(crate) fn start_pumps<R, S>(
+    rt: R,
+    hold: &Hold,
+    a: (ReadPump, WritePump),
+    b: (ReadPump, WritePump),
+    wires: Wires<S>,
+) -> (Pumping, Pumping)
+where
+    R: Threads + Wait + Copy + Send + 'static,
+    S: Read + Write + Send + Drop + 'static,
+    ensures a { result.0 ≡ record { reading = a.0; writing = a.1 } }
+    ensures b { result.1 ≡ record { reading = b.0; writing = b.1 } }
+{
+    let Wires { a_to_b, b_to_a } = wires;
+    let Wire {
+        writer: a_writer,
+        reader: b_reader,
+    } = a_to_b;
+    let Wire {
+        writer: b_writer,
+        reader: a_reader,
+    } = b_to_a;
+    let (a_read_pump, a_write_pump) = a;
+    let (b_read_pump, b_write_pump) = b;
+    let a_writing = start(rt, hold, a_write_pump, a_writer);
+    let b_writing = start(rt, hold, b_write_pump, b_writer);
+    let a = Pumping {
+        reading: start(rt, hold, a_read_pump, a_reader),
+        writing: a_writing,
+    };
+    let b = Pumping {
+        reading: start(rt, hold, b_read_pump, b_reader),
+        writing: b_writing,
+    };
+    (a, b)
+}
+
+/// Waits for both pumps of a side.
+pub(crate) fn join_pumps<R: Threads>(rt: &R, pumping: Pumping) -> (Done<ReadPump>, Done<WritePump>)
+    ensures reading { IsSameReading pumping.reading.side result.0.worker.side }
+    ensures writing { IsSame result.1.worker.drain.queue pumping.writing.drain.queue }
+{
+    let writing = join(rt, pumping.writing);
+    let reading = join(rt, pumping.reading);
+    (reading, writing)
+}

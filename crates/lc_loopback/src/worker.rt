@@ -1,0 +1,124 @@
+//! A part of a session at work in a thread of its own.
+ghost use Rattle.std.specs.Prelude.{◌≡◌};
+
+use crate::fault::LoopFault;
+use crate::hold::Hold;
+use std::marker::Model;
+use std::snapshot::Snapshot;
+use std::sync::Wait;
+use std::thread;
+use std::thread::{Promise, PromisedHandle, Threads};
+
+/// A part that a thread takes and gives back.
+pub(crate) trait Part: Drop + 'static {
+    // That it is still the same part of the same session.
+    ghost same: { Self → Self → Type 0 };
+}
+
+/// What a thread's work comes to: how many bytes of messages it took.
+pub(crate) type Outcome = Result<u64, LoopFault>;
+
+/// A part that does a job.
+pub(crate) trait Worker<J>: Part + Send {
+    fn work<R: Wait>(&mut self, rt: &R, hold: &Hold, job: J) -> Outcome
+        ensures same { Self.same self.old self.new };
+}
+
+/// What a thread gives back.
+#[derive(Drop)]
+pub(crate) struct Done<W> {
+    pub(crate) worker: W,
+    pub(crate) outcome: Outcome,
+}
+
+/// The part that comes back is the one that went.
+#[derive(Drop)]
+pub(crate) struct Same<W>(Snapshot<W>);
+
+impl<W: Part> Promise<Done<W>> for Same<W> {
+    ghost kept_by = { λ p r. W.same p.0.value r.worker };
+}
+
+/// A part at work. Contracts see the part as it went.
+#[derive(Drop)]
+pub(crate) struct Work<W: Part> {
+    // The thread; or the part, back already, where none could be made.
+    place: Result<PromisedHandle<Done<W>, Same<W>>, Done<W>>,
+    given: Snapshot<W>,
+}
+
+impl<W: Part> Model for Work<W> {
+    ghost use Rattle.std.specs.Prelude.{◌≡◌, IfOk, IfErr};
+
+    ghost Value = { W };
+
+    ghost view = { λ w. w.given.value };
+
+    ghost invariant = { λ w. IfOk w.place (λ handle. handle.promise.0.value ≡ w.given.value) × IfErr w.place (λ done. W.same w.given.value done.worker) };
+}
+
+// Does the work. A worker that fails stops both sessions, or others would wait for it.
+fn run<R: Wait, J, W: Worker<J>>(rt: &R, hold: &Hold, worker: W, job: J) -> Done<W>
+    ensures { W.same worker result.worker }
+{
+    let mut worker = worker;
+    let outcome = worker.work(rt, hold, job);
+    if outcome.is_err() {
+        hold.stop();
+    }
+    Done { worker, outcome }
+}
+
+// The same in a thread, which has a hold of its own.
+fn run_there<R: Wait + Copy, J, W: Worker<J>>(rt: R, hold: Hold, worker: W, job: J) -> Done<W>
+    ensures { W.same worker result.worker }
+{
+    run(&rt, &hold, worker, job)
+}
+
+// There was no thread for this work.
+fn refused<W: Part>(done: Done<W>) -> Done<W>
+    ensures { result.worker ≡ done.worker }
+{
+    Done {
+        worker: done.worker,
+        outcome: Err(LoopFault::OutOfMemory),
+    }
+}
+
+/// Starts the work in a thread. Where none can be made, both sessions are stopped, and the part does
+/// here what it still can, which ends, since both writing pumps end.
+pub(crate) fn start<R, J, W>(rt: R, hold: &Hold, worker: W, job: J) -> Work<W>
+where
+    R: Threads + Wait + Copy + Send + 'static,
+    J: Send + Drop + 'static,
+    W: Worker<J>,
+    ensures { result ≡ worker }
+{
+    let given = Snapshot::of(&worker);
+    let same = Same(Snapshot::of(&worker));
+    let Ok(own) = hold.try_clone() else {
+        hold.stop();
+        let place = Err(refused(run(&rt, hold, worker, job)));
+        return Work { place, given };
+    };
+    let place = match thread::spawn_with(&rt, same, move || run_there(rt, own, worker, job)) {
+        Ok(handle) => Ok(handle),
+        Err(error) => {
+            hold.stop();
+            Err(refused((error.value)()))
+        }
+    };
+    Work { place, given }
+}
+
+/// Waits until the part is back.
+pub(crate) fn join<R: Threads, W: Part>(rt: &R, work: Work<W>) -> Done<W>
+    ensures { W.same work result.worker }
+{
+    let Work { place, given: _ } = work;
+    match place {
+        Ok(handle) => handle.join(rt),
+        Err(done) => done,
+    }
+}
