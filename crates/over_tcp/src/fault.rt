@@ -1,0 +1,44 @@
+//! Why a sync failed.
+use lc_book::Refusal;
+use std::alloc::AllocError;
+use std::io;
+use thiserror::Error;
+
+/// Why a sync failed.
+#[derive(Clone, Copy, Debug, PartialEq, Eq, Error)]
+pub enum Fault {
+    #[error("out of memory")]
+    OutOfMemory,
+    #[error("a socket failed")]
+    Socket,
+    /// The transport is gone, or the other side broke the rules of the session or was silent.
+    #[error("the session ended too early")]
+    Over,
+    /// The other side keeps the rules of the session, and not those of the sync.
+    #[error("the other side does not sync")]
+    NoSync,
+    /// A call was refused for good.
+    #[error("refused: {0}")]
+    Refused(Refusal),
+}
+
+impl From<AllocError> for Fault {
+    fn from(_error: AllocError) -> Fault {
+        Fault::OutOfMemory
+    }
+}
+
+impl From<io::Error> for Fault {
+    fn from(_error: io::Error) -> Fault {
+        Fault::Socket
+    }
+}
+
+/// Both answers, or the fault that says more. A thread that fails ends the session for the others.
+pub fn both<A: Drop, B: Drop>(a: Result<A, Fault>, b: Result<B, Fault>) -> Result<(A, B), Fault> {
+    match (a, b) {
+        (Ok(a), Ok(b)) => Ok((a, b)),
+        (Err(Fault::Over), Err(fault)) => Err(fault),
+        (Err(fault), _) | (Ok(_), Err(fault)) => Err(fault),
+    }
+}
