@@ -20,8 +20,6 @@ pub enum Trouble {
     Ends,
     /// A write that begins with a message changes its first byte.
     Changes,
-    /// A write that begins with a message is not made.
-    Swallows,
 }
 
 // The calls that may be in trouble.
@@ -161,9 +159,6 @@ impl Write for Stream {
         // The tag of a message, its length, and its first byte.
         match buf {
             [tag @ 0x10..=0x16, high, low, first, rest @ ..] => {
-                if self.calls.meets(Trouble::Swallows) {
-                    return Ok(buf.len());
-                }
                 if self.calls.meets(Trouble::Changes) {
                     self.stream.write_all(&[*tag, *high, *low, !*first])?;
                     self.stream.write_all(rest)?;
