@@ -1,5 +1,5 @@
-//! How fast the codec, the stream decoder, the receiving ring, the peer, the queue, the credit and
-//! the shared inbox are.
+//! How fast the codec, the stream decoder, the receiving ring, the peer, the queue, the credit, the
+//! shared inbox and two sessions are.
 //!
 //! Prints a line `name value unit` for each figure, or with the argument `list` the names alone.
 //! Another argument is what the names of the figures begin with that are taken. The environment
@@ -14,6 +14,7 @@ mod frames;
 mod inbox;
 mod operation;
 mod peer;
+mod ping;
 mod plan;
 mod queue;
 mod receiver;
@@ -24,6 +25,7 @@ use inbox::measure_inboxes;
 use lc_frame::{Body, Channel, Frame, MAX_BODY};
 use operation::{Operation, measure};
 use peer::measure_peers;
+use ping::measure_ping;
 use plan::Plan;
 use queue::measure_queues;
 use ring::measure_rings;
@@ -77,5 +79,6 @@ fn main(rt: HostRuntime) -> io::Result<()> {
     measure_peers(&rt, &plan)?;
     measure_queues(rt, &rt, &plan)?;
     measure_credits(&rt, &plan)?;
-    measure_inboxes(rt, &rt, &plan)
+    measure_inboxes(rt, &rt, &plan)?;
+    measure_ping(rt, &rt, &plan)
 }
