@@ -27,6 +27,11 @@ const CUT_LINES: &str = r#"<line class="arrow c1" x1="638" y1="254" x2="158" y2=
 <line class="arrow c1" x1="158" y1="474" x2="638" y2="562"/>
 <line class="arrow c1" x1="158" y1="518" x2="638" y2="650"/>
 <line class="flight c1" x1="638" y1="694" x2="278" y2="738"/>
+<text class="sum" x="696" y="266">0+5+3</text>
+<text class="sum" x="696" y="574">2+3+3</text>
+<text class="sum" x="696" y="618">0+3+5</text>
+<text class="sum" x="696" y="662">1+2+5</text>
+<text class="sum" x="696" y="706">1+3+4</text>
 The frame of event 1 arrives at event 4.
 The frame of event 11 is in flight at the end."#;
 
@@ -60,7 +65,7 @@ fn arrows_and_bars_end_where_the_answers_say(rt: HostRuntime) -> Result<(), Fail
     Ok(())
 }
 
-// The numbers of the ring on this line, if it has them on one line, added up.
+// The numbers of a ring that stand on one line, added up.
 fn sum(line: &str) -> Option<u64> {
     let mut sum = 0u64;
     for number in words(line)?.split('+') {
@@ -74,17 +79,21 @@ fn words(line: &str) -> Option<&str> {
     line.split('>').nth(1)?.split('<').next()
 }
 
+// The first ring of the picture whose numbers do not add up to 8.
+fn wrong_ring(picture: &str) -> &str {
+    for line in picture.split('\n') {
+        if line.starts_with("<text class=\"sum\"") && line.contains("+") && sum(line) != Some(8) {
+            return line;
+        }
+    }
+    "none"
+}
+
 #[test]
 fn the_parts_of_a_ring_add_up_to_the_capacity(rt: HostRuntime) -> Result<(), Fail> {
     let picture = shown(rt.alloc(), "lcmux_chart 8", CUT.as_bytes()).ok_or("no picture")?;
-    let mut rings = 0u32;
-    for line in picture.as_str().split('\n') {
-        if line.starts_with("<text class=\"sum\"") && line.contains("+") {
-            assert!(rt; sum(line) == Some(8), "{line}");
-            rings = rings.saturating_add(1);
-        }
-    }
-    assert!(rt; rings == 6, "{rings} rings");
+    let wrong = wrong_ring(picture.as_str());
+    assert!(rt; wrong == "none", "{wrong}");
     Ok(())
 }
 
@@ -100,15 +109,31 @@ impl Label<'_> {
     fn is_inside(self) -> Option<bool> {
         let (x, y) = (number(self.line, " x=")?, number(self.line, " y=")?);
         let length = (words(self.line)?.len() as u64).saturating_mul(tenths(self.line)) / 10;
-        let (before, behind) = if self.line.contains(" mid") || self.line.contains("\"in\"") {
-            (length / 2, length / 2)
-        } else if self.line.contains(" end") {
-            (length, 0)
-        } else {
-            (0, length)
+        let (before, behind) = match anchor_of(self.line) {
+            Anchor::Start => (0, length),
+            Anchor::Middle => (length / 2, length / 2),
+            Anchor::End => (length, 0),
         };
         let fits = before <= x && x.saturating_add(behind) <= self.width;
         Some(fits && 12 <= y && y.saturating_add(4) <= self.height)
+    }
+}
+
+// Which point of a label stands at its place.
+#[derive(Clone, Copy)]
+enum Anchor {
+    Start,
+    Middle,
+    End,
+}
+
+fn anchor_of(line: &str) -> Anchor {
+    if line.contains(" end\"") || line.contains(" end c") {
+        Anchor::End
+    } else if line.contains(" mid\"") || line.contains("\"in\"") {
+        Anchor::Middle
+    } else {
+        Anchor::Start
     }
 }
 
@@ -136,6 +161,27 @@ fn tenths(line: &str) -> u64 {
     }
 }
 
+// The first label of the picture that is not inside it.
+fn first_outside(picture: &str) -> &str {
+    let (Some(width), Some(height)) = (number(picture, " width="), number(picture, " height="))
+    else {
+        return "no size";
+    };
+    for line in picture.split('\n') {
+        if line.starts_with("<text") {
+            let label = Label {
+                line,
+                width,
+                height,
+            };
+            if label.is_inside() != Some(true) {
+                return line;
+            }
+        }
+    }
+    "none"
+}
+
 #[test]
 fn no_label_leaves_its_picture(rt: HostRuntime) -> Result<(), Fail> {
     for &(command, input) in &[
@@ -147,21 +193,8 @@ fn no_label_leaves_its_picture(rt: HostRuntime) -> Result<(), Fail> {
         ("lcmux_chart frames", STREAM),
     ] {
         let picture = shown(rt.alloc(), command, input.as_bytes()).ok_or("no picture")?;
-        let head = picture.as_str().split('\n').next().ok_or("no head")?;
-        let width = number(head, " width=").ok_or("no width")?;
-        let height = number(head, " height=").ok_or("no height")?;
-        for line in picture
-            .as_str()
-            .split('\n')
-            .filter(|line| line.starts_with("<text"))
-        {
-            let label = Label {
-                line,
-                width,
-                height,
-            };
-            assert!(rt; label.is_inside() == Some(true), "{line}");
-        }
+        let outside = first_outside(picture.as_str());
+        assert!(rt; outside == "none", "{outside}");
     }
     Ok(())
 }
