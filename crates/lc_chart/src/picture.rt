@@ -22,7 +22,7 @@ const COLUMN: u64 = 94;
 // From the bars to a lifeline, and from one lifeline to the other.
 const GUTTER: u64 = 44;
 
-const MIDDLE: u64 = 460;
+const MIDDLE: u64 = 480;
 
 // Where the rows begin.
 const TOP: u64 = 210;

@@ -1,0 +1,200 @@
+//! Where arrows, bars and labels stand.
+use super::{CUT, FULL, IDEAS, LONGEST, STREAM, WIDE, has_lines, shown};
+use std::test::Fail;
+
+// Event n stands at 210 + 44 n, A at 158 and B at 638; a bar that is full has a length of 84.
+const IDEAS_LINES: &str = r#"<line class="arrow c1" x1="638" y1="298" x2="158" y2="342"/>
+<line class="arrow c1" x1="158" y1="386" x2="638" y2="430"/>
+<line class="arrow c1" x1="638" y1="518" x2="158" y2="562"/>
+<line class="arrow c1" x1="158" y1="606" x2="638" y2="650"/>
+<line class="arrow c1" x1="158" y1="694" x2="638" y2="738"/>
+<text class="bad" x="176" y="270">refused 4: guarantees for 0 bytes are held</text>
+<rect class="held c1" x="20" y="342" width="84" height="44"/>
+<rect class="held c1" x="20" y="386" width="63" height="220"/>
+<rect class="held c1" x="20" y="606" width="21" height="220"/>
+<rect class="outstanding c1" x="692" y="298" width="84" height="132"/>
+<rect class="outstanding c1" x="692" y="430" width="84" height="44"/>
+<rect class="buffered c1" x="692" y="430" width="21" height="44"/>
+<rect class="outstanding c1" x="692" y="474" width="63" height="176"/>
+<rect class="outstanding c1" x="692" y="650" width="21" height="176"/>
+<rect class="room" x="692" y="650" width="84" height="176"/>
+<text class="asked end c1" x="620" y="466">take 2 bytes</text>
+<text class="soft end" x="620" y="798">ended: none will come</text>
+9. A: honour on channel 1: absolve 4.
+The frame of event 9 arrives at event 10."#;
+
+const CUT_LINES: &str = r#"<line class="arrow c1" x1="638" y1="254" x2="158" y2="386"/>
+<line class="arrow c1" x1="158" y1="474" x2="638" y2="562"/>
+<line class="arrow c1" x1="158" y1="518" x2="638" y2="650"/>
+<line class="flight c1" x1="638" y1="694" x2="278" y2="738"/>
+<text class="sum" x="696" y="266">0+5+3</text>
+<text class="sum" x="696" y="574">2+3+3</text>
+<text class="sum" x="696" y="618">0+3+5</text>
+<text class="sum" x="696" y="662">1+2+5</text>
+<text class="sum" x="696" y="706">1+3+4</text>
+The frame of event 1 arrives at event 4.
+The frame of event 11 is in flight at the end."#;
+
+// Three numbers, below each other, that add up to 16,777,216.
+const FULL_LINES: &str = r#"<text class="sum" x="696" y="266">0</text>
+<text class="sum" x="696" y="278">16777216</text>
+<text class="sum" x="696" y="290">0</text>
+<text class="sum" x="696" y="398">4</text>
+<text class="sum" x="696" y="410">16777212</text>
+<text class="sum" x="696" y="422">0</text>
+<text class="sum" x="696" y="530">4</text>
+<text class="sum" x="696" y="542">0</text>
+<text class="sum" x="696" y="554">16777212</text>"#;
+
+// With thirteen columns on each side A stands at 1286 and B at 1766.
+const WIDE_LINES: &str = r#"<line class="arrow c0" x1="1286" y1="254" x2="1766" y2="518"/>
+<line class="flight c1" x1="1286" y1="298" x2="1646" y2="1134"/>
+<line class="flight c3" x1="1766" y1="958" x2="1406" y2="1134"/>"#;
+
+#[test]
+fn arrows_and_bars_end_where_the_answers_say(rt: HostRuntime) -> Result<(), Fail> {
+    for &(command, script, lines) in &[
+        ("lcmux_chart 8", IDEAS, IDEAS_LINES),
+        ("lcmux_chart 8", CUT, CUT_LINES),
+        ("lcmux_chart 16777216", FULL, FULL_LINES),
+        ("lcmux_chart 16777216", WIDE, WIDE_LINES),
+    ] {
+        let picture = shown(rt.alloc(), command, script.as_bytes()).ok_or("no picture")?;
+        has_lines(&rt, picture.as_str(), lines);
+    }
+    Ok(())
+}
+
+// The numbers of a ring that stand on one line, added up.
+fn sum(line: &str) -> Option<u64> {
+    let mut sum = 0u64;
+    for number in words(line)?.split('+') {
+        sum = sum.checked_add(number.parse().ok()?)?;
+    }
+    Some(sum)
+}
+
+// The words that stand in an element of text.
+fn words(line: &str) -> Option<&str> {
+    line.split('>').nth(1)?.split('<').next()
+}
+
+// The first ring of the picture whose numbers do not add up to 8.
+fn wrong_ring(picture: &str) -> &str {
+    for line in picture.split('\n') {
+        if line.starts_with("<text class=\"sum\"") && line.contains("+") && sum(line) != Some(8) {
+            return line;
+        }
+    }
+    "none"
+}
+
+#[test]
+fn the_parts_of_a_ring_add_up_to_the_capacity(rt: HostRuntime) -> Result<(), Fail> {
+    let picture = shown(rt.alloc(), "lcmux_chart 8", CUT.as_bytes()).ok_or("no picture")?;
+    let wrong = wrong_ring(picture.as_str());
+    assert!(rt; wrong == "none", "{wrong}");
+    Ok(())
+}
+
+// A line of a picture, and the size of that picture.
+#[derive(Clone, Copy)]
+struct Label<'a> {
+    line: &'a str,
+    width: u64,
+    height: u64,
+}
+
+impl Label<'_> {
+    fn is_inside(self) -> Option<bool> {
+        let (x, y) = (number(self.line, " x=")?, number(self.line, " y=")?);
+        let length = (words(self.line)?.len() as u64).saturating_mul(tenths(self.line)) / 10;
+        let (before, behind) = match anchor_of(self.line) {
+            Anchor::Start => (0, length),
+            Anchor::Middle => (length / 2, length / 2),
+            Anchor::End => (length, 0),
+        };
+        let fits = before <= x && x.saturating_add(behind) <= self.width;
+        Some(fits && 12 <= y && y.saturating_add(4) <= self.height)
+    }
+}
+
+// Which point of a label stands at its place.
+#[derive(Clone, Copy)]
+enum Anchor {
+    Start,
+    Middle,
+    End,
+}
+
+fn anchor_of(line: &str) -> Anchor {
+    if line.contains(" end\"") || line.contains(" end c") {
+        Anchor::End
+    } else if line.contains(" mid\"") || line.contains("\"in\"") {
+        Anchor::Middle
+    } else {
+        Anchor::Start
+    }
+}
+
+// The number that an attribute of the line has.
+fn number(line: &str, attribute: &str) -> Option<u64> {
+    let mut parts = line.split('"');
+    while let Some(part) = parts.next() {
+        if part.ends_with(attribute) {
+            return parts.next()?.parse().ok();
+        }
+    }
+    None
+}
+
+// The mean width of a line's letters, in tenths of a unit: six tenths of its size at most.
+fn tenths(line: &str) -> u64 {
+    if line.contains("title") {
+        108
+    } else if line.contains("soft") {
+        78
+    } else if line.contains("bad") || line.contains("sum") {
+        72
+    } else {
+        90
+    }
+}
+
+// The first label of the picture that is not inside it.
+fn first_outside(picture: &str) -> &str {
+    let (Some(width), Some(height)) = (number(picture, " width="), number(picture, " height="))
+    else {
+        return "no size";
+    };
+    for line in picture.split('\n') {
+        if line.starts_with("<text") {
+            let label = Label {
+                line,
+                width,
+                height,
+            };
+            if label.is_inside() != Some(true) {
+                return line;
+            }
+        }
+    }
+    "none"
+}
+
+#[test]
+fn no_label_leaves_its_picture(rt: HostRuntime) -> Result<(), Fail> {
+    for &(command, input) in &[
+        ("lcmux_chart 8", ""),
+        ("lcmux_chart 8", IDEAS),
+        ("lcmux_chart 8", LONGEST),
+        ("lcmux_chart 16777216", FULL),
+        ("lcmux_chart 16777216", WIDE),
+        ("lcmux_chart frames", STREAM),
+    ] {
+        let picture = shown(rt.alloc(), command, input.as_bytes()).ok_or("no picture")?;
+        let outside = first_outside(picture.as_str());
+        assert!(rt; outside == "none", "{outside}");
+    }
+    Ok(())
+}
