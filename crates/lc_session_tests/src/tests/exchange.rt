@@ -307,7 +307,14 @@ where
 {
     let (a_ends, a_pumps, a) = taken_apart(a);
     let (b_ends, b_pumps, b) = taken_apart(b);
-    let (ends, pumps) = work(rt, (a_ends, b_ends), (a_pumps, b_pumps), wires, sessions, load);
+    let (ends, pumps) = work(
+        rt,
+        (a_ends, b_ends),
+        (a_pumps, b_pumps),
+        wires,
+        sessions,
+        load,
+    );
     let a = put_together(a, ends.0, pumps.0);
     let b = put_together(b, ends.1, pumps.1);
     (a, b)
@@ -344,8 +351,8 @@ fn clones(a: &Session, b: &Session) -> Result<[Session; 2], AllocError> {
     Ok([a.try_clone()?, b.try_clone()?])
 }
 
-// Two new sessions exchange what they are asked to: what each reports.
-fn exchanged<R>(rt: &R, alloc: Global, load: Load, slots: u32) -> Result<(Report, Report), Fail>
+// Two new sessions exchange what they are asked to, so many bytes on each channel, and balance.
+fn exchanges<R>(rt: &R, alloc: Global, load: Load, slots: u32, bytes: u64) -> Result<(), Fail>
 where
     R: Threads + Wait + Abort + Sync + Net<Listener = TcpListener, Stream = TcpStream>,
 {
@@ -354,15 +361,16 @@ where
     let b = session(alloc, load.ring, slots)?;
     let sessions = clones(&a.session, &b.session)?;
     let (a, b) = exchange(rt, a, b, wires, sessions, load);
-    Ok((finish(rt, a), finish(rt, b)))
+    let (a, b) = (finish(rt, a), finish(rt, b));
+    is_balanced(rt, &a, &b, bytes);
+    is_balanced(rt, &b, &a, bytes);
+    Ok(())
 }
 
 #[test]
 fn sessions_exchange_messages_in_threads(rt: HostRuntime) -> Result<(), Fail> {
     for &(messages, ring, slots, bytes) in &EXCHANGES {
-        let (a, b) = exchanged(&rt, rt.alloc(), Load { messages, ring }, slots)?;
-        is_balanced(&rt, &a, &b, bytes);
-        is_balanced(&rt, &b, &a, bytes);
+        exchanges(&rt, rt.alloc(), Load { messages, ring }, slots, bytes)?;
     }
     Ok(())
 }
