@@ -1,0 +1,22 @@
+-- The ends and the pumps of a session that threads give back. These rules are this project's own.
+use Rattle.std.specs.List.{AllZip}
+use Rattle.lc_queue.specs.Parts.{IsSame}
+use Rattle.lc_inbox.specs.Sides.{IsSameSide}
+use Rattle.lc_outbox.specs.Outbox.{IsSameOutbox}
+use Rattle.lc_session.specs.Reading.{IsSameReading}
+use Rattle.lc_session.specs.Report.{SessionState}
+use Rattle.lc_session_tests.specs.declared.tests.exchange.Ends.{Ends}
+use Rattle.lc_session_tests.specs.declared.tests.exchange.Pumps.{Pumps}
+
+-- what came back is what was given
+pub record SameEnds (old new : Ends) : Type 0 where
+  pub sending : AllZip IsSameOutbox old.sending new.sending
+  pub receiving : AllZip IsSameSide old.receiving new.receiving
+
+pub record SamePumps (old new : Pumps) : Type 0 where
+  pub reading : IsSameReading old.reading.side new.reading.side
+  pub writing : IsSame new.writing.drain.queue old.writing.drain.queue
+
+-- the session of these ends and pumps
+abbrev pub at_work : Ends → Pumps → SessionState
+at_work ends pumps = record { sending = ends.sending; receiving = ends.receiving; reading = pumps.reading; writing = pumps.writing }

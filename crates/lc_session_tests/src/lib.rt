@@ -1,0 +1,5 @@
+//! Tests of `lc_session`.
+#![tactic(auto)]
+
+#[cfg(test)]
+mod tests;

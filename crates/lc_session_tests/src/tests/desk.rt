@@ -1,0 +1,264 @@
+//! A session in one thread, and the calls of a script on its parts: a call a line, and after `=>` what
+//! it answers. The first word names the call, the next the channel of an end. `read` names how many
+//! reads there are at most and the reader's plan, `write` the writer's; `unflushed` writes to one
+//! whose first flush fails. After the calls the session ends, and further lines ask its report.
+ghost use Rattle.std.specs.Prelude.{IfSome};
+ghost use Rattle.lc_outbox.specs.Outbox.{IsSameOutbox};
+ghost use Rattle.lc_inbox.specs.Sides.{IsSameSide};
+ghost use Rattle.lc_session.specs.Parts.{state_of};
+ghost use Rattle.lc_session.specs.Report.{AreOfOneSession};
+ghost use Rattle.lc_session.specs.Reading.{IsSameReading};
+ghost use Rattle.lc_session_tests.specs.Desks.{StaysOfOne};
+ghost use Rattle.std.specs.List.{AllZip};
+ghost use Rattle.lc_queue.specs.Parts.{IsSame};
+
+use crate::tests::same;
+use lc_driver::Counted;
+use lc_frame::Channel;
+use lc_peer::{Config, Take};
+use lc_session::{Parts, ReadPump, RecvEnd, Report, SendEnd, Session, WritePump, finish};
+use lc_testing::{Odd, Pipe, PipeReader, PipeWriter, Plan, channel, number, plan_of, text};
+use std::alloc::Global;
+use std::mem::replace;
+use std::process::Abort;
+use std::sync::Wait;
+use std::test::Fail;
+
+/// The parts of a session, and the bytes that come.
+#[derive(Drop)]
+pub struct Desk {
+    pub parts: Parts,
+    pub input: Pipe,
+}
+
+/// A session with rings of 8 bytes and so many slots, to which the bytes of these digits come.
+pub fn new_desk(alloc: Global, slots: u32, digits: &str) -> Option<Desk>
+    ensures { IfSome result (λ desk. AreOfOneSession (state_of desk.parts)) }
+{
+    let capacities = [8; 7];
+    let parts = Session::new(alloc, Config { capacities, slots }).ok()?;
+    let input = Pipe::of(hex::decode(alloc, digits).ok()?);
+    Some(Desk { parts, input })
+}
+
+// What a call of a sending end answers.
+fn send<R: Wait>(rt: &R, alloc: Global, end: &mut SendEnd, verb: &str, word: &str) -> Option<String>
+    ensures { IsSameOutbox end.old end.new }
+{
+    match verb {
+        "send" => text(alloc, &end.send(rt, &hex::decode(alloc, word).ok()?)),
+        "absolve" => text(alloc, &end.absolve(rt, word.parse::<u32>().ok()?)),
+        "limit-sending" => text(alloc, &end.limit(rt, number(word)?)),
+        "honour" => text(alloc, &end.honour(rt)),
+        "held" => text(alloc, &end.held()),
+        _ => None,
+    }
+}
+
+// What the first message of an inbox is.
+fn take<R: Wait>(rt: &R, alloc: Global, end: &mut RecvEnd) -> Option<String>
+    ensures { IsSameSide end.old end.new }
+{
+    let mut buffer = [0; 8];
+    match end.take_into(rt, &mut buffer) {
+        Ok(Take::Took(len)) => hex::encode(alloc, buffer.get(..len).unwrap_or(&[])).ok(),
+        other => text(alloc, &other),
+    }
+}
+
+fn server<R: Wait>(rt: &R, alloc: Global, end: &mut RecvEnd) -> Option<String>
+    ensures { IsSameSide end.old end.new }
+{
+    let book = end.book(rt);
+    let (outstanding, buffered) = (book.outstanding(), book.buffered());
+    let left = book.send_left();
+    format!(in alloc; "outstanding {outstanding} buffered {buffered} {left:?}").ok()
+}
+
+// What a call of a receiving end answers.
+fn receive<R: Wait>(
+    rt: &R,
+    alloc: Global,
+    end: &mut RecvEnd,
+    verb: &str,
+    word: &str,
+) -> Option<String>
+    ensures { IsSameSide end.old end.new }
+{
+    match verb {
+        "issue" => text(alloc, &end.issue(rt, word.parse::<u32>().ok()?)),
+        "plead" => text(alloc, &end.plead(rt, word.parse::<u32>().ok()?)),
+        "limit-receiving" => text(alloc, &end.limit(rt, number(word)?)),
+        "take" => take(rt, alloc, end),
+        "server" => server(rt, alloc, end),
+        _ => None,
+    }
+}
+
+fn at_sender<R: Wait>(
+    rt: &R,
+    alloc: Global,
+    ends: &mut [SendEnd; 7],
+    at: Channel,
+    verb: &str,
+    word: &str,
+) -> Option<String>
+    ensures { AllZip IsSameOutbox ends.old ends.new }
+{
+    let end = &mut ends[at.index()];
+    send(rt, alloc, end, verb, word)
+}
+
+fn at_receiver<R: Wait>(
+    rt: &R,
+    alloc: Global,
+    ends: &mut [RecvEnd; 7],
+    at: Channel,
+    verb: &str,
+    word: &str,
+) -> Option<String>
+    ensures { AllZip IsSameSide ends.old ends.new }
+{
+    let end = &mut ends[at.index()];
+    receive(rt, alloc, end, verb, word)
+}
+
+// What a call of an end answers.
+fn end<R: Wait>(
+    rt: &R,
+    alloc: Global,
+    parts: &mut Parts,
+    at: Channel,
+    verb: &str,
+    word: &str,
+) -> Option<String>
+    ensures { StaysOfOne parts.old parts.new }
+{
+    match verb {
+        "send" | "absolve" | "limit-sending" | "honour" | "held" => {
+            at_sender(rt, alloc, &mut parts.send_ends, at, verb, word)
+        }
+        _ => at_receiver(rt, alloc, &mut parts.recv_ends, at, verb, word),
+    }
+}
+
+// How a run of the reading pump ends, and how many reads it made. What it leaves of the input stays.
+fn read<R: Wait>(
+    rt: &R,
+    alloc: Global,
+    pump: &mut ReadPump,
+    input: &mut Pipe,
+    rest: &str,
+) -> Option<String>
+    ensures { IsSameReading pump.old.side pump.new.side }
+{
+    let (max_reads, plan) = rest.split_once(' ')?;
+    let (max_reads, plan) = (number(max_reads)?, plan_of(plan)?);
+    let pipe = replace(input, Pipe::of(Vec::new(alloc)));
+    let mut reader = Counted::new(PipeReader { plan, pipe });
+    let end = pump.run(rt, &mut reader, max_reads);
+    *input = reader.into_inner().pipe;
+    text(alloc, &end)
+}
+
+// How a run of the writing pump ends, what it wrote, and how often it wrote and flushed.
+fn write<R: Wait>(rt: &R, alloc: Global, pump: &mut WritePump, writer: PipeWriter) -> Option<String>
+    ensures { IsSame pump.new.drain.queue pump.old.drain.queue }
+{
+    let mut writer = Counted::new(writer);
+    let end = pump.run(rt, &mut writer);
+    let writer = writer.into_inner();
+    let bytes = hex::encode(alloc, &writer.pipe.bytes).ok()?;
+    let (calls, flushes) = (writer.plan.calls, writer.flushes.calls);
+    format!(in alloc; "{end:?} {bytes} calls {calls} flushes {flushes}").ok()
+}
+
+// A writer whose first flush fails.
+fn unflushed(alloc: Global) -> PipeWriter {
+    PipeWriter {
+        flushes: Plan::odd(Odd::Fails, 1),
+        ..PipeWriter::new(Plan::whole(), Pipe::of(Vec::new(alloc)))
+    }
+}
+
+// What a call answers.
+fn answer<R: Wait>(rt: &R, alloc: Global, desk: &mut Desk, call: &str) -> Option<String>
+    ensures { StaysOfOne desk.old.parts desk.new.parts }
+{
+    let (verb, rest) = call.split_once(' ').unwrap_or((call, ""));
+    let parts = &mut desk.parts;
+    match verb {
+        "stop" => text(alloc, &parts.session.stop()),
+        "read" => read(rt, alloc, &mut parts.read_pump, &mut desk.input, rest),
+        "unflushed" => write(rt, alloc, &mut parts.write_pump, unflushed(alloc)),
+        "write" => {
+            let writer = PipeWriter::new(plan_of(rest)?, Pipe::of(Vec::new(alloc)));
+            write(rt, alloc, &mut parts.write_pump, writer)
+        }
+        _ => {
+            let (first, last) = rest.split_once(' ').unwrap_or((rest, ""));
+            end(rt, alloc, parts, channel(first)?, verb, last)
+        }
+    }
+}
+
+// What a report says: of a client what it received, holds, spent and absolved.
+fn reported(alloc: Global, report: &Report, call: &str) -> Option<String> {
+    let (verb, word) = call.split_once(' ').unwrap_or((call, ""));
+    if verb == "left" {
+        return text(alloc, &(report.left, report.partly));
+    }
+    let at = channel(word)?.index();
+    let client = &report.clients[at];
+    let server = &report.servers[at];
+    match verb {
+        "client" => text(
+            alloc,
+            &(client.received, client.held, client.spent, client.absolved),
+        ),
+        "server" => text(
+            alloc,
+            &(server.outstanding(), server.buffered(), server.issued()),
+        ),
+        _ => None,
+    }
+}
+
+// A line of a script: the call, and what it answers.
+fn call_of(line: &str) -> (&str, &str) {
+    let line = line.trim();
+    line.split_once(" => ").unwrap_or((line, "an answer"))
+}
+
+// Each call of a script, in turn, answers what stands after it.
+fn works<R: Wait + Abort>(rt: &R, alloc: Global, desk: &mut Desk, script: &str)
+    ensures { StaysOfOne desk.old.parts desk.new.parts }
+{
+    for line in script.lines() {
+        let (call, wanted) = call_of(line);
+        same(rt, line, answer(rt, alloc, desk, call), wanted);
+    }
+}
+
+fn reports(rt: &impl Abort, alloc: Global, report: &Report, script: &str) {
+    for line in script.lines() {
+        let (call, wanted) = call_of(line);
+        same(rt, line, reported(alloc, report, call), wanted);
+    }
+}
+
+/// A new session answers each line of a script as it says, and then its report does.
+pub fn run<R: Wait + Abort>(
+    rt: &R,
+    alloc: Global,
+    slots: u32,
+    digits: &str,
+    script: &str,
+    report: &str,
+) -> Result<(), Fail> {
+    let mut desk = new_desk(alloc, slots, digits).ok_or("there is no session")?;
+    works(rt, alloc, &mut desk, script);
+    let Desk { parts, input: _ } = desk;
+    reports(rt, alloc, &finish(rt, parts), report);
+    Ok(())
+}

@@ -1,0 +1,48 @@
+//! Streams of a hostile peer through the reading pump, whole and cut in two after each byte.
+use crate::tests::desk::run;
+use lc_testing::{HOSTILE, Hostile};
+use std::alloc::Global;
+use std::process::Abort;
+use std::sync::Wait;
+use std::test::Fail;
+
+// What a further run answers that may make no read.
+fn without_reads(end: &str) -> &str {
+    if end.starts_with("Violated") || end.starts_with("Fault") {
+        return end;
+    }
+    "TurnsSpent"
+}
+
+// A stream comes to a new session, and the first read gives so many bytes of it.
+fn cut_at<R: Wait + Abort>(
+    rt: &R,
+    alloc: Global,
+    stream: &Hostile,
+    cut: usize,
+) -> Result<(), Fail> {
+    let (own, end, at) = (stream.own, stream.end, stream.channel);
+    let (server, held, taken) = (stream.server, stream.held, stream.taken);
+    let last = without_reads(end);
+    let script = format!(in alloc;
+        "{own}read 10 all {cut} 1 => {end}
+        server {at} => {server}
+        held {at} => {held}
+        take {at} => {taken}
+        take {at} => Ok(Empty)
+        read 10 all => {end}
+        read 0 all => {last}"
+    )?;
+    let report = format!(in alloc; "client {at} => ({held}, {held}, 0, 0)")?;
+    run(rt, alloc, 4, stream.bytes, script.as_str(), report.as_str())
+}
+
+#[test]
+fn streams_cut_anywhere(rt: HostRuntime) -> Result<(), Fail> {
+    for stream in &HOSTILE {
+        for before in 0..stream.bytes.len() / 2 {
+            cut_at(&rt, rt.alloc(), stream, before + 1)?;
+        }
+    }
+    Ok(())
+}

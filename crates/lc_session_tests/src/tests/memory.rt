@@ -1,0 +1,97 @@
+//! Want of memory.
+ghost use Rattle.std.specs.List.{AllZip};
+ghost use Rattle.lc_queue.specs.Parts.{IsSame};
+ghost use Rattle.lc_inbox.specs.Sides.{IsSameSide};
+ghost use Rattle.lc_outbox.specs.Outbox.{IsSameOutbox};
+ghost use Rattle.lc_session.specs.Reading.{IsSameReading};
+ghost use Rattle.lc_session_tests.specs.Desks.{StaysOfOne};
+
+use crate::tests::exchange::session;
+use lc_book::Refusal;
+use lc_driver::{Counted, ReadEnd};
+use lc_session::{Parts, ReadPump, RecvEnd, SendEnd, WriteEnd, WritePump, finish};
+use std::process::Abort;
+use std::sync::Wait;
+use std::test::Fail;
+
+/// An Issue of 5 on channel 1.
+const GUARANTEES: [u8; 5] = [0x21, 0, 0, 0, 5];
+
+/// A Send of `hi` on channel 1.
+const MESSAGE: &[u8] = &[0x11, 0, 2, b'h', b'i'];
+
+/// An Issue of 8.
+const ISSUED: &[u8] = &[0x21, 0, 0, 0, 8];
+
+// Guarantees come.
+fn receive(rt: &(impl Wait + Abort), pump: &mut ReadPump)
+    ensures { IsSameReading pump.old.side pump.new.side }
+{
+    let mut reader = Counted::new(GUARANTEES.as_slice());
+    let end = pump.run(rt, &mut reader, 10);
+    assert_eq!(rt; end, ReadEnd::Clean);
+}
+
+// Whether a message is sent. A send that gets no memory changes nothing.
+fn sends(rt: &(impl Wait + Abort), ends: &mut [SendEnd; 7]) -> bool
+    ensures { AllZip IsSameOutbox ends.old ends.new }
+{
+    let end = &mut ends[1];
+    let sent = end.send(rt, b"hi");
+    let held = end.held();
+    if sent.is_ok() {
+        assert_eq!(rt; held, 3);
+        return true;
+    }
+    assert_eq!(rt; (sent, held), (Err(Refusal::OutOfMemory), 5));
+    false
+}
+
+fn issue(rt: &(impl Wait + Abort), ends: &mut [RecvEnd; 7])
+    ensures { AllZip IsSameSide ends.old ends.new }
+{
+    let end = &mut ends[1];
+    let issued = end.issue(rt, 8);
+    assert_eq!(rt; issued, Ok(()));
+}
+
+// All that was put goes out, into a memory that is large enough.
+fn write(rt: &(impl Wait + Abort), pump: &mut WritePump, out: Vec<u8>, wanted: &[u8]) -> Vec<u8>
+    ensures { IsSame pump.new.drain.queue pump.old.drain.queue }
+{
+    let mut writer = Counted::new(out);
+    let end = pump.run(rt, &mut writer);
+    let mut out = writer.into_inner();
+    assert_eq!(rt; (end, out.as_slice()), (WriteEnd::Stopped, wanted));
+    out.clear();
+    out
+}
+
+// Guarantees come, and a message is sent if there is memory for it: the pump then writes it, or not a
+// byte. It also writes what is issued after that. Whether the message was sent, and the parts.
+fn works(rt: &(impl Wait + Abort), mut parts: Parts, out: Vec<u8>) -> (bool, Parts)
+    ensures { StaysOfOne parts result.1 }
+{
+    receive(rt, &mut parts.read_pump);
+    let sent = sends(rt, &mut parts.send_ends);
+    parts.session.stop();
+    let message = if sent { MESSAGE } else { &[] };
+    let out = write(rt, &mut parts.write_pump, out, message);
+    issue(rt, &mut parts.recv_ends);
+    write(rt, &mut parts.write_pump, out, ISSUED);
+    (sent, parts)
+}
+
+// Requests for memory can be refused here in turn; the first and the last are the test's own.
+#[test]
+fn a_session_and_a_send_ask_for_memory(rt: HostRuntime) -> Result<(), Fail> {
+    let out = Vec::with_capacity(rt.alloc(), 16)?;
+    let (sent, parts) = works(&rt, session(rt.alloc(), 8, 4)?, out);
+    let report = finish(&rt, parts);
+    assert_eq!(rt; (report.left, report.partly), (0, 0));
+    if !sent {
+        return Err("a send was refused and changed nothing")?;
+    }
+    let _: Vec<u8> = Vec::with_capacity(rt.alloc(), 1)?;
+    Ok(())
+}

@@ -1,0 +1,352 @@
+//! Ends and pumps that wait, and what wakes each. One that nothing wakes would wait for ever.
+use crate::tests::ends::{issue, send, take};
+use crate::tests::exchange::{Ends, connection, run_both, session, taken_apart, wires};
+use lc_driver::{Counted, ReadEnd};
+use lc_frame::Channel;
+use lc_peer::Take;
+use lc_session::{ReadPump, RecvEnd, SendEnd, Session, WriteEnd, WritePump};
+use lc_wake::Wake;
+use std::alloc::Global;
+use std::io::{Read, Write};
+use std::net::TcpStream;
+use std::process::Abort;
+use std::sync::Wait;
+use std::test::Fail;
+use std::thread;
+use std::thread::{Threads, join};
+use std::time::{Clock, Duration};
+
+/// What two sessions do in turns.
+#[derive(Clone, Copy)]
+enum Game {
+    /// A message goes one way, and then one the other way.
+    Messages,
+    /// Guarantees go one way, and by a plead are absolved.
+    Pleads,
+}
+
+const ROUNDS: u32 = 1000;
+
+// Sends the messages of all rounds on a channel and takes as many, the one that leads first.
+fn bounce<R: Wait + Abort>(
+    rt: &R,
+    sending: &mut [SendEnd; 7],
+    receiving: &mut [RecvEnd; 7],
+    leads: bool,
+) {
+    let sending = &mut sending[0];
+    let receiving = &mut receiving[0];
+    issue(rt, receiving, 4);
+    for k in 0..ROUNDS {
+        let body = k.to_be_bytes();
+        if leads {
+            send(rt, sending, &body);
+        }
+        take(rt, receiving, &body);
+        issue(rt, receiving, 4);
+        if !leads {
+            send(rt, sending, &body);
+        }
+    }
+}
+
+// Waits until the plead for all guarantees is honoured.
+fn honour<R: Wait + Abort>(rt: &R, sending: &mut SendEnd) {
+    for _ in rt.forever() {
+        match sending.honour(rt) {
+            Ok(None) => assert_eq!(rt; sending.wait(rt), Wake::Again),
+            answer => {
+                assert_eq!(rt; answer, Ok(Some(4)));
+                return;
+            }
+        }
+    }
+}
+
+// Waits until nothing is outstanding.
+fn await_absolving<R: Wait + Abort>(rt: &R, receiving: &mut RecvEnd) {
+    for _ in rt.forever() {
+        if receiving.book(rt).outstanding() == 0 {
+            return;
+        }
+        assert_eq!(rt; receiving.wait(rt), Wake::Again);
+    }
+}
+
+// Waits until the other side sends no more.
+fn await_end<R: Wait + Abort>(rt: &R, receiving: &mut RecvEnd) {
+    for _ in rt.forever() {
+        match receiving.take_into(rt, &mut []) {
+            Ok(Take::Ended) => return,
+            answer => assert_eq!(rt; answer, Ok(Take::Empty)),
+        }
+        assert_eq!(rt; receiving.wait(rt), Wake::Again);
+    }
+}
+
+// Honours a plead in each round, and sends no more then.
+fn give_back<R: Wait + Abort>(rt: &R, sending: &mut [SendEnd; 7]) {
+    let sending = &mut sending[0];
+    for _ in 0..ROUNDS {
+        honour(rt, sending);
+    }
+    assert_eq!(rt; sending.limit(rt, 0), Ok(()));
+}
+
+// Issues and pleads in each round.
+fn ask_back<R: Wait + Abort>(rt: &R, receiving: &mut [RecvEnd; 7]) {
+    let receiving = &mut receiving[0];
+    for _ in 0..ROUNDS {
+        issue(rt, receiving, 4);
+        assert_eq!(rt; receiving.plead(rt, 0), Ok(()));
+        await_absolving(rt, receiving);
+    }
+    await_end(rt, receiving);
+}
+
+// One side's part of a game.
+fn play<R: Wait + Abort>(rt: &R, ends: Ends, leads: bool, game: Game) {
+    let Ends {
+        mut sending,
+        mut receiving,
+    } = ends;
+    match game {
+        Game::Messages => bounce(rt, &mut sending, &mut receiving, leads),
+        Game::Pleads if leads => give_back(rt, &mut sending),
+        Game::Pleads => ask_back(rt, &mut receiving),
+    }
+}
+
+// Both sides play, and then both sessions are stopped.
+fn play_both<R>(rt: &R, a: Ends, b: Ends, sessions: [Session; 2], game: Game)
+where
+    R: Threads + Wait + Abort + Sync,
+{
+    join(rt, || play(rt, a, true, game), || play(rt, b, false, game));
+    for session in &sessions {
+        session.stop();
+    }
+}
+
+#[test]
+fn ends_wait_for_each_other_in_turns(rt: HostRuntime) -> Result<(), Fail> {
+    for game in [Game::Messages, Game::Pleads] {
+        let (a_ends, a_pumps, a) = taken_apart(session(rt.alloc(), 4, 4)?);
+        let (b_ends, b_pumps, b) = taken_apart(session(rt.alloc(), 4, 4)?);
+        let wires = wires(&rt, rt.alloc())?;
+        join(
+            &rt,
+            || play_both(&rt, a_ends, b_ends, [a, b], game),
+            || run_both(&rt, a_pumps, b_pumps, wires),
+        );
+    }
+    Ok(())
+}
+
+// Lets the others get so far that they sleep.
+fn give_way() {
+    for _ in 0..10_000 {
+        thread::yield_now();
+    }
+}
+
+// Writes all until the session is stopped.
+fn write<R: Wait + Abort>(rt: &R, alloc: Global, mut pump: WritePump, wanted: &[u8]) {
+    let mut writer = Counted::new(Vec::new(alloc));
+    let end = pump.run(rt, &mut writer);
+    assert_eq!(rt;
+        (end, writer.into_inner().as_slice()),
+        (WriteEnd::Stopped, wanted)
+    );
+}
+
+// A stop comes once the pump sleeps.
+fn stop_late(session: Session) {
+    give_way();
+    session.stop();
+}
+
+#[test]
+fn a_clone_stops_a_pump_that_sleeps(rt: HostRuntime) -> Result<(), Fail> {
+    let parts = session(rt.alloc(), 8, 4)?;
+    let clone = parts.session.try_clone()?;
+    join(
+        &rt,
+        || stop_late(clone),
+        || write(&rt, rt.alloc(), parts.write_pump, &[]),
+    );
+    Ok(())
+}
+
+// Issues on a channel as soon as there is a slot.
+fn issue_at<R: Wait + Abort>(rt: &R, ends: &mut [RecvEnd; 7], at: Channel, n: u32) {
+    let end = &mut ends[at.index()];
+    issue(rt, end, n);
+}
+
+// Issues where there is no slot yet, and stops the session.
+fn issue_and_stop<R: Wait + Abort>(rt: &R, ends: Ends, session: Session) {
+    let Ends {
+        sending: _,
+        mut receiving,
+    } = ends;
+    issue_at(rt, &mut receiving, Channel::DataChannel, 2);
+    session.stop();
+}
+
+// The pump runs once the ends sleep.
+fn write_late<R: Wait + Abort>(rt: &R, alloc: Global, pump: WritePump, wanted: &[u8]) {
+    give_way();
+    write(rt, alloc, pump, wanted);
+}
+
+#[test]
+fn a_freed_slot_wakes_an_end(rt: HostRuntime) -> Result<(), Fail> {
+    let (mut ends, pumps, session) = taken_apart(session(rt.alloc(), 8, 1)?);
+    issue_at(&rt, &mut ends.receiving, Channel::ReconciliationChannel, 1);
+    let wanted = [0x20, 0, 0, 0, 1, 0x21, 0, 0, 0, 2];
+    join(
+        &rt,
+        || issue_and_stop(&rt, ends, session),
+        || write_late(&rt, rt.alloc(), pumps.writing, &wanted),
+    );
+    Ok(())
+}
+
+// Waits until the end of a pump's run is told.
+fn sleep_sending<R: Wait>(rt: &R, end: &mut SendEnd) {
+    for _ in rt.forever() {
+        if end.wait(rt) == Wake::Over {
+            return;
+        }
+    }
+}
+
+fn sleep_receiving<R: Wait>(rt: &R, end: &mut RecvEnd) {
+    for _ in rt.forever() {
+        if end.wait(rt) == Wake::Over {
+            return;
+        }
+    }
+}
+
+fn sleep_each_sending<R: Threads + Wait + Sync>(rt: &R, mut ends: [SendEnd; 7]) {
+    thread::for_each_mut(rt, &mut ends, 7, &|_, end| sleep_sending(rt, end));
+}
+
+fn sleep_each_receiving<R: Threads + Wait + Sync>(rt: &R, mut ends: [RecvEnd; 7]) {
+    thread::for_each_mut(rt, &mut ends, 7, &|_, end| sleep_receiving(rt, end));
+}
+
+// All ends wait, each in a thread of its own.
+fn sleep_all<R: Threads + Wait + Sync>(rt: &R, ends: Ends) {
+    let Ends { sending, receiving } = ends;
+    join(
+        rt,
+        || sleep_each_sending(rt, sending),
+        || sleep_each_receiving(rt, receiving),
+    );
+}
+
+// A run of a pump ends once the ends sleep.
+fn read_late<R: Wait + Abort>(rt: &R, mut pump: ReadPump) {
+    give_way();
+    let mut reader = Counted::new(b"".as_slice());
+    let end = pump.run(rt, &mut reader, 1);
+    assert_eq!(rt; end, ReadEnd::Clean);
+}
+
+#[test]
+fn the_end_of_a_run_wakes_all_ends(rt: HostRuntime) -> Result<(), Fail> {
+    let (ends, pumps, _session) = taken_apart(session(rt.alloc(), 8, 4)?);
+    join(
+        &rt,
+        || sleep_all(&rt, ends),
+        || read_late(&rt, pumps.reading),
+    );
+    let (ends, pumps, session) = taken_apart(session(rt.alloc(), 8, 4)?);
+    session.stop();
+    join(
+        &rt,
+        || sleep_all(&rt, ends),
+        || write_late(&rt, rt.alloc(), pumps.writing, &[]),
+    );
+    Ok(())
+}
+
+// What a wait of each kind of end answers.
+fn wait_each<R: Wait + Clock>(rt: &R, ends: &mut Ends, timeout: Duration) -> (Wake, Wake) {
+    let sending = &mut ends.sending;
+    let receiving = &mut ends.receiving;
+    (
+        wait_to_send(rt, sending, timeout),
+        wait_to_take(rt, receiving, timeout),
+    )
+}
+
+fn wait_to_send<R: Wait + Clock>(rt: &R, ends: &mut [SendEnd; 7], timeout: Duration) -> Wake {
+    let end = &mut ends[0];
+    end.wait_timeout(rt, timeout)
+}
+
+fn wait_to_take<R: Wait + Clock>(rt: &R, ends: &mut [RecvEnd; 7], timeout: Duration) -> Wake {
+    let end = &mut ends[0];
+    end.wait_timeout(rt, timeout)
+}
+
+#[test]
+fn a_wait_ends_in_time(rt: HostRuntime) -> Result<(), Fail> {
+    let (mut ends, mut pumps, _session) = taken_apart(session(rt.alloc(), 8, 4)?);
+    let early = wait_each(&rt, &mut ends, Duration::from_millis(1));
+    let mut reader = Counted::new(b"".as_slice());
+    let end = pumps.reading.run(&rt, &mut reader, 1);
+    let late = wait_each(&rt, &mut ends, Duration::MAX);
+    assert_eq!(rt; (early, end), ((Wake::Again, Wake::Again), ReadEnd::Clean));
+    assert_eq!(rt; late, (Wake::Over, Wake::Over));
+    Ok(())
+}
+
+// Guarantees come in a run of the reading pump, and an end waits until it is told of them.
+fn await_guarantees<R: Wait + Abort>(rt: &R, ends: Ends, mut writer: TcpStream) {
+    let Ends {
+        mut sending,
+        receiving: _,
+    } = ends;
+    let written = writer.write_all(&[0x21, 0, 0, 0, 5]);
+    assert!(rt; written.is_ok());
+    sleep_until_told(rt, &mut sending);
+    drop(writer);
+}
+
+fn sleep_until_told<R: Wait>(rt: &R, ends: &mut [SendEnd; 7]) {
+    let end = &mut ends[1];
+    for _ in rt.forever() {
+        if end.wait(rt) == Wake::Again {
+            return;
+        }
+    }
+}
+
+// A run that reads to the end of the stream.
+fn read<R: Wait + Abort, D: Read + Drop>(rt: &R, pump: &mut ReadPump, reader: D) {
+    let mut reader = Counted::new(reader);
+    let end = pump.run(rt, &mut reader, u64::MAX);
+    assert_eq!(rt; end, ReadEnd::Clean);
+}
+
+fn read_twice<R: Wait + Abort>(rt: &R, mut pump: ReadPump, reader: TcpStream) {
+    read(rt, &mut pump, b"".as_slice());
+    read(rt, &mut pump, reader);
+}
+
+#[test]
+fn a_further_run_is_not_over(rt: HostRuntime) -> Result<(), Fail> {
+    let (ends, pumps, _session) = taken_apart(session(rt.alloc(), 8, 4)?);
+    let (writer, reader) = connection(&rt)?;
+    join(
+        &rt,
+        || await_guarantees(&rt, ends, writer),
+        || read_twice(&rt, pumps.reading, reader),
+    );
+    Ok(())
+}
