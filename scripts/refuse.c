@@ -1,9 +1,10 @@
 // Preloaded into a program, refuses it the request for memory whose number, from 1 on, is in REFUSED.
 // Where the program ends, it says on standard error how many pieces of memory were not given back. A
 // program that starts threads gets some from the C library that this does not count.
-#include <stddef.h>
 #include <stdio.h>
 #include <stdlib.h>
+#include <sys/syscall.h>
+#include <unistd.h>
 
 void *__libc_malloc(size_t size);
 void *__libc_realloc(void *piece, size_t size);
@@ -42,4 +43,9 @@ __attribute__((constructor)) static void begin(void) {
 __attribute__((destructor)) static void end(void) {
     ready = 0;
     dprintf(2, "kept %ld of %ld\n", kept, requests);
+}
+
+void _exit(int status) {
+    end();
+    for (;;) syscall(SYS_exit_group, status);
 }
