@@ -2,8 +2,8 @@
 use Rattle.std.proofs.Common.{◌≡◌, sym, subst}
 use Rattle.lc_session.specs.Report.{SessionState, AreOfOneSession}
 use Rattle.lc_session.proofs.Same.{session_stays}
-use Rattle.lc_session_tests.specs.declared.tests.exchange.Ends.{Ends}
-use Rattle.lc_session_tests.specs.declared.tests.exchange.Pumps.{Pumps}
+use Rattle.lc_session_tests.specs.declared.parted.Ends.{Ends}
+use Rattle.lc_session_tests.specs.declared.parted.Pumps.{Pumps}
 use Rattle.lc_session_tests.specs.Exchanges.{SameEnds, SamePumps, at_work}
 
 pub work_stays : (old new : SessionState) (ends new_ends : Ends) (pumps new_pumps : Pumps) → AreOfOneSession old → old ≡ at_work ends pumps

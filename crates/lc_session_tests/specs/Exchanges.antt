@@ -5,8 +5,8 @@ use Rattle.lc_inbox.specs.Sides.{IsSameSide}
 use Rattle.lc_outbox.specs.Outbox.{IsSameOutbox}
 use Rattle.lc_session.specs.Reading.{IsSameReading}
 use Rattle.lc_session.specs.Report.{SessionState}
-use Rattle.lc_session_tests.specs.declared.tests.exchange.Ends.{Ends}
-use Rattle.lc_session_tests.specs.declared.tests.exchange.Pumps.{Pumps}
+use Rattle.lc_session_tests.specs.declared.parted.Ends.{Ends}
+use Rattle.lc_session_tests.specs.declared.parted.Pumps.{Pumps}
 
 -- what came back is what was given
 pub record SameEnds (old new : Ends) : Type 0 where

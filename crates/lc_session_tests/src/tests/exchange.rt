@@ -9,6 +9,7 @@ ghost use Rattle.lc_outbox.specs.Outbox.{OutboxState, IsSameOutbox};
 ghost use Rattle.lc_inbox.specs.Sides.{Side, IsSameSide};
 ghost use Rattle.lc_session_tests.specs.Exchanges.{SameEnds, SamePumps, at_work};
 
+use crate::parted::{Ends, Pumps};
 use crate::tests::ends::{Load, send_all, take_all};
 use lc_driver::{Counted, ReadEnd};
 use lc_peer::{Config, PeerFault};
@@ -21,20 +22,6 @@ use std::sync::Wait;
 use std::test::Fail;
 use std::thread::{Threads, join};
 use std::{io, thread};
-
-/// The ends of a session.
-#[derive(Drop)]
-pub struct Ends {
-    pub sending: [SendEnd; 7],
-    pub receiving: [RecvEnd; 7],
-}
-
-/// The pumps of a session.
-#[derive(Drop)]
-pub struct Pumps {
-    pub reading: ReadPump,
-    pub writing: WritePump,
-}
 
 /// The writer and the reader of a new connection.
 pub fn connection<R>(rt: &R) -> io::Result<(TcpStream, TcpStream)>
