@@ -1,6 +1,7 @@
 //! Ends and pumps that wait, and what wakes each. One that nothing wakes would wait for ever.
+use crate::parted::Ends;
 use crate::tests::ends::{issue, send, take};
-use crate::tests::exchange::{Ends, connection, run_both, session, taken_apart, wires};
+use crate::tests::exchange::{connection, run_both, session, taken_apart, wires};
 use lc_driver::{Counted, ReadEnd};
 use lc_frame::Channel;
 use lc_peer::Take;
