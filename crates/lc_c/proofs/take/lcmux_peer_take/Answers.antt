@@ -1,0 +1,6 @@
+use Rattle.std.proofs.Common.{sym}
+use Rattle.lc_c.proofs.Barred.{given_barred}
+use Rattle.lc_c.proofs.take.lcmux_peer_take.Goals as goal
+
+pub returns-in-Barred-clause-buffer : goal.returns-in-Barred-clause-buffer
+returns-in-Barred-clause-buffer c = sym (given_barred _ _ _ _ c.in-Barred.ensures.barred)

@@ -1,0 +1,24 @@
+//! The peer for programs in C, behind a handle.
+#![tactic(auto)]
+
+mod answer;
+mod balances;
+mod handle;
+mod make;
+mod own;
+mod parts;
+mod peer;
+mod pending;
+mod reach;
+mod side;
+mod take;
+
+pub use answer::LcmuxAnswer;
+pub use balances::{LcmuxClient, LcmuxServer, NO_LIMIT, lcmux_peer_client, lcmux_peer_server};
+pub use handle::Slot;
+pub use make::{LcmuxConfig, lcmux_peer_free, lcmux_peer_new};
+pub use own::{lcmux_peer_absolve, lcmux_peer_honour, lcmux_peer_issue, lcmux_peer_limit_receiving, lcmux_peer_limit_sending, lcmux_peer_plead, lcmux_peer_send};
+pub use peer::LcmuxPeer;
+pub use pending::Pending;
+pub use side::Side;
+pub use take::{lcmux_peer_front_len, lcmux_peer_take};
