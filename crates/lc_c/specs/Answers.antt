@@ -33,6 +33,10 @@ bad_capacity = 36
 abbrev pub bad_slots : ℕ
 bad_slots = 37
 
+-- there is no such code
+abbrev pub no_code : ℕ
+no_code = 38
+
 -- no message waits
 abbrev pub empty : ℕ
 empty = 48

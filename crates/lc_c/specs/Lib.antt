@@ -6,3 +6,5 @@ pub mod Calls
 pub mod Takes
 pub mod Make
 pub mod Balances
+pub mod Streams
+pub mod Texts

@@ -1,5 +1,5 @@
 -- What makes a peer behind a handle, and why there is none. That the format has versions is this project's own, and so are all bounds.
-use Rattle.std.specs.Prelude.{◌≡◌, ℕ, ◌==◌, ◌⊎◌, Bool, true, false, if◌then◌else◌, [], Option, Some, None}
+use Rattle.std.specs.Prelude.{◌≡◌, ◌==◌, ◌⊎◌, Bool, true, false, if◌then◌else◌, [], Option, Some, None}
 use Rattle.lc_frame.specs.Channel.{number_of}
 use Rattle.lc_book.specs.declared.fault.Refusal.TheVariants as refusals
 use Rattle.lc_peer.specs.declared.config.Config.{Config}

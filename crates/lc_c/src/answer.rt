@@ -33,6 +33,9 @@ pub(crate) const BAD_CAPACITY: u32 = 36;
 /// Not 1 to 65,536 frames might wait.
 pub(crate) const BAD_SLOTS: u32 = 37;
 
+/// There is no such code.
+pub(crate) const NO_CODE: u32 = 38;
+
 /// No message waits.
 pub(crate) const EMPTY: u32 = 48;
 

@@ -11,14 +11,24 @@ mod peer;
 mod pending;
 mod reach;
 mod side;
+mod stream;
+mod streams;
 mod take;
+mod text;
 
 pub use answer::LcmuxAnswer;
 pub use balances::{LcmuxClient, LcmuxServer, NO_LIMIT, lcmux_peer_client, lcmux_peer_server};
 pub use handle::Slot;
 pub use make::{LcmuxConfig, lcmux_peer_free, lcmux_peer_new};
-pub use own::{lcmux_peer_absolve, lcmux_peer_honour, lcmux_peer_issue, lcmux_peer_limit_receiving, lcmux_peer_limit_sending, lcmux_peer_plead, lcmux_peer_send};
+pub use own::{
+    lcmux_peer_absolve, lcmux_peer_honour, lcmux_peer_issue, lcmux_peer_limit_receiving,
+    lcmux_peer_limit_sending, lcmux_peer_plead, lcmux_peer_send,
+};
 pub use peer::LcmuxPeer;
 pub use pending::Pending;
 pub use side::Side;
+pub use stream::{
+    LcmuxDelivery, lcmux_peer_deliver, lcmux_peer_end, lcmux_peer_pending, lcmux_peer_write,
+};
 pub use take::{lcmux_peer_front_len, lcmux_peer_take};
+pub use text::{lcmux_text, lcmux_version};

@@ -1,6 +1,4 @@
 //! A peer with what it keeps of its two streams.
-ghost use Rattle.std.specs.Prelude.{◌≡◌, ◌++◌, [], None, length, take, drop, IfOk, IfSome};
-
 use crate::pending::Pending;
 use lc_frame::StreamDecoder;
 use lc_peer::{Peer, Stop};

@@ -25,10 +25,8 @@ use denote.Steps.{nothing}
 use denote.RattleType.{Valss}
 use denote.RawPtr.{RawPtr, null_ptr}
 use denote.Struct.Struct.{within}
-use denote.Struct.Owning.{shape}
 use Rattle.std.proofs.alloc.Calls.{α, handle_tells}
 use Rattle.std_alloc.proofs.ResultValues.{and_tt}
-use Rattle.lc_c.specs.contracts.handle.Slot as Handle
 use denote.Triple.Spec.{triple_of}
 use denote.Triple.Table.{entered}
 use denote.Triple.Walked.{says, Stays, stay_dropped, walk_of, ends_at, Goes-dropped, walk_Meets}

@@ -5,7 +5,7 @@ use mathlib.Core.Bool.{false≢true}
 use seplogic.Ra.Ura.{Ura}
 use Rattle.std.specs.Prelude.{◌≡◌, Option, Some, None, IsSome}
 use mir.Val.{Val}
-use base.Logic.{SProp, ent, emp, id⊢}
+use base.Logic.{SProp, ent, id⊢}
 use base.Fml.{ftrue, fsep}
 use prog.Memory.{Memory}
 use prog.Routine.{Routine}
@@ -24,7 +24,7 @@ use denote.Steps.{nothing, heard}
 use denote.Triple.Spec.{triple_of}
 use denote.Triple.Table.{entered}
 use denote.Triple.Walked.{says, Stays, stay_dropped, walk_of, ends_at, Goes-dropped, walk_Meets}
-use Rattle.std_alloc.proofs.BoxSteps.Form.{D, X, B, word, box_typed}
+use Rattle.std_alloc.proofs.BoxSteps.Form.{D, X, word, box_typed}
 use Rattle.std_alloc.proofs.BoxSteps.Steps.{box_out, box_in}
 use Rattle.lc_c.proofs.AsBox.{E, FromHandle as From, Handle-row}
 use Rattle.lc_c.specs.contracts.handle.Slot.into_parts as F
