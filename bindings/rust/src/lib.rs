@@ -12,6 +12,27 @@
 //! [`Peer`] is pure: bytes in by [`Peer::deliver`], bytes out by [`Peer::write`]. [`Peer::read_from`]
 //! and [`Peer::write_to`] do the same over any reader and writer. `examples/tcp.rs` runs two peers in
 //! two processes over TCP.
+//!
+//! ```no_run
+//! use lcmux::{Channel::Data, Config, Peer, Take};
+//!
+//! fn serve(mut stream: std::net::TcpStream) -> Result<(), Box<dyn std::error::Error>> {
+//!     let mut peer = Peer::new(&Config::new([1024; 7], 16))?;
+//!     peer.issue(Data, 1024)?; // room for 1,024 bytes is promised
+//!     let mut message = [0; 1024];
+//!     loop {
+//!         peer.write_to(&mut stream)?;
+//!         match peer.take_into(Data, &mut message)? {
+//!             Take::Took(len) => {
+//!                 println!("{}", String::from_utf8_lossy(&message[..len]));
+//!                 peer.issue(Data, len as u32)?; // and anew once it was taken
+//!             }
+//!             Take::Empty if peer.read_from(&mut stream)? > 0 => {}
+//!             Take::Empty | Take::Ended => return Ok(()),
+//!         }
+//!     }
+//! }
+//! ```
 #![warn(missing_docs)]
 #![deny(unsafe_code, unsafe_op_in_unsafe_fn)]
 

@@ -307,9 +307,12 @@ impl Peer {
         stop.map_or(Ok(count), |stop| Err(ReadError::Stopped(stop)))
     }
 
-    /// The length of the first message, which stays.
-    pub fn front_len(&self, channel: Channel) -> Take {
-        take(self.handle.front_len(channel.number().into())).unwrap_or(Take::Empty)
+    /// The length of the first message, which stays; `None` where none waits.
+    pub fn front_len(&self, channel: Channel) -> Option<usize> {
+        match self.handle.front_len(channel.number().into()) {
+            Answer { code: 0, number } => Some(number as usize),
+            _ => None,
+        }
     }
 
     /// Takes the first message, to the front of `buffer`; its bytes are room of the ring again. Refused
@@ -320,10 +323,7 @@ impl Peer {
 
     /// Takes the first message, where one waits.
     pub fn take(&mut self, channel: Channel) -> Option<Vec<u8>> {
-        let Take::Took(len) = self.front_len(channel) else {
-            return None;
-        };
-        let mut message = vec![0; len];
+        let mut message = vec![0; self.front_len(channel)?];
         match self.take_into(channel, &mut message) {
             Ok(Take::Took(_)) => Some(message),
             _ => None,

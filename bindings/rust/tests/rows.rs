@@ -160,10 +160,9 @@ fn answer(me: &mut Side, other: &mut Side, words: &[&str], piece: usize) -> Stri
             let take = peer.take_into(channel, &mut buffer);
             taken(take, &buffer)
         }
-        "front" => match peer.front_len(channel) {
-            Take::Took(len) => len.to_string(),
-            take => taken(Ok(take), &[]),
-        },
+        "front" => peer
+            .front_len(channel)
+            .map_or("empty".into(), |len| len.to_string()),
         word => balances(peer, word, channel),
     }
 }

@@ -66,3 +66,6 @@ impl Slot {
         }
     }
 }
+
+// What stands behind a handle is memory that no thread owns.
+unsafe impl Send for Slot {}
