@@ -50,6 +50,63 @@ impl Direction {
     }
 }
 
+// The rules: what an own call leaves of its direction, or why it is refused.
+impl Direction {
+    fn sent(&self, len: u64) -> Result<Direction, Refusal> {
+        match self.send_left {
+            _ if len == 0 => Err(Refusal::EmptyBody),
+            Some(left) if len > left => Err(Refusal::PastSendLimit { left }),
+            _ if len > self.held => Err(Refusal::NoGuarantee { held: self.held }),
+            left => Ok(Direction {
+                held: self.held - len,
+                spent: self.spent + len,
+                send_left: left.map(|left| left - len),
+                ..self.clone()
+            }),
+        }
+    }
+
+    fn absolved(&self, n: u64) -> Result<Direction, Refusal> {
+        match n {
+            0 => Err(Refusal::ZeroAmount),
+            n if n > self.held => Err(Refusal::NotHeld { held: self.held }),
+            n => Ok(Direction {
+                held: self.held - n,
+                absolved: self.absolved + n,
+                ..self.clone()
+            }),
+        }
+    }
+
+    fn issued(&self, n: u64) -> Result<Direction, Refusal> {
+        match self.server_receive_left {
+            _ if n == 0 => Err(Refusal::ZeroAmount),
+            Some(left) if n > left => Err(Refusal::PastReceiveLimit { left }),
+            _ if n > self.room() => Err(Refusal::NoRoom { room: self.room() }),
+            left => Ok(Direction {
+                outstanding: self.outstanding + n,
+                server_receive_left: left.map(|left| left - n),
+                ..self.clone()
+            }),
+        }
+    }
+
+    fn pleaded(&self, target: u32) -> Result<Direction, Refusal> {
+        let outstanding = self.outstanding;
+        match u64::from(target) < outstanding {
+            true => Ok(self.clone()),
+            false => Err(Refusal::NothingToAsk { outstanding }),
+        }
+    }
+}
+
+fn limited(left: Option<u64>, bound: u64) -> Result<u64, Refusal> {
+    match left {
+        Some(left) if bound > left => Err(Refusal::LimitRaised { left }),
+        _ => Ok(bound),
+    }
+}
+
 // One side: the peer, and in the model what waits, what was begun, and its bytes on the wire.
 struct Side {
     peer: Peer,
@@ -97,47 +154,20 @@ impl Pair {
             Frame::Send(_) | Frame::Absolve(_) | Frame::LimitSending(_) => &mut self.ways[me][at],
             _ => &mut self.ways[1 - me][at],
         };
-        let mut next = way.clone();
-        match &frame {
-            Frame::Send(body) => {
-                let len = body.len() as u64;
-                match next.send_left {
-                    _ if len == 0 => return Err(Refusal::EmptyBody),
-                    Some(left) if len > left => return Err(Refusal::PastSendLimit { left }),
-                    _ if len > next.held => return Err(Refusal::NoGuarantee { held: next.held }),
-                    left => next.send_left = left.map(|left| left - len),
-                }
-                (next.held, next.spent) = (next.held - len, next.spent + len);
-            }
-            Frame::Absolve(0) | Frame::Issue(0) => return Err(Refusal::ZeroAmount),
-            Frame::Absolve(n) if *n > next.held => {
-                return Err(Refusal::NotHeld { held: next.held })
-            }
-            Frame::Absolve(n) => (next.held, next.absolved) = (next.held - n, next.absolved + n),
-            Frame::Issue(n) => {
-                match next.server_receive_left {
-                    Some(left) if *n > left => return Err(Refusal::PastReceiveLimit { left }),
-                    _ if *n > next.room() => return Err(Refusal::NoRoom { room: next.room() }),
-                    left => next.server_receive_left = left.map(|left| left - n),
-                }
-                next.outstanding += n;
-            }
-            Frame::Plead(target) if u64::from(*target) >= next.outstanding => {
-                let outstanding = next.outstanding;
-                return Err(Refusal::NothingToAsk { outstanding });
-            }
-            Frame::Plead(_) => {}
-            Frame::LimitSending(bound) | Frame::LimitReceiving(bound) => {
-                let mine = match frame {
-                    Frame::LimitSending(_) => &mut next.send_left,
-                    _ => &mut next.server_receive_left,
-                };
-                match *mine {
-                    Some(left) if *bound > left => return Err(Refusal::LimitRaised { left }),
-                    _ => *mine = Some(*bound),
-                }
-            }
-        }
+        let next = match &frame {
+            Frame::Send(body) => way.sent(body.len() as u64)?,
+            Frame::Absolve(n) => way.absolved(*n)?,
+            Frame::Issue(n) => way.issued(*n)?,
+            Frame::Plead(target) => way.pleaded(*target)?,
+            Frame::LimitSending(bound) => Direction {
+                send_left: Some(limited(way.send_left, *bound)?),
+                ..way.clone()
+            },
+            Frame::LimitReceiving(bound) => Direction {
+                server_receive_left: Some(limited(way.server_receive_left, *bound)?),
+                ..way.clone()
+            },
+        };
         if full {
             return Err(Refusal::QueueFull);
         }
