@@ -1,4 +1,4 @@
-use Rattle.std.proofs.Common.{arith}
+use Rattle.std.proofs.Common.{rules, arith}
 use Rattle.lc_c.proofs.Gives.{gives_then, written_then}
 use Rattle.lc_c.proofs.streams.give.Goals as goal
 
@@ -12,3 +12,6 @@ frames-preserved c =
       written = written_then c.frames.done c.give_next-count.result c.args.out.now c.frames.out _ _ _ at.gives at.written cut.front cut.back gave.written;
       gives = gives_then at.gives gave.gives;
     }
+
+pub returns-clause-count : goal.returns-clause-count
+returns-clause-count c = search rules
