@@ -129,9 +129,12 @@ fn some_unless_none(number: u64) -> Option<u64> {
 /// ```
 pub struct Peer {
     handle: Handle,
-    // What was written out and no writer took yet.
+    // What was written out and no writer took yet: the bytes from start to end.
     unsent: Vec<u8>,
     start: usize,
+    end: usize,
+    // What reads go into.
+    piece: Vec<u8>,
 }
 
 impl Peer {
@@ -156,6 +159,8 @@ impl Peer {
                 handle,
                 unsent: Vec::new(),
                 start: 0,
+                end: 0,
+                piece: Vec::new(),
             }),
             Err(Answer { code, number }) => Err(PeerFault::of(code, number)),
         }
@@ -227,7 +232,7 @@ impl Peer {
     /// The next bytes that go out, to the front of `buffer`: as many as there are and have room, which
     /// is the answer. A frame that does not fit goes on in the next call.
     pub fn write(&mut self, buffer: &mut [u8]) -> usize {
-        let count = buffer.len().min(self.unsent.len() - self.start);
+        let count = buffer.len().min(self.end - self.start);
         buffer[..count].copy_from_slice(&self.unsent[self.start..self.start + count]);
         self.start += count;
         count + self.handle.write(&mut buffer[count..]).number as usize
@@ -235,7 +240,7 @@ impl Peer {
 
     /// How many bytes are to go out. It looks at each frame that waits.
     pub fn pending(&self) -> usize {
-        self.unsent.len() - self.start + self.handle.pending().number as usize
+        self.end - self.start + self.handle.pending().number as usize
     }
 
     /// Writes all that is to go out, and answers how many bytes that were. It doesn't flush. A write
@@ -254,16 +259,14 @@ impl Peer {
     pub fn write_to(&mut self, writer: &mut impl Write) -> io::Result<u64> {
         let mut written = 0;
         loop {
-            if self.start == self.unsent.len() {
+            if self.start == self.end {
                 self.unsent.resize(PIECE, 0);
-                let count = self.handle.write(&mut self.unsent).number as usize;
-                self.unsent.truncate(count);
-                self.start = 0;
-                if count == 0 {
+                (self.start, self.end) = (0, self.handle.write(&mut self.unsent).number as usize);
+                if self.end == 0 {
                     return Ok(written);
                 }
             }
-            match writer.write(&self.unsent[self.start..]) {
+            match writer.write(&self.unsent[self.start..self.end]) {
                 Ok(0) => return Err(ErrorKind::WriteZero.into()),
                 Ok(count) => {
                     self.start += count;
@@ -293,16 +296,16 @@ impl Peer {
         if let Some(stop) = self.deliver(&[]).stop {
             return Err(ReadError::Stopped(stop));
         }
-        let mut piece = vec![0; PIECE];
+        self.piece.resize(PIECE, 0);
         let count = loop {
-            match reader.read(&mut piece) {
+            match reader.read(&mut self.piece) {
                 Err(error) if error.kind() == ErrorKind::Interrupted => {}
                 answer => break answer?,
             }
         };
         let stop = match count {
             0 => self.end().err(),
-            _ => self.deliver(&piece[..count]).stop,
+            _ => Stop::of(self.handle.deliver(&self.piece[..count]).code),
         };
         stop.map_or(Ok(count), |stop| Err(ReadError::Stopped(stop)))
     }
