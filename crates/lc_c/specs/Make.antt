@@ -5,7 +5,7 @@ use Rattle.lc_book.specs.declared.fault.Refusal.TheVariants as refusals
 use Rattle.lc_peer.specs.declared.config.Config.{Config}
 use Rattle.lc_peer.specs.declared.config.PeerFault.{PeerFault}
 use Rattle.lc_peer.specs.declared.config.PeerFault.TheVariants.{BadCapacity, BadSlots, OutOfMemory}
-use Rattle.lc_peer.specs.Config.{config_fault, IsNewAnswer, new_peer}
+use Rattle.lc_peer.specs.Config.{config_fault, new_peer}
 use Rattle.lc_c.specs.declared.answer.LcmuxAnswer.{LcmuxAnswer}
 use Rattle.lc_c.specs.declared.make.LcmuxConfig.{LcmuxConfig}
 use Rattle.lc_c.specs.declared.side.Side.{Side}
@@ -23,10 +23,6 @@ config_in config = record { capacities = config.capacities; slots = config.slots
 -- nothing has happened, and no byte came or went
 abbrev pub new_side : Config → Side
 new_side config = record { peer = new_peer config; decoder = record { bytes = [] }; stop = None; pending = record { bytes = [] } }
-
--- a side is made of a configuration without a fault, where there is memory
-abbrev pub IsSideFault : Config → Option PeerFault → Type 0
-IsSideFault config fault = IsNewAnswer config fault
 
 abbrev pub fault_or_done : Option PeerFault → LcmuxAnswer
 fault_or_done None = only done

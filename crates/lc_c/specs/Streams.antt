@@ -11,7 +11,7 @@ use Rattle.lc_peer.specs.declared.delivery.Stop.{Stop}
 use Rattle.lc_peer.specs.declared.delivery.Stop.TheVariants.{Fault, Violated}
 use Rattle.lc_peer.specs.Deliveries.{Delivers}
 use Rattle.lc_c.specs.declared.answer.LcmuxAnswer.{LcmuxAnswer}
-use Rattle.lc_c.specs.declared.stream.LcmuxDelivery.{LcmuxDelivery}
+use Rattle.lc_c.specs.declared.wire.LcmuxDelivery.{LcmuxDelivery}
 use Rattle.lc_c.specs.declared.side.Side.{Side}
 use Rattle.lc_c.specs.Answers.{done, only, no_peer}
 

@@ -1,9 +1,9 @@
 //! Making a peer behind a handle, and freeing it.
 ghost use Rattle.std.specs.Prelude.{◌≡◌, None, IfOk, is_some, if◌then◌else◌};
 ghost use Rattle.std.specs.Result.{result_err};
-ghost use Rattle.lc_peer.specs.declared.config.PeerFault.TheVariants.{OutOfMemory as NoMemory};
+ghost use Rattle.lc_peer.specs.Config.{IsNewAnswer};
 ghost use Rattle.lc_c.specs.Answers.{only, done, no_peer, is_done};
-ghost use Rattle.lc_c.specs.Make.{fault_answer, config_in, new_side, IsSideFault, MakeAnswers, made};
+ghost use Rattle.lc_c.specs.Make.{fault_answer, new_side, MakeAnswers, made};
 
 use crate::answer::{
     BAD_CAPACITY, BAD_SLOTS, BAD_VERSION, DONE, HAS_PEER, LcmuxAnswer, NO_PEER, only, refused,
@@ -44,7 +44,7 @@ fn fault_answer(fault: PeerFault) -> LcmuxAnswer
 
 // A side on which nothing has happened.
 fn new_side(alloc: Global, config: Config) -> Result<Box<Side>, PeerFault>
-    ensures answer { IsSideFault config (result_err result) }
+    ensures answer { IsNewAnswer config (result_err result) }
     ensures value { IfOk result (λ side. side.value ≡ new_side config) }
 {
     let peer = Peer::new(alloc, config)?;

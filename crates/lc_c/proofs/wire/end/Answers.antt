@@ -1,7 +1,7 @@
 use Rattle.std.proofs.Common.{Option, Ok, Err, refl, sym, subst, ap, ◌+◌, ℕ, ◌∙◌}
 use Rattle.lc_peer.specs.declared.delivery.Stop.{Stop}
 use Rattle.lc_c.specs.Streams.{EndsWith}
-use Rattle.lc_c.proofs.stream.end.Goals as goal
+use Rattle.lc_c.proofs.wire.end.Goals as goal
 
 pub returns-in-Ok : goal.returns-in-Ok
 returns-in-Ok c = subst (λ (s : Option Stop). EndsWith s c.args.side.now.decoder.bytes 0) (sym c.in-None.is) (record { end = Ok c.in-Ok.field-0; ends = c.in-Ok.ensures; is = refl })
