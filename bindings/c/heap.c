@@ -1,0 +1,32 @@
+/* The three functions by which the library asks for memory. A program that defines all three itself
+ * gets its own in their place. */
+#include <stdbool.h>
+#include <stddef.h>
+#include <stdlib.h>
+
+struct lcmux_tried {
+    bool ok;
+    void *at;
+};
+
+struct lcmux_tried rattle_alloc(size_t size, size_t align);
+struct lcmux_tried rattle_realloc(void *at, size_t kept, size_t size, size_t align);
+void rattle_dealloc(void *at);
+
+static char nothing;
+
+/* malloc aligns to each power of two up to 16 that divides the size. */
+struct lcmux_tried rattle_alloc(size_t size, size_t align) {
+    void *at = malloc(size ? size : align);
+    return (struct lcmux_tried){at != NULL, at ? at : &nothing};
+}
+
+struct lcmux_tried rattle_realloc(void *at, size_t kept, size_t size, size_t align) {
+    (void)kept;
+    void *moved = realloc(at, size ? size : align);
+    return (struct lcmux_tried){moved != NULL, moved ? moved : &nothing};
+}
+
+void rattle_dealloc(void *at) {
+    free(at);
+}

@@ -1,0 +1,222 @@
+/* Runs the cases of rows.txt through the library: `rows FILE` delivers the bytes of a line whole,
+ * `rows FILE 1` a byte at a time. Prints how many lines were answered as they say. */
+#include "lcmux.h"
+
+#include <inttypes.h>
+#include <stdbool.h>
+#include <stdio.h>
+#include <stdlib.h>
+#include <string.h>
+
+/* One side, and its bytes that did not arrive yet. */
+struct side {
+    lcmux_peer peer;
+    uint8_t out[1 << 17];
+    size_t from, to;
+};
+
+static struct side sides[2];
+static size_t piece = SIZE_MAX;
+static char said[512];
+
+static void say_code(uint32_t code, uint64_t number) {
+    static const char *const named[17] = {[3] = "left", [4] = "held", [6] = "held", [8] = "left", [9] = "left", [10] = "room", [11] = "outstanding", [16] = "need"};
+    if (code == LCMUX_OK)
+        strcpy(said, "ok");
+    else if (code < 17 && named[code])
+        snprintf(said, sizeof said, "refused %" PRIu32 " %s %" PRIu64, code, named[code], number);
+    else if (code < 17)
+        snprintf(said, sizeof said, "refused %" PRIu32, code);
+    else if (code == LCMUX_NO_PEER || code == LCMUX_NO_CHANNEL)
+        strcpy(said, code == LCMUX_NO_PEER ? "no peer" : "no channel");
+    else if (code == LCMUX_EMPTY || code == LCMUX_ENDED)
+        strcpy(said, code == LCMUX_EMPTY ? "empty" : "ended");
+    else
+        snprintf(said, sizeof said, code > 200 ? "fault F%" PRIu32 : "violation V%" PRIu32, code % 100);
+}
+
+static void say_hex(const char *before, const uint8_t *bytes, size_t len) {
+    size_t at = (size_t)snprintf(said, sizeof said, "%s%s", before, len ? "" : "-");
+    for (size_t i = 0; i < len; i++)
+        at += (size_t)snprintf(said + at, sizeof said - at, "%02x", bytes[i]);
+}
+
+static size_t unhex(const char *hex, uint8_t *bytes) {
+    size_t len = 0;
+    unsigned byte;
+    for (; sscanf(hex + 2 * len, "%2x", &byte) == 1; len++)
+        bytes[len] = (uint8_t)byte;
+    return len;
+}
+
+static const char *or_none(uint64_t left, char *text) {
+    if (left == LCMUX_NONE)
+        return "-";
+    sprintf(text, "%" PRIu64, left);
+    return text;
+}
+
+/* The next frame of the other side's bytes, byte by byte. */
+static void arrive(struct side *me, struct side *other) {
+    other->to += lcmux_peer_write(&other->peer, other->out + other->to, sizeof other->out - other->to).number;
+    while (other->from < other->to) {
+        lcmux_delivery d = lcmux_peer_deliver(&me->peer, other->out + other->from++, 1);
+        if (d.code != LCMUX_OK || d.frames == 1) {
+            say_code(d.code, 0);
+            if (d.code == LCMUX_OK)
+                strcpy(said, "arrived");
+            return;
+        }
+    }
+    strcpy(said, "nothing in flight");
+}
+
+static void deliver(struct side *me, const uint8_t *bytes, size_t len) {
+    lcmux_delivery d = {LCMUX_OK, 0, 0};
+    for (size_t at = 0; at < len && d.code == LCMUX_OK; at += d.taken)
+        d = lcmux_peer_deliver(&me->peer, bytes + at, len - at < piece ? len - at : piece);
+    say_code(d.code, 0);
+}
+
+static void say_client(lcmux_peer *peer, uint32_t channel) {
+    lcmux_client c;
+    char a[24], b[24], d[24];
+    lcmux_answer got = lcmux_peer_client(peer, channel, &c);
+    say_code(got.code, got.number);
+    if (got.code == LCMUX_OK)
+        snprintf(said, sizeof said, "held %" PRIu64 " send_left %s receive_left %s asked %s", c.held, or_none(c.send_left, a), or_none(c.receive_left, b), or_none(c.asked, d));
+}
+
+static void say_server(lcmux_peer *peer, uint32_t channel) {
+    lcmux_server s;
+    lcmux_answer got = lcmux_peer_server(peer, channel, &s);
+    say_code(got.code, got.number);
+    if (got.code != LCMUX_OK)
+        return;
+    int at = snprintf(said, sizeof said, "outstanding %" PRIu64 " buffered %" PRIu64 " room %" PRIu64, s.outstanding, s.buffered, s.room);
+    if (s.send_left != LCMUX_NONE)
+        snprintf(said + at, sizeof said - (size_t)at, " send_left %" PRIu64, s.send_left);
+}
+
+/* One line without its answer. Answers whether it is an own call with a plain answer. */
+static bool own_call(lcmux_peer *peer, const char *word, uint32_t channel, const char *arg, lcmux_answer *answer) {
+    static uint8_t body[1 << 17];
+    uint64_t number = strtoull(arg, NULL, 10);
+    if (!strcmp(word, "send"))
+        *answer = lcmux_peer_send(peer, channel, body, unhex(arg, body));
+    else if (!strcmp(word, "send-zeros"))
+        *answer = lcmux_peer_send(peer, channel, body, number);
+    else if (!strcmp(word, "issue"))
+        *answer = lcmux_peer_issue(peer, channel, (uint32_t)number);
+    else if (!strcmp(word, "absolve"))
+        *answer = lcmux_peer_absolve(peer, channel, (uint32_t)number);
+    else if (!strcmp(word, "plead"))
+        *answer = lcmux_peer_plead(peer, channel, (uint32_t)number);
+    else if (!strcmp(word, "limit-sending"))
+        *answer = lcmux_peer_limit_sending(peer, channel, number);
+    else if (!strcmp(word, "limit-receiving"))
+        *answer = lcmux_peer_limit_receiving(peer, channel, number);
+    else
+        return false;
+    return true;
+}
+
+static bool other_call(struct side *me, struct side *other, const char *word, const char *first, const char *second) {
+    static uint8_t bytes[1 << 17];
+    uint32_t channel = (uint32_t)strtoull(first, NULL, 10);
+    lcmux_answer answer = {LCMUX_OK, 0};
+    if (!strcmp(word, "arrive"))
+        arrive(me, other);
+    else if (!strcmp(word, "bytes"))
+        deliver(me, bytes, unhex(first, bytes));
+    else if (!strcmp(word, "client"))
+        say_client(&me->peer, channel);
+    else if (!strcmp(word, "server"))
+        say_server(&me->peer, channel);
+    else if (!strcmp(word, "take")) {
+        answer = lcmux_peer_take(&me->peer, channel, bytes, *second ? strtoull(second, NULL, 10) : sizeof bytes);
+        say_code(answer.code, answer.number);
+        if (answer.code == LCMUX_OK)
+            say_hex("took ", bytes, answer.number);
+    } else if (!strcmp(word, "write")) {
+        answer = lcmux_peer_write(&me->peer, bytes, channel);
+        say_hex("", bytes, answer.number);
+    } else if (!strcmp(word, "honour")) {
+        answer = lcmux_peer_honour(&me->peer, channel);
+        say_code(answer.code, answer.number);
+        if (answer.code == LCMUX_OK && answer.number)
+            snprintf(said, sizeof said, "absolved %" PRIu64, answer.number);
+        else if (answer.code == LCMUX_OK)
+            strcpy(said, "nothing to absolve");
+    } else if (!strcmp(word, "front") || !strcmp(word, "pending")) {
+        answer = *word == 'f' ? lcmux_peer_front_len(&me->peer, channel) : lcmux_peer_pending(&me->peer);
+        say_code(answer.code, answer.number);
+        if (answer.code == LCMUX_OK)
+            snprintf(said, sizeof said, "%" PRIu64, answer.number);
+    } else if (!strcmp(word, "end")) {
+        answer = lcmux_peer_end(&me->peer);
+        say_code(answer.code, answer.number);
+    } else
+        return false;
+    return true;
+}
+
+static bool begin(uint32_t capacity, uint32_t slots) {
+    lcmux_config config = {.version = 1, .slots = slots};
+    for (int c = 0; c < 7; c++)
+        config.capacities[c] = capacity;
+    for (int s = 0; s < 2; s++) {
+        lcmux_peer_free(&sides[s].peer);
+        sides[s].from = sides[s].to = 0;
+        if (lcmux_peer_new(&config, &sides[s].peer).code != LCMUX_OK)
+            return false;
+    }
+    return true;
+}
+
+static bool run(char *line) {
+    char name[2] = "", word[24] = "", first[256] = "", second[32] = "";
+    uint32_t capacity, slots;
+    lcmux_answer answer;
+    if (sscanf(line, "rings %" SCNu32 " %" SCNu32, &capacity, &slots) == 2)
+        return begin(capacity, slots);
+    char *want = strstr(line, " => ");
+    if (!want || (*want = 0, sscanf(line, "%1s %23s %255s %31s", name, word, first, second)) < 2)
+        return false;
+    struct side *me = &sides[*name == 'B'], *other = &sides[*name == 'A'];
+    if (own_call(&me->peer, word, (uint32_t)strtoull(first, NULL, 10), second, &answer))
+        say_code(answer.code, answer.number);
+    else if (!other_call(me, other, word, first, second))
+        return false;
+    return !strcmp(said, want + 4);
+}
+
+int main(int argc, char **argv) {
+    char line[512], shown[512];
+    int cases = 0, lines = 0;
+    FILE *rows = argc > 1 ? fopen(argv[1], "r") : NULL;
+    if (!rows)
+        return 2;
+    if (argc > 2)
+        piece = strtoull(argv[2], NULL, 10);
+    while (fgets(line, sizeof line, rows)) {
+        line[strcspn(line, "\n")] = 0;
+        if (!*line || *line == '#')
+            continue;
+        strcpy(shown, line);
+        *said = 0;
+        if (!run(line)) {
+            printf("FAILED: %s, and was: %s\n", shown, said);
+            return 1;
+        }
+        if (*shown == 'r')
+            cases++;
+        else
+            lines++;
+    }
+    fclose(rows);
+    for (int s = 0; s < 2; s++)
+        lcmux_peer_free(&sides[s].peer);
+    printf("%d cases, %d answers\n", cases, lines);
+    return 0;
+}

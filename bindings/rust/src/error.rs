@@ -1,0 +1,347 @@
+use crate::Channel;
+use std::error::Error;
+use std::fmt::{self, Display, Formatter};
+use std::io;
+
+/// Why a call was refused; it then changed nothing. Numbers are bytes of messages.
+#[derive(Clone, Copy, Debug, PartialEq, Eq)]
+#[non_exhaustive]
+pub enum Refusal {
+    /// 1. A message has at least 1 byte.
+    EmptyBody,
+    /// 2. A message has at most 65,535 bytes.
+    BodyTooLong,
+    /// 3. The message is longer than what the own limit on sending leaves.
+    PastSendLimit {
+        /// What it leaves.
+        left: u64,
+    },
+    /// 4. The message is longer than the guarantees that are held.
+    NoGuarantee {
+        /// How many are held.
+        held: u64,
+    },
+    /// 5. At least 1 guarantee is issued or absolved.
+    ZeroAmount,
+    /// 6. More would be absolved than is held.
+    NotHeld {
+        /// How many are held.
+        held: u64,
+    },
+    /// 7. A limit is at most 2^62.
+    BoundTooLarge,
+    /// 8. A limit is at most what the one before it leaves.
+    LimitRaised {
+        /// What it leaves.
+        left: u64,
+    },
+    /// 9. More would be issued than what the own limit on receiving leaves.
+    PastReceiveLimit {
+        /// What it leaves.
+        left: u64,
+    },
+    /// 10. More would be issued than is neither buffered nor promised.
+    NoRoom {
+        /// The room that there is.
+        room: u64,
+    },
+    /// 11. A plead names less than what is outstanding.
+    NothingToAsk {
+        /// What is outstanding.
+        outstanding: u64,
+    },
+    /// 12. At most 2^62 guarantees are issued on a channel.
+    TotalReached,
+    /// 13. As many frames wait to go out as may: write some first.
+    QueueFull,
+    /// 14. Memory was refused.
+    OutOfMemory,
+    /// 16. The buffer is shorter than the message.
+    BufferTooSmall {
+        /// The message's length.
+        need: usize,
+    },
+}
+
+impl Refusal {
+    pub(crate) fn of(code: u32, number: u64) -> Refusal {
+        match code {
+            1 => Refusal::EmptyBody,
+            2 => Refusal::BodyTooLong,
+            3 => Refusal::PastSendLimit { left: number },
+            4 => Refusal::NoGuarantee { held: number },
+            5 => Refusal::ZeroAmount,
+            6 => Refusal::NotHeld { held: number },
+            7 => Refusal::BoundTooLarge,
+            8 => Refusal::LimitRaised { left: number },
+            9 => Refusal::PastReceiveLimit { left: number },
+            10 => Refusal::NoRoom { room: number },
+            11 => Refusal::NothingToAsk {
+                outstanding: number,
+            },
+            12 => Refusal::TotalReached,
+            13 => Refusal::QueueFull,
+            14 => Refusal::OutOfMemory,
+            16 => Refusal::BufferTooSmall {
+                need: number as usize,
+            },
+            _ => unreachable!("code {code}"),
+        }
+    }
+
+    /// The number by which documents and programs name the refusal.
+    pub fn number(self) -> u8 {
+        match self {
+            Refusal::EmptyBody => 1,
+            Refusal::BodyTooLong => 2,
+            Refusal::PastSendLimit { .. } => 3,
+            Refusal::NoGuarantee { .. } => 4,
+            Refusal::ZeroAmount => 5,
+            Refusal::NotHeld { .. } => 6,
+            Refusal::BoundTooLarge => 7,
+            Refusal::LimitRaised { .. } => 8,
+            Refusal::PastReceiveLimit { .. } => 9,
+            Refusal::NoRoom { .. } => 10,
+            Refusal::NothingToAsk { .. } => 11,
+            Refusal::TotalReached => 12,
+            Refusal::QueueFull => 13,
+            Refusal::OutOfMemory => 14,
+            Refusal::BufferTooSmall { .. } => 16,
+        }
+    }
+}
+
+impl Display for Refusal {
+    fn fmt(&self, f: &mut Formatter<'_>) -> fmt::Result {
+        match self {
+            Refusal::EmptyBody => write!(f, "the message is empty"),
+            Refusal::BodyTooLong => write!(f, "the message is longer than 65,535 bytes"),
+            Refusal::PastSendLimit { left } => {
+                write!(f, "the limit on sending leaves {left} bytes")
+            }
+            Refusal::NoGuarantee { held } => write!(f, "guarantees for {held} bytes are held"),
+            Refusal::ZeroAmount => write!(f, "the amount is zero"),
+            Refusal::NotHeld { held } => write!(f, "only {held} guarantees are held"),
+            Refusal::BoundTooLarge => write!(f, "the bound is above 2^62"),
+            Refusal::LimitRaised { left } => write!(
+                f,
+                "the bound is above the {left} that an earlier limit leaves"
+            ),
+            Refusal::PastReceiveLimit { left } => {
+                write!(f, "the limit on receiving leaves {left} bytes")
+            }
+            Refusal::NoRoom { room } => write!(f, "the receiving ring has room for {room} bytes"),
+            Refusal::NothingToAsk { outstanding } => write!(
+                f,
+                "the target is not below the {outstanding} guarantees outstanding"
+            ),
+            Refusal::TotalReached => write!(f, "the guarantees of one channel would pass 2^62"),
+            Refusal::QueueFull => write!(f, "the outgoing queue is full"),
+            Refusal::OutOfMemory => write!(f, "out of memory"),
+            Refusal::BufferTooSmall { need } => {
+                write!(f, "the buffer is too small: {need} bytes are needed")
+            }
+        }
+    }
+}
+
+impl Error for Refusal {}
+
+/// What is wrong with a frame that arrived from a peer that breaks the rules.
+#[derive(Clone, Copy, Debug, PartialEq, Eq)]
+#[non_exhaustive]
+pub enum Violation {
+    /// V1. The message is longer than what is outstanding.
+    NotGuaranteed,
+    /// V2. The message is longer than what the client's limit leaves.
+    SentPastLimit,
+    /// V3. More is absolved than is outstanding.
+    AbsolvedTooMuch,
+    /// V4. The client's limit is above what the one before it leaves.
+    SendLimitRaised,
+    /// V5. More is issued than what the server's limit leaves.
+    IssuedPastLimit,
+    /// V6. More than 2^24 guarantees would be held.
+    TooManyGuarantees,
+    /// V7. The server's limit is above what the one before it leaves.
+    ReceiveLimitRaised,
+    /// V8. More than 2^62 guarantees would be received.
+    TotalPassed,
+}
+
+impl Violation {
+    /// The violations, in the order of their numbers.
+    pub const ALL: [Violation; 8] = [
+        Violation::NotGuaranteed,
+        Violation::SentPastLimit,
+        Violation::AbsolvedTooMuch,
+        Violation::SendLimitRaised,
+        Violation::IssuedPastLimit,
+        Violation::TooManyGuarantees,
+        Violation::ReceiveLimitRaised,
+        Violation::TotalPassed,
+    ];
+
+    /// The violation's number, 1 to 8: it is printed as V1 to V8.
+    pub fn number(self) -> u8 {
+        self as u8 + 1
+    }
+}
+
+impl Display for Violation {
+    fn fmt(&self, f: &mut Formatter<'_>) -> fmt::Result {
+        f.write_str(match self {
+            Violation::NotGuaranteed => "a message longer than the guarantees outstanding",
+            Violation::SentPastLimit => "a message beyond the limit on sending",
+            Violation::AbsolvedTooMuch => "more guarantees absolved than are outstanding",
+            Violation::SendLimitRaised => "a limit on sending that raises an earlier one",
+            Violation::IssuedPastLimit => "guarantees beyond the limit on receiving",
+            Violation::TooManyGuarantees => "more than 2^24 guarantees held",
+            Violation::ReceiveLimitRaised => "a limit on receiving that raises an earlier one",
+            Violation::TotalPassed => "more than 2^62 guarantees on one channel",
+        })
+    }
+}
+
+impl Error for Violation {}
+
+/// Why the bytes of a stream are no frame.
+#[derive(Clone, Copy, Debug, PartialEq, Eq)]
+#[non_exhaustive]
+pub enum Fault {
+    /// F1. The first byte names no kind of frame or no channel.
+    BadTag,
+    /// F2. The length of a message is 0.
+    ZeroLength,
+    /// F3. A number is out of its range.
+    BadNumber,
+    /// F4. The stream ends within a frame.
+    Truncated,
+}
+
+impl Fault {
+    /// The faults, in the order of their numbers.
+    pub const ALL: [Fault; 4] = [
+        Fault::BadTag,
+        Fault::ZeroLength,
+        Fault::BadNumber,
+        Fault::Truncated,
+    ];
+
+    /// The fault's number, 1 to 4: it is printed as F1 to F4.
+    pub fn number(self) -> u8 {
+        self as u8 + 1
+    }
+}
+
+impl Display for Fault {
+    fn fmt(&self, f: &mut Formatter<'_>) -> fmt::Result {
+        f.write_str(match self {
+            Fault::BadTag => "the first byte of a frame names no kind or no channel",
+            Fault::ZeroLength => "a message has length 0",
+            Fault::BadNumber => "a number in a frame is out of its range",
+            Fault::Truncated => "the stream ends within a frame",
+        })
+    }
+}
+
+impl Error for Fault {}
+
+/// Why a stream was given up. The session is over then.
+#[derive(Clone, Copy, Debug, PartialEq, Eq)]
+pub enum Stop {
+    /// A frame breaks the rules.
+    Violated(Violation),
+    /// What came is no frame.
+    Fault(Fault),
+}
+
+impl Stop {
+    pub(crate) fn of(code: u32) -> Option<Stop> {
+        match code {
+            0 => None,
+            101..=108 => Some(Stop::Violated(Violation::ALL[code as usize - 101])),
+            201..=204 => Some(Stop::Fault(Fault::ALL[code as usize - 201])),
+            _ => unreachable!("code {code}"),
+        }
+    }
+}
+
+impl Display for Stop {
+    fn fmt(&self, f: &mut Formatter<'_>) -> fmt::Result {
+        match self {
+            Stop::Violated(violation) => violation.fmt(f),
+            Stop::Fault(fault) => fault.fmt(f),
+        }
+    }
+}
+
+impl Error for Stop {}
+
+/// Why there is no peer.
+#[derive(Clone, Copy, Debug, PartialEq, Eq)]
+#[non_exhaustive]
+pub enum PeerFault {
+    /// The ring of this channel, and of none of a lower number, would not have 1 to 2^24 bytes.
+    BadCapacity {
+        /// The channel.
+        channel: Channel,
+    },
+    /// Not 1 to 65,536 frames might wait.
+    BadSlots,
+    /// Memory was refused.
+    OutOfMemory,
+}
+
+impl PeerFault {
+    pub(crate) fn of(code: u32, number: u64) -> PeerFault {
+        match code {
+            36 => PeerFault::BadCapacity {
+                channel: Channel::ALL[number as usize],
+            },
+            37 => PeerFault::BadSlots,
+            14 => PeerFault::OutOfMemory,
+            _ => unreachable!("code {code}"),
+        }
+    }
+}
+
+impl Display for PeerFault {
+    fn fmt(&self, f: &mut Formatter<'_>) -> fmt::Result {
+        match self {
+            PeerFault::BadCapacity { channel } => {
+                write!(f, "the capacity of {channel:?} is not 1 to 2^24")
+            }
+            PeerFault::BadSlots => write!(f, "the slots are not 1 to 65,536"),
+            PeerFault::OutOfMemory => write!(f, "out of memory"),
+        }
+    }
+}
+
+impl Error for PeerFault {}
+
+/// Why [`Peer::read_from`](crate::Peer::read_from) got nothing.
+#[derive(Debug)]
+pub enum ReadError {
+    /// The read failed. A further call goes on with the next byte.
+    Io(io::Error),
+    /// The stream was given up, or ended inside a frame.
+    Stopped(Stop),
+}
+
+impl Display for ReadError {
+    fn fmt(&self, f: &mut Formatter<'_>) -> fmt::Result {
+        match self {
+            ReadError::Io(error) => error.fmt(f),
+            ReadError::Stopped(stop) => stop.fmt(f),
+        }
+    }
+}
+
+impl Error for ReadError {}
+
+impl From<io::Error> for ReadError {
+    fn from(error: io::Error) -> ReadError {
+        ReadError::Io(error)
+    }
+}

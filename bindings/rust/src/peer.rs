@@ -1,0 +1,387 @@
+use crate::sys::{self, Answer, Handle};
+use crate::{Channel, PeerFault, ReadError, Refusal, Stop};
+use std::fmt::{self, Formatter};
+use std::io::{self, ErrorKind, Read, Write};
+
+/// The bytes asked for per read, and written at most per write.
+const PIECE: usize = 65_538;
+
+/// A version of the format.
+#[derive(Clone, Copy, Debug, Default, PartialEq, Eq)]
+#[non_exhaustive]
+pub enum Version {
+    /// The first: messages of 1 to 65,535 bytes.
+    #[default]
+    One,
+}
+
+/// The bounds of a peer.
+#[derive(Clone, Copy, Debug, PartialEq, Eq)]
+#[non_exhaustive]
+pub struct Config {
+    /// The version of the format.
+    pub version: Version,
+    /// The bytes of each channel's receiving ring, 1 to 2^24, by the channel's number.
+    pub capacities: [u32; 7],
+    /// How many frames may wait to go out, 1 to 65,536.
+    pub slots: u32,
+}
+
+impl Config {
+    /// Version One, with rings of these sizes and so many slots. [`Peer::new`] judges them.
+    pub fn new(capacities: [u32; 7], slots: u32) -> Config {
+        Config {
+            version: Version::One,
+            capacities,
+            slots,
+        }
+    }
+}
+
+/// What a delivery did.
+#[derive(Clone, Copy, Debug, PartialEq, Eq)]
+#[must_use]
+pub struct Delivery {
+    /// How many bytes of the piece were taken: all of them unless it stopped.
+    pub taken: usize,
+    /// How many frames arrived.
+    pub frames: u64,
+    /// Why it stopped, `None` where it went on to the end of the piece.
+    pub stop: Option<Stop>,
+}
+
+/// What a take answers.
+#[derive(Clone, Copy, Debug, PartialEq, Eq)]
+pub enum Take {
+    /// The first message was taken; its length in bytes.
+    Took(usize),
+    /// No message waits.
+    Empty,
+    /// No message waits, and none will come: the other side's limit on sending is used up.
+    Ended,
+}
+
+/// The balances of a channel as client, the side that sends. All count bytes of messages.
+#[derive(Clone, Copy, Debug, PartialEq, Eq)]
+pub struct ClientBook {
+    /// Guarantees that may be used up now, 0 to 2^24.
+    pub held: u64,
+    /// All guarantees that arrived: held, spent and absolved together.
+    pub received: u64,
+    /// The guarantees that messages used up.
+    pub spent: u64,
+    /// The guarantees that were given up.
+    pub absolved: u64,
+    /// What may still be sent; `None` without a limit.
+    pub send_left: Option<u64>,
+    /// What the other side may still issue; `None` without a limit.
+    pub receive_left: Option<u64>,
+    /// The target of the plead that is kept.
+    pub asked: Option<u32>,
+}
+
+/// The balances of a channel as server, the side that receives. All count bytes of messages.
+#[derive(Clone, Copy, Debug, PartialEq, Eq)]
+pub struct ServerBook {
+    /// The bytes of the ring: outstanding, buffered and room together.
+    pub capacity: u64,
+    /// All guarantees that were issued.
+    pub issued: u64,
+    /// Issued, and neither used up nor absolved as far as is known.
+    pub outstanding: u64,
+    /// Arrived, and not taken.
+    pub buffered: u64,
+    /// The most that may be issued now.
+    pub room: u64,
+    /// What the other side may still send; `None` without a limit.
+    pub send_left: Option<u64>,
+    /// What may still be issued; `None` without a limit.
+    pub receive_left: Option<u64>,
+}
+
+fn some_unless_none(number: u64) -> Option<u64> {
+    (number != u64::MAX).then_some(number)
+}
+
+/// One side of a session. It is fed the bytes that come and asked for the bytes that go out; the
+/// transport is the caller's.
+///
+/// ```
+/// use lcmux::{Channel::Data, Config, Peer, Refusal, Take};
+///
+/// let config = Config::new([1024; 7], 16);
+/// let (mut alice, mut bob) = (Peer::new(&config)?, Peer::new(&config)?);
+/// assert_eq!(alice.send(Data, b"hello"), Err(Refusal::NoGuarantee { held: 0 }));
+///
+/// // Bob promises room for 8 bytes; 65,538 bytes hold any frame.
+/// let mut wire = vec![0; 65_538];
+/// bob.issue(Data, 8)?;
+/// let count = bob.write(&mut wire);
+/// assert_eq!(alice.deliver(&wire[..count]).frames, 1);
+///
+/// alice.send(Data, b"hello")?;
+/// let count = alice.write(&mut wire);
+/// assert_eq!(bob.deliver(&wire[..count]).frames, 1);
+/// let mut message = [0; 64];
+/// assert_eq!(bob.take_into(Data, &mut message)?, Take::Took(5));
+/// assert_eq!(&message[..5], b"hello");
+/// # Ok::<(), Box<dyn std::error::Error>>(())
+/// ```
+pub struct Peer {
+    handle: Handle,
+    // What was written out and no writer took yet: the bytes from start to end.
+    unsent: Vec<u8>,
+    start: usize,
+    end: usize,
+    // What reads go into.
+    piece: Vec<u8>,
+}
+
+impl Peer {
+    /// A peer on which nothing has happened. Faults come in this order: the first channel whose ring
+    /// would not have 1 to 2^24 bytes, slots outside 1 to 65,536, want of memory.
+    ///
+    /// ```
+    /// use lcmux::{Channel, Config, Peer, PeerFault};
+    /// let fault = Peer::new(&Config::new([8, 8, 0, 8, 8, 8, 8], 16)).unwrap_err();
+    /// assert_eq!(fault, PeerFault::BadCapacity { channel: Channel::Overlap });
+    /// ```
+    pub fn new(config: &Config) -> Result<Peer, PeerFault> {
+        let bounds = sys::Config {
+            version: match config.version {
+                Version::One => 1,
+            },
+            slots: config.slots,
+            capacities: config.capacities,
+        };
+        match Handle::new(&bounds) {
+            Ok(handle) => Ok(Peer {
+                handle,
+                unsent: Vec::new(),
+                start: 0,
+                end: 0,
+                piece: Vec::new(),
+            }),
+            Err(Answer { code, number }) => Err(PeerFault::of(code, number)),
+        }
+    }
+
+    /// A copy of 1 to 65,535 bytes is sent as one message. Refused by 1, 2, 3, 4, 14 and 13, in this
+    /// order.
+    pub fn send(&mut self, channel: Channel, body: &[u8]) -> Result<(), Refusal> {
+        done(self.handle.send(channel.number().into(), body))
+    }
+
+    /// `amount` guarantees are issued. Refused by 5, 9, 10, 12 and 13, in this order.
+    pub fn issue(&mut self, channel: Channel, amount: u32) -> Result<(), Refusal> {
+        done(self.handle.issue(channel.number().into(), amount))
+    }
+
+    /// `amount` guarantees are given up. Refused by 5, 6 and 13, in this order.
+    pub fn absolve(&mut self, channel: Channel, amount: u32) -> Result<(), Refusal> {
+        done(self.handle.absolve(channel.number().into(), amount))
+    }
+
+    /// The other side is asked to absolve until it holds at most `target`. Refused by 11 and 13, in
+    /// this order.
+    pub fn plead(&mut self, channel: Channel, target: u32) -> Result<(), Refusal> {
+        done(self.handle.plead(channel.number().into(), target))
+    }
+
+    /// The plead that is kept is honoured and forgotten: what is held above its target is absolved,
+    /// which is the answer, `None` where there is nothing. Refused by 13, which keeps the plead.
+    pub fn honour(&mut self, channel: Channel) -> Result<Option<u32>, Refusal> {
+        let answer = self.handle.honour(channel.number().into());
+        done(answer)?;
+        Ok((answer.number > 0).then_some(answer.number as u32))
+    }
+
+    /// At most `bound` bytes are sent from here on; 0 ends the channel. Refused by 7, 8 and 13, in
+    /// this order.
+    pub fn limit_sending(&mut self, channel: Channel, bound: u64) -> Result<(), Refusal> {
+        done(self.handle.limit_sending(channel.number().into(), bound))
+    }
+
+    /// At most `bound` guarantees are issued from here on. Refused by 7, 8 and 13, in this order.
+    pub fn limit_receiving(&mut self, channel: Channel, bound: u64) -> Result<(), Refusal> {
+        done(self.handle.limit_receiving(channel.number().into(), bound))
+    }
+
+    /// The next bytes of the stream that comes, cut anywhere. Whole frames arrive, and part of one is
+    /// kept. After a stop the stream is given up: the frames before it have arrived, each further call
+    /// takes nothing and answers the same, and all other calls still work.
+    pub fn deliver(&mut self, piece: &[u8]) -> Delivery {
+        let sys::Delivery {
+            code,
+            taken,
+            frames,
+        } = self.handle.deliver(piece);
+        Delivery {
+            taken,
+            frames,
+            stop: Stop::of(code),
+        }
+    }
+
+    /// What it means that the stream ends here: nothing between two frames, `Fault::Truncated` inside
+    /// one, and the stop of the delivery that stopped, where one did.
+    pub fn end(&self) -> Result<(), Stop> {
+        Stop::of(self.handle.end().code).map_or(Ok(()), Err)
+    }
+
+    /// The next bytes that go out, to the front of `buffer`: as many as there are and have room, which
+    /// is the answer. A frame that does not fit goes on in the next call.
+    pub fn write(&mut self, buffer: &mut [u8]) -> usize {
+        let count = buffer.len().min(self.end - self.start);
+        buffer[..count].copy_from_slice(&self.unsent[self.start..self.start + count]);
+        self.start += count;
+        count + self.handle.write(&mut buffer[count..]).number as usize
+    }
+
+    /// How many bytes are to go out. It looks at each frame that waits.
+    pub fn pending(&self) -> usize {
+        self.end - self.start + self.handle.pending().number as usize
+    }
+
+    /// Writes all that is to go out, and answers how many bytes that were. It doesn't flush. A write
+    /// that was interrupted is made again. After any other error nothing is lost: a further call goes
+    /// on with the next byte, also where the writer was one that would block.
+    ///
+    /// ```
+    /// # use lcmux::{Channel::Data, Config, Peer};
+    /// # let mut peer = Peer::new(&Config::new([8; 7], 4))?;
+    /// peer.issue(Data, 5)?;
+    /// let mut wire = Vec::new();
+    /// assert_eq!(peer.write_to(&mut wire)?, 5);
+    /// assert_eq!(wire, [0x21, 0, 0, 0, 5]);
+    /// # Ok::<(), Box<dyn std::error::Error>>(())
+    /// ```
+    pub fn write_to(&mut self, writer: &mut impl Write) -> io::Result<u64> {
+        let mut written = 0;
+        loop {
+            if self.start == self.end {
+                self.unsent.resize(PIECE, 0);
+                (self.start, self.end) = (0, self.handle.write(&mut self.unsent).number as usize);
+                if self.end == 0 {
+                    return Ok(written);
+                }
+            }
+            match writer.write(&self.unsent[self.start..self.end]) {
+                Ok(0) => return Err(ErrorKind::WriteZero.into()),
+                Ok(count) => {
+                    self.start += count;
+                    written += count as u64;
+                }
+                Err(error) if error.kind() == ErrorKind::Interrupted => {}
+                Err(error) => return Err(error),
+            }
+        }
+    }
+
+    /// Reads once, at most 65,538 bytes, and delivers them. The answer is how many they were, 0 where
+    /// the stream ended after a whole frame or before the first. A read that was interrupted is made
+    /// again. Of a stream that was given up nothing is read.
+    ///
+    /// ```
+    /// # use lcmux::{Channel::Data, Config, Fault, Peer, ReadError, Stop};
+    /// # let mut peer = Peer::new(&Config::new([8; 7], 4))?;
+    /// let mut wire: &[u8] = &[0x21, 0, 0, 0, 5, 0x21];
+    /// assert_eq!(peer.read_from(&mut wire)?, 6);
+    /// assert_eq!(peer.client(Data).held, 5);
+    /// let end = peer.read_from(&mut wire).unwrap_err();
+    /// assert!(matches!(end, ReadError::Stopped(Stop::Fault(Fault::Truncated))));
+    /// # Ok::<(), Box<dyn std::error::Error>>(())
+    /// ```
+    pub fn read_from(&mut self, reader: &mut impl Read) -> Result<usize, ReadError> {
+        if let Some(stop) = self.deliver(&[]).stop {
+            return Err(ReadError::Stopped(stop));
+        }
+        self.piece.resize(PIECE, 0);
+        let count = loop {
+            match reader.read(&mut self.piece) {
+                Err(error) if error.kind() == ErrorKind::Interrupted => {}
+                answer => break answer?,
+            }
+        };
+        let stop = match count {
+            0 => self.end().err(),
+            _ => Stop::of(self.handle.deliver(&self.piece[..count]).code),
+        };
+        stop.map_or(Ok(count), |stop| Err(ReadError::Stopped(stop)))
+    }
+
+    /// The length of the first message, which stays; `None` where none waits.
+    pub fn front_len(&self, channel: Channel) -> Option<usize> {
+        match self.handle.front_len(channel.number().into()) {
+            Answer { code: 0, number } => Some(number as usize),
+            _ => None,
+        }
+    }
+
+    /// Takes the first message, to the front of `buffer`; its bytes are room of the ring again. Refused
+    /// by 16 alone, where the buffer is shorter than the message, and then takes nothing.
+    pub fn take_into(&mut self, channel: Channel, buffer: &mut [u8]) -> Result<Take, Refusal> {
+        take(self.handle.take(channel.number().into(), buffer))
+    }
+
+    /// Takes the first message, where one waits.
+    pub fn take(&mut self, channel: Channel) -> Option<Vec<u8>> {
+        let mut message = vec![0; self.front_len(channel)?];
+        match self.take_into(channel, &mut message) {
+            Ok(Take::Took(_)) => Some(message),
+            _ => None,
+        }
+    }
+
+    /// The balances of a channel as client.
+    pub fn client(&self, channel: Channel) -> ClientBook {
+        let book = self.handle.client(channel.number().into());
+        ClientBook {
+            held: book.held,
+            received: book.received,
+            spent: book.spent,
+            absolved: book.absolved,
+            send_left: some_unless_none(book.send_left),
+            receive_left: some_unless_none(book.receive_left),
+            asked: some_unless_none(book.asked).map(|target| target as u32),
+        }
+    }
+
+    /// The balances of a channel as server.
+    pub fn server(&self, channel: Channel) -> ServerBook {
+        let book = self.handle.server(channel.number().into());
+        ServerBook {
+            capacity: book.capacity,
+            issued: book.issued,
+            outstanding: book.outstanding,
+            buffered: book.buffered,
+            room: book.room,
+            send_left: some_unless_none(book.send_left),
+            receive_left: some_unless_none(book.receive_left),
+        }
+    }
+}
+
+impl fmt::Debug for Peer {
+    fn fmt(&self, f: &mut Formatter<'_>) -> fmt::Result {
+        f.debug_struct("Peer")
+            .field("pending", &self.pending())
+            .finish_non_exhaustive()
+    }
+}
+
+fn done(answer: Answer) -> Result<(), Refusal> {
+    match answer {
+        Answer { code: 0, .. } => Ok(()),
+        Answer { code, number } => Err(Refusal::of(code, number)),
+    }
+}
+
+fn take(answer: Answer) -> Result<Take, Refusal> {
+    match answer.code {
+        0 => Ok(Take::Took(answer.number as usize)),
+        48 => Ok(Take::Empty),
+        49 => Ok(Take::Ended),
+        code => Err(Refusal::of(code, answer.number)),
+    }
+}

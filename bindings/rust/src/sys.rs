@@ -1,0 +1,225 @@
+//! The edge to the archive: the one unsafe module.
+//!
+//! Why it is sound, given what `lcmux.h` takes as written:
+//! - a [`Handle`] begins empty, only the archive changes it, it is never copied, and dropping it frees it;
+//! - every slice is passed with its own pointer, which is never null, and its own length;
+//! - a handle is behind an `UnsafeCell`, since readers too take it out of its place while they run. So
+//!   `Handle` is not `Sync`, and no call calls back, so of the calls on one handle one runs at a time;
+//! - what stands behind a handle is plain data from `malloc`, which no thread owns: hence `Send`.
+#![allow(unsafe_code)]
+
+use std::cell::UnsafeCell;
+use std::ffi::c_void;
+use std::ptr;
+
+#[repr(C)]
+struct Raw {
+    mark: u64,
+    at: *mut c_void,
+}
+
+#[repr(C)]
+#[derive(Clone, Copy)]
+pub(crate) struct Answer {
+    pub code: u32,
+    pub number: u64,
+}
+
+#[repr(C)]
+pub(crate) struct Config {
+    pub version: u32,
+    pub slots: u32,
+    pub capacities: [u32; 7],
+}
+
+#[repr(C)]
+pub(crate) struct Delivery {
+    pub code: u32,
+    pub taken: usize,
+    pub frames: u64,
+}
+
+#[repr(C)]
+#[derive(Default)]
+pub(crate) struct Client {
+    pub held: u64,
+    pub received: u64,
+    pub spent: u64,
+    pub absolved: u64,
+    pub send_left: u64,
+    pub receive_left: u64,
+    pub asked: u64,
+}
+
+#[repr(C)]
+#[derive(Default)]
+pub(crate) struct Server {
+    pub capacity: u64,
+    pub issued: u64,
+    pub outstanding: u64,
+    pub buffered: u64,
+    pub room: u64,
+    pub send_left: u64,
+    pub receive_left: u64,
+}
+
+extern "C" {
+    fn lcmux_peer_new(config: *const Config, peer: *mut Raw) -> Answer;
+    fn lcmux_peer_free(peer: *mut Raw) -> Answer;
+    fn lcmux_peer_send(peer: *mut Raw, channel: u32, body: *const u8, len: usize) -> Answer;
+    fn lcmux_peer_issue(peer: *mut Raw, channel: u32, amount: u32) -> Answer;
+    fn lcmux_peer_absolve(peer: *mut Raw, channel: u32, amount: u32) -> Answer;
+    fn lcmux_peer_plead(peer: *mut Raw, channel: u32, target: u32) -> Answer;
+    fn lcmux_peer_honour(peer: *mut Raw, channel: u32) -> Answer;
+    fn lcmux_peer_limit_sending(peer: *mut Raw, channel: u32, bound: u64) -> Answer;
+    fn lcmux_peer_limit_receiving(peer: *mut Raw, channel: u32, bound: u64) -> Answer;
+    fn lcmux_peer_deliver(peer: *mut Raw, piece: *const u8, len: usize) -> Delivery;
+    fn lcmux_peer_end(peer: *mut Raw) -> Answer;
+    fn lcmux_peer_write(peer: *mut Raw, buffer: *mut u8, len: usize) -> Answer;
+    fn lcmux_peer_pending(peer: *mut Raw) -> Answer;
+    fn lcmux_peer_front_len(peer: *mut Raw, channel: u32) -> Answer;
+    fn lcmux_peer_take(peer: *mut Raw, channel: u32, buffer: *mut u8, len: usize) -> Answer;
+    fn lcmux_peer_client(peer: *mut Raw, channel: u32, balances: *mut Client) -> Answer;
+    fn lcmux_peer_server(peer: *mut Raw, channel: u32, balances: *mut Server) -> Answer;
+    fn lcmux_version() -> u32;
+}
+
+/// A peer behind its handle.
+pub(crate) struct Handle(UnsafeCell<Raw>);
+
+unsafe impl Send for Handle {}
+
+impl Drop for Handle {
+    fn drop(&mut self) {
+        unsafe { lcmux_peer_free(self.0.get()) };
+    }
+}
+
+impl Handle {
+    pub fn new(config: &Config) -> Result<Handle, Answer> {
+        let handle = Handle(UnsafeCell::new(Raw {
+            mark: 0,
+            at: ptr::null_mut(),
+        }));
+        match unsafe { lcmux_peer_new(config, handle.0.get()) } {
+            Answer { code: 0, .. } => Ok(handle),
+            answer => Err(answer),
+        }
+    }
+
+    pub fn send(&mut self, channel: u32, body: &[u8]) -> Answer {
+        unsafe { lcmux_peer_send(self.0.get(), channel, body.as_ptr(), body.len()) }
+    }
+
+    pub fn issue(&mut self, channel: u32, amount: u32) -> Answer {
+        unsafe { lcmux_peer_issue(self.0.get(), channel, amount) }
+    }
+
+    pub fn absolve(&mut self, channel: u32, amount: u32) -> Answer {
+        unsafe { lcmux_peer_absolve(self.0.get(), channel, amount) }
+    }
+
+    pub fn plead(&mut self, channel: u32, target: u32) -> Answer {
+        unsafe { lcmux_peer_plead(self.0.get(), channel, target) }
+    }
+
+    pub fn honour(&mut self, channel: u32) -> Answer {
+        unsafe { lcmux_peer_honour(self.0.get(), channel) }
+    }
+
+    pub fn limit_sending(&mut self, channel: u32, bound: u64) -> Answer {
+        unsafe { lcmux_peer_limit_sending(self.0.get(), channel, bound) }
+    }
+
+    pub fn limit_receiving(&mut self, channel: u32, bound: u64) -> Answer {
+        unsafe { lcmux_peer_limit_receiving(self.0.get(), channel, bound) }
+    }
+
+    pub fn deliver(&mut self, piece: &[u8]) -> Delivery {
+        unsafe { lcmux_peer_deliver(self.0.get(), piece.as_ptr(), piece.len()) }
+    }
+
+    pub fn end(&self) -> Answer {
+        unsafe { lcmux_peer_end(self.0.get()) }
+    }
+
+    pub fn write(&mut self, buffer: &mut [u8]) -> Answer {
+        unsafe { lcmux_peer_write(self.0.get(), buffer.as_mut_ptr(), buffer.len()) }
+    }
+
+    pub fn pending(&self) -> Answer {
+        unsafe { lcmux_peer_pending(self.0.get()) }
+    }
+
+    pub fn front_len(&self, channel: u32) -> Answer {
+        unsafe { lcmux_peer_front_len(self.0.get(), channel) }
+    }
+
+    pub fn take(&mut self, channel: u32, buffer: &mut [u8]) -> Answer {
+        unsafe { lcmux_peer_take(self.0.get(), channel, buffer.as_mut_ptr(), buffer.len()) }
+    }
+
+    pub fn client(&self, channel: u32) -> Client {
+        let mut client = Client::default();
+        unsafe { lcmux_peer_client(self.0.get(), channel, &mut client) };
+        client
+    }
+
+    pub fn server(&self, channel: u32) -> Server {
+        let mut server = Server::default();
+        unsafe { lcmux_peer_server(self.0.get(), channel, &mut server) };
+        server
+    }
+}
+
+pub(crate) fn version() -> u32 {
+    unsafe { lcmux_version() }
+}
+
+/// What the archive asks for memory by: the heap of the C library.
+mod heap {
+    use std::ffi::c_void;
+    use std::ptr;
+
+    #[repr(C)]
+    pub struct Tried {
+        ok: bool,
+        at: *mut c_void,
+    }
+
+    extern "C" {
+        fn malloc(size: usize) -> *mut c_void;
+        fn realloc(at: *mut c_void, size: usize) -> *mut c_void;
+        fn free(at: *mut c_void);
+    }
+
+    fn tried(at: *mut c_void) -> Tried {
+        match at.is_null() {
+            true => Tried {
+                ok: false,
+                at: ptr::NonNull::dangling().as_ptr(),
+            },
+            false => Tried { ok: true, at },
+        }
+    }
+
+    #[no_mangle]
+    extern "C" fn rattle_alloc(size: usize, align: usize) -> Tried {
+        tried(unsafe { malloc(if size == 0 { align } else { size }) })
+    }
+
+    #[no_mangle]
+    unsafe extern "C" fn rattle_realloc(
+        at: *mut c_void,
+        _kept: usize,
+        size: usize,
+        align: usize,
+    ) -> Tried {
+        tried(unsafe { realloc(at, if size == 0 { align } else { size }) })
+    }
+
+    #[no_mangle]
+    unsafe extern "C" fn rattle_dealloc(at: *mut c_void) {
+        unsafe { free(at) }
+    }
+}

@@ -1,0 +1,355 @@
+//! Random calls at two peers whose bytes are cut anywhere, beside a model of the rules.
+use lcmux::{Channel, Config, Peer, Refusal, Take};
+use std::collections::VecDeque;
+
+const CAPACITY: u64 = 24;
+const SLOTS: usize = 5;
+
+#[derive(Clone, Debug)]
+enum Frame {
+    Send(Vec<u8>),
+    Issue(u64),
+    Absolve(u64),
+    Plead(u32),
+    LimitSending(u64),
+    LimitReceiving(u64),
+}
+
+impl Frame {
+    fn len(&self) -> usize {
+        match self {
+            Frame::Send(body) => 3 + body.len(),
+            Frame::Issue(_) | Frame::Absolve(_) | Frame::Plead(_) => 5,
+            Frame::LimitSending(_) | Frame::LimitReceiving(_) => 9,
+        }
+    }
+}
+
+// A channel in one direction, as its client and as its server see it.
+#[derive(Clone, Default)]
+struct Direction {
+    held: u64,
+    spent: u64,
+    absolved: u64,
+    send_left: Option<u64>,
+    receive_left: Option<u64>,
+    asked: Option<u32>,
+    outstanding: u64,
+    ring: VecDeque<Vec<u8>>,
+    server_send_left: Option<u64>,
+    server_receive_left: Option<u64>,
+}
+
+impl Direction {
+    fn buffered(&self) -> u64 {
+        self.ring.iter().map(|body| body.len() as u64).sum()
+    }
+
+    fn room(&self) -> u64 {
+        CAPACITY - self.outstanding - self.buffered()
+    }
+}
+
+// The rules: what an own call leaves of its direction, or why it is refused.
+impl Direction {
+    fn sent(&self, len: u64) -> Result<Direction, Refusal> {
+        match self.send_left {
+            _ if len == 0 => Err(Refusal::EmptyBody),
+            Some(left) if len > left => Err(Refusal::PastSendLimit { left }),
+            _ if len > self.held => Err(Refusal::NoGuarantee { held: self.held }),
+            left => Ok(Direction {
+                held: self.held - len,
+                spent: self.spent + len,
+                send_left: left.map(|left| left - len),
+                ..self.clone()
+            }),
+        }
+    }
+
+    fn absolved(&self, n: u64) -> Result<Direction, Refusal> {
+        match n {
+            0 => Err(Refusal::ZeroAmount),
+            n if n > self.held => Err(Refusal::NotHeld { held: self.held }),
+            n => Ok(Direction {
+                held: self.held - n,
+                absolved: self.absolved + n,
+                ..self.clone()
+            }),
+        }
+    }
+
+    fn issued(&self, n: u64) -> Result<Direction, Refusal> {
+        match self.server_receive_left {
+            _ if n == 0 => Err(Refusal::ZeroAmount),
+            Some(left) if n > left => Err(Refusal::PastReceiveLimit { left }),
+            _ if n > self.room() => Err(Refusal::NoRoom { room: self.room() }),
+            left => Ok(Direction {
+                outstanding: self.outstanding + n,
+                server_receive_left: left.map(|left| left - n),
+                ..self.clone()
+            }),
+        }
+    }
+
+    fn pleaded(&self, target: u32) -> Result<Direction, Refusal> {
+        let outstanding = self.outstanding;
+        match u64::from(target) < outstanding {
+            true => Ok(self.clone()),
+            false => Err(Refusal::NothingToAsk { outstanding }),
+        }
+    }
+}
+
+fn limited(left: Option<u64>, bound: u64) -> Result<u64, Refusal> {
+    match left {
+        Some(left) if bound > left => Err(Refusal::LimitRaised { left }),
+        _ => Ok(bound),
+    }
+}
+
+// One side: the peer, and in the model what waits, what was begun, and its bytes on the wire.
+struct Side {
+    peer: Peer,
+    waiting: VecDeque<(usize, Frame)>,
+    begun: usize,
+    flying: VecDeque<(usize, Frame)>,
+    wire: VecDeque<u8>,
+    arrived: usize,
+}
+
+struct Pair {
+    sides: [Side; 2],
+    // By the client's side and the channel.
+    ways: [[Direction; 7]; 2],
+}
+
+struct Random(u64);
+
+impl Random {
+    fn below(&mut self, n: u64) -> u64 {
+        self.0 = self
+            .0
+            .wrapping_mul(6364136223846793005)
+            .wrapping_add(1442695040888963407);
+        (self.0 >> 33) % n
+    }
+}
+
+fn new_side() -> Side {
+    Side {
+        peer: Peer::new(&Config::new([CAPACITY as u32; 7], SLOTS as u32)).unwrap(),
+        waiting: VecDeque::new(),
+        begun: 0,
+        flying: VecDeque::new(),
+        wire: VecDeque::new(),
+        arrived: 0,
+    }
+}
+
+impl Pair {
+    // The refusal of the books, by the table, then of the queue; else the frame is put.
+    fn expect(&mut self, me: usize, at: usize, frame: Frame) -> Result<(), Refusal> {
+        let full = self.sides[me].waiting.len() == SLOTS;
+        let way = match frame {
+            Frame::Send(_) | Frame::Absolve(_) | Frame::LimitSending(_) => &mut self.ways[me][at],
+            _ => &mut self.ways[1 - me][at],
+        };
+        let next = match &frame {
+            Frame::Send(body) => way.sent(body.len() as u64)?,
+            Frame::Absolve(n) => way.absolved(*n)?,
+            Frame::Issue(n) => way.issued(*n)?,
+            Frame::Plead(target) => way.pleaded(*target)?,
+            Frame::LimitSending(bound) => Direction {
+                send_left: Some(limited(way.send_left, *bound)?),
+                ..way.clone()
+            },
+            Frame::LimitReceiving(bound) => Direction {
+                server_receive_left: Some(limited(way.server_receive_left, *bound)?),
+                ..way.clone()
+            },
+        };
+        if full {
+            return Err(Refusal::QueueFull);
+        }
+        *way = next;
+        self.sides[me].waiting.push_back((at, frame));
+        Ok(())
+    }
+
+    fn call(&mut self, random: &mut Random, me: usize, at: usize) {
+        let n = random.below(12);
+        let frame = match random.below(9) {
+            0..=2 => Frame::Send(vec![n as u8; n as usize]),
+            3..=5 => Frame::Issue(n),
+            6 => Frame::Absolve(n / 2),
+            7 => Frame::Plead(n as u32),
+            _ if random.below(8) > 0 => Frame::Absolve(0),
+            _ if n % 2 == 0 => Frame::LimitSending(40 + n),
+            _ => Frame::LimitReceiving(40 + n),
+        };
+        let (peer, channel) = (&mut self.sides[me].peer, Channel::ALL[at]);
+        let answer = match &frame {
+            Frame::Send(body) => peer.send(channel, body),
+            Frame::Issue(n) => peer.issue(channel, *n as u32),
+            Frame::Absolve(n) => peer.absolve(channel, *n as u32),
+            Frame::Plead(target) => peer.plead(channel, *target),
+            Frame::LimitSending(bound) => peer.limit_sending(channel, *bound),
+            Frame::LimitReceiving(bound) => peer.limit_receiving(channel, *bound),
+        };
+        let shown = format!("{frame:?}");
+        assert_eq!(answer, self.expect(me, at, frame), "{shown}");
+    }
+
+    fn honour(&mut self, me: usize, at: usize) {
+        let answer = self.sides[me].peer.honour(Channel::ALL[at]);
+        let way = &mut self.ways[me][at];
+        let due = way
+            .asked
+            .map_or(0, |target| way.held.saturating_sub(target.into()));
+        if due == 0 {
+            way.asked = None;
+            assert_eq!(answer, Ok(None));
+        } else if self.sides[me].waiting.len() == SLOTS {
+            assert_eq!(answer, Err(Refusal::QueueFull));
+        } else {
+            way.asked = None;
+            (way.held, way.absolved) = (way.held - due, way.absolved + due);
+            self.sides[me].waiting.push_back((at, Frame::Absolve(due)));
+            assert_eq!(answer, Ok(Some(due as u32)));
+        }
+    }
+
+    fn write(&mut self, me: usize, room: usize) {
+        let side = &mut self.sides[me];
+        let mut buffer = vec![0; room];
+        let count = side.peer.write(&mut buffer);
+        side.wire.extend(&buffer[..count]);
+        let mut left = room;
+        loop {
+            let given = left.min(side.begun);
+            (left, side.begun) = (left - given, side.begun - given);
+            if left == 0 {
+                break;
+            }
+            let Some(next) = side.waiting.pop_front() else {
+                break;
+            };
+            side.begun = next.1.len();
+            side.flying.push_back(next);
+        }
+        assert_eq!(count, room - left);
+    }
+
+    // Bytes arrive at a side from the other.
+    fn deliver(&mut self, me: usize, most: usize) {
+        let other = &mut self.sides[1 - me];
+        let count = most.min(other.wire.len());
+        let piece: Vec<u8> = other.wire.drain(..count).collect();
+        other.arrived += count;
+        let mut whole = Vec::new();
+        while let Some((_, frame)) = other
+            .flying
+            .front()
+            .filter(|next| next.1.len() <= other.arrived)
+        {
+            other.arrived -= frame.len();
+            whole.extend(other.flying.pop_front());
+        }
+        let delivery = self.sides[me].peer.deliver(&piece);
+        assert_eq!((delivery.taken, delivery.stop), (count, None));
+        assert_eq!(delivery.frames, whole.len() as u64);
+        whole
+            .into_iter()
+            .for_each(|(at, frame)| self.arrive(me, at, frame));
+    }
+
+    fn arrive(&mut self, me: usize, at: usize, frame: Frame) {
+        let (mine, theirs) = self.ways.split_at_mut(1);
+        let (client, server) = match me {
+            0 => (&mut mine[0][at], &mut theirs[0][at]),
+            _ => (&mut theirs[0][at], &mut mine[0][at]),
+        };
+        match frame {
+            Frame::Send(body) => {
+                server.outstanding -= body.len() as u64;
+                server.server_send_left =
+                    server.server_send_left.map(|left| left - body.len() as u64);
+                server.ring.push_back(body);
+            }
+            Frame::Issue(n) => {
+                client.held += n;
+                client.receive_left = client.receive_left.map(|left| left - n);
+            }
+            Frame::Absolve(n) => server.outstanding -= n,
+            Frame::Plead(target) => client.asked = Some(target),
+            Frame::LimitSending(bound) => server.server_send_left = Some(bound),
+            Frame::LimitReceiving(bound) => client.receive_left = Some(bound),
+        }
+    }
+
+    fn take(&mut self, me: usize, at: usize, room: usize) {
+        let mut buffer = vec![0; room];
+        let answer = self.sides[me].peer.take_into(Channel::ALL[at], &mut buffer);
+        let way = &mut self.ways[1 - me][at];
+        match way.ring.front() {
+            Some(body) if body.len() > room => {
+                assert_eq!(answer, Err(Refusal::BufferTooSmall { need: body.len() }));
+            }
+            Some(body) => {
+                assert_eq!(answer, Ok(Take::Took(body.len())));
+                assert_eq!(buffer[..body.len()], body[..]);
+                way.ring.pop_front();
+            }
+            None if way.server_send_left == Some(0) => assert_eq!(answer, Ok(Take::Ended)),
+            None => assert_eq!(answer, Ok(Take::Empty)),
+        }
+    }
+
+    fn compare(&self, me: usize, at: usize) {
+        let (side, channel) = (&self.sides[me], Channel::ALL[at]);
+        let (book, way) = (side.peer.client(channel), &self.ways[me][at]);
+        assert_eq!(
+            (book.held, book.spent, book.absolved),
+            (way.held, way.spent, way.absolved)
+        );
+        assert_eq!(book.received, way.held + way.spent + way.absolved);
+        assert_eq!(
+            (book.send_left, book.receive_left, book.asked),
+            (way.send_left, way.receive_left, way.asked)
+        );
+        let (book, way) = (side.peer.server(channel), &self.ways[1 - me][at]);
+        assert_eq!(
+            (book.outstanding, book.buffered, book.room),
+            (way.outstanding, way.buffered(), way.room())
+        );
+        assert_eq!(
+            (book.send_left, book.receive_left),
+            (way.server_send_left, way.server_receive_left)
+        );
+        assert_eq!(side.peer.front_len(channel), way.ring.front().map(Vec::len));
+        let waiting: usize = side.waiting.iter().map(|next| next.1.len()).sum();
+        assert_eq!(side.peer.pending(), side.begun + waiting);
+    }
+}
+
+#[test]
+fn random_calls_answer_as_the_rules_say() {
+    for seed in 0..40 {
+        let mut random = Random(seed);
+        let mut pair = Pair {
+            sides: [new_side(), new_side()],
+            ways: Default::default(),
+        };
+        for _ in 0..3_000 {
+            let (me, at) = (random.below(2) as usize, random.below(3) as usize * 3);
+            match random.below(8) {
+                0..=2 => pair.call(&mut random, me, at),
+                3 => pair.honour(me, at),
+                4 => pair.write(me, random.below(30) as usize),
+                5 | 6 => pair.deliver(me, random.below(20) as usize),
+                _ => pair.take(me, at, random.below(16) as usize),
+            }
+            pair.compare(me, at);
+        }
+    }
+}

@@ -1,0 +1,208 @@
+//! The worked examples and hostile bytes of `bindings/rows.txt`, through the crate.
+use lcmux::{Channel, Config, Peer, Refusal, Stop, Take};
+
+struct Side {
+    peer: Peer,
+    // The side's bytes that did not arrive yet.
+    wire: Vec<u8>,
+}
+
+fn hex(text: &str) -> Vec<u8> {
+    let text = text.trim_start_matches('-');
+    (0..text.len() / 2)
+        .map(|at| u8::from_str_radix(&text[2 * at..2 * at + 2], 16).unwrap())
+        .collect()
+}
+
+fn unhex(bytes: &[u8]) -> String {
+    match bytes {
+        [] => "-".into(),
+        _ => bytes.iter().map(|byte| format!("{byte:02x}")).collect(),
+    }
+}
+
+fn or_none(left: Option<impl ToString>) -> String {
+    left.map_or("-".into(), |left| left.to_string())
+}
+
+fn refused(refusal: Refusal) -> String {
+    let number = refusal.number();
+    match refusal {
+        Refusal::PastSendLimit { left }
+        | Refusal::LimitRaised { left }
+        | Refusal::PastReceiveLimit { left } => {
+            format!("refused {number} left {left}")
+        }
+        Refusal::NoGuarantee { held } | Refusal::NotHeld { held } => {
+            format!("refused {number} held {held}")
+        }
+        Refusal::NoRoom { room } => format!("refused {number} room {room}"),
+        Refusal::NothingToAsk { outstanding } => {
+            format!("refused {number} outstanding {outstanding}")
+        }
+        Refusal::BufferTooSmall { need } => format!("refused {number} need {need}"),
+        _ => format!("refused {number}"),
+    }
+}
+
+fn own(answer: Result<(), Refusal>) -> String {
+    answer.map_or_else(refused, |()| "ok".into())
+}
+
+fn stop(stop: Option<Stop>) -> String {
+    match stop {
+        None => "ok".into(),
+        Some(Stop::Violated(violation)) => format!("violation V{}", violation.number()),
+        Some(Stop::Fault(fault)) => format!("fault F{}", fault.number()),
+    }
+}
+
+fn arrive(me: &mut Side, other: &mut Side) -> String {
+    other.peer.write_to(&mut other.wire).unwrap();
+    while !other.wire.is_empty() {
+        let delivery = me.peer.deliver(&[other.wire.remove(0)]);
+        if delivery.stop.is_some() {
+            return stop(delivery.stop);
+        }
+        if delivery.frames == 1 {
+            return "arrived".into();
+        }
+    }
+    "nothing in flight".into()
+}
+
+fn deliver(peer: &mut Peer, bytes: &[u8], piece: usize) -> String {
+    for piece in bytes.chunks(piece) {
+        let delivery = peer.deliver(piece);
+        if delivery.stop.is_some() {
+            return stop(delivery.stop);
+        }
+        assert_eq!(delivery.taken, piece.len());
+    }
+    "ok".into()
+}
+
+fn taken(take: Result<Take, Refusal>, buffer: &[u8]) -> String {
+    match take {
+        Ok(Take::Took(len)) => format!("took {}", unhex(&buffer[..len])),
+        Ok(Take::Empty) => "empty".into(),
+        Ok(Take::Ended) => "ended".into(),
+        Err(refusal) => refused(refusal),
+    }
+}
+
+fn balances(peer: &Peer, word: &str, channel: Channel) -> String {
+    if word == "client" {
+        let book = peer.client(channel);
+        let (send, receive) = (or_none(book.send_left), or_none(book.receive_left));
+        return format!(
+            "held {} send_left {send} receive_left {receive} asked {}",
+            book.held,
+            or_none(book.asked)
+        );
+    }
+    let book = peer.server(channel);
+    let left = book
+        .send_left
+        .map_or(String::new(), |left| format!(" send_left {left}"));
+    format!(
+        "outstanding {} buffered {} room {}{left}",
+        book.outstanding, book.buffered, book.room
+    )
+}
+
+// A call of the side `me`, in words.
+fn answer(me: &mut Side, other: &mut Side, words: &[&str], piece: usize) -> String {
+    let number = |at: usize| {
+        words
+            .get(at)
+            .and_then(|word| word.parse::<u64>().ok())
+            .unwrap_or(0)
+    };
+    let peer = &mut me.peer;
+    match words[0] {
+        "arrive" => return arrive(me, other),
+        "bytes" => return deliver(peer, &hex(words[1]), piece),
+        "pending" => return peer.pending().to_string(),
+        "end" => return stop(peer.end().err()),
+        "write" => {
+            let mut buffer = vec![0; number(1) as usize];
+            let count = peer.write(&mut buffer);
+            return unhex(&buffer[..count]);
+        }
+        _ => {}
+    }
+    let Some(channel) = u8::try_from(number(1)).ok().and_then(Channel::from_number) else {
+        return "no channel".into();
+    };
+    match words[0] {
+        "send" => own(peer.send(channel, &hex(words[2]))),
+        "send-zeros" => own(peer.send(channel, &vec![0; number(2) as usize])),
+        "issue" => own(peer.issue(channel, number(2) as u32)),
+        "absolve" => own(peer.absolve(channel, number(2) as u32)),
+        "plead" => own(peer.plead(channel, number(2) as u32)),
+        "limit-sending" => own(peer.limit_sending(channel, number(2))),
+        "limit-receiving" => own(peer.limit_receiving(channel, number(2))),
+        "honour" => match peer.honour(channel) {
+            Ok(Some(amount)) => format!("absolved {amount}"),
+            Ok(None) => "nothing to absolve".into(),
+            Err(refusal) => refused(refusal),
+        },
+        "take" => {
+            let mut buffer = vec![
+                0;
+                if words.len() > 2 {
+                    number(2) as usize
+                } else {
+                    65_535
+                }
+            ];
+            let take = peer.take_into(channel, &mut buffer);
+            taken(take, &buffer)
+        }
+        "front" => peer
+            .front_len(channel)
+            .map_or("empty".into(), |len| len.to_string()),
+        word => balances(peer, word, channel),
+    }
+}
+
+fn side(capacity: u32, slots: u32) -> Side {
+    Side {
+        peer: Peer::new(&Config::new([capacity; 7], slots)).unwrap(),
+        wire: Vec::new(),
+    }
+}
+
+fn run(piece: usize) {
+    let rows = include_str!("../../rows.txt");
+    let mut sides: Option<(Side, Side)> = None;
+    let mut answers = 0;
+    for line in rows
+        .lines()
+        .filter(|line| !line.is_empty() && !line.starts_with('#'))
+    {
+        let (call, want) = line.split_once(" => ").unwrap_or((line, ""));
+        let words: Vec<&str> = call.split(' ').collect();
+        if words[0] == "rings" {
+            let (capacity, slots) = (words[1].parse().unwrap(), words[2].parse().unwrap());
+            sides = Some((side(capacity, slots), side(capacity, slots)));
+            continue;
+        }
+        let (a, b) = sides.as_mut().unwrap();
+        let (me, other) = if words[0] == "A" { (a, b) } else { (b, a) };
+        assert_eq!(answer(me, other, &words[1..], piece), want, "{line}");
+        answers += 1;
+    }
+    assert_eq!(answers, rows.matches(" => ").count());
+}
+
+#[test]
+fn rows_whole() {
+    run(usize::MAX);
+}
+
+#[test]
+fn rows_a_byte_at_a_time() {
+    run(1);
+}

@@ -1,0 +1,4 @@
+mod AsBox
+pub mod Barred
+pub mod Waiting
+pub mod Gives

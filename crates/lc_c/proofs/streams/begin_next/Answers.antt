@@ -1,0 +1,6 @@
+use Rattle.std.proofs.Common.{arith, sym, ◌∙◌}
+use Rattle.lc_c.proofs.Gives.{begins}
+use Rattle.lc_c.proofs.streams.begin_next.Goals as goal
+
+pub returns-in-Some : goal.returns-in-Some
+returns-in-Some c = begins c.args.side.now c.in-Some.frame c.next_out.new.self c.begin.new.self (omega (arith, c.len.ensures.value, c.if-len-gt0.false)) (sym c.in-Some.is ∙ c.next_out.ensures.value) c.next_out.ensures.after c.begin.ensures

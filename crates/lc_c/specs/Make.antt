@@ -1,0 +1,41 @@
+-- What makes a peer behind a handle, and why there is none. That the format has versions is this project's own, and so are all bounds.
+use Rattle.std.specs.Prelude.{◌≡◌, ◌==◌, ◌⊎◌, Bool, true, false, if◌then◌else◌, [], Option, Some, None}
+use Rattle.lc_frame.specs.Channel.{number_of}
+use Rattle.lc_book.specs.declared.fault.Refusal.TheVariants as refusals
+use Rattle.lc_peer.specs.declared.config.Config.{Config}
+use Rattle.lc_peer.specs.declared.config.PeerFault.{PeerFault}
+use Rattle.lc_peer.specs.declared.config.PeerFault.TheVariants.{BadCapacity, BadSlots, OutOfMemory}
+use Rattle.lc_peer.specs.Config.{config_fault, new_peer}
+use Rattle.lc_c.specs.declared.answer.LcmuxAnswer.{LcmuxAnswer}
+use Rattle.lc_c.specs.declared.make.LcmuxConfig.{LcmuxConfig}
+use Rattle.lc_c.specs.declared.side.Side.{Side}
+use Rattle.lc_c.specs.Answers.{done, only, has_peer, bad_version, bad_capacity, bad_slots, refusal_answer}
+
+-- why there is no peer; the number that goes with a bad capacity is its channel's
+abbrev pub fault_answer : PeerFault → LcmuxAnswer
+fault_answer (BadCapacity c) = record { code = bad_capacity; number = number_of c }
+fault_answer BadSlots = only bad_slots
+fault_answer OutOfMemory = refusal_answer refusals.OutOfMemory
+
+abbrev pub config_in : LcmuxConfig → Config
+config_in config = record { capacities = config.capacities; slots = config.slots }
+
+-- nothing has happened, and no byte came or went
+abbrev pub new_side : Config → Side
+new_side config = record { peer = new_peer config; decoder = record { bytes = [] }; stop = None; pending = record { bytes = [] } }
+
+abbrev pub fault_or_done : Option PeerFault → LcmuxAnswer
+fault_or_done None = only done
+fault_or_done (Some fault) = fault_answer fault
+
+-- a full handle comes first, then the version, then the bounds, and then memory
+abbrev pub make_answer : Option Side → LcmuxConfig → LcmuxAnswer
+make_answer (Some side) config = only has_peer
+make_answer None config = if config.version == 1 then fault_or_done (config_fault (config_in config)) else only bad_version
+
+abbrev pub MakeAnswers : Option Side → LcmuxConfig → LcmuxAnswer → Type 0
+MakeAnswers held config answer = (answer ≡ make_answer held config) ⊎ ((make_answer held config ≡ only done) × (answer ≡ fault_answer OutOfMemory))
+
+abbrev pub made : Bool → Option Side → LcmuxConfig → Option Side
+made true held config = Some (new_side (config_in config))
+made false held config = held

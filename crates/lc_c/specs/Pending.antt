@@ -1,0 +1,12 @@
+-- What is left of a frame on its way out. These rules are this project's own.
+use Rattle.std.specs.Prelude.{ℕ, ◌≤◌, List}
+use Rattle.lc_frame.specs.Kind.{max_frame}
+
+pub record PendingState : Type 0 where
+  pub bytes : List ℕ
+
+-- what a buffer of so many bytes with this capacity keeps, whose bytes before the start went out: a whole frame has room
+pub record IsFrameBuffer (len capacity start : ℕ) : Type 0 where
+  pub within : start ≤ len
+  pub most : len ≤ max_frame
+  pub room : max_frame ≤ capacity

@@ -1,0 +1,124 @@
+-- What goes out of a side and what comes to it. That a stream may be cut at any byte is this project's own to say.
+use Rattle.std.specs.Prelude.{◌≡◌, ℕ, ◌+◌, ◌<◌, ◌≤◌, min, List, [], ◌++◌, length, take, drop, Option, Some, None, Result, Ok, Err}
+use Rattle.std.specs.List.{flat_map}
+use Rattle.lc_frame.specs.declared.frame_fault.FrameFault.{FrameFault}
+use Rattle.lc_frame.specs.FrameFault.{fault_number}
+use Rattle.lc_frame.specs.Encoding.{encoding}
+use Rattle.lc_frame.specs.StreamDecoder.{EndsAs}
+use Rattle.lc_book.specs.Fault.{violation_number}
+use Rattle.lc_peer.specs.declared.delivery.Delivery.{Delivery}
+use Rattle.lc_peer.specs.declared.delivery.Stop.{Stop}
+use Rattle.lc_peer.specs.declared.delivery.Stop.TheVariants.{Fault, Violated}
+use Rattle.lc_peer.specs.Deliveries.{Delivers}
+use Rattle.lc_c.specs.declared.answer.LcmuxAnswer.{LcmuxAnswer}
+use Rattle.lc_c.specs.declared.wire.LcmuxDelivery.{LcmuxDelivery}
+use Rattle.lc_c.specs.declared.side.Side.{Side}
+use Rattle.lc_c.specs.Answers.{done, only, no_peer}
+
+-- the bytes that are to go out: the rest of the frame that was begun, and then those of the frames that wait
+abbrev pub text : Side → List ℕ
+text side = side.pending.bytes ++ flat_map encoding side.peer.waiting
+
+-- a side gave out the first so many of them; a frame leaves the peer with its first byte, and nothing else changes
+pub record GivesOut (n : ℕ) (old new : Side) : Type 0 where
+  pub within : n ≤ length (text old)
+  pub rest : text new ≡ drop n (text old)
+  pub gone : ℕ
+  pub peer : new.peer ≡ record old.peer { waiting = drop gone old.peer.waiting }
+  pub begun : (k : ℕ) → k < gone → length (old.pending.bytes ++ flat_map encoding (take k old.peer.waiting)) < n
+  pub decoder : new.decoder ≡ old.decoder
+  pub stop : new.stop ≡ old.stop
+
+-- where nothing is left of a frame, the next one is begun, if one waits
+pub record Begins (old new : Side) : Type 0 where
+  pub same : text new ≡ text old
+  pub gone : ℕ
+  pub peer : new.peer ≡ record old.peer { waiting = drop gone old.peer.waiting }
+  pub one : 0 < gone → gone ≡ 1
+  pub first : 0 < gone → old.pending.bytes ≡ []
+  pub some : 0 < gone → 0 < length new.pending.bytes
+  pub ready : new.pending.bytes ≡ [] → text new ≡ []
+  pub decoder : new.decoder ≡ old.decoder
+  pub stop : new.stop ≡ old.stop
+
+-- a piece is delivered to a side whose stream was not given up
+pub record Brings (piece : List ℕ) (old new : Side) (d : Delivery) : Type 0 where
+  pub delivers : Delivers old.peer old.decoder.bytes piece new.peer new.decoder.bytes d
+  pub stop : new.stop ≡ d.stop
+  pub pending : new.pending ≡ old.pending
+
+-- where it was, nothing is taken, and the answer is the same for good
+pub record StaysStopped (stop : Stop) (old new : Side) (d : Delivery) : Type 0 where
+  pub delivery : d ≡ record { taken = 0; frames = 0; stop = Some stop }
+  pub same : new ≡ old
+
+abbrev pub DeliversAt : Option Stop → List ℕ → Side → Side → Delivery → Type 0
+DeliversAt None piece old new d = Brings piece old new d
+DeliversAt (Some stop) piece old new d = StaysStopped stop old new d
+
+-- why a stream was given up: violations from 101 on, faults from 201 on
+abbrev pub stop_code : Option Stop → ℕ
+stop_code None = done
+stop_code (Some (Violated violation)) = 100 + violation_number violation
+stop_code (Some (Fault fault)) = 200 + fault_number fault
+
+abbrev pub shown : Delivery → LcmuxDelivery
+shown d = record { code = stop_code d.stop; taken = d.taken; frames = d.frames }
+
+-- a delivery behind a handle, which answers this
+pub record DeliversTo (side : Side) (piece : List ℕ) (after : Option Side) (answer : LcmuxDelivery) : Type 0 where
+  pub new : Side
+  pub stands : after ≡ Some new
+  pub delivery : Delivery
+  pub is : answer ≡ shown delivery
+  pub delivers : DeliversAt side.stop piece side new delivery
+
+pub record DeliversNowhere (after : Option Side) (answer : LcmuxDelivery) : Type 0 where
+  pub is : answer ≡ record { code = no_peer; taken = 0; frames = 0 }
+  pub stays : after ≡ None
+
+abbrev pub DeliversBehind : Option Side → List ℕ → Option Side → LcmuxDelivery → Type 0
+DeliversBehind None piece after answer = DeliversNowhere after answer
+DeliversBehind (Some side) piece after answer = DeliversTo side piece after answer
+
+-- what goes out behind a handle: the number is how many bytes were written, as many as there are and have room
+pub record WritesOut (side : Side) (buffer : List ℕ) (after : Option Side) (buffer' : List ℕ) (answer : LcmuxAnswer) : Type 0 where
+  pub new : Side
+  pub stands : after ≡ Some new
+  pub code : answer.code ≡ done
+  pub count : answer.number ≡ min (length (text side)) (length buffer)
+  pub written : buffer' ≡ take answer.number (text side) ++ drop answer.number buffer
+  pub gives : GivesOut answer.number side new
+
+pub record WritesNothing (buffer : List ℕ) (after : Option Side) (buffer' : List ℕ) (answer : LcmuxAnswer) : Type 0 where
+  pub is : answer ≡ only no_peer
+  pub stays : after ≡ None
+  pub same : buffer' ≡ buffer
+
+abbrev pub WritesBehind : Option Side → List ℕ → Option Side → List ℕ → LcmuxAnswer → Type 0
+WritesBehind None buffer after buffer' answer = WritesNothing buffer after buffer' answer
+WritesBehind (Some side) buffer after buffer' answer = WritesOut side buffer after buffer' answer
+
+-- how many bytes a write would give that has room
+abbrev pub pending_answer : Option Side → LcmuxAnswer
+pending_answer None = only no_peer
+pending_answer (Some side) = record { code = done; number = length (text side) }
+
+-- a stream that was not given up ends so
+abbrev pub end_code : {T : Type 0} → Result T FrameFault → ℕ
+end_code (Ok _) = done
+end_code (Err fault) = 200 + fault_number fault
+
+pub record EndsOpen (held : List ℕ) (code : ℕ) : Type 0 where
+  pub end : Result (Unit {0}) FrameFault
+  pub ends : EndsAs end held
+  pub is : code ≡ end_code end
+
+-- what it means that the stream ends here: why it was given up, if it was; else 204 inside a frame
+abbrev pub EndsWith : Option Stop → List ℕ → ℕ → Type 0
+EndsWith (Some stop) held code = code ≡ stop_code (Some stop)
+EndsWith None held code = EndsOpen held code
+
+abbrev pub EndsBehind : Option Side → LcmuxAnswer → Type 0
+EndsBehind None answer = answer ≡ only no_peer
+EndsBehind (Some side) answer = EndsWith side.stop side.decoder.bytes answer.code × (answer.number ≡ 0)

@@ -1,0 +1,113 @@
+//! Making a peer behind a handle, and freeing it.
+ghost use Rattle.std.specs.Prelude.{◌≡◌, None, IfOk, is_some, if◌then◌else◌};
+ghost use Rattle.std.specs.Result.{result_err};
+ghost use Rattle.lc_peer.specs.Config.{IsNewAnswer};
+ghost use Rattle.lc_c.specs.Answers.{only, done, no_peer, is_done};
+ghost use Rattle.lc_c.specs.Make.{fault_answer, new_side, MakeAnswers, made};
+
+use crate::answer::{
+    BAD_CAPACITY, BAD_SLOTS, BAD_VERSION, DONE, HAS_PEER, LcmuxAnswer, NO_PEER, only, refused,
+};
+use crate::peer::{LcmuxPeer, open};
+use crate::pending::Pending;
+use crate::side::Side;
+use lc_book::Refusal;
+use lc_frame::StreamDecoder;
+use lc_peer::{Config, Peer, PeerFault};
+use std::alloc::Global;
+
+/// The bounds of a peer.
+#[repr(C)]
+#[derive(Clone, Copy, Debug, PartialEq, Eq)]
+pub struct LcmuxConfig {
+    /// The version of the format: 1.
+    pub version: u32,
+    /// How many frames may wait to go out, 1 to 65,536.
+    pub slots: u32,
+    /// The bytes of each channel's receiving ring, 1 to 2^24, by the channel's number.
+    pub capacities: [u32; 7],
+}
+
+// Why there is no peer.
+fn fault_answer(fault: PeerFault) -> LcmuxAnswer
+    ensures { result ≡ fault_answer fault }
+{
+    match fault {
+        PeerFault::BadCapacity { channel } => LcmuxAnswer {
+            code: BAD_CAPACITY,
+            number: u64::from(channel.number()),
+        },
+        PeerFault::BadSlots => only(BAD_SLOTS),
+        PeerFault::OutOfMemory => refused(Refusal::OutOfMemory),
+    }
+}
+
+// A side on which nothing has happened.
+fn new_side(alloc: Global, config: Config) -> Result<Box<Side>, PeerFault>
+    ensures answer { IsNewAnswer config (result_err result) }
+    ensures value { IfOk result (λ side. side.value ≡ new_side config) }
+{
+    let peer = Peer::new(alloc, config)?;
+    let Ok(decoder) = StreamDecoder::new(alloc) else {
+        return Err(PeerFault::OutOfMemory);
+    };
+    let Ok(pending) = Pending::new(alloc) else {
+        return Err(PeerFault::OutOfMemory);
+    };
+    let side = Side {
+        peer,
+        decoder,
+        stop: None,
+        pending,
+    };
+    match Box::new(alloc, side) {
+        Ok(side) => Ok(side),
+        Err(_) => Err(PeerFault::OutOfMemory),
+    }
+}
+
+/// Makes a peer on which nothing has happened behind an empty handle. Codes 33, 35, 36, whose number
+/// is the first channel of such a ring, 37 and 14, in this order; the handle is then as it was.
+#[unsafe(no_mangle)]
+pub extern "C" fn lcmux_peer_new(
+    alloc: Global,
+    config: &LcmuxConfig,
+    peer: &mut LcmuxPeer,
+) -> LcmuxAnswer
+    ensures answer { MakeAnswers peer.old.slot.held config.now result }
+    ensures after { peer.new.slot.held ≡ made (is_done result) peer.old.slot.held config.now }
+{
+    match open(peer, alloc) {
+        Some(side) => {
+            *peer = LcmuxPeer::of(side);
+            return only(HAS_PEER);
+        }
+        None => {}
+    }
+    if config.version != 1 {
+        return only(BAD_VERSION);
+    }
+    let bounds = Config {
+        capacities: config.capacities,
+        slots: config.slots,
+    };
+    match new_side(alloc, bounds) {
+        Ok(side) => {
+            *peer = LcmuxPeer::of(side);
+            only(DONE)
+        }
+        Err(fault) => fault_answer(fault),
+    }
+}
+
+/// Gives back all memory of the peer, and leaves the handle empty. Code 32, where it was.
+#[unsafe(no_mangle)]
+pub extern "C" fn lcmux_peer_free(alloc: Global, peer: &mut LcmuxPeer) -> LcmuxAnswer
+    ensures answer { result ≡ only (if is_some peer.old.slot.held then done else no_peer) }
+    ensures empty { peer.new.slot.held ≡ None }
+{
+    match open(peer, alloc) {
+        Some(_side) => only(DONE),
+        None => only(NO_PEER),
+    }
+}

@@ -1,0 +1,73 @@
+//! What is left of a frame that was begun.
+ghost use Rattle.std.specs.Prelude.{◌≡◌, ◌≤◌, [], ◌++◌, length, take, drop, min, IfOk};
+ghost use Rattle.lc_frame.specs.Kind.{max_frame};
+ghost use Rattle.lc_frame.specs.Frame.{IsValid};
+ghost use Rattle.lc_frame.specs.Encoding.{encoding};
+
+use lc_frame::{Frame, MAX_FRAME};
+use std::alloc::{AllocError, Global};
+use std::marker::Model;
+
+/// The bytes that are left of a frame whose first ones went out.
+#[derive(Debug, Drop)]
+pub struct Pending {
+    buffer: Vec<u8>,
+    start: usize,
+}
+
+impl Model for Pending {
+    ghost use Rattle.std.specs.Prelude.{drop, vec_len, vec_capacity};
+    ghost use Rattle.lc_c.specs.Pending.{PendingState, IsFrameBuffer};
+
+    ghost Value = { PendingState };
+
+    ghost view = { λ pending. record { bytes = drop pending.start pending.buffer.items } };
+
+    ghost invariant = { λ pending. IsFrameBuffer (vec_len pending.buffer) (vec_capacity pending.buffer) pending.start };
+}
+
+impl Pending {
+    /// Nothing is left. It takes the memory for `MAX_FRAME` bytes here and none later.
+    pub(crate) fn new(alloc: Global) -> Result<Pending, AllocError>
+        ensures { IfOk result (λ pending. pending.bytes ≡ []) }
+    {
+        Ok(Pending {
+            buffer: Vec::with_capacity(alloc, MAX_FRAME)?,
+            start: 0,
+        })
+    }
+
+    /// How many bytes are left.
+    pub(crate) fn len(&self) -> usize
+        ensures value { result ≡ length self.now.bytes }
+        ensures most { result ≤ max_frame }
+    {
+        self.buffer.len() - self.start
+    }
+
+    /// As many of them as have room go to the front of a slice.
+    pub(crate) fn give(&mut self, out: &mut [u8]) -> usize
+        ensures count { result ≡ min (length self.old.bytes) (length out.old) }
+        ensures written { out.new ≡ take result self.old.bytes ++ drop result out.old }
+        ensures rest { self.new.bytes ≡ drop result self.old.bytes }
+    {
+        let count = self.len().min(out.len());
+        let left = self.buffer.split_at(self.start).1;
+        let (front, _) = out.split_at_mut(count);
+        front.copy_from_slice(left.split_at(count).0);
+        self.start += count;
+        count
+    }
+
+    /// A frame is begun, where nothing is left of another.
+    pub(crate) fn begin(&mut self, frame: &Frame)
+        requires { IsValid frame.now }
+        ensures { self.new.bytes ≡ encoding frame.now }
+    {
+        self.buffer.clear();
+        self.start = 0;
+        if frame.encode_into(&mut self.buffer).is_err() {
+            unreachable!();
+        }
+    }
+}

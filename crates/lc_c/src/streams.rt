@@ -1,0 +1,81 @@
+//! The two streams of a side.
+ghost use Rattle.std.specs.Prelude.{◌≡◌, ◌<◌, ◌≤◌, ◌++◌, [], min, length, take, drop};
+ghost use Rattle.lc_c.specs.Streams.{text, Begins, GivesOut, DeliversAt};
+
+use crate::side::Side;
+use lc_peer::Delivery;
+
+// Where nothing is left of a frame, the next one is begun.
+fn begin_next(side: &mut Side)
+    ensures { Begins side.old side.new }
+{
+    if side.pending.len() > 0 {
+        return;
+    }
+    match side.peer.next_out() {
+        Some(frame) => side.pending.begin(&frame),
+        None => {}
+    }
+}
+
+// What is left of the frame that was begun, or the next frame, as far as there is room.
+fn give_next(side: &mut Side, out: &mut [u8]) -> usize
+    requires { 0 < length out.old }
+    ensures count { result ≤ length out.old }
+    ensures written { out.new ≡ take result (text side.old) ++ drop result out.old }
+    ensures gives { GivesOut result side.old side.new }
+    ensures none { result ≡ 0 → text side.new ≡ [] }
+{
+    begin_next(side);
+    side.pending.give(out)
+}
+
+/// As many of the bytes that are to go out as there is room for.
+pub(crate) fn give(side: &mut Side, out: &mut [u8]) -> usize
+    ensures count { result ≡ min (length (text side.old)) (length out.old) }
+    ensures written { out.new ≡ take result (text side.old) ++ drop result out.old }
+    ensures gives { GivesOut result side.old side.new }
+{
+    let mut done = 0;
+    'frames: while done < out.len() {
+        let (_, room) = out.split_at_mut(done);
+        let count = give_next(side, room);
+        if count == 0 {
+            return done;
+        }
+        done += count;
+    }
+    done
+}
+
+/// How many bytes are to go out.
+pub(crate) fn count(side: &Side) -> usize
+    ensures { result ≡ length (text side.now) }
+{
+    let mut count = side.pending.len();
+    'frames: for place in 0..side.peer.waiting() {
+        match side.peer.waiting_frame(place) {
+            Some(frame) => count += frame.encoded_len(),
+            None => unreachable!(),
+        }
+    }
+    count
+}
+
+/// A piece of the stream is delivered, unless the stream was given up.
+pub(crate) fn deliver(side: &mut Side, piece: &[u8]) -> Delivery
+    ensures { DeliversAt side.old.stop piece.now side.old side.new result }
+{
+    match side.stop {
+        Some(stop) => Delivery {
+            taken: 0,
+            frames: 0,
+            stop: Some(stop),
+        },
+        None => {
+            let delivery = side.peer.deliver(&mut side.decoder, piece);
+            side.stop = delivery.stop;
+            delivery
+        }
+    }
+}
