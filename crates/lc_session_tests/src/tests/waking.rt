@@ -307,25 +307,27 @@ fn a_wait_ends_in_time(rt: HostRuntime) -> Result<(), Fail> {
     Ok(())
 }
 
-// Guarantees come in a run of the reading pump, and an end waits until it is told of them.
-fn await_guarantees<R: Wait + Abort>(rt: &R, ends: Ends, mut writer: TcpStream) {
+// Each wait is over until a further run has begun.
+fn await_run<R: Wait + Clock>(rt: &R, end: &mut SendEnd) {
+    for _ in rt.forever() {
+        if end.wait_timeout(rt, Duration::from_millis(1)) == Wake::Again {
+            return;
+        }
+    }
+}
+
+// Once a further run has begun, guarantees come in it, of which the end is told.
+fn await_guarantees<R: Wait + Clock + Abort>(rt: &R, ends: Ends, mut writer: TcpStream) {
     let Ends {
         mut sending,
         receiving: _,
     } = ends;
+    let end = &mut sending[1];
+    await_run(rt, end);
     let written = writer.write_all(&[0x21, 0, 0, 0, 5]);
     assert!(rt; written.is_ok());
-    sleep_until_told(rt, &mut sending);
+    assert_eq!(rt; end.wait(rt), Wake::Again);
     drop(writer);
-}
-
-fn sleep_until_told<R: Wait>(rt: &R, ends: &mut [SendEnd; 7]) {
-    let end = &mut ends[1];
-    for _ in rt.forever() {
-        if end.wait(rt) == Wake::Again {
-            return;
-        }
-    }
 }
 
 // A run that reads to the end of the stream.
@@ -335,19 +337,15 @@ fn read<R: Wait + Abort, D: Read + Drop>(rt: &R, pump: &mut ReadPump, reader: D)
     assert_eq!(rt; end, ReadEnd::Clean);
 }
 
-fn read_twice<R: Wait + Abort>(rt: &R, mut pump: ReadPump, reader: TcpStream) {
-    read(rt, &mut pump, b"".as_slice());
-    read(rt, &mut pump, reader);
-}
-
 #[test]
 fn a_further_run_is_not_over(rt: HostRuntime) -> Result<(), Fail> {
-    let (ends, pumps, _session) = taken_apart(session(rt.alloc(), 8, 4)?);
+    let (ends, mut pumps, _session) = taken_apart(session(rt.alloc(), 8, 4)?);
     let (writer, reader) = connection(&rt)?;
+    read(&rt, &mut pumps.reading, b"".as_slice());
     join(
         &rt,
         || await_guarantees(&rt, ends, writer),
-        || read_twice(&rt, pumps.reading, reader),
+        || read(&rt, &mut pumps.reading, reader),
     );
     Ok(())
 }
