@@ -1,17 +1,8 @@
 /* The three functions by which the library asks for memory. A program that defines all three itself
  * gets its own in their place. */
-#include <stdbool.h>
-#include <stddef.h>
+#include "lcmux_heap.h"
+
 #include <stdlib.h>
-
-struct lcmux_tried {
-    bool ok;
-    void *at;
-};
-
-struct lcmux_tried rattle_alloc(size_t size, size_t align);
-struct lcmux_tried rattle_realloc(void *at, size_t kept, size_t size, size_t align);
-void rattle_dealloc(void *at);
 
 static char nothing;
 

@@ -25,15 +25,7 @@
  * says so. lcmux_peer_deliver answers more than that, in a struct of its own.
  *
  * Memory. The library asks for memory in lcmux_peer_new and lcmux_peer_send alone, by the three
- * functions of heap.c. A program may bring its own: it defines all three itself and links liblcmux.a
- * as before.
- *
- * struct lcmux_tried { bool ok; void *at; };
- * struct lcmux_tried rattle_alloc(size_t size, size_t align);     a power of two up to 16
- * struct lcmux_tried rattle_realloc(void *at, size_t kept, size_t size, size_t align);
- * void rattle_dealloc(void *at);
- *
- * With ok false `at` is not NULL and points anywhere, and rattle_realloc leaves the old block alone.
+ * functions of heap.c. A program may bring its own: lcmux_heap.h says how.
  *
  * For x86-64 Linux, System V calling convention; a processor with SSE4.2 (x86-64-v2).
  */

@@ -1,20 +1,11 @@
 /* A heap of the program's own, which refuses one request after another, and counts what is not given
  * back; and calls through an empty handle. */
 #include "lcmux.h"
+#include "lcmux_heap.h"
 
-#include <stdbool.h>
 #include <stdio.h>
 #include <stdlib.h>
 #include <string.h>
-
-struct lcmux_tried {
-    bool ok;
-    void *at;
-};
-
-struct lcmux_tried rattle_alloc(size_t size, size_t align);
-struct lcmux_tried rattle_realloc(void *at, size_t kept, size_t size, size_t align);
-void rattle_dealloc(void *at);
 
 static int requests, refuse, live;
 static char nothing;
