@@ -95,7 +95,7 @@ enum {
     LCMUX_F1_BAD_TAG = 201,
     LCMUX_F2_ZERO_LENGTH = 202,
     LCMUX_F3_BAD_NUMBER = 203,
-    LCMUX_F4_TRUNCATED = 204      /* lcmux_peer_end alone: the stream ends inside a frame */
+    LCMUX_F4_TRUNCATED = 204      /* lcmux_peer_end alone: the stream ends inside a frame or a greeting */
 };
 
 /* The handle of a peer: its fields are the library's. */
@@ -112,7 +112,7 @@ typedef struct lcmux_answer {
 } lcmux_answer;
 
 typedef struct lcmux_config {
-    uint32_t version;       /* of the format: 1 */
+    uint32_t version;       /* of the format that goes out: 1 */
     uint32_t slots;         /* how many frames may wait to go out, 1 to 65,536 */
     uint32_t capacities[7]; /* the bytes of each channel's receiving ring, 1 to 2^24 */
 } lcmux_config;
@@ -150,7 +150,8 @@ typedef struct lcmux_server {
 
 /* Makes a peer behind an empty handle. LCMUX_HAS_PEER, LCMUX_BAD_VERSION, LCMUX_BAD_CAPACITY,
  * LCMUX_BAD_SLOTS and LCMUX_OUT_OF_MEMORY, in this order; the handle is then as it was. It asks for 18
- * blocks: the rings, the list of frames, two buffers of 65,538 bytes, and the peer. */
+ * blocks: the rings, the list of frames, a buffer of 1,048,581 bytes for a frame that comes, one of
+ * 65,538 bytes for a frame that goes out, and the peer. */
 lcmux_answer lcmux_peer_new(const lcmux_config *config, lcmux_peer *peer) LCMUX_NONNULL;
 
 /* Gives all of it back, with the messages and frames that are there, and empties the handle.
@@ -179,13 +180,14 @@ lcmux_answer lcmux_peer_limit_sending(lcmux_peer *peer, uint32_t channel, uint64
 /* At most so many guarantees are issued from here on. Codes 7, 8 and 13. */
 lcmux_answer lcmux_peer_limit_receiving(lcmux_peer *peer, uint32_t channel, uint64_t bound) LCMUX_NONNULL;
 
-/* The next bytes of the stream that comes, cut anywhere; len may be 0. Whole frames arrive, and part of
- * one is kept inside. After a violation or a fault the stream is given up: the frames before it have
- * arrived, each further call takes nothing and answers the same code, and the other calls still work. */
+/* The next bytes of the stream that comes, of either version, cut anywhere; len may be 0. Whole frames
+ * arrive, and part of one is kept inside. After a violation or a fault the stream is given up: the
+ * frames before it have arrived, each further call takes nothing and answers the same code, and the
+ * other calls still work. */
 lcmux_delivery lcmux_peer_deliver(lcmux_peer *peer, const uint8_t *piece, size_t len) LCMUX_NONNULL;
 
-/* What it means that the stream ends here: LCMUX_OK between two frames, LCMUX_F4_TRUNCATED inside one,
- * and the code of the delivery that stopped, where one did. Changes nothing. */
+/* What it means that the stream ends here: LCMUX_OK between two frames, LCMUX_F4_TRUNCATED inside one
+ * or inside a greeting, and the code of the delivery that stopped, where one did. Changes nothing. */
 lcmux_answer lcmux_peer_end(lcmux_peer *peer) LCMUX_NONNULL;
 
 /* The next bytes that go out, to the front of buffer: as many as there are and have room, which is the

@@ -209,13 +209,13 @@ impl Error for Violation {}
 #[derive(Clone, Copy, Debug, PartialEq, Eq)]
 #[non_exhaustive]
 pub enum Fault {
-    /// F1. The first byte names no kind of frame or no channel.
+    /// F1. The first byte names no kind of frame or no channel, or a byte differs from the greeting.
     BadTag,
     /// F2. The length of a message is 0.
     ZeroLength,
     /// F3. A number is out of its range.
     BadNumber,
-    /// F4. The stream ends within a frame.
+    /// F4. The stream ends within a frame or a greeting.
     Truncated,
 }
 

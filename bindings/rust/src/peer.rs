@@ -19,7 +19,7 @@ pub enum Version {
 #[derive(Clone, Copy, Debug, PartialEq, Eq)]
 #[non_exhaustive]
 pub struct Config {
-    /// The version of the format.
+    /// The version of the format that goes out. Either may come.
     pub version: Version,
     /// The bytes of each channel's receiving ring, 1 to 2^24, by the channel's number.
     pub capacities: [u32; 7],
@@ -224,7 +224,7 @@ impl Peer {
     }
 
     /// What it means that the stream ends here: nothing between two frames, `Fault::Truncated` inside
-    /// one, and the stop of the delivery that stopped, where one did.
+    /// one or inside a greeting, and the stop of the delivery that stopped, where one did.
     pub fn end(&self) -> Result<(), Stop> {
         Stop::of(self.handle.end().code).map_or(Ok(()), Err)
     }

@@ -1,10 +1,11 @@
 //! Where frames are put, and where they are taken out: the lanes of a session's queue and their
 //! drain, and the kit's queue, which has no lanes.
 ghost use Rattle.std.specs.Prelude.{◌≡◌, IfSome};
+ghost use Rattle.lc_frame.specs.declared.version.Version.TheVariants.{One};
 ghost use Rattle.lc_frame.specs.Frame.{lane_of, IsValid};
 
 use crossbeam_queue::ArrayQueue;
-use lc_frame::{Channel, Frame};
+use lc_frame::{Channel, Frame, Version};
 use lc_queue::{Drain, LaneEnd, lanes};
 use std::alloc::{AllocError, Global};
 use std::io;
@@ -31,11 +32,11 @@ pub trait Outlet {
 // An Issue of a lane; `None` where the lane has none.
 #[inline]
 fn issue_in(lane: u8) -> Option<Frame>
-    ensures { IfSome result (λ frame. IsValid frame × (lane_of frame ≡ lane)) }
+    ensures { IfSome result (λ frame. IsValid One frame × (lane_of frame ≡ lane)) }
 {
     let channel = Channel::from_number(lane.checked_sub(FIRST)?)?;
     let frame = Frame::Issue { channel, amount: 5 };
-    if frame.is_valid() && frame.lane() == lane {
+    if frame.is_valid(Version::One) && frame.lane() == lane {
         Some(frame)
     } else {
         None

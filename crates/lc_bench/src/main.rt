@@ -22,7 +22,7 @@ mod ring;
 
 use credit::measure_credits;
 use inbox::measure_inboxes;
-use lc_frame::{Body, Channel, Frame, MAX_BODY};
+use lc_frame::{Body, Channel, Frame};
 use operation::{Operation, measure};
 use peer::measure_peers;
 use ping::measure_ping;
@@ -36,7 +36,7 @@ const FRAMES: [(&str, usize); 4] = [
     ("issue5", 0),
     ("send16", 16),
     ("send1k", 1_024),
-    ("send64k", MAX_BODY),
+    ("send64k", 65_535),
 ];
 
 const OPERATIONS: [Operation; 6] = [

@@ -1,10 +1,11 @@
 //! What is measured.
+ghost use Rattle.lc_frame.specs.declared.version.Version.TheVariants.{One};
 ghost use Rattle.lc_frame.specs.Frame.{IsValid};
 
 use crate::figures::{Figure, Turns};
 use crate::plan::Plan;
 use crate::receiver::Receiver;
-use lc_frame::{Channel, Decoded, Frame, FrameRef, StreamDecoder, decode};
+use lc_frame::{Channel, Decoded, Frame, FrameRef, StreamDecoder, Version, decode};
 use std::alloc::{AllocError, Global};
 use std::io;
 
@@ -55,10 +56,10 @@ struct Walk<'a> {
 impl<'a> Walk<'a> {
     // The walk over a frame, which has to be valid.
     fn new(alloc: Global, operation: Operation, frame: &'a Frame) -> io::Result<Walk<'a>> {
-        if !frame.is_valid() {
+        if !frame.is_valid(Version::One) {
             return Err(io::Error::other("a frame is not valid"));
         }
-        let count = (WALK / frame.encoded_len().max(1)).max(1);
+        let count = (WALK / frame.encoded_len(Version::One).max(1)).max(1);
         let mut bytes = Vec::new(alloc);
         encode_into(frame, count, &mut bytes)?;
         Ok(Walk {
@@ -121,7 +122,7 @@ fn encode_into_turns(
     turns: u64,
     out: &mut Vec<u8>,
 ) -> Result<(), AllocError> {
-    if !frame.is_valid() {
+    if !frame.is_valid(Version::One) {
         return Ok(());
     }
     for _ in 0..turns {
@@ -133,17 +134,17 @@ fn encode_into_turns(
 
 #[inline]
 fn encode_into(frame: &Frame, count: usize, out: &mut Vec<u8>) -> Result<(), AllocError>
-    requires { IsValid frame.now }
+    requires { IsValid One frame.now }
 {
     for _ in 0..count {
-        frame.encode_into(out)?;
+        frame.encode_into(Version::One, out)?;
     }
     Ok(())
 }
 
 #[inline(never)]
 fn encode_to_slice_turns(frame: &Frame, count: usize, turns: u64, out: &mut [u8]) {
-    if !frame.is_valid() {
+    if !frame.is_valid(Version::One) {
         return;
     }
     for _ in 0..turns {
@@ -153,14 +154,14 @@ fn encode_to_slice_turns(frame: &Frame, count: usize, turns: u64, out: &mut [u8]
 
 #[inline]
 fn encode_to_slice(frame: &Frame, count: usize, out: &mut [u8])
-    requires { IsValid frame.now }
+    requires { IsValid One frame.now }
 {
     let mut at = 0usize;
     for _ in 0..count {
         if at > out.len() {
             break;
         }
-        let Ok(used) = frame.encode_to_slice(&mut out[at..]) else {
+        let Ok(used) = frame.encode_to_slice(Version::One, &mut out[at..]) else {
             break;
         };
         at = at.wrapping_add(used);
@@ -178,7 +179,7 @@ fn decode_turns<'a>(bytes: &'a [u8], turns: u64, last: &mut FrameRef<'a>) {
 #[inline]
 fn decode_all<'a>(bytes: &'a [u8], last: &mut FrameRef<'a>) {
     let mut rest = bytes;
-    while let Decoded::Whole { frame, used } = decode(rest) {
+    while let Decoded::Whole { frame, used } = decode(Version::One, rest) {
         rest = rest.split_at(used).1;
         *last = frame;
     }
@@ -200,7 +201,7 @@ fn decode_owned_turns(
 #[inline]
 fn decode_owned(alloc: Global, bytes: &[u8], sum: &mut u64) -> Result<(), AllocError> {
     let mut rest = bytes;
-    while let Decoded::Whole { frame, used } = decode(rest) {
+    while let Decoded::Whole { frame, used } = decode(Version::One, rest) {
         let owned = frame.to_frame(alloc)?;
         rest = rest.split_at(used).1;
         *sum = sum.wrapping_add(weight(owned.view()));
@@ -265,7 +266,7 @@ pub fn measure(
     let name = format!(in rt.alloc(); "{}.{subject}", operation.name())?;
     let mut walk = Walk::new(rt.alloc(), operation, frame)?;
     // A body that is lent is not touched, so its bytes per second would say nothing.
-    let is_lent = matches!(operation, Operation::Decode) && frame.encoded_len() >= 100;
+    let is_lent = matches!(operation, Operation::Decode) && frame.encoded_len(Version::One) >= 100;
     let figure = Figure {
         name: name.as_str(),
         things: "frames",

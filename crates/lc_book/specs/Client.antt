@@ -1,6 +1,7 @@
 -- The client's book of one channel direction, and what each call on it refuses and leaves. Guarantees, sending within them and absolving are LCMUX's, also that a server may plead; the order of refusals, what a plead names and what an honour absolves are this project's own.
 use Rattle.std.specs.Prelude.{ℕ, ◌+◌, ◌-◌, ◌≤◌, ◌==◌, nat_lt, if◌then◌else◌, Option, Some, None, unwrap_or}
 use Rattle.std.specs.Option.{option_and_then, ForSome}
+use Rattle.lc_frame.specs.declared.version.Version.TheVariants.{One}
 use Rattle.lc_frame.specs.Kind.{max_body, max_amount, max_total}
 use Rattle.lc_book.specs.declared.client.ClientParts.{ClientParts}
 use Rattle.lc_book.specs.declared.fault.Refusal.{Refusal}
@@ -41,7 +42,7 @@ client_of_parts p = record { received = p.received; spent = p.spent; absolved = 
 abbrev pub message_refusal_or : Option ℕ → ℕ → Option Refusal → Option Refusal
 message_refusal_or left len otherwise =
     if len == 0 then Some EmptyBody
-    else (if nat_lt max_body len then Some BodyTooLong
+    else (if nat_lt (max_body One) len then Some BodyTooLong
     else (if is_past left len then Some (PastSendLimit (left_of left))
     else otherwise))
 

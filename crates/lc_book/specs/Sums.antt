@@ -1,5 +1,6 @@
 -- The books as sums over the streams of both sides, and what one frame more makes of them. That a book's balances are those of the frames on the streams is what LCMUX means by guarantees issued, used and absolved.
 use Rattle.std.specs.Prelude.{◌≡◌, ℕ, ◌+◌, ◌<◌, ◌≤◌, List, [], ◌∷◌, ◌++◌, length, take, get_or, sum_by, false, Option, Some, None}
+use Rattle.lc_frame.specs.declared.version.Version.TheVariants.{One}
 use Rattle.lc_frame.specs.declared.channel.Channel.{Channel}
 use Rattle.lc_frame.specs.declared.frame.Frame.{Frame}
 use Rattle.lc_frame.specs.declared.frame.Frame.TheVariants.{Send, Issue, Absolve, Plead, LimitSending, LimitReceiving}
@@ -104,13 +105,13 @@ EveryTakeKeepsSums = (capacity : ℕ) (c : Channel) (put arrived : List Frame) (
 
 -- the frame of an event that is accepted is valid
 pub record PutsValidFrames (client : Client) (server : Server) (c : Channel) : Type 0 where
-  pub send : (body : List ℕ) → spend_refusal client (length body) ≡ None → IsValid (Send c body)
-  pub absolve : (amount : ℕ) → absolve_refusal client amount ≡ None → IsValid (Absolve c amount)
-  pub honour : (amount : ℕ) → amount_to_absolve client ≡ Some amount → IsValid (Absolve c amount)
-  pub limit_sending : (bound : ℕ) → limit_refusal client.send_left bound ≡ None → IsValid (LimitSending c bound)
-  pub issue : (amount : ℕ) → issue_refusal server amount ≡ None → IsValid (Issue c amount)
-  pub plead : (target : ℕ) → plead_refusal server target ≡ None → IsValid (Plead c target)
-  pub limit_receiving : (bound : ℕ) → limit_refusal server.receive_left bound ≡ None → IsValid (LimitReceiving c bound)
+  pub send : (body : List ℕ) → spend_refusal client (length body) ≡ None → IsValid One (Send c body)
+  pub absolve : (amount : ℕ) → absolve_refusal client amount ≡ None → IsValid One (Absolve c amount)
+  pub honour : (amount : ℕ) → amount_to_absolve client ≡ Some amount → IsValid One (Absolve c amount)
+  pub limit_sending : (bound : ℕ) → limit_refusal client.send_left bound ≡ None → IsValid One (LimitSending c bound)
+  pub issue : (amount : ℕ) → issue_refusal server amount ≡ None → IsValid One (Issue c amount)
+  pub plead : (target : ℕ) → plead_refusal server target ≡ None → IsValid One (Plead c target)
+  pub limit_receiving : (bound : ℕ) → limit_refusal server.receive_left bound ≡ None → IsValid One (LimitReceiving c bound)
 
 abbrev pub EveryBookPutsValidFrames : Type 0
 EveryBookPutsValidFrames = (client : Client) (server : Server) (c : Channel) → IsClient client → IsServer server → PutsValidFrames client server c

@@ -2,6 +2,7 @@
 ghost use Rattle.std.specs.Prelude.{◌≡◌, ◌≤◌, ◌<◌, ◌↔◌, ◌⊎◌, if◌then◌else◌, is_ok, IsSome, IfSome, IsTrue, OnOk, ◌+◌};
 ghost use Rattle.std.specs.Result.{result_err};
 ghost use Rattle.lc_frame.specs.Bounds.{IsCapacity};
+ghost use Rattle.lc_frame.specs.declared.version.Version.TheVariants.{Two};
 ghost use Rattle.lc_frame.specs.Kind.{max_body, max_amount, max_total};
 ghost use Rattle.lc_book.specs.Limit.{limit_refusal};
 ghost use Rattle.lc_book.specs.Server.{IsServer, server_of_parts, new_server, outstanding, buffered, room, IsEnded, issue_refusal, issue, plead_refusal, limit_server, note_taken, AreFreed, message_violation, add_arrived, absolve_violation, add_absolved, send_limit_violation, note_send_limit};
@@ -243,7 +244,7 @@ impl ServerBook {
 
     /// A message of `len` bytes arrives. Violations V1 and V2, in this order.
     pub fn message(&mut self, len: u32) -> Result<(), Violation>
-        requires { len ≤ max_body }
+        requires { len ≤ max_body Two }
         ensures answer { result_err result ≡ message_violation self.old len }
         ensures after { self.new ≡ (if is_ok result then add_arrived self.old len else self.old) }
     {

@@ -1,6 +1,7 @@
 -- What makes a peer behind a handle, and why there is none. That the format has versions is this project's own, and so are all bounds.
 use Rattle.std.specs.Prelude.{◌≡◌, ◌==◌, ◌⊎◌, Bool, true, false, if◌then◌else◌, [], Option, Some, None}
 use Rattle.lc_frame.specs.Channel.{number_of}
+use Rattle.lc_frame.specs.Held.{nothing_held}
 use Rattle.lc_book.specs.declared.fault.Refusal.TheVariants as refusals
 use Rattle.lc_peer.specs.declared.config.Config.{Config}
 use Rattle.lc_peer.specs.declared.config.PeerFault.{PeerFault}
@@ -22,7 +23,7 @@ config_in config = record { capacities = config.capacities; slots = config.slots
 
 -- nothing has happened, and no byte came or went
 abbrev pub new_side : Config → Side
-new_side config = record { peer = new_peer config; decoder = record { bytes = [] }; stop = None; pending = record { bytes = [] } }
+new_side config = record { peer = new_peer config; decoder = nothing_held; stop = None; pending = record { bytes = [] } }
 
 abbrev pub fault_or_done : Option PeerFault → LcmuxAnswer
 fault_or_done None = only done

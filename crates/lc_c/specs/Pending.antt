@@ -1,5 +1,6 @@
 -- What is left of a frame on its way out. These rules are this project's own.
 use Rattle.std.specs.Prelude.{ℕ, ◌≤◌, List}
+use Rattle.lc_frame.specs.declared.version.Version.TheVariants.{One}
 use Rattle.lc_frame.specs.Kind.{max_frame}
 
 pub record PendingState : Type 0 where
@@ -8,5 +9,5 @@ pub record PendingState : Type 0 where
 -- what a buffer of so many bytes with this capacity keeps, whose bytes before the start went out: a whole frame has room
 pub record IsFrameBuffer (len capacity start : ℕ) : Type 0 where
   pub within : start ≤ len
-  pub most : len ≤ max_frame
-  pub room : max_frame ≤ capacity
+  pub most : len ≤ max_frame One
+  pub room : max_frame One ≤ capacity

@@ -1,9 +1,11 @@
 -- What goes out of a side and what comes to it. That a stream may be cut at any byte is this project's own to say.
 use Rattle.std.specs.Prelude.{◌≡◌, ℕ, ◌+◌, ◌<◌, ◌≤◌, min, List, [], ◌++◌, length, take, drop, Option, Some, None, Result, Ok, Err}
 use Rattle.std.specs.List.{flat_map}
+use Rattle.lc_frame.specs.declared.version.Version.TheVariants.{One}
 use Rattle.lc_frame.specs.declared.frame_fault.FrameFault.{FrameFault}
 use Rattle.lc_frame.specs.FrameFault.{fault_number}
 use Rattle.lc_frame.specs.Encoding.{encoding}
+use Rattle.lc_frame.specs.Held.{Held}
 use Rattle.lc_frame.specs.StreamDecoder.{EndsAs}
 use Rattle.lc_book.specs.Fault.{violation_number}
 use Rattle.lc_peer.specs.declared.delivery.Delivery.{Delivery}
@@ -17,7 +19,7 @@ use Rattle.lc_c.specs.Answers.{done, only, no_peer}
 
 -- the bytes that are to go out: the rest of the frame that was begun, and then those of the frames that wait
 abbrev pub text : Side → List ℕ
-text side = side.pending.bytes ++ flat_map encoding side.peer.waiting
+text side = side.pending.bytes ++ flat_map (encoding One) side.peer.waiting
 
 -- a side gave out the first so many of them; a frame leaves the peer with its first byte, and nothing else changes
 pub record GivesOut (n : ℕ) (old new : Side) : Type 0 where
@@ -25,7 +27,7 @@ pub record GivesOut (n : ℕ) (old new : Side) : Type 0 where
   pub rest : text new ≡ drop n (text old)
   pub gone : ℕ
   pub peer : new.peer ≡ record old.peer { waiting = drop gone old.peer.waiting }
-  pub begun : (k : ℕ) → k < gone → length (old.pending.bytes ++ flat_map encoding (take k old.peer.waiting)) < n
+  pub begun : (k : ℕ) → k < gone → length (old.pending.bytes ++ flat_map (encoding One) (take k old.peer.waiting)) < n
   pub decoder : new.decoder ≡ old.decoder
   pub stop : new.stop ≡ old.stop
 
@@ -43,7 +45,7 @@ pub record Begins (old new : Side) : Type 0 where
 
 -- a piece is delivered to a side whose stream was not given up
 pub record Brings (piece : List ℕ) (old new : Side) (d : Delivery) : Type 0 where
-  pub delivers : Delivers old.peer old.decoder.bytes piece new.peer new.decoder.bytes d
+  pub delivers : Delivers old.peer old.decoder piece new.peer new.decoder d
   pub stop : new.stop ≡ d.stop
   pub pending : new.pending ≡ old.pending
 
@@ -109,16 +111,16 @@ abbrev pub end_code : {T : Type 0} → Result T FrameFault → ℕ
 end_code (Ok _) = done
 end_code (Err fault) = 200 + fault_number fault
 
-pub record EndsOpen (held : List ℕ) (code : ℕ) : Type 0 where
+pub record EndsOpen (held : Held) (code : ℕ) : Type 0 where
   pub end : Result (Unit {0}) FrameFault
   pub ends : EndsAs end held
   pub is : code ≡ end_code end
 
--- what it means that the stream ends here: why it was given up, if it was; else 204 inside a frame
-abbrev pub EndsWith : Option Stop → List ℕ → ℕ → Type 0
+-- what it means that the stream ends here: why it was given up, if it was; else 204 inside a frame or a greeting
+abbrev pub EndsWith : Option Stop → Held → ℕ → Type 0
 EndsWith (Some stop) held code = code ≡ stop_code (Some stop)
 EndsWith None held code = EndsOpen held code
 
 abbrev pub EndsBehind : Option Side → LcmuxAnswer → Type 0
 EndsBehind None answer = answer ≡ only no_peer
-EndsBehind (Some side) answer = EndsWith side.stop side.decoder.bytes answer.code × (answer.number ≡ 0)
+EndsBehind (Some side) answer = EndsWith side.stop side.decoder answer.code × (answer.number ≡ 0)

@@ -20,7 +20,7 @@ use std::alloc::Global;
 #[repr(C)]
 #[derive(Clone, Copy, Debug, PartialEq, Eq)]
 pub struct LcmuxConfig {
-    /// The version of the format: 1.
+    /// The version of the format that goes out: 1. Either may come.
     pub version: u32,
     /// How many frames may wait to go out, 1 to 65,536.
     pub slots: u32,

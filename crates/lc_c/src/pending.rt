@@ -1,10 +1,11 @@
 //! What is left of a frame that was begun.
 ghost use Rattle.std.specs.Prelude.{◌≡◌, ◌≤◌, [], ◌++◌, length, take, drop, min, IfOk};
+ghost use Rattle.lc_frame.specs.declared.version.Version.TheVariants.{One};
 ghost use Rattle.lc_frame.specs.Kind.{max_frame};
 ghost use Rattle.lc_frame.specs.Frame.{IsValid};
 ghost use Rattle.lc_frame.specs.Encoding.{encoding};
 
-use lc_frame::{Frame, MAX_FRAME};
+use lc_frame::{Frame, Version};
 use std::alloc::{AllocError, Global};
 use std::marker::Model;
 
@@ -27,12 +28,13 @@ impl Model for Pending {
 }
 
 impl Pending {
-    /// Nothing is left. It takes the memory for `MAX_FRAME` bytes here and none later.
+    /// Nothing is left. It takes the memory for the longest frame of version One here and
+    /// none later.
     pub(crate) fn new(alloc: Global) -> Result<Pending, AllocError>
         ensures { IfOk result (λ pending. pending.bytes ≡ []) }
     {
         Ok(Pending {
-            buffer: Vec::with_capacity(alloc, MAX_FRAME)?,
+            buffer: Vec::with_capacity(alloc, Version::One.max_frame())?,
             start: 0,
         })
     }
@@ -40,7 +42,7 @@ impl Pending {
     /// How many bytes are left.
     pub(crate) fn len(&self) -> usize
         ensures value { result ≡ length self.now.bytes }
-        ensures most { result ≤ max_frame }
+        ensures most { result ≤ max_frame One }
     {
         self.buffer.len() - self.start
     }
@@ -61,12 +63,12 @@ impl Pending {
 
     /// A frame is begun, where nothing is left of another.
     pub(crate) fn begin(&mut self, frame: &Frame)
-        requires { IsValid frame.now }
-        ensures { self.new.bytes ≡ encoding frame.now }
+        requires { IsValid One frame.now }
+        ensures { self.new.bytes ≡ encoding One frame.now }
     {
         self.buffer.clear();
         self.start = 0;
-        if frame.encode_into(&mut self.buffer).is_err() {
+        if frame.encode_into(Version::One, &mut self.buffer).is_err() {
             unreachable!();
         }
     }

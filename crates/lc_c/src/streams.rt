@@ -3,6 +3,7 @@ ghost use Rattle.std.specs.Prelude.{◌≡◌, ◌<◌, ◌≤◌, ◌++◌, [],
 ghost use Rattle.lc_c.specs.Streams.{text, Begins, GivesOut, DeliversAt};
 
 use crate::side::Side;
+use lc_frame::Version;
 use lc_peer::Delivery;
 
 // Where nothing is left of a frame, the next one is begun.
@@ -55,7 +56,7 @@ pub(crate) fn count(side: &Side) -> usize
     let mut count = side.pending.len();
     'frames: for place in 0..side.peer.waiting() {
         match side.peer.waiting_frame(place) {
-            Some(frame) => count += frame.encoded_len(),
+            Some(frame) => count += frame.encoded_len(Version::One),
             None => unreachable!(),
         }
     }

@@ -40,7 +40,7 @@ fn shown(delivery: Delivery) -> LcmuxDelivery
     }
 }
 
-/// The next bytes of the stream arrive. Codes 101 to 108 for a violation, 201 to 203 for a fault,
+/// The next bytes of the stream, of either version, arrive. Codes 101 to 108 for a violation, 201 to 203 for a fault,
 /// which are kept.
 #[unsafe(no_mangle)]
 pub extern "C" fn lcmux_peer_deliver(
@@ -108,7 +108,7 @@ pub extern "C" fn lcmux_peer_pending(alloc: Global, peer: &mut LcmuxPeer) -> Lcm
 
 // What it means that the stream ends here.
 fn end(side: &Side) -> u32
-    ensures { EndsWith side.now.stop side.now.decoder.bytes result }
+    ensures { EndsWith side.now.stop side.now.decoder result }
 {
     match side.stop {
         Some(stop) => code_of(Some(stop)),
@@ -119,8 +119,8 @@ fn end(side: &Side) -> u32
     }
 }
 
-/// What it means that the stream ends here: 0 between two frames, 204 inside one, and the code of the
-/// delivery that stopped, where one did.
+/// What it means that the stream ends here: 0 between two frames, 204 inside one or inside a greeting,
+/// and the code of the delivery that stopped, where one did.
 #[unsafe(no_mangle)]
 pub extern "C" fn lcmux_peer_end(alloc: Global, peer: &mut LcmuxPeer) -> LcmuxAnswer
     ensures answer { EndsBehind peer.old.slot.held result }

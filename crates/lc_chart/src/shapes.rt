@@ -14,6 +14,7 @@ pub struct Point {
 }
 
 impl Point {
+    /// The place so far to the right and so far down.
     pub fn new(x: u64, y: u64) -> Point
         ensures x { result.x ≡ x }
         ensures y { result.y ≡ y }
@@ -30,6 +31,7 @@ pub struct Paint {
 }
 
 impl Paint {
+    /// By the name alone.
     pub fn plain(name: &'static str) -> Paint {
         Paint {
             name,
@@ -37,6 +39,7 @@ impl Paint {
         }
     }
 
+    /// By the name, in the colour of the channel.
     pub fn of(name: &'static str, channel: Channel) -> Paint {
         Paint {
             name,

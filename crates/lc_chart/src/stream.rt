@@ -7,7 +7,7 @@ use crate::session::MAX_EVENTS;
 use crate::shapes::{Paint, Point, disc, line, text};
 use crate::words::{Bytes, Phrase};
 use lc_cli::Fault;
-use lc_frame::{Decoded, FrameFault, FrameRef, decode};
+use lc_frame::{Decoded, FrameFault, FrameRef, GREETING, Version, decode};
 use std::fmt::Display;
 use std::io::Write;
 use std::{fmt, io};
@@ -63,15 +63,24 @@ struct Placed<'a> {
 // The frames of a stream that are not read yet.
 #[derive(Clone, Copy)]
 struct Frames<'a> {
+    version: Version,
     rest: &'a [u8],
     offset: usize,
 }
 
 impl<'a> Frames<'a> {
     fn new(bytes: &'a [u8]) -> Frames<'a> {
-        Frames {
-            rest: bytes,
-            offset: 0,
+        match bytes.strip_prefix(GREETING.as_slice()) {
+            Some(rest) => Frames {
+                version: Version::Two,
+                rest,
+                offset: GREETING.len(),
+            },
+            None => Frames {
+                version: Version::One,
+                rest: bytes,
+                offset: 0,
+            },
         }
     }
 
@@ -80,7 +89,11 @@ impl<'a> Frames<'a> {
         if rest.is_empty() {
             return Ok(None);
         }
-        match decode(rest) {
+        // A greeting that breaks is a bad tag; one that is cut short could go on.
+        if offset == 0 && GREETING.starts_with(rest) {
+            return Err(fault_at(FrameFault::Truncated, offset));
+        }
+        match decode(self.version, rest) {
             Decoded::Whole { frame, used } => {
                 self.rest = rest.split_at(used).1;
                 self.offset = offset.saturating_add(used);

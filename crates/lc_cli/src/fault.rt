@@ -35,7 +35,7 @@ pub enum Fault {
     /// Lines are counted from 1, skipped ones too.
     #[error("line {line}: bad script line")]
     BadLine { line: u64 },
-    /// The fault's number, 1 to 4, and the place of the frame's first byte.
+    /// The fault's number, 1 to 4, and the place of the first byte of the frame or the greeting.
     #[error("F{number} in the frame at byte {offset}")]
     BadFrame { number: u8, offset: usize },
     #[error("input too long")]

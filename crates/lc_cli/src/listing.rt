@@ -1,6 +1,6 @@
 //! `lcmux frames`: the frames of a stream, one a line.
 ghost use Rattle.std.specs.Prelude.{◌≡◌, ◌<◌, ◌≤◌, ◌+◌, OnOk, IfOk, length};
-ghost use Rattle.lc_frame.specs.Decoded.{IsOpen};
+ghost use Rattle.lc_frame.specs.Held.{IsUndecided};
 
 use crate::fault::{Fault, Status};
 use crate::input::{MAX_INPUT, PIECE};
@@ -10,9 +10,9 @@ use std::alloc::{AllocError, Global};
 use std::io;
 use std::io::{Read, Write};
 
-/// Prints the frames of the stream that the input holds to `out`, up to the first fault, whose line
-/// goes to `err`, and answers the exit status. One frame and one piece of the input are held at a
-/// time, and each frame's line is written out before a read that may wait.
+/// Prints the frames of the stream that the input holds, of either version, to `out`, up to the
+/// first fault, whose line goes to `err`, and answers the exit status. One frame and one piece of the
+/// input are held at a time, and each frame's line is written out before a read that may wait.
 pub fn frames<R: Read, W: Write, E: Write>(
     alloc: Global,
     input: &mut R,
@@ -61,19 +61,16 @@ struct Listing {
     decoder: StreamDecoder,
     // The bytes that the decoder took.
     position: usize,
-    // The place of the first byte of the frame at hand.
-    frame_start: usize,
 }
 
 impl Listing {
     fn new(alloc: Global) -> Result<Listing, AllocError>
         ensures start { IfOk result (λ listing. listing.position ≡ 0) }
-        ensures open { IfOk result (λ listing. IsOpen listing.decoder.bytes) }
+        ensures open { IfOk result (λ listing. IsUndecided listing.decoder) }
     {
         Ok(Listing {
             decoder: StreamDecoder::new(alloc)?,
             position: 0,
-            frame_start: 0,
         })
     }
 
@@ -81,7 +78,7 @@ impl Listing {
     // read may wait, so what was printed is written out before each.
     fn read<R: Read, W: Write>(&mut self, input: &mut R, out: &mut W) -> Result<(), Fault>
         requires start { self.old.position ≤ MAX_INPUT }
-        requires open { IsOpen self.old.decoder.bytes }
+        requires open { IsUndecided self.old.decoder }
     {
         let mut piece = [0u8; PIECE];
         loop {
@@ -101,9 +98,9 @@ impl Listing {
     // Feeds the piece to the decoder, and prints each frame that comes to stand.
     fn feed<W: Write>(&mut self, piece: &[u8], out: &mut W) -> Result<(), Fault>
         requires within { self.old.position + length piece.now ≤ MAX_INPUT }
-        requires open { IsOpen self.old.decoder.bytes }
+        requires open { IsUndecided self.old.decoder }
         ensures all { OnOk result (self.new.position ≡ self.old.position + length piece.now) }
-        ensures open { OnOk result (IsOpen self.new.decoder.bytes) }
+        ensures open { OnOk result (IsUndecided self.new.decoder) }
     {
         let mut rest = piece;
         while !rest.is_empty() {
@@ -117,12 +114,13 @@ impl Listing {
     // took.
     fn step<W: Write>(&mut self, piece: &[u8], out: &mut W) -> Result<usize, Fault>
         requires within { self.old.position + length piece.now ≤ MAX_INPUT }
-        requires open { IsOpen self.old.decoder.bytes }
+        requires open { IsUndecided self.old.decoder }
         ensures count { IfOk result (λ n. n ≤ length piece.now) }
         ensures progress { IfOk result (λ n. 0 < length piece.now → 0 < n) }
         ensures position { IfOk result (λ n. self.new.position ≡ self.old.position + n) }
-        ensures open { OnOk result (IsOpen self.new.decoder.bytes) }
+        ensures open { OnOk result (IsUndecided self.new.decoder) }
     {
+        let _held = self.decoder.held();
         let taken = self.decoder.feed(piece);
         self.position += taken;
         if let Some(fault) = self.decoder.fault() {
@@ -130,17 +128,16 @@ impl Listing {
         }
         if let Some(frame) = self.decoder.frame() {
             write_frame(&frame, out).map_err(|_| Fault::WriteFailed)?;
-            self.frame_start = self.position;
         }
         self.decoder.clear();
         Ok(taken)
     }
 
-    // The fault in the frame at hand.
+    // The fault in the frame at hand, or in the greeting, whose bytes are held.
     fn fault(&self, fault: FrameFault) -> Fault {
         Fault::BadFrame {
             number: fault.number(),
-            offset: self.frame_start,
+            offset: self.position.saturating_sub(self.decoder.held()),
         }
     }
 }

@@ -4,6 +4,7 @@ use Rattle.std.proofs.lemmas.Bool.Decides.{nat_tests}
 use Rattle.std.specs.Io.KnownBytes.{IsAtEnd}
 use Rattle.std.specs.declared.io.Error.{Error}
 use Rattle.std.specs.declared.io.ErrorKind.{ErrorKind}
+use Rattle.lc_frame.specs.Held.{Held}
 use Rattle.lc_peer.specs.declared.delivery.Stop.{Stop}
 use Rattle.lc_peer.specs.declared.delivery.Stop.TheVariants as stops
 use Rattle.lc_driver.specs.declared.counts.Counts.{Counts}
@@ -70,7 +71,7 @@ pub failure_counts : (old now new : Counts) (e : Error) (asked k : ℕ) → now.
 failure_counts old now new e asked k few call = omega (arith, few, ap (λ (c : Counts). c.calls) call, one_more now.calls)
 
 -- a read that gave nothing: the input ended
-pub counts_end : (end : ReadEnd) (held : List ℕ) (old new : Counts) → EndsHere end held → new ≡ record old { calls = new.calls; ends = count_up old.ends } → CountsReads end old new
+pub counts_end : (end : ReadEnd) (held : Held) (old new : Counts) → EndsHere end held → new ≡ record old { calls = new.calls; ends = count_up old.ends } → CountsReads end old new
 counts_end Clean held old new e counts = counts
 counts_end Truncated held old new e counts = counts
 counts_end (Fault fault) held old new e counts = absurd e
@@ -78,7 +79,7 @@ counts_end (Violated violation) held old new e counts = absurd e
 counts_end ReadFailed held old new e counts = absurd e
 counts_end TurnsSpent held old new e counts = absurd e
 
-pub ends_input : (end : ReadEnd) (held : List ℕ) (remaining : Option (List ℕ)) → EndsHere end held → IsAtEnd remaining → EndsInput end remaining
+pub ends_input : (end : ReadEnd) (held : Held) (remaining : Option (List ℕ)) → EndsHere end held → IsAtEnd remaining → EndsInput end remaining
 ends_input Clean held remaining e at = at
 ends_input Truncated held remaining e at = at
 ends_input (Fault fault) held remaining e at = absurd e

@@ -6,6 +6,7 @@ use Rattle.std.proofs.lemmas.List.{append-nil, length-take, drop-drop}
 use Rattle.std.proofs.lemmas.List.Concat.{flat_map-cons}
 use Rattle.std.proofs.Math.Seq.{take-add}
 use Rattle.std.specs.Io.KnownBytes.{Appends}
+use Rattle.lc_frame.specs.declared.version.Version.TheVariants.{One}
 use Rattle.lc_frame.specs.declared.frame.Frame.{Frame}
 use Rattle.lc_frame.specs.Encoding.{encoding}
 use Rattle.lc_peer.specs.Peer.{PeerState}
@@ -29,8 +30,8 @@ appends_nothing : (a : Option (List ℕ)) → Appends a a []
 appends_nothing None = tt
 appends_nothing (Some a) = sym (append-nil a)
 
-length-text : (pending : List ℕ) (ws : List Frame) → length (text pending ws) ≡ length pending + length (flat_map encoding ws)
-length-text pending ws = length-append pending (flat_map encoding ws)
+length-text : (pending : List ℕ) (ws : List Frame) → length (text pending ws) ≡ length pending + length (flat_map (encoding One) ws)
+length-text pending ws = length-append pending (flat_map (encoding One) ws)
 
 -- what is left of the text is as much shorter as was written
 pub text_left : {a b : Option (List ℕ)} {x y : List ℕ} {p q : PeerState} {n : ℕ} → Writes a b x p y q n → length (text x p.waiting) ≡ n + length (text y q.waiting)
@@ -55,9 +56,9 @@ waiting_after : (n : ℕ) (p q : PeerState) → q ≡ without n p → q.waiting 
 waiting_after n p q e = ap (λ (s : PeerState). s.waiting) e
 
 -- the frames that left first have as many bytes as were written beyond those pending
-gone_bytes : {a b : Option (List ℕ)} {x y : List ℕ} {p q : PeerState} {n : ℕ} (w : Writes a b x p y q n) → length x + length (flat_map encoding (take w.gone p.waiting)) ≡ n + length y
+gone_bytes : {a b : Option (List ℕ)} {x y : List ℕ} {p q : PeerState} {n : ℕ} (w : Writes a b x p y q n) → length x + length (flat_map (encoding One) (take w.gone p.waiting)) ≡ n + length y
 gone_bytes {x = x} {y = y} {p = p} {q = q} {n = n} w =
-    let behind : length (flat_map encoding q.waiting) ≡ length (flat_map encoding (drop w.gone p.waiting)) = ap (λ (ws : List Frame). length (flat_map encoding ws)) (waiting_after w.gone p q w.peer) in
+    let behind : length (flat_map (encoding One) q.waiting) ≡ length (flat_map (encoding One) (drop w.gone p.waiting)) = ap (λ (ws : List Frame). length (flat_map (encoding One) ws)) (waiting_after w.gone p q w.peer) in
     omega (arith, text_left w, length-text x p.waiting, length-text y q.waiting, length-split w.gone p.waiting, behind)
 
 begun_then : {a b c : Option (List ℕ)} {x y z : List ℕ} {p q r : PeerState} {n m : ℕ} (s : Writes a b x p y q n) (t : Writes b c y q z r m) (k : ℕ) → k < s.gone + t.gone → length (text x (take k p.waiting)) < n + m
@@ -68,8 +69,8 @@ begun_then {x = x} {y = y} {p = p} {q = q} {n = n} {m = m} s t k h =
           let j = k - s.gone in
           let at : k ≡ s.gone + j = omega arith in
           let later : length (text y (take j q.waiting)) < m = t.begun j (omega arith) in
-          let same : length (flat_map encoding (take j q.waiting)) ≡ length (flat_map encoding (take j (drop s.gone p.waiting))) = ap (λ (ws : List Frame). length (flat_map encoding (take j ws))) (waiting_after s.gone p q s.peer) in
-          let both : length (flat_map encoding (take k p.waiting)) ≡ length (flat_map encoding (take (s.gone + j) p.waiting)) = ap (λ (i : ℕ). length (flat_map encoding (take i p.waiting))) at in
+          let same : length (flat_map (encoding One) (take j q.waiting)) ≡ length (flat_map (encoding One) (take j (drop s.gone p.waiting))) = ap (λ (ws : List Frame). length (flat_map (encoding One) (take j ws))) (waiting_after s.gone p q s.peer) in
+          let both : length (flat_map (encoding One) (take k p.waiting)) ≡ length (flat_map (encoding One) (take (s.gone + j) p.waiting)) = ap (λ (i : ℕ). length (flat_map (encoding One) (take i p.waiting))) at in
           omega (arith, later, same, both, gone_bytes s, length-take-more s.gone j p.waiting, length-text x (take k p.waiting), length-text y (take j q.waiting))
     ]
 
@@ -96,9 +97,9 @@ one_write {a} {b} given bytes left rest taken more p q same fits grown e l = rec
   grown = subst (λ (x : List ℕ). Appends a b (take taken x)) same grown;
   rest =
       l.rest
-      ∙ ap (λ (x : List ℕ). x ++ flat_map encoding q.waiting) (take-add taken more bytes)
-      ∙ append_assoc (take taken bytes) (take more (drop taken bytes)) (flat_map encoding q.waiting)
-      ∙ ap (λ (x : List ℕ). take taken bytes ++ (take more x ++ flat_map encoding q.waiting)) (sym e);
+      ∙ ap (λ (x : List ℕ). x ++ flat_map (encoding One) q.waiting) (take-add taken more bytes)
+      ∙ append_assoc (take taken bytes) (take more (drop taken bytes)) (flat_map (encoding One) q.waiting)
+      ∙ ap (λ (x : List ℕ). take taken bytes ++ (take more x ++ flat_map (encoding One) q.waiting)) (sym e);
   gone = l.gone;
   peer = l.peer;
   begun = λ k h. omega (arith, l.first k h, length-text (take rest bytes) (take k p.waiting), length-take rest bytes);
@@ -115,30 +116,30 @@ pub record GoesOn (bytes : List ℕ) (begun taken end : ℕ) (p q : PeerState) :
   pub ahead : IsAhead end bytes q.waiting
   pub gone : LetsGo bytes begun taken end p q
 
-goes_first : (bytes : List ℕ) (begun taken end k : ℕ) (p q : PeerState) (l : LetsGo bytes begun taken end p q) → begun ≤ length bytes → end ≤ length bytes → end < taken → k < l.gone + 1 → begun + length (flat_map encoding (take k p.waiting)) < taken
+goes_first : (bytes : List ℕ) (begun taken end k : ℕ) (p q : PeerState) (l : LetsGo bytes begun taken end p q) → begun ≤ length bytes → end ≤ length bytes → end < taken → k < l.gone + 1 → begun + length (flat_map (encoding One) (take k p.waiting)) < taken
 goes_first bytes begun taken end k p q l fits within more h =
     elim (cases_lt k l.gone) [
       | inl before ↦ l.first k before
       | inr last ↦
           let at : k ≡ l.gone = omega arith in
-          let here : length (flat_map encoding (take k p.waiting)) ≡ length (flat_map encoding (take l.gone p.waiting)) = ap (λ (i : ℕ). length (flat_map encoding (take i p.waiting))) at in
-          let behind : length (flat_map encoding q.waiting) ≡ length (flat_map encoding (drop l.gone p.waiting)) = ap (λ (ws : List Frame). length (flat_map encoding ws)) (waiting_after l.gone p q l.peer) in
-          omega (arith, fits, within, more, here, behind, ap length l.rest, length-append (take begun bytes) (flat_map encoding p.waiting), length-append (take end bytes) (flat_map encoding q.waiting), length-take begun bytes, length-take end bytes, length-split l.gone p.waiting)
+          let here : length (flat_map (encoding One) (take k p.waiting)) ≡ length (flat_map (encoding One) (take l.gone p.waiting)) = ap (λ (i : ℕ). length (flat_map (encoding One) (take i p.waiting))) at in
+          let behind : length (flat_map (encoding One) q.waiting) ≡ length (flat_map (encoding One) (drop l.gone p.waiting)) = ap (λ (ws : List Frame). length (flat_map (encoding One) ws)) (waiting_after l.gone p q l.peer) in
+          omega (arith, fits, within, more, here, behind, ap length l.rest, length-append (take begun bytes) (flat_map (encoding One) p.waiting), length-append (take end bytes) (flat_map (encoding One) q.waiting), length-take begun bytes, length-take end bytes, length-split l.gone p.waiting)
     ]
 
-pub goes_on : (bytes : List ℕ) (begun taken end len : ℕ) (p q r : PeerState) (f : Frame) → begun ≤ length bytes → taken ≤ length bytes → end < taken → GoesOn bytes begun taken end p q → q.waiting ≡ f ∷ r.waiting → r ≡ without 1 q → len ≡ length (encoding f) → GoesOn bytes begun taken (end + len) p r
+pub goes_on : (bytes : List ℕ) (begun taken end len : ℕ) (p q r : PeerState) (f : Frame) → begun ≤ length bytes → taken ≤ length bytes → end < taken → GoesOn bytes begun taken end p q → q.waiting ≡ f ∷ r.waiting → r ≡ without 1 q → len ≡ length (encoding One f) → GoesOn bytes begun taken (end + len) p r
 goes_on bytes begun taken end len p q r f fits within more g first e same =
-    let next = next_ahead end len bytes f r.waiting g.ahead.joined (omega arith) same (g.ahead.is ∙ ap (λ (ws : List Frame). flat_map encoding (take g.ahead.joined ws)) first) in
+    let next = next_ahead end len bytes f r.waiting g.ahead.joined (omega arith) same (g.ahead.is ∙ ap (λ (ws : List Frame). flat_map (encoding One) (take g.ahead.joined ws)) first) in
     record {
       ahead = next.ahead;
       gone = record {
         rest =
             g.gone.rest
-            ∙ ap (λ (ws : List Frame). take end bytes ++ flat_map encoding ws) first
-            ∙ ap (λ (x : List ℕ). take end bytes ++ x) (flat_map-cons encoding f r.waiting)
-            ∙ sym (append_assoc (take end bytes) (encoding f) (flat_map encoding r.waiting))
-            ∙ ap (λ (x : List ℕ). (take end bytes ++ x) ++ flat_map encoding r.waiting) (sym next.first)
-            ∙ ap (λ (x : List ℕ). x ++ flat_map encoding r.waiting) (sym (take-add end len bytes));
+            ∙ ap (λ (ws : List Frame). take end bytes ++ flat_map (encoding One) ws) first
+            ∙ ap (λ (x : List ℕ). take end bytes ++ x) (flat_map-cons (encoding One) f r.waiting)
+            ∙ sym (append_assoc (take end bytes) (encoding One f) (flat_map (encoding One) r.waiting))
+            ∙ ap (λ (x : List ℕ). (take end bytes ++ x) ++ flat_map (encoding One) r.waiting) (sym next.first)
+            ∙ ap (λ (x : List ℕ). x ++ flat_map (encoding One) r.waiting) (sym (take-add end len bytes));
         gone = g.gone.gone + 1;
         peer = gone_then g.gone.gone 1 p q r g.gone.peer e;
         first = λ k h. goes_first bytes begun taken end k p q g.gone fits g.ahead.within more h;

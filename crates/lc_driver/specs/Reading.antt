@@ -1,9 +1,8 @@
--- What reading does: which frames arrive, what is held, and how it ends. These rules are this project's own.
+-- What reading a stream of either version does: which frames arrive, what is held, and how it ends. These rules are this project's own.
 use Rattle.std.specs.Prelude.{◌≡◌, ℕ, ◌*◌, ◌<◌, ◌≤◌, List, [], ◌++◌, length, All, Option, Some, None, IsSome, ⊤}
 use Rattle.std.specs.Io.KnownBytes.{Consumes, IsAtEnd}
 use Rattle.lc_frame.specs.declared.frame.Frame.{Frame}
-use Rattle.lc_frame.specs.Encoding.{FaultStands}
-use Rattle.lc_frame.specs.Decoded.{IsOpen}
+use Rattle.lc_frame.specs.Held.{Held, fed, HasFault, IsUndecided}
 use Rattle.lc_frame.specs.StreamDecoder.{IsPart}
 use Rattle.lc_frame.specs.Splits.{frames_of, rest_of}
 use Rattle.lc_book.specs.declared.fault.Violation.{Violation}
@@ -35,55 +34,55 @@ stop_of (Violated violation) = Some (stops.Violated violation)
 stop_of end = None
 
 -- every frame arrived, and the rest, which may be part of one, is held
-pub record GoesOn (came : Arrival) (rest held : List ℕ) : Type 0 where
+pub record GoesOn (came : Arrival) (rest held : Held) : Type 0 where
   pub lawful : came.violation ≡ None
   pub all : held ≡ rest
-  pub undecided : IsOpen held
+  pub undecided : IsUndecided held
 
 -- why a call of so many reads at most ended, which read so many bytes: what came of the frames, and what follows them
-abbrev pub EndsBy : ReadEnd → Arrival → List ℕ → List ℕ → ℕ → ℕ → Type 0
-EndsBy Clean came rest held read max_reads = GoesOn came rest held × (rest ≡ [])
+abbrev pub EndsBy : ReadEnd → Arrival → Held → Held → ℕ → ℕ → Type 0
+EndsBy Clean came rest held read max_reads = GoesOn came rest held × (rest.bytes ≡ [])
 EndsBy Truncated came rest held read max_reads = GoesOn came rest held × IsPart rest
-EndsBy (Fault fault) came rest held read max_reads = (came.violation ≡ None) × FaultStands fault rest
+EndsBy (Fault fault) came rest held read max_reads = (came.violation ≡ None) × HasFault fault rest
 EndsBy (Violated violation) came rest held read max_reads = came.violation ≡ Some violation
 EndsBy ReadFailed came rest held read max_reads = GoesOn came rest held
 EndsBy TurnsSpent came rest held read max_reads = GoesOn came rest held × (max_reads ≤ read)
 
 -- the frames of what was held and of what was read arrive, in order, up to the first fault or violation, however the reads were cut
-pub record Reads (before after : Option (List ℕ)) (held : List ℕ) (old : PeerState) (intake : IntakeState) (new : PeerState) (max_reads : ℕ) (end : ReadEnd) : Type 0 where
+pub record Reads (before after : Option (List ℕ)) (held : Held) (old : PeerState) (intake : IntakeState) (new : PeerState) (max_reads : ℕ) (end : ReadEnd) : Type 0 where
   pub read : List ℕ
   pub consumed : Consumes before after read
   pub few : length read ≤ max_read * max_reads
   -- all of them are bytes, also where the reader tells nothing of what it gives
-  pub bytes : All (λ b. b < 256) (held ++ read)
-  pub peer : new ≡ (arrivals old (frames_of (held ++ read))).peer
-  pub ends : EndsBy end (arrivals old (frames_of (held ++ read))) (rest_of (held ++ read)) intake.held (length read) max_reads
+  pub bytes : All (λ b. b < 256) (held.bytes ++ read)
+  pub peer : new ≡ (arrivals old (frames_of (fed held read))).peer
+  pub ends : EndsBy end (arrivals old (frames_of (fed held read))) (rest_of (fed held read)) intake.held (length read) max_reads
   pub kept : intake.stop ≡ stop_of end
 
 -- the rest, which may be part of a frame, is held
-pub record HoldsRest (rest held : List ℕ) : Type 0 where
+pub record HoldsRest (rest held : Held) : Type 0 where
   pub all : held ≡ rest
-  pub undecided : IsOpen held
+  pub undecided : IsUndecided held
 
 -- why a call of so many reads at most ended, which read so many bytes, by what follows the frames. After a violation what came of the frames says it
-abbrev pub EndsAt : ReadEnd → List ℕ → List ℕ → ℕ → ℕ → Type 0
-EndsAt Clean rest held read max_reads = HoldsRest rest held × (rest ≡ [])
+abbrev pub EndsAt : ReadEnd → Held → Held → ℕ → ℕ → Type 0
+EndsAt Clean rest held read max_reads = HoldsRest rest held × (rest.bytes ≡ [])
 EndsAt Truncated rest held read max_reads = HoldsRest rest held × IsPart rest
-EndsAt (Fault fault) rest held read max_reads = FaultStands fault rest
+EndsAt (Fault fault) rest held read max_reads = HasFault fault rest
 EndsAt (Violated violation) rest held read max_reads = ⊤
 EndsAt ReadFailed rest held read max_reads = HoldsRest rest held
 EndsAt TurnsSpent rest held read max_reads = HoldsRest rest held × (max_reads ≤ read)
 
 -- the same of any sink: the frames of what was held and of what was read arrive at it, in order, up to the first fault or violation
-pub record ReadsInto {T : Type 0} (arrives : T → Frame → T → Type 0) (violates : Violation → T → Frame → T → Type 0) (before after : Option (List ℕ)) (held : List ℕ) (old : T) (intake : IntakeState) (new : T) (max_reads : ℕ) (end : ReadEnd) : Type 0 where
+pub record ReadsInto {T : Type 0} (arrives : T → Frame → T → Type 0) (violates : Violation → T → Frame → T → Type 0) (before after : Option (List ℕ)) (held : Held) (old : T) (intake : IntakeState) (new : T) (max_reads : ℕ) (end : ReadEnd) : Type 0 where
   pub read : List ℕ
   pub consumed : Consumes before after read
   pub few : length read ≤ max_read * max_reads
-  pub bytes : All (λ b. b < 256) (held ++ read)
+  pub bytes : All (λ b. b < 256) (held.bytes ++ read)
   -- so many frames arrived
   pub frames : ℕ
-  pub came : ArriveUpTo arrives violates old (frames_of (held ++ read)) frames (violation_of (stop_of end)) new
-  pub ends : EndsAt end (rest_of (held ++ read)) intake.held (length read) max_reads
+  pub came : ArriveUpTo arrives violates old (frames_of (fed held read)) frames (violation_of (stop_of end)) new
+  pub ends : EndsAt end (rest_of (fed held read)) intake.held (length read) max_reads
   pub kept : intake.stop ≡ stop_of end
 
 -- where the answer says that the input ended, it did

@@ -2,6 +2,7 @@
 use Rattle.std.specs.Prelude.{◌≡◌, ℕ, ◌+◌, ◌<◌, ◌≤◌, List, ◌++◌, length, take, drop, Option, Result, Ok, Err, IsSome}
 use Rattle.std.specs.List.{flat_map}
 use Rattle.std.specs.Io.KnownBytes.{Appends}
+use Rattle.lc_frame.specs.declared.version.Version.TheVariants.{One}
 use Rattle.lc_frame.specs.declared.frame.Frame.{Frame}
 use Rattle.lc_frame.specs.Encoding.{encoding}
 use Rattle.lc_peer.specs.Peer.{PeerState}
@@ -12,7 +13,7 @@ use Rattle.lc_driver.specs.Counts.{count_up}
 
 -- the bytes that are pending, then those of the frames that wait
 abbrev pub text : List ℕ → List Frame → List ℕ
-text pending waiting = pending ++ flat_map encoding waiting
+text pending waiting = pending ++ flat_map (encoding One) waiting
 
 -- the peer when so many of the frames that waited left
 abbrev pub without : ℕ → PeerState → PeerState
@@ -54,11 +55,11 @@ CountsWrites (Err (Zero n)) old new = new ≡ record old { calls = new.calls; en
 pub record IsAhead (begun : ℕ) (bytes : List ℕ) (waiting : List Frame) : Type 0 where
   pub within : begun ≤ length bytes
   pub joined : ℕ
-  pub is : drop begun bytes ≡ flat_map encoding (take joined waiting)
+  pub is : drop begun bytes ≡ flat_map (encoding One) (take joined waiting)
 
 -- the writer took some of these bytes: the frames whose first byte is among them left the peer, the last of which ends where it is said
 pub record LetsGo (bytes : List ℕ) (begun taken end : ℕ) (old new : PeerState) : Type 0 where
-  pub rest : take begun bytes ++ flat_map encoding old.waiting ≡ take end bytes ++ flat_map encoding new.waiting
+  pub rest : take begun bytes ++ flat_map (encoding One) old.waiting ≡ take end bytes ++ flat_map (encoding One) new.waiting
   pub gone : ℕ
   pub peer : new ≡ without gone old
-  pub first : (k : ℕ) → k < gone → begun + length (flat_map encoding (take k old.waiting)) < taken
+  pub first : (k : ℕ) → k < gone → begun + length (flat_map (encoding One) (take k old.waiting)) < taken

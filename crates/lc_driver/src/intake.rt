@@ -1,6 +1,6 @@
 //! The bytes of a stream on their way in.
-ghost use Rattle.std.specs.Prelude.{◌≡◌, ◌<◌, [], None, All, IfOk};
-ghost use Rattle.lc_frame.specs.Decoded.{IsOpen};
+ghost use Rattle.std.specs.Prelude.{◌≡◌, ◌<◌, None, All, IfOk};
+ghost use Rattle.lc_frame.specs.Held.{nothing_held, IsUndecided, IsSettled};
 ghost use Rattle.lc_peer.specs.Deliveries.{DeliversTo};
 ghost use Rattle.lc_driver.specs.Intake.{EndsHere};
 
@@ -10,7 +10,7 @@ use lc_peer::{Delivery, FrameSink, Stop, deliver_to};
 use std::alloc::{AllocError, Global};
 use std::marker::Model;
 
-/// What was read of a stream and is no whole frame yet, and why the stream was given up, if it was.
+/// What was read of a stream of either version and is no whole frame yet, and why the stream was given up, if it was.
 #[derive(Debug, Drop)]
 pub struct Intake {
     decoder: StreamDecoder,
@@ -22,16 +22,16 @@ impl Model for Intake {
 
     ghost Value = { IntakeState };
 
-    ghost view = { λ intake. record { held = intake.decoder.bytes; stop = intake.stop } };
+    ghost view = { λ intake. record { held = intake.decoder; stop = intake.stop } };
 
-    ghost invariant = { λ intake. IsOpenUnlessStopped intake.decoder.bytes intake.stop };
+    ghost invariant = { λ intake. IsOpenUnlessStopped intake.decoder intake.stop };
 }
 
 impl Intake {
     /// The start of a stream. It takes the memory for `MAX_FRAME` bytes here and none later; the
     /// error is want of it.
     pub fn new(alloc: Global) -> Result<Intake, AllocError>
-        ensures { IfOk result (λ intake. intake ≡ record { held = []; stop = None }) }
+        ensures { IfOk result (λ intake. intake ≡ record { held = nothing_held; stop = None }) }
     {
         Ok(Intake {
             decoder: StreamDecoder::new(alloc)?,
@@ -42,8 +42,9 @@ impl Intake {
     /// Why the stream was given up, `None` while it goes on.
     pub fn stop(&self) -> Option<Stop>
         ensures value { result ≡ self.now.stop }
-        ensures undecided { result ≡ None → IsOpen self.now.held }
-        ensures bytes { All (λ b. b < 256) self.now.held }
+        ensures undecided { result ≡ None → IsUndecided self.now.held }
+        ensures bytes { All (λ b. b < 256) self.now.held.bytes }
+        ensures settled { IsSettled self.now.held }
     {
         let _held = self.decoder.held();
         self.stop

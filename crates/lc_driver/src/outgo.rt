@@ -1,11 +1,12 @@
 //! The bytes of frames on their way out.
 ghost use Rattle.std.specs.Prelude.{◌≡◌, ◌≤◌, [], ◌++◌, length, take, drop, IsTrue, if◌then◌else◌, IfOk};
+ghost use Rattle.lc_frame.specs.declared.version.Version.TheVariants.{One};
 ghost use Rattle.lc_frame.specs.Kind.{max_frame};
 ghost use Rattle.lc_frame.specs.Frame.{IsValid};
 ghost use Rattle.lc_frame.specs.FrameRef.{frame_of};
 ghost use Rattle.lc_frame.specs.Encoding.{encoding};
 
-use lc_frame::{FrameRef, MAX_FRAME};
+use lc_frame::{FrameRef, MAX_FRAME, Version};
 use std::alloc::{AllocError, Global};
 use std::marker::Model;
 
@@ -42,7 +43,7 @@ impl Outgo {
     /// How many bytes are pending.
     pub fn pending(&self) -> usize
         ensures value { result ≡ length self.now.pending }
-        ensures most { result ≤ max_frame }
+        ensures most { result ≤ max_frame One }
     {
         self.buffer.len() - self.start
     }
@@ -71,18 +72,18 @@ impl Outgo {
 
     // Puts the bytes of a frame last, where there is room for all of them. There is where nothing is pending.
     pub(crate) fn append(&mut self, frame: FrameRef<'_>) -> bool
-        requires { IsValid (frame_of frame) }
-        ensures after { self.new.pending ≡ (if result then self.old.pending ++ encoding (frame_of frame.entry) else self.old.pending) }
+        requires { IsValid One (frame_of frame) }
+        ensures after { self.new.pending ≡ (if result then self.old.pending ++ encoding One (frame_of frame.entry) else self.old.pending) }
         ensures room { self.old.pending ≡ [] → IsTrue result }
     {
         if self.start == self.buffer.len() {
             self.buffer.clear();
             self.start = 0;
         }
-        if MAX_FRAME - self.buffer.len() < frame.encoded_len() {
+        if Version::One.max_frame() - self.buffer.len() < frame.encoded_len(Version::One) {
             return false;
         }
-        if frame.encode_into(&mut self.buffer).is_err() {
+        if frame.encode_into(Version::One, &mut self.buffer).is_err() {
             unreachable!();
         }
         true

@@ -2,12 +2,14 @@
 ghost use Rattle.std.specs.Prelude.{◌≡◌, ℕ, ◌+◌, ◌<◌, ◌≤◌, ◌^◌, [], ◌++◌, length, take, drop, OnOk, IfOk};
 ghost use Rattle.std.specs.List.{flat_map};
 ghost use Rattle.std.specs.Io.KnownBytes.{Appends};
+ghost use Rattle.lc_frame.specs.declared.version.Version.TheVariants.{One};
 ghost use Rattle.lc_frame.specs.Encoding.{encoding};
 ghost use Rattle.lc_frame.specs.Kind.{max_frame};
 ghost use Rattle.lc_driver.specs.Writing.{Writes, CountsWrites, written_in, fault_written, fault_after, IsAhead, LetsGo, text};
 
 use crate::counted::CountedWrite;
 use crate::outgo::Outgo;
+use lc_frame::Version;
 use lc_peer::Peer;
 use thiserror::Error;
 
@@ -71,7 +73,7 @@ fn join_waiting(peer: &Peer, outgo: &mut Outgo)
 // among them leave the peer. Answers how many bytes are left of the frame that was begun last.
 fn note_taken(peer: &mut Peer, outgo: &mut Outgo, begun: usize, taken: usize) -> usize
     requires within { taken ≤ length outgo.old.pending }
-    requires small { length outgo.old.pending ≤ max_frame }
+    requires small { length outgo.old.pending ≤ max_frame One }
     requires ahead { IsAhead begun outgo.old.pending peer.old.waiting }
     ensures advanced { outgo.new.pending ≡ drop taken outgo.old.pending }
     ensures ahead { IsAhead result outgo.new.pending peer.new.waiting }
@@ -81,7 +83,7 @@ fn note_taken(peer: &mut Peer, outgo: &mut Outgo, begun: usize, taken: usize) ->
     let mut end = begun;
     'frames: while end < taken {
         match peer.next_out() {
-            Some(frame) => end += frame.encoded_len(),
+            Some(frame) => end += frame.encoded_len(Version::One),
             None => unreachable!(),
         }
     }
@@ -132,7 +134,7 @@ fn write_joined<W: CountedWrite>(
 }
 
 /// Writes the rest of the frame that was begun, and then all frames that wait, several in one write
-/// as far as they fit `MAX_FRAME` bytes. `Ok` carries the number of bytes that were written.
+/// as far as they fit the longest frame. `Ok` carries the number of bytes that were written.
 ///
 /// A frame leaves the peer when the writer takes its first byte. After a fault what is left of that
 /// frame is pending in Outgo, frames that were not begun wait in the peer, and a further call goes on

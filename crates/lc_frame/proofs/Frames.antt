@@ -6,6 +6,7 @@ use Rattle.std.specs.List.{flat_map, AllByRecursion}
 use Rattle.std.specs.Option.{option_map_or}
 use Rattle.std.proofs.lemmas.List.{drop_at, length-drop, length-append}
 use Rattle.std.proofs.lemmas.List.Concat.{flat_map-cons}
+use Rattle.lc_frame.specs.declared.version.Version.{Version}
 use Rattle.lc_frame.specs.declared.channel.Channel.{Channel}
 use Rattle.lc_frame.specs.declared.kind.Kind.{Kind}
 use Rattle.lc_frame.specs.declared.frame.Frame.{Frame}
@@ -15,7 +16,8 @@ use Rattle.lc_frame.specs.Kind.{width_of, is_in_range, fault_of, body_len, heade
 use Rattle.lc_frame.specs.Frame.{IsValid}
 use Rattle.lc_frame.specs.Encoding.{encoding, FrameStands}
 use Rattle.lc_frame.specs.Scan.{frame_in, scan_body, scan_number, scan_tag, scan_of, Finds}
-use Rattle.lc_frame.specs.Splits.{Splits, first_frame, split_in, frames_of, rest_of}
+use Rattle.lc_frame.specs.Held.{Held, IsValidIn, encoding_in, before}
+use Rattle.lc_frame.specs.Splits.{Splits, first_frame, split_in, split_as, frames_of, rest_of}
 use Rattle.lc_frame.proofs.Bytes.{IsBytes, IsBytes-drop}
 use Rattle.lc_frame.proofs.Fronts.{length-encoding, stands_whole, frame_again, finds_of, nothing_yet}
 use Rattle.lc_frame.proofs.SplitLaws.{behind}
@@ -31,112 +33,121 @@ uses_either : (b : Bool) (s t : Scan) → UsesSome s → UsesSome t → UsesSome
 uses_either true s t p q = p
 uses_either false s t p q = q
 
-uses_body : (k : Kind) (c : Channel) (n : ℕ) (rest : List ℕ) → UsesSome (scan_body k c n rest)
+uses_body : (v : Version) (k : Kind) (c : Channel) (n : ℕ) (rest : List ℕ) → UsesSome (scan_body v k c n rest)
 unfolding scan_body
-uses_body k c n rest = uses_either _ (Needs (header_len k + body_len k n)) (Whole (record { kind = k; channel = c; number = n }) (header_len k + body_len k n)) tt (omega arith)
+uses_body v k c n rest = uses_either _ (Needs (header_len v k + body_len k n)) (Whole (record { kind = k; channel = c; number = n }) (header_len v k + body_len k n)) tt (omega arith)
 
-uses_number : (k : Kind) (c : Channel) (bytes : List ℕ) → UsesSome (scan_number k c bytes)
+uses_number : (v : Version) (k : Kind) (c : Channel) (bytes : List ℕ) → UsesSome (scan_number v k c bytes)
 unfolding scan_number
-uses_number k c bytes =
-    let width : ℕ = byte_len (width_of k) in
-    let number : ℕ = from_be_bytes (width_of k) (take width bytes) in
-    let body : Scan = scan_body k c number (drop width bytes) in
+uses_number v k c bytes =
+    let width : ℕ = byte_len (width_of v k) in
+    let number : ℕ = from_be_bytes (width_of v k) (take width bytes) in
+    let body : Scan = scan_body v k c number (drop width bytes) in
     let fault : Scan = Fault (fault_of k number) in
-    let in_range : Bool = is_in_range k number in
-    uses_either (nat_lt (length bytes) width) (Needs (header_len k)) (if in_range then body else fault) tt (uses_either in_range body fault (uses_body k c number (drop width bytes)) tt)
+    let in_range : Bool = is_in_range v k number in
+    uses_either (nat_lt (length bytes) width) (Needs (header_len v k)) (if in_range then body else fault) tt (uses_either in_range body fault (uses_body v k c number (drop width bytes)) tt)
 
-uses_tag : (k : Option Kind) (c : Option Channel) (rest : List ℕ) → UsesSome (scan_tag k c rest)
+uses_tag : (v : Version) (k : Option Kind) (c : Option Channel) (rest : List ℕ) → UsesSome (scan_tag v k c rest)
 unfolding scan_tag
-uses_tag None c rest = tt
-uses_tag (Some k) None rest = tt
-uses_tag (Some k) (Some c) rest = uses_number k c rest
+uses_tag v None c rest = tt
+uses_tag v (Some k) None rest = tt
+uses_tag v (Some k) (Some c) rest = uses_number v k c rest
 
-uses_some : (bytes : List ℕ) → UsesSome (scan_of bytes)
+uses_some : (v : Version) (bytes : List ℕ) → UsesSome (scan_of v bytes)
 unfolding scan_of
-uses_some [] = tt
-uses_some (first ∷ rest) = uses_tag _ _ rest
+uses_some v [] = tt
+uses_some v (first ∷ rest) = uses_tag v _ _ rest
 
 -- ---- as many turns as there are bytes are enough
 
-nothing_in_nothing : (n : ℕ) → split_in n [] ≡ ([], [])
+nothing_in_nothing : (v : Version) (n : ℕ) → split_in v n [] ≡ ([], [])
 unfolding scan_of
-nothing_in_nothing zero = refl
-nothing_in_nothing (suc n) = refl
+nothing_in_nothing v zero = refl
+nothing_in_nothing v (suc n) = refl
 
 -- what a turn makes of the frame at the front
-abbrev turn : ℕ → List ℕ → Option (Frame × List ℕ) → List Frame × List ℕ
-turn n bytes first = option_map_or (λ p. (p.0 ∷ (split_in n p.1).0, (split_in n p.1).1)) first ([], bytes)
+abbrev turn : Version → ℕ → List ℕ → Option (Frame × List ℕ) → List Frame × List ℕ
+turn v n bytes first = option_map_or (λ p. (p.0 ∷ (split_in v n p.1).0, (split_in v n p.1).1)) first ([], bytes)
 
-turn_steady : (n m : ℕ) (bytes : List ℕ) → length bytes ≤ suc n → length bytes ≤ suc m
-    → ((others : List ℕ) → length others ≤ n → length others ≤ m → split_in n others ≡ split_in m others)
-    → (s : Scan) → UsesSome s → turn n bytes (first_frame s bytes) ≡ turn m bytes (first_frame s bytes)
-turn_steady n m bytes h i steady (Whole head used) some =
+turn_steady : (v : Version) (n m : ℕ) (bytes : List ℕ) → length bytes ≤ suc n → length bytes ≤ suc m
+    → ((others : List ℕ) → length others ≤ n → length others ≤ m → split_in v n others ≡ split_in v m others)
+    → (s : Scan) → UsesSome s → turn v n bytes (first_frame v s bytes) ≡ turn v m bytes (first_frame v s bytes)
+turn_steady v n m bytes h i steady (Whole head used) some =
     let few = length-drop used bytes in
-    ap (λ (p : List Frame × List ℕ). (frame_in head (take used bytes) ∷ p.0, p.1)) (steady (drop used bytes) (omega (arith, h, few, some)) (omega (arith, i, few, some)))
-turn_steady n m bytes h i steady (Fault fault) some = refl
-turn_steady n m bytes h i steady (Needs need) some = refl
+    ap (λ (p : List Frame × List ℕ). (frame_in v head (take used bytes) ∷ p.0, p.1)) (steady (drop used bytes) (omega (arith, h, few, some)) (omega (arith, i, few, some)))
+turn_steady v n m bytes h i steady (Fault fault) some = refl
+turn_steady v n m bytes h i steady (Needs need) some = refl
 
-split_steady : (n m : ℕ) (bytes : List ℕ) → length bytes ≤ n → length bytes ≤ m → split_in n bytes ≡ split_in m bytes
-split_steady zero m [] h i = sym (nothing_in_nothing m)
-split_steady zero m (b ∷ bytes) h i = absurd (omega (arith, h))
-split_steady (suc n) zero [] h i = nothing_in_nothing (suc n)
-split_steady (suc n) zero (b ∷ bytes) h i = absurd (omega (arith, i))
-split_steady (suc n) (suc m) bytes h i = turn_steady n m bytes h i (split_steady n m) (scan_of bytes) (uses_some bytes)
+split_steady : (v : Version) (n m : ℕ) (bytes : List ℕ) → length bytes ≤ n → length bytes ≤ m → split_in v n bytes ≡ split_in v m bytes
+split_steady v zero m [] h i = sym (nothing_in_nothing v m)
+split_steady v zero m (b ∷ bytes) h i = absurd (omega (arith, h))
+split_steady v (suc n) zero [] h i = nothing_in_nothing v (suc n)
+split_steady v (suc n) zero (b ∷ bytes) h i = absurd (omega (arith, i))
+split_steady v (suc n) (suc m) bytes h i = turn_steady v n m bytes h i (split_steady v n m) (scan_of v bytes) (uses_some v bytes)
 
 -- ---- what is computed is what Splits says
 
-nothing_splits : Splits [] [] []
-nothing_splits = record { whole = refl; each = tt; partial = nothing_yet.now_open.no_frame }
+nothing_splits : (v : Version) → Splits (Some v) [] [] []
+nothing_splits v = record { whole = refl; each = tt; partial = (nothing_yet v).now_open.no_frame }
 
-turn_splits : (n : ℕ) (bytes : List ℕ) → IsBytes bytes → length bytes ≤ suc n
-    → ((others : List ℕ) → IsBytes others → length others ≤ n → Splits others (split_in n others).0 (split_in n others).1)
-    → (s : Scan) → Finds s bytes → UsesSome s → Splits bytes (turn n bytes (first_frame s bytes)).0 (turn n bytes (first_frame s bytes)).1
-turn_splits n bytes fits h splits (Whole head used) found some =
-    let f : Frame = frame_in head (take used bytes) in
+turn_splits : (v : Version) (n : ℕ) (bytes : List ℕ) → IsBytes bytes → length bytes ≤ suc n
+    → ((others : List ℕ) → IsBytes others → length others ≤ n → Splits (Some v) others (split_in v n others).0 (split_in v n others).1)
+    → (s : Scan) → Finds v s bytes → UsesSome s → Splits (Some v) bytes (turn v n bytes (first_frame v s bytes)).0 (turn v n bytes (first_frame v s bytes)).1
+turn_splits v n bytes fits h splits (Whole head used) found some =
+    let f : Frame = frame_in v head (take used bytes) in
     let stands = found.only.stands in
-    let rest : drop used bytes ≡ stands.rest = ap (λ (k : ℕ). drop k bytes) found.used_is ∙ ap (λ (x : List ℕ). drop (length (encoding f)) x) stands.is ∙ drop_at (encoding f) stands.rest (length (encoding f)) refl in
-    let p : List Frame × List ℕ = split_in n (drop used bytes) in
+    let rest : drop used bytes ≡ stands.rest = ap (λ (k : ℕ). drop k bytes) found.used_is ∙ ap (λ (x : List ℕ). drop (length (encoding v f)) x) stands.is ∙ drop_at (encoding v f) stands.rest (length (encoding v f)) refl in
+    let p : List Frame × List ℕ = split_in v n (drop used bytes) in
     let others = splits (drop used bytes) (IsBytes-drop used bytes fits) (omega (arith, h, length-drop used bytes, some)) in
     record {
-      whole = stands.is ∙ ap (λ (x : List ℕ). encoding f ++ x) (sym rest ∙ others.whole) ∙ sym (append_assoc (encoding f) (flat_map encoding p.0) p.1) ∙ ap (λ (x : List ℕ). x ++ p.1) (sym (flat_map-cons encoding f p.0));
+      whole = stands.is ∙ ap (λ (x : List ℕ). encoding v f ++ x) (sym rest ∙ others.whole) ∙ sym (append_assoc (encoding v f) (flat_map (encoding v) p.0) p.1) ∙ ap (λ (x : List ℕ). x ++ p.1) (sym (flat_map-cons (encoding v) f p.0));
       each = (stands.valid, others.each);
       partial = others.partial;
     }
-turn_splits n bytes fits h splits (Fault fault) found some = record { whole = refl; each = tt; partial = found.no_frame }
-turn_splits n bytes fits h splits (Needs need) found some = record { whole = refl; each = tt; partial = found.now_open.no_frame }
+turn_splits v n bytes fits h splits (Fault fault) found some = record { whole = refl; each = tt; partial = found.no_frame }
+turn_splits v n bytes fits h splits (Needs need) found some = record { whole = refl; each = tt; partial = found.now_open.no_frame }
 
-splits_in : (n : ℕ) (bytes : List ℕ) → IsBytes bytes → length bytes ≤ n → Splits bytes (split_in n bytes).0 (split_in n bytes).1
-splits_in zero [] fits h = nothing_splits
-splits_in zero (b ∷ bytes) fits h = absurd (omega (arith, h))
-splits_in (suc n) bytes fits h = turn_splits n bytes fits h (splits_in n) (scan_of bytes) (finds_of bytes fits) (uses_some bytes)
+splits_in : (v : Version) (n : ℕ) (bytes : List ℕ) → IsBytes bytes → length bytes ≤ n → Splits (Some v) bytes (split_in v n bytes).0 (split_in v n bytes).1
+splits_in v zero [] fits h = nothing_splits v
+splits_in v zero (b ∷ bytes) fits h = absurd (omega (arith, h))
+splits_in v (suc n) bytes fits h = turn_splits v n bytes fits h (splits_in v n) (scan_of v bytes) (finds_of v bytes fits) (uses_some v bytes)
 
-pub computed_split : (bytes : List ℕ) → IsBytes bytes → Splits bytes (frames_of bytes) (rest_of bytes)
-computed_split bytes fits = splits_in (length bytes) bytes fits (omega arith)
+computed_as : (version : Option Version) (bytes : List ℕ) → IsBytes bytes → Splits version bytes (split_as version bytes).0 (split_as version bytes).1
+computed_as None bytes fits = record { whole = refl; each = tt; partial = λ f s. s }
+computed_as (Some v) bytes fits = splits_in v (length bytes) bytes fits (omega arith)
+
+pub computed_split : (h : Held) → IsBytes h.bytes → Splits h.version h.bytes (frames_of h) (rest_of h).bytes
+computed_split h fits = computed_as h.version h.bytes fits
 
 -- ---- the bytes of frames, and more behind them
 
 -- a frame and what follows it
-first_split : (f : Frame) (more : List ℕ) → IsValid f → (frames_of (encoding f ++ more) ≡ f ∷ frames_of more) × (rest_of (encoding f ++ more) ≡ rest_of more)
-first_split f more valid =
-    let bytes : List ℕ = encoding f ++ more in
-    let len : ℕ = length (encoding f) in
-    let stands : FrameStands f bytes = record { valid = valid; rest = more; is = refl } in
+first_split : (v : Version) (f : Frame) (more : List ℕ) → IsValid v f → split_as (Some v) (encoding v f ++ more) ≡ (f ∷ (split_as (Some v) more).0, (split_as (Some v) more).1)
+first_split v f more valid =
+    let bytes : List ℕ = encoding v f ++ more in
+    let len : ℕ = length (encoding v f) in
+    let stands : FrameStands v f bytes = record { valid = valid; rest = more; is = refl } in
     let n : ℕ = length bytes - 1 in
-    let count : length bytes ≡ suc n = omega (arith, length-append (encoding f) more, length-encoding f) in
-    let found : first_frame (scan_of bytes) bytes ≡ Some (f, more) =
-    ap (λ (s : Scan). first_frame s bytes) (stands_whole f bytes stands)
-    ∙ ap₂ (λ (g : Frame) (y : List ℕ). Some (g, y)) (frame_again f bytes stands) (drop_at (encoding f) more len refl) in
-    let steady = split_steady n (length more) more (omega (arith, length-append (encoding f) more, length-encoding f)) (omega arith) in
-    let split : split_in (length bytes) bytes ≡ (f ∷ frames_of more, rest_of more) =
-    ap (λ (k : ℕ). split_in k bytes) count
-    ∙ ap (turn n bytes) found
-    ∙ ap (λ (p : List Frame × List ℕ). (f ∷ p.0, p.1)) steady in
-    (ap (λ (p : List Frame × List ℕ). p.0) split, ap (λ (p : List Frame × List ℕ). p.1) split)
+    let count : length bytes ≡ suc n = omega (arith, length-append (encoding v f) more, length-encoding v f) in
+    let found : first_frame v (scan_of v bytes) bytes ≡ Some (f, more) =
+    ap (λ (s : Scan). first_frame v s bytes) (stands_whole v f bytes stands)
+    ∙ ap₂ (λ (g : Frame) (y : List ℕ). Some (g, y)) (frame_again v f bytes stands) (drop_at (encoding v f) more len refl) in
+    let steady = split_steady v n (length more) more (omega (arith, length-append (encoding v f) more, length-encoding v f)) (omega arith) in
+    ap (λ (k : ℕ). split_in v k bytes) count
+    ∙ ap (turn v n bytes) found
+    ∙ ap (λ (p : List Frame × List ℕ). (f ∷ p.0, p.1)) steady
 
-pub joined_law : (fs : List Frame) (more : List ℕ) → AllByRecursion IsValid fs → (frames_of (flat_map encoding fs ++ more) ≡ fs ++ frames_of more) × (rest_of (flat_map encoding fs ++ more) ≡ rest_of more)
-joined_law [] more each = (refl, refl)
-joined_law (f ∷ fs) more each =
-    let parted = behind f fs more (flat_map encoding (f ∷ fs) ++ more) refl in
-    let first = first_split f (flat_map encoding fs ++ more) each.0 in
-    let others = joined_law fs more each.1 in
-    (ap frames_of parted ∙ first.0 ∙ ap (λ (gs : List Frame). f ∷ gs) others.0, ap rest_of parted ∙ first.1 ∙ others.1)
+joined_as : (version : Option Version) (fs : List Frame) (more : List ℕ) → AllByRecursion (IsValidIn version) fs
+    → split_as version (flat_map (encoding_in version) fs ++ more) ≡ (fs ++ (split_as version more).0, (split_as version more).1)
+joined_as version [] more each = refl
+joined_as None (f ∷ fs) more each = absurd each.0
+joined_as (Some v) (f ∷ fs) more each =
+    let parted = behind v f fs more (flat_map (encoding v) (f ∷ fs) ++ more) refl in
+    ap (split_as (Some v)) parted
+    ∙ first_split v f (flat_map (encoding v) fs ++ more) each.0
+    ∙ ap (λ (p : List Frame × List ℕ). (f ∷ p.0, p.1)) (joined_as (Some v) fs more each.1)
+
+pub joined_law : (fs : List Frame) (h : Held) → AllByRecursion (IsValidIn h.version) fs → (frames_of (before fs h) ≡ fs ++ frames_of h) × (rest_of (before fs h) ≡ rest_of h)
+joined_law fs h each =
+    let joined = joined_as h.version fs h.bytes each in
+    (ap (λ (p : List Frame × List ℕ). p.0) joined, ap (λ (p : List Frame × List ℕ). record { version = h.version; bytes = p.1 }) joined)

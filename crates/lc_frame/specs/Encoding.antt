@@ -1,6 +1,7 @@
 -- The bytes of a frame, and which frame or fault stands at the front of a list of bytes. The frames are those of LCMUX; their bytes and the faults are this project's own.
 use Rattle.std.specs.Prelude.{◌≡◌, ℕ, ◌+◌, ◌*◌, ◌^◌, ◌<◌, List, ◌∷◌, ◌++◌}
 use Rattle.std.specs.Int.{byte_len, to_be_bytes}
+use Rattle.lc_frame.specs.declared.version.Version.{Version}
 use Rattle.lc_frame.specs.declared.channel.Channel.{Channel}
 use Rattle.lc_frame.specs.declared.kind.Kind.{Kind}
 use Rattle.lc_frame.specs.declared.frame.Frame.{Frame}
@@ -15,18 +16,18 @@ abbrev pub tag_of : Kind → Channel → ℕ
 tag_of kind c = 16 * code_of kind + number_of c
 
 -- the tag, and the number with its highest byte first
-abbrev pub header : Kind → Channel → ℕ → List ℕ
-header kind c number = tag_of kind c ∷ to_be_bytes (width_of kind) number
+abbrev pub header : Version → Kind → Channel → ℕ → List ℕ
+header v kind c number = tag_of kind c ∷ to_be_bytes (width_of v kind) number
 
 -- the bytes of a frame
-abbrev pub encoding : Frame → List ℕ
-encoding f = header (kind_of f) (channel_of f) (field_of f) ++ body_of f
+abbrev pub encoding : Version → Frame → List ℕ
+encoding v f = header v (kind_of f) (channel_of f) (field_of f) ++ body_of f
 
 -- the bytes begin with those of a valid frame
-pub record FrameStands (f : Frame) (bytes : List ℕ) : Type 0 where
-  pub valid : IsValid f
+pub record FrameStands (v : Version) (f : Frame) (bytes : List ℕ) : Type 0 where
+  pub valid : IsValid v f
   pub rest : List ℕ
-  pub is : bytes ≡ encoding f ++ rest
+  pub is : bytes ≡ encoding v f ++ rest
 
 -- the first byte is no tag
 pub record NoTagStands (bytes : List ℕ) : Type 0 where
@@ -36,19 +37,19 @@ pub record NoTagStands (bytes : List ℕ) : Type 0 where
   pub no_tag : (kind : Kind) (c : Channel) → ¬ (first ≡ tag_of kind c)
 
 -- behind a tag stands a whole number that is out of range
-pub record NumberStands (fault : FrameFault) (bytes : List ℕ) : Type 0 where
+pub record NumberStands (v : Version) (fault : FrameFault) (bytes : List ℕ) : Type 0 where
   pub kind : Kind
   pub channel : Channel
   pub number : ℕ
   pub rest : List ℕ
-  pub fits : number < 256 ^ byte_len (width_of kind)
-  pub is : bytes ≡ header kind channel number ++ rest
-  pub out : ¬ IsInRange kind number
+  pub fits : number < 256 ^ byte_len (width_of v kind)
+  pub is : bytes ≡ header v kind channel number ++ rest
+  pub out : ¬ IsInRange v kind number
   pub names : fault_of kind number ≡ fault
 
 -- the fault of the bytes, which they keep however they go on
-abbrev pub FaultStands : FrameFault → List ℕ → Type 0
-FaultStands BadTag bytes = NoTagStands bytes
-FaultStands ZeroLength bytes = NumberStands ZeroLength bytes
-FaultStands BadNumber bytes = NumberStands BadNumber bytes
-FaultStands Truncated bytes = ⊥
+abbrev pub FaultStands : Version → FrameFault → List ℕ → Type 0
+FaultStands v BadTag bytes = NoTagStands bytes
+FaultStands v ZeroLength bytes = NumberStands v ZeroLength bytes
+FaultStands v BadNumber bytes = NumberStands v BadNumber bytes
+FaultStands v Truncated bytes = ⊥

@@ -1,5 +1,6 @@
 -- What one frame says: its kind, its channel, the number that it carries, its message, and its lane. The kinds of frame are those of LCMUX; lanes are this project's own.
 use Rattle.std.specs.Prelude.{ℕ, ◌+◌, List, [], length}
+use Rattle.lc_frame.specs.declared.version.Version.{Version}
 use Rattle.lc_frame.specs.declared.channel.Channel.{Channel}
 use Rattle.lc_frame.specs.declared.kind.Kind.{Kind}
 use Rattle.lc_frame.specs.declared.kind.Kind.TheVariants as kinds
@@ -41,8 +42,8 @@ body_of (Send c body) = body
 body_of f = []
 
 -- a frame is valid where its number is in the range of its kind
-abbrev pub IsValid : Frame → Type 0
-IsValid f = IsInRange (kind_of f) (field_of f)
+abbrev pub IsValid : Version → Frame → Type 0
+IsValid v f = IsInRange v (kind_of f) (field_of f)
 
 -- what a client puts has its channel's number, what a server puts has 7 more
 abbrev pub lane_of : Frame → ℕ

@@ -1,14 +1,17 @@
--- The table of the kinds of frame: of each the code in its tag, how wide the number behind the tag is, the least and the greatest number, and how many bytes stand behind it. The kinds are those of LCMUX; codes, widths and ranges are this project's own.
+-- The table of the kinds of frame, by version: of each the code in its tag, how wide the number behind the tag is, the least and the greatest number, and how many bytes stand behind it. The kinds are those of LCMUX; codes, widths and ranges are this project's own.
 use Rattle.std.specs.Prelude.{ℕ, zero, suc, Bool, ◌+◌, ◌≤◌, ◌^◌, ◌&&◌, nat_le, Option, Some, None}
 use Rattle.std.specs.Int.{Width, w16, w32, w64, byte_len}
+use Rattle.lc_frame.specs.declared.version.Version.{Version}
+use Rattle.lc_frame.specs.declared.version.Version.TheVariants.{One, Two}
 use Rattle.lc_frame.specs.declared.kind.Kind.{Kind}
 use Rattle.lc_frame.specs.declared.kind.Kind.TheVariants.{Send, Issue, Absolve, Plead, LimitSending, LimitReceiving}
 use Rattle.lc_frame.specs.declared.frame_fault.FrameFault.{FrameFault}
 use Rattle.lc_frame.specs.declared.frame_fault.FrameFault.TheVariants.{ZeroLength, BadNumber}
 
 -- the longest message
-abbrev pub max_body : ℕ
-max_body = 65535
+abbrev pub max_body : Version → ℕ
+max_body One = 65535
+max_body Two = 2 ^ 20
 
 -- the largest amount of guarantees in one frame, and the largest receiving ring
 abbrev pub max_amount : ℕ
@@ -37,14 +40,19 @@ kind_at (suc (suc (suc (suc (suc zero))))) = Some LimitSending
 kind_at (suc (suc (suc (suc (suc (suc zero)))))) = Some LimitReceiving
 kind_at _ = None
 
+-- the width of a message's length
+abbrev pub length_width : Version → Width
+length_width One = w16
+length_width Two = w32
+
 -- the width of the number behind the tag
-abbrev pub width_of : Kind → Width
-width_of Send = w16
-width_of Issue = w32
-width_of Absolve = w32
-width_of Plead = w32
-width_of LimitSending = w64
-width_of LimitReceiving = w64
+abbrev pub width_of : Version → Kind → Width
+width_of v Send = length_width v
+width_of v Issue = w32
+width_of v Absolve = w32
+width_of v Plead = w32
+width_of v LimitSending = w64
+width_of v LimitReceiving = w64
 
 -- the least number
 abbrev pub least_of : Kind → ℕ
@@ -56,21 +64,21 @@ least_of LimitSending = 0
 least_of LimitReceiving = 0
 
 -- the greatest number
-abbrev pub greatest_of : Kind → ℕ
-greatest_of Send = max_body
-greatest_of Issue = max_amount
-greatest_of Absolve = max_amount
-greatest_of Plead = max_amount
-greatest_of LimitSending = max_total
-greatest_of LimitReceiving = max_total
+abbrev pub greatest_of : Version → Kind → ℕ
+greatest_of v Send = max_body v
+greatest_of v Issue = max_amount
+greatest_of v Absolve = max_amount
+greatest_of v Plead = max_amount
+greatest_of v LimitSending = max_total
+greatest_of v LimitReceiving = max_total
 
 -- a frame of this kind may carry the number
-abbrev pub IsInRange : Kind → ℕ → Type 0
-IsInRange kind number = (least_of kind ≤ number) × (number ≤ greatest_of kind)
+abbrev pub IsInRange : Version → Kind → ℕ → Type 0
+IsInRange v kind number = (least_of kind ≤ number) × (number ≤ greatest_of v kind)
 
 -- the same as a test
-abbrev pub is_in_range : Kind → ℕ → Bool
-is_in_range kind number = nat_le (least_of kind) number && nat_le number (greatest_of kind)
+abbrev pub is_in_range : Version → Kind → ℕ → Bool
+is_in_range v kind number = nat_le (least_of kind) number && nat_le number (greatest_of v kind)
 
 -- the fault that a number out of range is
 abbrev pub fault_of : Kind → ℕ → FrameFault
@@ -83,9 +91,9 @@ body_len Send number = number
 body_len kind number = 0
 
 -- the tag and the number
-abbrev pub header_len : Kind → ℕ
-header_len kind = 1 + byte_len (width_of kind)
+abbrev pub header_len : Version → Kind → ℕ
+header_len v kind = 1 + byte_len (width_of v kind)
 
 -- the longest frame
-abbrev pub max_frame : ℕ
-max_frame = header_len Send + max_body
+abbrev pub max_frame : Version → ℕ
+max_frame v = header_len v Send + max_body v

@@ -1,3 +1,4 @@
+pub mod Version
 pub mod Channel
 pub mod Kind
 pub mod Bounds
@@ -8,6 +9,7 @@ pub mod FrameFault
 pub mod Encoding
 pub mod Decoded
 pub mod Scan
+pub mod Held
 pub mod Splits
 pub mod Progress
 pub mod StreamDecoder

@@ -1,6 +1,7 @@
 -- Reading the front of a list of bytes from left to right: the way that src/scan.rt goes, and what it finds. A device of the proofs: what decoding means is in Decoded.antt, without it.
 use Rattle.std.specs.Prelude.{◌≡◌, ℕ, ◌+◌, ◌/◌, ◌%◌, ◌≤◌, ◌<◌, ◌++◌, List, [], ◌∷◌, length, take, drop, Option, Some, None, nat_lt, if◌then◌else◌}
 use Rattle.std.specs.Int.{byte_len, from_be_bytes}
+use Rattle.lc_frame.specs.declared.version.Version.{Version}
 use Rattle.lc_frame.specs.declared.channel.Channel.{Channel}
 use Rattle.lc_frame.specs.declared.kind.Kind.{Kind}
 use Rattle.lc_frame.specs.declared.kind.Kind.TheVariants.{Send, Issue, Absolve, Plead, LimitSending, LimitReceiving}
@@ -25,52 +26,52 @@ frame_with LimitSending c number body = frames.LimitSending c number
 frame_with LimitReceiving c number body = frames.LimitReceiving c number
 
 -- the frame of these bytes, by its head
-abbrev pub frame_in : Head → List ℕ → Frame
-frame_in head text = frame_with head.kind head.channel head.number (drop (header_len head.kind) text)
+abbrev pub frame_in : Version → Head → List ℕ → Frame
+frame_in v head text = frame_with head.kind head.channel head.number (drop (header_len v head.kind) text)
 
 -- behind a number in range
-unfoldable pub scan_body : Kind → Channel → ℕ → List ℕ → Scan
-scan_body kind c number rest =
+unfoldable pub scan_body : Version → Kind → Channel → ℕ → List ℕ → Scan
+scan_body v kind c number rest =
     let len = body_len kind number in
-    if nat_lt (length rest) len then Needs (header_len kind + len)
-    else Whole (record { kind = kind; channel = c; number = number }) (header_len kind + len)
+    if nat_lt (length rest) len then Needs (header_len v kind + len)
+    else Whole (record { kind = kind; channel = c; number = number }) (header_len v kind + len)
 
 -- behind a tag
-unfoldable pub scan_number : Kind → Channel → List ℕ → Scan
-scan_number kind c bytes =
-    let width = byte_len (width_of kind) in
-    let number = from_be_bytes (width_of kind) (take width bytes) in
-    if nat_lt (length bytes) width then Needs (header_len kind)
-    else if is_in_range kind number then scan_body kind c number (drop width bytes)
+unfoldable pub scan_number : Version → Kind → Channel → List ℕ → Scan
+scan_number v kind c bytes =
+    let width = byte_len (width_of v kind) in
+    let number = from_be_bytes (width_of v kind) (take width bytes) in
+    if nat_lt (length bytes) width then Needs (header_len v kind)
+    else if is_in_range v kind number then scan_body v kind c number (drop width bytes)
     else Fault (fault_of kind number)
 
-unfoldable pub scan_tag : Option Kind → Option Channel → List ℕ → Scan
-scan_tag None c rest = Fault BadTag
-scan_tag (Some kind) None rest = Fault BadTag
-scan_tag (Some kind) (Some c) rest = scan_number kind c rest
+unfoldable pub scan_tag : Version → Option Kind → Option Channel → List ℕ → Scan
+scan_tag v None c rest = Fault BadTag
+scan_tag v (Some kind) None rest = Fault BadTag
+scan_tag v (Some kind) (Some c) rest = scan_number v kind c rest
 
-unfoldable pub scan_of : List ℕ → Scan
-scan_of [] = Needs 1
-scan_of (first ∷ rest) = scan_tag (kind_at (first / 16)) (channel_at (first % 16)) rest
+unfoldable pub scan_of : Version → List ℕ → Scan
+scan_of v [] = Needs 1
+scan_of v (first ∷ rest) = scan_tag v (kind_at (first / 16)) (channel_at (first % 16)) rest
 
 -- the frame with this head stands at the front, in the first so many bytes
-pub record FindsFrame (head : Head) (used : ℕ) (bytes : List ℕ) : Type 0 where
-  pub only : OnlyFrame (frame_in head (take used bytes)) bytes
-  pub used_is : used ≡ length (encoding (frame_in head (take used bytes)))
-  pub in_range : IsInRange head.kind head.number
+pub record FindsFrame (v : Version) (head : Head) (used : ℕ) (bytes : List ℕ) : Type 0 where
+  pub only : OnlyFrame v (frame_in v head (take used bytes)) bytes
+  pub used_is : used ≡ length (encoding v (frame_in v head (take used bytes)))
+  pub in_range : IsInRange v head.kind head.number
   pub within : used ≤ length bytes
-  pub small : used ≤ max_frame
-  pub begins : header_len head.kind ≤ used
+  pub small : used ≤ max_frame v
+  pub begins : header_len v head.kind ≤ used
 
 -- nothing stands at the front, nor does before there are so many bytes
-pub record NeedsMore (bytes : List ℕ) (need : ℕ) : Type 0 where
+pub record NeedsMore (v : Version) (bytes : List ℕ) (need : ℕ) : Type 0 where
   pub short : length bytes < need
-  pub small : need ≤ max_frame
-  pub more : (ys : List ℕ) → length (bytes ++ ys) < need → IsOpen (bytes ++ ys)
-  pub now_open : IsOpen bytes
+  pub small : need ≤ max_frame v
+  pub more : (ys : List ℕ) → length (bytes ++ ys) < need → IsOpen v (bytes ++ ys)
+  pub now_open : IsOpen v bytes
 
 -- what a scan found of the bytes
-abbrev pub Finds : Scan → List ℕ → Type 0
-Finds (Whole head used) bytes = FindsFrame head used bytes
-Finds (Fault fault) bytes = OnlyFault fault bytes
-Finds (Needs need) bytes = NeedsMore bytes need
+abbrev pub Finds : Version → Scan → List ℕ → Type 0
+Finds v (Whole head used) bytes = FindsFrame v head used bytes
+Finds v (Fault fault) bytes = OnlyFault v fault bytes
+Finds v (Needs need) bytes = NeedsMore v bytes need

@@ -1,41 +1,46 @@
--- A list of bytes as the frames at its front and a rest. This rule is this project's own.
+-- The frames of what is held of a stream, and a rest. These rules are this project's own.
 use Rattle.std.specs.Prelude.{◌≡◌, ℕ, zero, suc, List, [], ◌∷◌, ◌++◌, length, take, drop, Option, Some, None}
 use Rattle.std.specs.List.{flat_map, AllByRecursion}
 use Rattle.std.specs.Option.{option_map_or}
+use Rattle.lc_frame.specs.declared.version.Version.{Version}
 use Rattle.lc_frame.specs.declared.frame.Frame.{Frame}
 use Rattle.lc_frame.specs.declared.frame_fault.FrameFault.{FrameFault}
 use Rattle.lc_frame.specs.declared.scan.Scan.{Scan}
 use Rattle.lc_frame.specs.declared.scan.Scan.TheVariants.{Whole, Fault, Needs}
-use Rattle.lc_frame.specs.Frame.{IsValid}
-use Rattle.lc_frame.specs.Encoding.{encoding, FrameStands, FaultStands}
 use Rattle.lc_frame.specs.Scan.{frame_in, scan_of}
+use Rattle.lc_frame.specs.Held.{Held, IsValidIn, encoding_in, FrameIn, FaultIn}
 
 -- the bytes of these frames, and then a rest at whose front no frame stands
-pub record Splits (bytes : List ℕ) (frames : List Frame) (rest : List ℕ) : Type 0 where
-  pub whole : bytes ≡ flat_map encoding frames ++ rest
-  pub each : AllByRecursion IsValid frames
-  pub partial : (f : Frame) → ¬ FrameStands f rest
+pub record Splits (version : Option Version) (bytes : List ℕ) (frames : List Frame) (rest : List ℕ) : Type 0 where
+  pub whole : bytes ≡ flat_map (encoding_in version) frames ++ rest
+  pub each : AllByRecursion (IsValidIn version) frames
+  pub partial : (f : Frame) → ¬ FrameIn version f rest
 
 -- these are the first of the frames, and no fault stands at the front of what follows them
-pub record Begins (frames first : List Frame) (rest : List ℕ) : Type 0 where
+pub record Begins (version : Option Version) (frames first : List Frame) (rest : List ℕ) : Type 0 where
   pub others : List Frame
   pub is : frames ≡ first ++ others
-  pub no_fault : (e : FrameFault) → ¬ FaultStands e rest
+  pub no_fault : (e : FrameFault) → ¬ FaultIn version e rest
 
 -- the frame at the front and the bytes behind it, where a scan found one
-abbrev pub first_frame : Scan → List ℕ → Option (Frame × List ℕ)
-first_frame (Whole head used) bytes = Some (frame_in head (take used bytes), drop used bytes)
-first_frame (Fault fault) bytes = None
-first_frame (Needs need) bytes = None
+abbrev pub first_frame : Version → Scan → List ℕ → Option (Frame × List ℕ)
+first_frame v (Whole head used) bytes = Some (frame_in v head (take used bytes), drop used bytes)
+first_frame v (Fault fault) bytes = None
+first_frame v (Needs need) bytes = None
 
 -- the frames at the front, so many at most, and the bytes behind them
-abbrev pub split_in : ℕ → List ℕ → List Frame × List ℕ
-split_in zero bytes = ([], bytes)
-split_in (suc turns) bytes = option_map_or (λ p. (p.0 ∷ (split_in turns p.1).0, (split_in turns p.1).1)) (first_frame (scan_of bytes) bytes) ([], bytes)
+abbrev pub split_in : Version → ℕ → List ℕ → List Frame × List ℕ
+split_in v zero bytes = ([], bytes)
+split_in v (suc turns) bytes = option_map_or (λ p. (p.0 ∷ (split_in v turns p.1).0, (split_in v turns p.1).1)) (first_frame v (scan_of v bytes) bytes) ([], bytes)
 
--- all frames at the front of a list of bytes, and what follows them. These compute; the law frames_are_split says that they are what Splits says
-abbrev pub frames_of : List ℕ → List Frame
-frames_of bytes = (split_in (length bytes) bytes).0
+-- none where no version is known
+abbrev pub split_as : Option Version → List ℕ → List Frame × List ℕ
+split_as None bytes = ([], bytes)
+split_as (Some v) bytes = split_in v (length bytes) bytes
 
-abbrev pub rest_of : List ℕ → List ℕ
-rest_of bytes = (split_in (length bytes) bytes).1
+-- all frames at the front of what is held, and what is held behind them. These compute; the law frames_are_split says that they are what Splits says
+abbrev pub frames_of : Held → List Frame
+frames_of h = (split_as h.version h.bytes).0
+
+abbrev pub rest_of : Held → Held
+rest_of h = record { version = h.version; bytes = (split_as h.version h.bytes).1 }

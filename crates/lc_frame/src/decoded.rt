@@ -4,6 +4,7 @@ ghost use Rattle.lc_frame.specs.Decoded.{Decodes};
 use crate::frame_fault::FrameFault;
 use crate::frame_ref::FrameRef;
 use crate::scan::{Scan, scan_front};
+use crate::version::Version;
 
 /// What stands at the front of some bytes.
 #[derive(Clone, Copy, Debug, PartialEq, Eq)]
@@ -16,14 +17,15 @@ pub enum Decoded<'a> {
     Fault(FrameFault),
 }
 
-/// Decodes the frame at the front of the bytes. The answer is never `FrameFault::Truncated`.
+/// Decodes the frame at the front of the bytes, which are those of frames of a version, behind any
+/// greeting. The answer is never `FrameFault::Truncated`.
 #[inline]
-pub fn decode(bytes: &[u8]) -> Decoded<'_>
-    ensures { Decodes result bytes.now }
+pub fn decode(version: Version, bytes: &[u8]) -> Decoded<'_>
+    ensures { Decodes version result bytes.now }
 {
-    match scan_front(bytes) {
+    match scan_front(version, bytes) {
         Scan::Whole { head, used } => Decoded::Whole {
-            frame: head.frame_in(bytes.split_at(used).0),
+            frame: head.frame_in(version, bytes.split_at(used).0),
             used,
         },
         Scan::Fault(fault) => Decoded::Fault(fault),

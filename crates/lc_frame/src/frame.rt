@@ -6,9 +6,10 @@ ghost use Rattle.lc_frame.specs.FrameRef.{frame_of};
 use crate::body::Body;
 use crate::channel::Channel;
 use crate::frame_ref::FrameRef;
+use crate::version::Version;
 
-/// The longest message, in bytes.
-pub const MAX_BODY: usize = 65_535;
+/// The longest message of either version, in bytes.
+pub const MAX_BODY: usize = 1_048_576;
 /// The largest amount of an Issue or an Absolve, the largest target of a Plead, and the largest
 /// receiving ring, in bytes.
 pub const MAX_AMOUNT: u32 = 16_777_216;
@@ -83,13 +84,13 @@ impl Frame {
         self.view().lane()
     }
 
-    /// Whether the number of the frame is in the range of its kind: a body of 1 to `MAX_BODY`
-    /// bytes, an amount of 1 to `MAX_AMOUNT`, a target up to `MAX_AMOUNT`, a bound up to
-    /// `MAX_TOTAL`.
+    /// Whether the number of the frame is in the range of its kind: a body of 1 to
+    /// `Version::max_body` bytes, an amount of 1 to `MAX_AMOUNT`, a target up to `MAX_AMOUNT`, a
+    /// bound up to `MAX_TOTAL`.
     #[inline]
-    pub fn is_valid(&self) -> bool
-        ensures { IsTrue result ↔ IsValid self.now }
+    pub fn is_valid(&self, version: Version) -> bool
+        ensures { IsTrue result ↔ IsValid version self.now }
     {
-        self.view().is_valid()
+        self.view().is_valid(version)
     }
 }

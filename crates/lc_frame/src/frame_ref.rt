@@ -8,6 +8,7 @@ use crate::body::Body;
 use crate::channel::Channel;
 use crate::frame::Frame;
 use crate::kind::Kind;
+use crate::version::Version;
 use std::alloc::{AllocError, Global};
 
 /// A frame with a borrowed body. Numbers count bytes of messages.
@@ -75,14 +76,14 @@ impl<'a> FrameRef<'a> {
         }
     }
 
-    /// Whether the number of the frame is in the range of its kind: a body of 1 to `MAX_BODY`
-    /// bytes, an amount of 1 to `MAX_AMOUNT`, a target up to `MAX_AMOUNT`, a bound up to
-    /// `MAX_TOTAL`.
+    /// Whether the number of the frame is in the range of its kind: a body of 1 to
+    /// `Version::max_body` bytes, an amount of 1 to `MAX_AMOUNT`, a target up to `MAX_AMOUNT`, a
+    /// bound up to `MAX_TOTAL`.
     #[inline]
-    pub fn is_valid(&self) -> bool
-        ensures { IsTrue result ↔ IsValid (frame_of self.now) }
+    pub fn is_valid(&self, version: Version) -> bool
+        ensures { IsTrue result ↔ IsValid version (frame_of self.now) }
     {
-        self.kind().allows(self.field())
+        self.kind().allows(version, self.field())
     }
 
     #[inline]

@@ -7,6 +7,7 @@ ghost use Rattle.lc_frame.specs.Scan.{frame_in};
 use crate::channel::Channel;
 use crate::frame_ref::FrameRef;
 use crate::kind::Kind;
+use crate::version::Version;
 
 /// The tag and the number of a frame.
 #[derive(Clone, Copy, Debug)]
@@ -19,16 +20,16 @@ pub(crate) struct Head {
 impl Head {
     /// The frame with this head, whose bytes are the text.
     #[inline]
-    pub(crate) fn frame_in(self, text: &[u8]) -> FrameRef<'_>
-        requires in_range { IsInRange self.kind self.number }
-        requires begins { header_len self.kind ≤ length text.now }
-        ensures { frame_of result ≡ frame_in self text.now }
+    pub(crate) fn frame_in(self, version: Version, text: &[u8]) -> FrameRef<'_>
+        requires in_range { IsInRange version self.kind self.number }
+        requires begins { header_len version self.kind ≤ length text.now }
+        ensures { frame_of result ≡ frame_in version self text.now }
     {
         let channel = self.channel;
         match self.kind {
             Kind::Send => FrameRef::Send {
                 channel,
-                body: text.split_at(Kind::Send.header_len()).1,
+                body: text.split_at(Kind::Send.header_len(version)).1,
             },
             Kind::Issue => FrameRef::Issue {
                 channel,

@@ -3,8 +3,9 @@ ghost use Rattle.std.specs.Prelude.{◌≡◌, ◌≤◌, ◌↔◌, IsTrue};
 ghost use Rattle.std.specs.Int.{byte_len};
 ghost use Rattle.lc_frame.specs.Kind.{code_of, kind_at, width_of, IsInRange, is_in_range, fault_of, body_len, header_len};
 
-use crate::frame::{MAX_AMOUNT, MAX_BODY, MAX_TOTAL};
+use crate::frame::{MAX_AMOUNT, MAX_TOTAL};
 use crate::frame_fault::FrameFault;
+use crate::version::Version;
 
 /// What a frame does.
 #[derive(Clone, Copy, Debug, PartialEq, Eq)]
@@ -51,11 +52,14 @@ impl Kind {
 
     /// How many bytes the number behind the tag has.
     #[inline]
-    pub(crate) fn width(self) -> usize
-        ensures { result ≡ byte_len (width_of self) }
+    pub(crate) fn width(self, version: Version) -> usize
+        ensures { result ≡ byte_len (width_of version self) }
     {
         match self {
-            Kind::Send => size_of::<u16>(),
+            Kind::Send => match version {
+                Version::One => size_of::<u16>(),
+                Version::Two => size_of::<u32>(),
+            },
             Kind::Issue | Kind::Absolve | Kind::Plead => size_of::<u32>(),
             Kind::LimitSending | Kind::LimitReceiving => size_of::<u64>(),
         }
@@ -63,10 +67,10 @@ impl Kind {
 
     /// How many bytes the tag and the number have.
     #[inline]
-    pub(crate) fn header_len(self) -> usize
-        ensures { result ≡ header_len self }
+    pub(crate) fn header_len(self, version: Version) -> usize
+        ensures { result ≡ header_len version self }
     {
-        1 + self.width()
+        1 + self.width(version)
     }
 
     /// How many bytes stand behind the number.
@@ -82,12 +86,12 @@ impl Kind {
 
     /// Whether a frame of this kind may carry the number.
     #[inline]
-    pub(crate) fn allows(self, number: u64) -> bool
-        ensures fact { IsTrue result ↔ IsInRange self number }
-        ensures value { result ≡ is_in_range self number }
+    pub(crate) fn allows(self, version: Version, number: u64) -> bool
+        ensures fact { IsTrue result ↔ IsInRange version self number }
+        ensures value { result ≡ is_in_range version self number }
     {
         match self {
-            Kind::Send => 1 <= number && number <= MAX_BODY as u64,
+            Kind::Send => 1 <= number && number <= version.max_body() as u64,
             Kind::Issue | Kind::Absolve => 1 <= number && number <= u64::from(MAX_AMOUNT),
             Kind::Plead => number <= u64::from(MAX_AMOUNT),
             Kind::LimitSending | Kind::LimitReceiving => number <= MAX_TOTAL,

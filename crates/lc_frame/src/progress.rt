@@ -1,4 +1,4 @@
-//! How a stream decoder takes bytes, and what it remembers of those that it holds.
+//! How a stream decoder takes bytes of frames, and what it remembers of those that it holds.
 ghost use Rattle.std.specs.Prelude.{◌≡◌, ◌+◌, ◌<◌, ◌≤◌, [], ◌++◌, length, vec_capacity};
 ghost use Rattle.lc_frame.specs.Kind.{max_frame};
 ghost use Rattle.lc_frame.specs.Scan.{NeedsMore};
@@ -7,6 +7,7 @@ ghost use Rattle.lc_frame.specs.Progress.{Takes, Advances};
 use crate::frame_fault::FrameFault;
 use crate::head::Head;
 use crate::scan::{Scan, scan_front};
+use crate::version::Version;
 
 /// What the last scan said of the bytes held.
 #[derive(Clone, Copy, Debug)]
@@ -17,6 +18,10 @@ pub(crate) enum Progress {
     Whole(Head),
     /// No frame, however the bytes go on.
     Fault(FrameFault),
+    /// Part of a greeting, or nothing, at the start of a stream.
+    Greeted,
+    /// No greeting, though one was begun.
+    Broken,
 }
 
 /// How many bytes were taken, and what is known then.
@@ -26,9 +31,9 @@ pub(crate) struct Step {
     pub(crate) progress: Progress,
 }
 
-// Appends bytes for which there is room.
+/// Appends bytes for which there is room.
 #[inline]
-fn append(buffer: &mut Vec<u8>, bytes: &[u8])
+pub(crate) fn append(buffer: &mut Vec<u8>, bytes: &[u8])
     requires { length buffer.old.items + length bytes.now ≤ vec_capacity buffer.old }
     ensures items { buffer.new.items ≡ buffer.old.items ++ bytes.now }
     ensures capacity { vec_capacity buffer.old ≤ vec_capacity buffer.new }
@@ -36,25 +41,13 @@ fn append(buffer: &mut Vec<u8>, bytes: &[u8])
     let _ = buffer.extend_from_slice(bytes);
 }
 
-/// Takes all of a piece that is too short for more to be known.
-#[inline]
-pub(crate) fn take_part(buffer: &mut Vec<u8>, need: usize, piece: &[u8])
-    requires room { max_frame ≤ vec_capacity buffer.old }
-    requires wanted { NeedsMore buffer.old.items need }
-    requires short { length buffer.old.items + length piece.now < need }
-    ensures step { Takes buffer.old.items buffer.new.items piece.now (length piece.now) (Progress.Wants need) }
-    ensures room { max_frame ≤ vec_capacity buffer.new }
-{
-    append(buffer, piece);
-}
-
 // Takes bytes up to the next place where more is known.
 #[inline]
-fn advance(buffer: &mut Vec<u8>, need: usize, piece: &[u8]) -> Step
-    requires room { max_frame ≤ vec_capacity buffer.old }
-    requires wanted { NeedsMore buffer.old.items need }
-    ensures step { Advances buffer.old.items buffer.new.items piece.now result.taken result.progress }
-    ensures room { max_frame ≤ vec_capacity buffer.new }
+fn advance(version: Version, buffer: &mut Vec<u8>, need: usize, piece: &[u8]) -> Step
+    requires room { max_frame version ≤ vec_capacity buffer.old }
+    requires wanted { NeedsMore version buffer.old.items need }
+    ensures step { Advances version buffer.old.items buffer.new.items piece.now result.taken result.progress }
+    ensures capacity { vec_capacity buffer.old ≤ vec_capacity buffer.new }
 {
     let taken = (need - buffer.len()).min(piece.len());
     append(buffer, piece.split_at(taken).0);
@@ -64,7 +57,7 @@ fn advance(buffer: &mut Vec<u8>, need: usize, piece: &[u8]) -> Step
             progress: Progress::Wants(need),
         };
     }
-    let progress = match scan_front(buffer) {
+    let progress = match scan_front(version, buffer) {
         Scan::Whole { head, .. } => Progress::Whole(head),
         Scan::Fault(fault) => Progress::Fault(fault),
         Scan::Needs(more) => Progress::Wants(more),
@@ -72,18 +65,18 @@ fn advance(buffer: &mut Vec<u8>, need: usize, piece: &[u8]) -> Step
     Step { taken, progress }
 }
 
-// Takes bytes where part of a frame may be held.
-fn resume(buffer: &mut Vec<u8>, wanted: usize, piece: &[u8]) -> Step
-    requires room { max_frame ≤ vec_capacity buffer.old }
-    requires wanted { NeedsMore buffer.old.items wanted }
-    ensures step { Takes buffer.old.items buffer.new.items piece.now result.taken result.progress }
-    ensures room { max_frame ≤ vec_capacity buffer.new }
+/// Takes bytes where part of a frame may be held, up to where a frame or a fault stands.
+pub(crate) fn resume(version: Version, buffer: &mut Vec<u8>, wanted: usize, piece: &[u8]) -> Step
+    requires room { max_frame version ≤ vec_capacity buffer.old }
+    requires wanted { NeedsMore version buffer.old.items wanted }
+    ensures step { Takes version buffer.old.items buffer.new.items piece.now result.taken result.progress }
+    ensures capacity { vec_capacity buffer.old ≤ vec_capacity buffer.new }
 {
     let mut need = wanted;
     let mut taken = 0;
     let mut rest = piece;
     'steps: loop {
-        let step = advance(buffer, need, rest);
+        let step = advance(version, buffer, need, rest);
         taken += step.taken;
         rest = rest.split_at(step.taken).1;
         let progress = step.progress;
@@ -96,20 +89,22 @@ fn resume(buffer: &mut Vec<u8>, wanted: usize, piece: &[u8]) -> Step
             }
             Progress::Whole(_) => return Step { taken, progress },
             Progress::Fault(_) => return Step { taken, progress },
+            Progress::Greeted => unreachable!(),
+            Progress::Broken => unreachable!(),
         }
     }
 }
 
 // Takes bytes where none are held: of a frame that lies whole in the piece all at once.
 #[inline]
-fn begin(buffer: &mut Vec<u8>, need: usize, piece: &[u8]) -> Step
-    requires room { max_frame ≤ vec_capacity buffer.old }
-    requires wanted { NeedsMore buffer.old.items need }
+fn begin(version: Version, buffer: &mut Vec<u8>, need: usize, piece: &[u8]) -> Step
+    requires room { max_frame version ≤ vec_capacity buffer.old }
+    requires wanted { NeedsMore version buffer.old.items need }
     requires empty { buffer.old.items ≡ [] }
-    ensures step { Takes buffer.old.items buffer.new.items piece.now result.taken result.progress }
-    ensures room { max_frame ≤ vec_capacity buffer.new }
+    ensures step { Takes version buffer.old.items buffer.new.items piece.now result.taken result.progress }
+    ensures capacity { vec_capacity buffer.old ≤ vec_capacity buffer.new }
 {
-    match scan_front(piece) {
+    match scan_front(version, piece) {
         Scan::Whole { head, used } => {
             append(buffer, piece.split_at(used).0);
             Step {
@@ -124,21 +119,21 @@ fn begin(buffer: &mut Vec<u8>, need: usize, piece: &[u8]) -> Step
                 progress: Progress::Wants(more),
             }
         }
-        Scan::Fault(_) => resume(buffer, need, piece),
+        Scan::Fault(_) => resume(version, buffer, need, piece),
     }
 }
 
 /// Takes the shortest front of the piece after which a frame or a fault stands, or all of it.
 #[inline]
-pub(crate) fn take_in(buffer: &mut Vec<u8>, need: usize, piece: &[u8]) -> Step
-    requires room { max_frame ≤ vec_capacity buffer.old }
-    requires wanted { NeedsMore buffer.old.items need }
-    ensures step { Takes buffer.old.items buffer.new.items piece.now result.taken result.progress }
-    ensures room { max_frame ≤ vec_capacity buffer.new }
+pub(crate) fn take_in(version: Version, buffer: &mut Vec<u8>, need: usize, piece: &[u8]) -> Step
+    requires room { max_frame version ≤ vec_capacity buffer.old }
+    requires wanted { NeedsMore version buffer.old.items need }
+    ensures step { Takes version buffer.old.items buffer.new.items piece.now result.taken result.progress }
+    ensures capacity { vec_capacity buffer.old ≤ vec_capacity buffer.new }
 {
     if buffer.is_empty() {
-        begin(buffer, need, piece)
+        begin(version, buffer, need, piece)
     } else {
-        resume(buffer, need, piece)
+        resume(version, buffer, need, piece)
     }
 }

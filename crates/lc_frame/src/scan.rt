@@ -11,6 +11,7 @@ use crate::channel::Channel;
 use crate::frame_fault::FrameFault;
 use crate::head::Head;
 use crate::kind::Kind;
+use crate::version::Version;
 
 /// What the front of some bytes is known to be.
 #[derive(Clone, Copy, Debug)]
@@ -25,12 +26,17 @@ pub(crate) enum Scan {
 
 // The number of a kind that the bytes are.
 #[inline]
-fn number_at(kind: Kind, bytes: &[u8]) -> u64
-    requires { length bytes.now ≡ byte_len (width_of kind) }
-    ensures { result ≡ from_be_bytes (width_of kind) bytes.now }
+fn number_at(version: Version, kind: Kind, bytes: &[u8]) -> u64
+    requires { length bytes.now ≡ byte_len (width_of version kind) }
+    ensures { result ≡ from_be_bytes (width_of version kind) bytes.now }
 {
     match kind {
-        Kind::Send => u64::from(u16::from_be_bytes([bytes[0], bytes[1]])),
+        Kind::Send => match version {
+            Version::One => u64::from(u16::from_be_bytes([bytes[0], bytes[1]])),
+            Version::Two => {
+                u64::from(u32::from_be_bytes([bytes[0], bytes[1], bytes[2], bytes[3]]))
+            }
+        },
         Kind::Issue | Kind::Absolve | Kind::Plead => {
             u64::from(u32::from_be_bytes([bytes[0], bytes[1], bytes[2], bytes[3]]))
         }
@@ -43,12 +49,12 @@ fn number_at(kind: Kind, bytes: &[u8]) -> u64
 // Behind a number in range.
 #[inline]
 #[tactic(auto, unfolding(crate::specs::Scan::scan_body))]
-fn scan_body(kind: Kind, channel: Channel, number: u64, rest: &[u8]) -> Scan
-    requires { IsInRange kind number }
-    ensures { result ≡ scan_body kind channel number rest.now }
+fn scan_body(version: Version, kind: Kind, channel: Channel, number: u64, rest: &[u8]) -> Scan
+    requires { IsInRange version kind number }
+    ensures { result ≡ scan_body version kind channel number rest.now }
 {
     let len = kind.body_len(number);
-    let used = kind.header_len() + len;
+    let used = kind.header_len(version) + len;
     if rest.len() < len {
         return Scan::Needs(used);
     }
@@ -63,19 +69,19 @@ fn scan_body(kind: Kind, channel: Channel, number: u64, rest: &[u8]) -> Scan
 // Behind a tag.
 #[inline]
 #[tactic(auto, unfolding(crate::specs::Scan::scan_number))]
-fn scan_number(kind: Kind, channel: Channel, bytes: &[u8]) -> Scan
-    ensures { result ≡ scan_number kind channel bytes.now }
+fn scan_number(version: Version, kind: Kind, channel: Channel, bytes: &[u8]) -> Scan
+    ensures { result ≡ scan_number version kind channel bytes.now }
 {
-    let width = kind.width();
+    let width = kind.width(version);
     if bytes.len() < width {
-        return Scan::Needs(kind.header_len());
+        return Scan::Needs(kind.header_len(version));
     }
     let (front, rest) = bytes.split_at(width);
-    let number = number_at(kind, front);
-    if !kind.allows(number) {
+    let number = number_at(version, kind, front);
+    if !kind.allows(version, number) {
         return Scan::Fault(kind.fault_of(number));
     }
-    scan_body(kind, channel, number, rest)
+    scan_body(version, kind, channel, number, rest)
 }
 
 // The channel of a Send with this tag.
@@ -87,19 +93,30 @@ fn send_channel(tag: u8) -> Option<Channel>
     Channel::from_number(tag.wrapping_sub(16 * Kind::Send.code()))
 }
 
+// Behind the tag of a Send. One arm for each version, as below for each width.
+#[inline]
+fn scan_send(version: Version, channel: Channel, rest: &[u8]) -> Scan
+    ensures { result ≡ scan_number version Send channel rest.now }
+{
+    match version {
+        Version::One => scan_number(Version::One, Kind::Send, channel, rest),
+        Version::Two => scan_number(Version::Two, Kind::Send, channel, rest),
+    }
+}
+
 // Behind the tag of no Send. One arm for each width: what is inlined there has it as a constant.
 #[inline]
 #[tactic(auto, unfolding(crate::specs::Scan::scan_tag))]
-fn scan_other(tag: u8, rest: &[u8]) -> Scan
+fn scan_other(version: Version, tag: u8, rest: &[u8]) -> Scan
     requires { (c : Channel) → ¬ tag ≡ tag_of Send c }
-    ensures { result ≡ scan_tag (kind_at (tag / 16)) (channel_at (tag % 16)) rest.now }
+    ensures { result ≡ scan_tag version (kind_at (tag / 16)) (channel_at (tag % 16)) rest.now }
 {
     match (Kind::from_code(tag / 16), Channel::from_number(tag % 16)) {
         (Some(kind @ (Kind::Issue | Kind::Absolve | Kind::Plead)), Some(channel)) => {
-            scan_number(kind, channel, rest)
+            scan_number(version, kind, channel, rest)
         }
         (Some(kind @ (Kind::LimitSending | Kind::LimitReceiving)), Some(channel)) => {
-            scan_number(kind, channel, rest)
+            scan_number(version, kind, channel, rest)
         }
         _ => Scan::Fault(FrameFault::BadTag),
     }
@@ -108,22 +125,22 @@ fn scan_other(tag: u8, rest: &[u8]) -> Scan
 // A Send is tried first: one comparison tells its kind and its channel.
 #[inline]
 #[tactic(auto, unfolding(crate::specs::Scan::scan_of, crate::specs::Scan::scan_tag))]
-fn scan_bytes(bytes: &[u8]) -> Scan
-    ensures { result ≡ scan_of bytes.now }
+fn scan_bytes(version: Version, bytes: &[u8]) -> Scan
+    ensures { result ≡ scan_of version bytes.now }
 {
     match bytes {
         [] => Scan::Needs(1),
         [tag, rest @ ..] => match send_channel(*tag) {
-            Some(channel) => scan_number(Kind::Send, channel, rest),
-            None => scan_other(*tag, rest),
+            Some(channel) => scan_send(version, channel, rest),
+            None => scan_other(version, *tag, rest),
         },
     }
 }
 
 /// What stands at the front of the bytes.
 #[inline]
-pub(crate) fn scan_front(bytes: &[u8]) -> Scan
-    ensures { Finds result bytes.now }
+pub(crate) fn scan_front(version: Version, bytes: &[u8]) -> Scan
+    ensures { Finds version result bytes.now }
 {
-    scan_bytes(bytes)
+    scan_bytes(version, bytes)
 }

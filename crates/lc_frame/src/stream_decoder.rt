@@ -1,84 +1,112 @@
 //! Finding the frames of a stream that comes in pieces.
-ghost use Rattle.std.specs.Prelude.{◌≡◌, ◌<◌, ◌≤◌, ◌++◌, ℕ, [], length, take, All, IfOk, IfSome, IfNone};
+ghost use Rattle.std.specs.Prelude.{◌≡◌, ◌<◌, ◌≤◌, ℕ, [], length, take, All, IfOk, IfSome, IfNone};
 ghost use Rattle.lc_frame.specs.declared.frame.Frame.{Frame};
 ghost use Rattle.lc_frame.specs.declared.frame_fault.FrameFault.{FrameFault};
-ghost use Rattle.lc_frame.specs.Frame.{IsValid};
 ghost use Rattle.lc_frame.specs.FrameRef.{frame_of};
-ghost use Rattle.lc_frame.specs.Encoding.{encoding, FrameStands, FaultStands};
-ghost use Rattle.lc_frame.specs.Decoded.{IsOpen, IsKnown};
+ghost use Rattle.lc_frame.specs.Held.{nothing_held, IsSettled, fed, IsValidIn, encoding_in, HasFrame, HasFault, IsUndecided, IsDecided};
 ghost use Rattle.lc_frame.specs.StreamDecoder.{EndsAs};
 
 use crate::encoding::MAX_FRAME;
 use crate::frame_fault::FrameFault;
 use crate::frame_ref::FrameRef;
-use crate::progress::{Progress, take_in, take_part};
+use crate::greeting::open;
+use crate::progress::{Progress, append, take_in};
+use crate::version::Version;
 use std::alloc::{AllocError, Global};
 use std::marker::Model;
 
-/// Finds the frames of a stream that comes in pieces. Contracts see it as the bytes that it took
-/// since its last whole frame was cleared.
+/// Finds the frames of a stream that comes in pieces, and by its first bytes the version. Contracts
+/// see it as the version, where it is known, and the bytes that it took since then and since its last
+/// whole frame was cleared.
 #[derive(Debug, Drop)]
 pub struct StreamDecoder {
     buffer: Vec<u8>,
     progress: Progress,
+    version: Version,
 }
 
 impl Model for StreamDecoder {
     ghost use Rattle.std.specs.Prelude.{◌≤◌, vec_capacity};
+    ghost use Rattle.lc_frame.specs.declared.version.Version.TheVariants.{Two};
     ghost use Rattle.lc_frame.specs.Kind.{max_frame};
-    ghost use Rattle.lc_frame.specs.Progress.{Holds};
-    ghost use Rattle.lc_frame.specs.StreamDecoder.{Held};
+    ghost use Rattle.lc_frame.specs.Progress.{Remembers, known_version};
+    ghost use Rattle.lc_frame.specs.Held.{Held};
 
     ghost Value = { Held };
 
-    ghost view = { λ decoder. record { bytes = decoder.buffer.items } };
+    ghost view = { λ decoder. record { version = known_version decoder.version decoder.progress; bytes = decoder.buffer.items } };
 
-    ghost invariant = { λ decoder. (max_frame ≤ vec_capacity decoder.buffer) × Holds decoder.progress decoder.buffer.items };
+    ghost invariant = { λ decoder. (max_frame Two ≤ vec_capacity decoder.buffer) × Remembers decoder.version decoder.progress decoder.buffer.items };
 }
 
 impl StreamDecoder {
     /// A decoder at the start of a stream. It takes the memory for `MAX_FRAME` bytes here and none
     /// later; the error is want of it.
     pub fn new(alloc: Global) -> Result<StreamDecoder, AllocError>
-        ensures { IfOk result (λ decoder. decoder.bytes ≡ []) }
+        ensures { IfOk result (λ decoder. decoder ≡ nothing_held) }
     {
         Ok(StreamDecoder {
             buffer: Vec::with_capacity(alloc, MAX_FRAME)?,
-            progress: Progress::Wants(1),
+            progress: Progress::Greeted,
+            version: Version::One,
         })
     }
 
     /// Takes the shortest front of the piece after which a frame or a fault stands, or all of it
-    /// where none comes to stand, and answers how many bytes it took. While a whole frame stands,
-    /// and after a fault, it takes 0.
+    /// where none comes to stand, and answers how many bytes it took. It goes past a greeting. While
+    /// a whole frame stands, and after a fault, it takes 0.
     #[inline]
     pub fn feed(&mut self, piece: &[u8]) -> usize
         ensures count { result ≤ length piece.now }
-        ensures held { self.new.bytes ≡ self.old.bytes ++ take result piece.now }
-        ensures shortest { (k : ℕ) → k < result → IsOpen (self.old.bytes ++ take k piece.now) }
-        ensures stop { result < length piece.now → IsKnown self.new.bytes }
-        ensures stands { IsKnown self.old.bytes → result ≡ 0 }
+        ensures held { self.new ≡ fed self.old (take result piece.now) }
+        ensures shortest { (k : ℕ) → k < result → IsUndecided (fed self.old (take k piece.now)) }
+        ensures stop { result < length piece.now → IsDecided self.new }
+        ensures stands { IsDecided self.old → result ≡ 0 }
     {
         match self.progress {
             Progress::Wants(need) => {
                 if piece.len() < need - self.buffer.len() {
-                    take_part(&mut self.buffer, need, piece);
+                    append(&mut self.buffer, piece);
                     return piece.len();
                 }
-                let step = take_in(&mut self.buffer, need, piece);
+                let step = take_in(self.version, &mut self.buffer, need, piece);
                 self.progress = step.progress;
                 step.taken
             }
             Progress::Whole(_) => 0,
             Progress::Fault(_) => 0,
+            Progress::Greeted => {
+                let start = open(&mut self.buffer, piece);
+                self.version = start.version;
+                self.progress = start.step.progress;
+                start.step.taken
+            }
+            Progress::Broken => 0,
         }
     }
 
-    /// How many bytes are held: those that were taken since the last whole frame was cleared.
+    /// The version of the stream: `None` before its first byte, and within a greeting or where one is
+    /// broken.
+    #[inline]
+    pub fn version(&self) -> Option<Version>
+        ensures { result ≡ self.now.version }
+    {
+        match self.progress {
+            Progress::Wants(_) => Some(self.version),
+            Progress::Whole(_) => Some(self.version),
+            Progress::Fault(_) => Some(self.version),
+            Progress::Greeted => None,
+            Progress::Broken => None,
+        }
+    }
+
+    /// How many bytes are held: those that were taken since the last whole frame was cleared, and
+    /// since a greeting was whole.
     #[inline]
     pub fn held(&self) -> usize
         ensures value { result ≡ length self.now.bytes }
         ensures bytes { All (λ b. b < 256) self.now.bytes }
+        ensures settled { IsSettled self.now }
     {
         let held = self.buffer.as_slice();
         held.len()
@@ -87,22 +115,24 @@ impl StreamDecoder {
     /// The whole frame, `None` where there is none.
     #[inline]
     pub fn frame(&self) -> Option<FrameRef<'_>>
-        ensures found { IfSome result (λ f. IsValid (frame_of f) × (self.now.bytes ≡ encoding (frame_of f))) }
-        ensures none { IfNone result ((f : Frame) → ¬ FrameStands f self.now.bytes) }
+        ensures found { IfSome result (λ f. IsValidIn self.now.version (frame_of f) × (self.now.bytes ≡ encoding_in self.now.version (frame_of f))) }
+        ensures none { IfNone result ((f : Frame) → ¬ HasFrame f self.now) }
     {
         match self.progress {
             Progress::Wants(_) => None,
-            Progress::Whole(head) => Some(head.frame_in(&self.buffer)),
+            Progress::Whole(head) => Some(head.frame_in(self.version, &self.buffer)),
             Progress::Fault(_) => None,
+            Progress::Greeted => None,
+            Progress::Broken => None,
         }
     }
 
     /// Drops a whole frame, and does nothing where there is none.
     #[inline]
     pub fn clear(&mut self)
-        ensures whole { (f : Frame) → FrameStands f self.old.bytes → self.new.bytes ≡ [] }
-        ensures other { ((f : Frame) → ¬ FrameStands f self.old.bytes) → self.new ≡ self.old }
-        ensures fault { (e : FrameFault) → FaultStands e self.old.bytes → self.new ≡ self.old }
+        ensures whole { (f : Frame) → HasFrame f self.old → self.new ≡ record self.old { bytes = [] } }
+        ensures other { ((f : Frame) → ¬ HasFrame f self.old) → self.new ≡ self.old }
+        ensures fault { (e : FrameFault) → HasFault e self.old → self.new ≡ self.old }
     {
         match self.progress {
             Progress::Wants(_) => {}
@@ -111,28 +141,32 @@ impl StreamDecoder {
                 self.progress = Progress::Wants(1);
             }
             Progress::Fault(_) => {}
+            Progress::Greeted => {}
+            Progress::Broken => {}
         }
     }
 
     /// The fault of the stream, F1 to F3, which is kept for good; `None` where there is none.
     pub fn fault(&self) -> Option<FrameFault>
-        ensures found { IfSome result (λ fault. FaultStands fault self.now.bytes) }
-        ensures none { IfNone result ((fault : FrameFault) → ¬ FaultStands fault self.now.bytes) }
+        ensures found { IfSome result (λ fault. HasFault fault self.now) }
+        ensures none { IfNone result ((fault : FrameFault) → ¬ HasFault fault self.now) }
     {
         match self.progress {
             Progress::Wants(_) => None,
             Progress::Whole(_) => None,
             Progress::Fault(fault) => Some(fault),
+            Progress::Greeted => None,
+            Progress::Broken => Some(FrameFault::BadTag),
         }
     }
 
     /// What it means that the stream ends here: the fault that is kept, `Truncated` where part of a
-    /// frame is there, which is not kept, else nothing.
+    /// frame or of a greeting is there, which is not kept, else nothing.
     pub fn end(&self) -> Result<(), FrameFault>
-        ensures { EndsAs result self.now.bytes }
+        ensures { EndsAs result self.now }
     {
         match self.progress {
-            Progress::Wants(_) => {
+            Progress::Wants(_) | Progress::Greeted => {
                 if self.buffer.is_empty() {
                     Ok(())
                 } else {
@@ -141,6 +175,7 @@ impl StreamDecoder {
             }
             Progress::Whole(_) => Ok(()),
             Progress::Fault(fault) => Err(fault),
+            Progress::Broken => Err(FrameFault::BadTag),
         }
     }
 }

@@ -1,5 +1,6 @@
 //! The reading side of a shared inbox.
 ghost use Rattle.std.specs.Prelude.{◌≡◌, [], ◌∷◌, ◌++◌, List, OnOk, IfErr, IfSome, true, None, Some};
+ghost use Rattle.lc_frame.specs.declared.version.Version.TheVariants.{Two};
 ghost use Rattle.lc_frame.specs.Channel.{number_of};
 ghost use Rattle.lc_frame.specs.Frame.{IsValid, lane_of};
 ghost use Rattle.lc_frame.specs.FrameRef.{frame_of};
@@ -56,7 +57,7 @@ fn give_refused(half: &mut Half, end: InboxEnd, frame: FrameRef<'_>)
 // A frame arrives at the inbox.
 fn arrive<R: Wait>(half: &mut Half, rt: &R, frame: FrameRef<'_>) -> Result<(), Violation>
     requires idle { IsIdle true half.old }
-    requires valid { IsValid (frame_of frame) }
+    requires valid { IsValid Two (frame_of frame) }
     requires lane { lane_of (frame_of frame) ≡ number_of half.old.key.channel }
     ensures idle { IsIdle true half.new }
     ensures same { IsSameSide (side_of half.old) (side_of half.new) }
@@ -88,7 +89,7 @@ impl InboxIn {
     /// A frame of the client arrives. Violations V1 to V4, each exactly where the book has it that
     /// the whole history up to here leaves.
     pub fn arrive<R: Wait>(&mut self, rt: &R, frame: FrameRef<'_>) -> Result<(), Violation>
-        requires valid { IsValid (frame_of frame) }
+        requires valid { IsValid Two (frame_of frame) }
         requires lane { lane_of (frame_of frame) ≡ number_of self.old.key.channel }
         ensures ok { OnOk result (IsHeard (frame_of frame.entry) self.old self.new) }
         ensures err { IfErr result (λ v. IsViolated v (frame_of frame.entry) self.old self.new) }

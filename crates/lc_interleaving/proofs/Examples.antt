@@ -7,6 +7,7 @@ use Rattle.lc_frame.specs.declared.channel.Channel.{Channel}
 use Rattle.lc_frame.specs.declared.channel.Channel.TheVariants.{ReconciliationChannel, DataChannel, OverlapChannel, CapabilityChannel, AreaOfInterestChannel, PayloadRequestChannel, StaticTokenChannel}
 use Rattle.lc_frame.specs.declared.frame.Frame.{Frame}
 use Rattle.lc_frame.specs.declared.frame.Frame.TheVariants.{Send, Issue, Absolve, Plead, LimitSending, LimitReceiving}
+use Rattle.lc_frame.specs.Held.{nothing_held}
 use Rattle.lc_frame.specs.Channel.{number_of}
 use Rattle.lc_book.specs.Server.{Server}
 use Rattle.lc_queue.specs.Parts.{End}
@@ -105,7 +106,7 @@ module _ (id : TableId) (base : Side) where
     receiving = listed (λ c. side c []) (side DataChannel receives);
     reading = record {
       side = record { credits = listed (λ c. new_incoming id) i; inboxes = listed (λ c. side c []) (side DataChannel reads) };
-      intake = record { held = []; stop = None };
+      intake = record { held = nothing_held; stop = None };
     };
     writing = record { drain = record { queue = id; popped = []; joined = [] }; begun = []; waiting = [] };
   }

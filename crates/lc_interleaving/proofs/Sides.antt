@@ -13,6 +13,7 @@ use Rattle.lc_frame.specs.declared.frame.Frame.{Frame}
 use Rattle.lc_frame.specs.declared.frame.Frame.TheVariants.{Send, Issue, Absolve, Plead, LimitSending, LimitReceiving}
 use Rattle.lc_frame.specs.Channel.{number_of, is_same}
 use Rattle.lc_frame.specs.Frame.{channel_of, lane_of}
+use Rattle.lc_frame.specs.declared.version.Version.TheVariants.{One}
 use Rattle.lc_frame.specs.Kind.{max_total, max_body}
 use Rattle.lc_frame.specs.Stream.{of_lane, messages, cost, absolved, send_left}
 use Rattle.lc_frame.proofs.Measures.{cost-append, absolved-append, cost-one, absolved-one}
@@ -70,7 +71,7 @@ enough_passes held n r le = grind (arith, nat_tests, le)
 message_passes : (b : Client) (n : ℕ) → message_refusal b.send_left n ≡ None → n ≤ held b → spend_refusal b n ≡ None
 message_passes b n e le =
     next_passes (n == 0) EmptyBody _ _
-    (next_passes (nat_lt max_body n) BodyTooLong _ _
+    (next_passes (nat_lt (max_body One) n) BodyTooLong _ _
     (next_passes (is_past b.send_left n) (PastSendLimit (left_of b.send_left)) _ _
     (λ u. enough_passes (held b) n (NoGuarantee (held b)) le))) e
 

@@ -1,5 +1,6 @@
 //! The sending end of one channel.
 ghost use Rattle.std.specs.Prelude.{◌≡◌, ◌<◌, ◌≤◌, [], ◌∷◌, ◌++◌, IfOk, IfErr, OnOk, OnErr, IfSome, IfNone, IsSome, Some, None};
+ghost use Rattle.lc_frame.specs.declared.version.Version.TheVariants.{One};
 ghost use Rattle.lc_frame.specs.Channel.{number_of};
 ghost use Rattle.lc_frame.specs.Frame.{IsValid, lane_of};
 ghost use Rattle.lc_frame.specs.Kind.{max_amount, max_total};
@@ -77,7 +78,7 @@ fn put_used<R: Wait>(
     credit: &mut CreditOut,
     frame: Frame,
 ) -> Result<(), Refusal>
-    requires valid { IsValid frame }
+    requires valid { IsValid One frame }
     requires lane { lane_of frame ≡ lane.old.lane }
     requires pending { IsSome credit.old.pending }
     ensures put { OnOk result (lane.new ≡ record lane.old { put = lane.old.put ++ frame ∷ [] }) }
@@ -173,7 +174,7 @@ impl Outbox {
         self.credit.held()
     }
 
-    /// A message of 1 to `MAX_BODY` bytes is sent. Refused by 1, 2, 3 and 4, by 14 where the copy of
+    /// A message of 1 to 65,535 bytes is sent. Refused by 1, 2, 3 and 4, by 14 where the copy of
     /// the message gets no memory, and by 13 where the queue gives its frame back, in this order.
     pub fn send<R: Wait>(&mut self, rt: &R, body: &[u8]) -> Result<(), Refusal>
         ensures ok { OnOk result (IsSent body.now self.old self.new) }

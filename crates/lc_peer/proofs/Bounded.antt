@@ -13,6 +13,7 @@ use Rattle.lc_frame.specs.declared.frame.Frame.{Frame}
 use Rattle.lc_frame.specs.declared.frame.Frame.TheVariants.{Send, Issue, Absolve, Plead, LimitSending, LimitReceiving}
 use Rattle.lc_frame.specs.Kind.{max_amount, max_total}
 use Rattle.lc_frame.specs.Channel.{number_of}
+use Rattle.lc_frame.specs.declared.version.Version.TheVariants.{Two}
 use Rattle.lc_frame.specs.Frame.{channel_of, IsValid}
 use Rattle.lc_frame.proofs.Channels.{cases_same}
 use Rattle.lc_book.specs.declared.fault.Violation.{Violation}
@@ -109,7 +110,7 @@ inbox_keeps i body is e h =
     }
 
 -- a channel after a lawful frame
-pub channel_keeps : (f : Frame) (s : ChannelState) → IsValid f → violation s.client s.inbox.book f ≡ None → IsChannel s → IsChannel (channel_after_arrival f s)
+pub channel_keeps : (f : Frame) (s : ChannelState) → IsValid Two f → violation s.client s.inbox.book f ≡ None → IsChannel s → IsChannel (channel_after_arrival f s)
 channel_keeps (Send c body) s valid e h = record { client = h.client; inbox = inbox_keeps s.inbox body (record { at_least = valid.0; at_most = valid.1 }) e h.inbox }
 channel_keeps (Issue c n) s valid e h = record { client = issued_keeps s.client n e h.client; inbox = h.inbox }
 channel_keeps (Absolve c n) s valid e h = record { client = h.client; inbox = record { book = absolved_keeps s.inbox.book n e h.inbox.book; ring = h.inbox.ring; agrees = record { capacity = h.inbox.agrees.capacity; bytes = h.inbox.agrees.bytes } } }
@@ -142,7 +143,7 @@ written P xs i x d here before =
 abbrev Keeps : ℕ → ChannelState → Type 0
 Keeps capacity s = IsChannel s × (s.inbox.book.capacity ≡ capacity)
 
-arrive_keeps : (p : PeerState) (f : Frame) (c : Channel) (capacity : ℕ) → IsValid f → violation_at p f ≡ None → Keeps capacity (channel p c) → Keeps capacity (channel (arrive p f) c)
+arrive_keeps : (p : PeerState) (f : Frame) (c : Channel) (capacity : ℕ) → IsValid Two f → violation_at p f ≡ None → Keeps capacity (channel p c) → Keeps capacity (channel (arrive p f) c)
 arrive_keeps p f c capacity valid e h =
     elim (cases_same c (channel_of f)) [
       | inl same ↦
@@ -157,7 +158,7 @@ pub cases_violation : (o : Option Violation) → (o ≡ None) ⊎ ((v : Violatio
 cases_violation None = inl refl
 cases_violation (Some v) = inr (v, refl)
 
-arrivals_keep : (p : PeerState) (frames : List Frame) (c : Channel) (capacity : ℕ) → Keeps capacity (channel p c) → AllByRecursion IsValid frames → Keeps capacity (channel (arrivals p frames).peer c)
+arrivals_keep : (p : PeerState) (frames : List Frame) (c : Channel) (capacity : ℕ) → Keeps capacity (channel p c) → AllByRecursion (IsValid Two) frames → Keeps capacity (channel (arrivals p frames).peer c)
 arrivals_keep p [] c capacity h valid = h
 arrivals_keep p (f ∷ frames) c capacity h valid =
     elim (cases_violation (violation_at p f)) [

@@ -5,6 +5,7 @@ use Rattle.lc_frame.specs.Bounds.{IsSlots}
 use Rattle.lc_frame.specs.declared.channel.Channel.{Channel}
 use Rattle.lc_frame.specs.declared.frame.Frame.{Frame}
 use Rattle.lc_frame.specs.Channel.{number_of}
+use Rattle.lc_frame.specs.declared.version.Version.TheVariants.{One}
 use Rattle.lc_frame.specs.Frame.{IsValid}
 use Rattle.lc_book.specs.Client.{Client, IsClient, new_client}
 use Rattle.lc_book.specs.Server.{Server}
@@ -47,4 +48,4 @@ pub record IsChannel (s : ChannelState) : Type 0 where
 pub record AreWaiting (slots : ℕ) (frames : List Frame) : Type 0 where
   pub bound : IsSlots slots
   pub fit : length frames ≤ slots
-  pub each : AllByRecursion IsValid frames
+  pub each : AllByRecursion (IsValid One) frames

@@ -4,6 +4,7 @@ use Rattle.std.specs.List.{AllByRecursion}
 use Rattle.lc_frame.specs.declared.channel.Channel.{Channel}
 use Rattle.lc_frame.specs.declared.frame.Frame.{Frame}
 use Rattle.lc_frame.specs.Channel.{is_same, number_of}
+use Rattle.lc_frame.specs.declared.version.Version.TheVariants.{Two}
 use Rattle.lc_frame.specs.Frame.{channel_of, IsValid}
 use Rattle.lc_frame.specs.Stream.{messages}
 use Rattle.lc_book.specs.declared.fault.Violation.{Violation}
@@ -89,7 +90,7 @@ pub record StaysBounded (capacity : ℕ) (s : ChannelState) : Type 0 where
   pub fits : buffered s.inbox.book + outstanding s.inbox.book ≤ capacity
 
 abbrev pub ArrivalsStayBounded : Type 0
-ArrivalsStayBounded = (p : PeerState) (frames : List Frame) (c : Channel) → IsChannel (channel p c) → AllByRecursion IsValid frames → StaysBounded (server p c).capacity (channel (arrivals p frames).peer c)
+ArrivalsStayBounded = (p : PeerState) (frames : List Frame) (c : Channel) → IsChannel (channel p c) → AllByRecursion (IsValid Two) frames → StaysBounded (server p c).capacity (channel (arrivals p frames).peer c)
 
 -- what came of some frames, counted after so many that arrived before them
 abbrev pub behind : ℕ → Arrival → Arrival

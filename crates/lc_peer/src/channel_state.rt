@@ -2,6 +2,7 @@
 ghost use Rattle.std.specs.Prelude.{◌≡◌, if◌then◌else◌, is_ok, map, length, IfOk};
 ghost use Rattle.std.specs.Result.{result_err};
 ghost use Rattle.lc_frame.specs.FrameRef.{frame_of};
+ghost use Rattle.lc_frame.specs.declared.version.Version.TheVariants.{Two};
 ghost use Rattle.lc_frame.specs.Frame.{IsValid};
 ghost use Rattle.lc_peer.specs.Peer.{new_channel};
 ghost use Rattle.lc_peer.specs.Arrivals.{violation, channel_after_arrival};
@@ -32,7 +33,7 @@ impl ChannelState {
     /// A frame arrives on the channel.
     #[inline]
     pub(crate) fn arrive(&mut self, frame: FrameRef<'_>) -> Result<(), Violation>
-        requires { IsValid (frame_of frame) }
+        requires { IsValid Two (frame_of frame) }
         ensures answer { result_err result ≡ violation self.old.client self.old.inbox.book (frame_of frame.entry) }
         ensures after { self.new ≡ (if is_ok result then channel_after_arrival (frame_of frame.entry) self.old else self.old) }
     {

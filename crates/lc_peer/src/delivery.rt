@@ -1,12 +1,13 @@
 //! The bytes of a stream, delivered in pieces.
 ghost use Rattle.std.specs.Prelude.{◌≡◌, []};
+ghost use Rattle.lc_frame.specs.Held.{held_in};
 ghost use Rattle.lc_peer.specs.Deliveries.{Delivers, DeliversTo};
 ghost use Rattle.lc_peer.specs.Steps.{Steps};
 
 use crate::peer::Peer;
 use crate::sink::FrameSink;
 use lc_book::Violation;
-use lc_frame::{Decoded, FrameFault, StreamDecoder, decode};
+use lc_frame::{Decoded, FrameFault, StreamDecoder, Version, decode};
 
 /// Why a delivery stopped.
 #[derive(Clone, Copy, Debug, PartialEq, Eq)]
@@ -38,17 +39,18 @@ pub(crate) enum Step {
     Stopped(Stop, usize),
 }
 
-// Where nothing is held: a frame that lies whole in the piece arrives from there.
+// Where the version is known and nothing is held: a frame that lies whole in the piece arrives from there.
 fn step_in_piece<C, S: FrameSink<C>>(
     sink: &mut S,
     context: &C,
+    version: Version,
     decoder: &mut StreamDecoder,
     piece: &[u8],
 ) -> Step
-    requires { decoder.old.bytes ≡ [] }
-    ensures { Steps S.arrived S.violated result sink.old decoder.old.bytes piece.now sink.new decoder.new.bytes }
+    requires { decoder.old ≡ held_in version [] }
+    ensures { Steps S.arrived S.violated result sink.old decoder.old piece.now sink.new decoder.new }
 {
-    match decode(piece) {
+    match decode(version, piece) {
         Decoded::Whole { frame, used } => match sink.arrive_in(context, frame) {
             Ok(()) => Step::Arrived(used),
             Err(violation) => Step::Stopped(Stop::Violated(violation), decoder.feed(piece)),
@@ -58,14 +60,14 @@ fn step_in_piece<C, S: FrameSink<C>>(
     }
 }
 
-// Where part of a frame is held, or a whole one: it is completed there.
+// Where part of a frame or of a greeting is held, or a whole frame: it is completed there.
 fn step_in_decoder<C, S: FrameSink<C>>(
     sink: &mut S,
     context: &C,
     decoder: &mut StreamDecoder,
     piece: &[u8],
 ) -> Step
-    ensures { Steps S.arrived S.violated result sink.old decoder.old.bytes piece.now sink.new decoder.new.bytes }
+    ensures { Steps S.arrived S.violated result sink.old decoder.old piece.now sink.new decoder.new }
 {
     let taken = decoder.feed(piece);
     match decoder.frame() {
@@ -90,12 +92,13 @@ fn go_on<C, S: FrameSink<C>>(
     decoder: &mut StreamDecoder,
     piece: &[u8],
 ) -> Step
-    ensures { Steps S.arrived S.violated result sink.old decoder.old.bytes piece.now sink.new decoder.new.bytes }
+    ensures { Steps S.arrived S.violated result sink.old decoder.old piece.now sink.new decoder.new }
 {
-    if decoder.held() == 0 {
-        step_in_piece(sink, context, decoder, piece)
-    } else {
-        step_in_decoder(sink, context, decoder, piece)
+    match decoder.version() {
+        Some(version) if decoder.held() == 0 => {
+            step_in_piece(sink, context, version, decoder, piece)
+        }
+        _ => step_in_decoder(sink, context, decoder, piece),
     }
 }
 
@@ -106,7 +109,7 @@ pub fn deliver_to<C, S: FrameSink<C>>(
     decoder: &mut StreamDecoder,
     piece: &[u8],
 ) -> Delivery
-    ensures { DeliversTo S.arrived S.violated sink.old decoder.old.bytes piece.now sink.new decoder.new.bytes result }
+    ensures { DeliversTo S.arrived S.violated sink.old decoder.old piece.now sink.new decoder.new result }
 {
     let _held = decoder.held();
     let mut taken = 0;
@@ -137,7 +140,7 @@ pub fn deliver_to<C, S: FrameSink<C>>(
 }
 
 impl Peer {
-    /// Bytes of the stream arrive, which may be cut anywhere: the frames of those that the decoder
+    /// Bytes of a stream of either version arrive, which may be cut anywhere: the frames of those that the decoder
     /// holds and of the piece, in order, up to the first fault or violation. It takes no memory,
     /// and a frame that lies whole in the piece is not copied on its way to the ring.
     ///
@@ -146,7 +149,7 @@ impl Peer {
     /// who holds the peer ends the session there. Bytes of the piece after those that were taken
     /// are the caller's. An empty piece is lawful: a frame that stands in the decoder arrives.
     pub fn deliver(&mut self, decoder: &mut StreamDecoder, piece: &[u8]) -> Delivery
-        ensures { Delivers self.old decoder.old.bytes piece.now self.new decoder.new.bytes result }
+        ensures { Delivers self.old decoder.old piece.now self.new decoder.new result }
     {
         deliver_to(self, &(), decoder, piece)
     }

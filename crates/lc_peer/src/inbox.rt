@@ -3,6 +3,7 @@ ghost use Rattle.std.specs.Prelude.{◌≡◌, ◌≤◌, ◌↔◌, ◌++◌, l
 ghost use Rattle.std.specs.Option.{option_map};
 ghost use Rattle.std.specs.Result.{result_err};
 ghost use Rattle.lc_frame.specs.Bounds.{IsCapacity};
+ghost use Rattle.lc_frame.specs.declared.version.Version.TheVariants.{Two};
 ghost use Rattle.lc_frame.specs.Kind.{max_body, max_amount, max_total};
 ghost use Rattle.lc_book.specs.Server.{buffered, AreFreed, message_violation, add_arrived, absolve_violation, add_absolved, send_limit_violation, note_send_limit};
 ghost use Rattle.lc_ring.specs.Ring.{IsLength, push, front, with_front};
@@ -104,7 +105,7 @@ impl Inbox {
     #[inline]
     pub fn message(&mut self, body: &[u8]) -> Result<(), Violation>
         requires at_least { 1 ≤ length body.now }
-        requires at_most { length body.now ≤ max_body }
+        requires at_most { length body.now ≤ max_body Two }
         ensures answer { result_err result ≡ message_violation self.old.book (length body.now) }
         ensures after { self.new ≡ (if is_ok result then record { book = add_arrived self.old.book (length body.now); ring = push self.old.ring body.now } else self.old) }
     {

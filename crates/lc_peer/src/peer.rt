@@ -7,6 +7,7 @@ ghost use Rattle.std.specs.Result.{result_err};
 ghost use Rattle.lc_frame.specs.Bounds.{max_slots};
 ghost use Rattle.lc_frame.specs.declared.frame.Frame.TheVariants.{Send, Issue, Absolve, Plead, LimitSending, LimitReceiving};
 ghost use Rattle.lc_frame.specs.FrameRef.{frame_of};
+ghost use Rattle.lc_frame.specs.declared.version.Version.TheVariants.{One, Two};
 ghost use Rattle.lc_frame.specs.Frame.{channel_of, IsValid};
 ghost use Rattle.lc_book.specs.Client.{IsClient};
 ghost use Rattle.lc_book.specs.Sums.{client_after_put, server_after_put};
@@ -90,7 +91,7 @@ impl Peer {
         })
     }
 
-    /// A message of 1 to `MAX_BODY` bytes is sent. Refused by 1, 2, 3 and 4, by 14 where the copy of the body
+    /// A message of 1 to 65,535 bytes is sent. Refused by 1, 2, 3 and 4, by 14 where the copy of the body
     /// gets no memory, and by 13, in this order: the copy is made before a place is looked for.
     pub fn send(&mut self, channel: Channel, body: &[u8]) -> Result<(), Refusal>
         ensures answer { IsSendAnswer self.old (Send channel body.now) (result_err result) }
@@ -200,7 +201,7 @@ impl Peer {
         sending: ClientBook,
         receiving: ServerBook,
     ) -> Result<(), Refusal>
-        requires valid { IsValid frame }
+        requires valid { IsValid One frame }
         requires client { sending ≡ client_after_put frame (client self.old (channel_of frame)) }
         requires server { receiving ≡ server_after_put frame (server self.old (channel_of frame)) }
         ensures answer { result_err result ≡ queue_refusal self.old }
@@ -217,7 +218,7 @@ impl Peer {
     /// A frame arrives, which has to be valid.
     #[inline]
     pub fn arrive(&mut self, frame: FrameRef<'_>) -> Result<(), Violation>
-        requires { IsValid (frame_of frame) }
+        requires { IsValid Two (frame_of frame) }
         ensures answer { result_err result ≡ (arrivals self.old (frame_of frame.entry ∷ [])).violation }
         ensures after { self.new ≡ (arrivals self.old (frame_of frame.entry ∷ [])).peer }
     {
@@ -265,7 +266,7 @@ impl Peer {
     pub fn next_out(&mut self) -> Option<Frame>
         ensures value { result ≡ next self.old }
         ensures after { self.new ≡ without_next self.old }
-        ensures valid { IfSome result IsValid }
+        ensures valid { IfSome result (IsValid One) }
     {
         self.waiting.pop_front()
     }
@@ -286,7 +287,7 @@ impl Peer {
     pub fn waiting_frame(&self, place: usize) -> Option<FrameRef<'_>>
         ensures value { option_map frame_of result ≡ slice_get self.now.waiting place }
         ensures within { IsSome result ↔ (place < length self.now.waiting) }
-        ensures valid { IfSome result (λ frame. IsValid (frame_of frame)) }
+        ensures valid { IfSome result (λ frame. IsValid One (frame_of frame)) }
     {
         match self.waiting.get(place) {
             Some(frame) => Some(frame.view()),

@@ -1,5 +1,6 @@
 //! What frames arrive at.
 ghost use Rattle.std.specs.Prelude.{OnOk, IfErr};
+ghost use Rattle.lc_frame.specs.declared.version.Version.TheVariants.{Two};
 ghost use Rattle.lc_frame.specs.Frame.{IsValid};
 ghost use Rattle.lc_frame.specs.FrameRef.{frame_of};
 
@@ -19,9 +20,9 @@ pub trait FrameSink<C> {
     // What a frame that violates the rules leaves.
     ghost violated: { AnyViolation → Self → AnyFrame → Self → Type 0 };
 
-    /// A frame arrives, which has to be valid.
+    /// A frame arrives, which has to be valid in version Two, as one that is valid in version One is.
     fn arrive_in(&mut self, context: &C, frame: FrameRef<'_>) -> Result<(), Violation>
-        requires { IsValid (frame_of frame) }
+        requires { IsValid Two (frame_of frame) }
         ensures ok { OnOk result (arrived self.old (frame_of frame.entry) self.new) }
         ensures err { IfErr result (λ v. violated v self.old (frame_of frame.entry) self.new) };
 }

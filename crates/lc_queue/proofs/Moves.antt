@@ -7,6 +7,7 @@ use lib.ListN.{get_elem?}
 use Rattle.std.proofs.lemmas.List.Elements.{All-nil, All-cons, All-head, All-tail, All-push, All-weaker, filter-append}
 use Rattle.crossbeam_queue.specs.Fifo.{Pushes, Pops, Forks, Merges, Learns, Held}
 use Rattle.crossbeam_queue.proofs.Lists.{at_set}
+use Rattle.lc_frame.specs.declared.version.Version.TheVariants.{One}
 use Rattle.lc_frame.specs.declared.frame.Frame.{Frame}
 use Rattle.lc_frame.specs.Frame.{lane_of, IsValid}
 use Rattle.lc_frame.specs.Stream.{of_lane}
@@ -20,7 +21,7 @@ use Rattle.lc_queue.proofs.Seats.{of_lane_shorter, Each, each_set, at_end, lane-
 
 -- a new queue
 pub begins : KeepsLanes [] (new_view ∷ [])
-begins = record { slots = 0; seat = λ lane. none; drain = 0; popped = []; room = omega arith; valid = All-nil IsValid; each = one }
+begins = record { slots = 0; seat = λ lane. none; drain = 0; popped = []; room = omega arith; valid = All-nil (IsValid One); each = one }
   where
     one : (j : ℕ) (u : View) → get_elem? (new_view ∷ []) j ≡ some u → Fits 0 (λ lane. none) 0 [] [] j u
     one zero u e = subst (Fits 0 (λ lane. none) 0 [] [] 0) (some-injective _ _ e) (refl, refl, refl, (λ lane le. (refl, refl)), All-nil (HasEnded (λ lane. none) 0 []))
@@ -39,7 +40,7 @@ grows slots seat drain popped all f pass at j (Drain n next taken joined) apart 
 )
 grows slots seat drain popped all f pass at j Spent apart h = tt
 
-pub puts : (n pass lane : ℕ) (put : List Frame) (f : Frame) → lane_of f ≡ lane → IsValid f → Pushes KeepsLanes n pass (Lane n lane put) f (Puts (Lane n lane put) f)
+pub puts : (n pass lane : ℕ) (put : List Frame) (f : Frame) → lane_of f ≡ lane → IsValid One f → Pushes KeepsLanes n pass (Lane n lane put) f (Puts (Lane n lane put) f)
 puts n pass lane put f on good items views room h at =
     let v : View = Lane n lane put in
     let w : View = Lane n lane (put ++ f ∷ []) in
@@ -55,7 +56,7 @@ puts n pass lane put f on good items views room h at =
         drain = h.drain;
         popped = h.popped;
         room = omega (arith, length-append items (f ∷ []));
-        valid = All-push IsValid items f h.valid good;
+        valid = All-push (IsValid One) items f h.valid good;
         each = subst (λ now. Each (Fits h.slots h.seat h.drain h.popped now) (set views pass w)) (append_assoc h.popped items (f ∷ [])) next;
       },
       refl,
@@ -94,10 +95,10 @@ takes n pass next taken joined f items views h at =
         drain = h.drain;
         popped = now;
         room = omega arith;
-        valid = All-tail IsValid f items h.valid;
+        valid = All-tail (IsValid One) f items h.valid;
         each = subst (λ list. Each (Fits h.slots h.seat h.drain now list) (set views pass w)) (sym (append_assoc h.popped (f ∷ []) items)) each;
       },
-      (refl, All-head IsValid f items h.valid, All-weaker (HasEnded h.seat next all) (IsBegun n (taken ++ f ∷ [])) (λ l e. begun l (sym (ap (λ ys. of_lane l.lane (ys ++ f ∷ items)) mine.2) ∙ e.2)) joined mine.4),
+      (refl, All-head (IsValid One) f items h.valid, All-weaker (HasEnded h.seat next all) (IsBegun n (taken ++ f ∷ [])) (λ l e. begun l (sym (ap (λ ys. of_lane l.lane (ys ++ f ∷ items)) mine.2) ∙ e.2)) joined mine.4),
     )
 
 pub finds_empty : (n pass next : ℕ) (taken : List Frame) (joined : List JoinedLane) → Learns KeepsLanes pass (Drain n next taken joined) (FindsEmpty (Drain n next taken joined))
@@ -191,7 +192,7 @@ merges n pass next taken joined other m lane put items views h at two at' =
     keeps slots seat drain popped all pass n next taken joined other m l put d t j Spent apart not f = tt
 
 -- the same of a view that is known to be one of these
-pub puts_as : (n slots pass lane : ℕ) (put : List Frame) (f : Frame) (v : View) → n ≡ slots → v ≡ Lane slots lane put → lane_of f ≡ lane → IsValid f → Pushes KeepsLanes n pass v f (Puts v f) × Learns KeepsLanes pass v (FindsFull v)
+pub puts_as : (n slots pass lane : ℕ) (put : List Frame) (f : Frame) (v : View) → n ≡ slots → v ≡ Lane slots lane put → lane_of f ≡ lane → IsValid One f → Pushes KeepsLanes n pass v f (Puts v f) × Learns KeepsLanes pass v (FindsFull v)
 puts_as n slots pass lane put f v all is on good = subst (λ (y : ℕ × View). Pushes KeepsLanes y.0 pass y.1 f (Puts y.1 f) × Learns KeepsLanes pass y.1 (FindsFull y.1)) (λ i. (sym all i, sym is i)) (puts slots pass lane put f on good, λ items views h at. tt)
 
 pub takes_as : (n pass next : ℕ) (taken : List Frame) (joined : List JoinedLane) (v : View) → v ≡ Drain n next taken joined → Pops KeepsLanes pass v (Takes v) × Learns KeepsLanes pass v (FindsEmpty v)

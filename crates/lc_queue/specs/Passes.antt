@@ -1,6 +1,7 @@
 -- What a pass knows, and how each step changes it. It serves `src/rule.rt`.
 use Rattle.std.specs.Prelude.{◌≡◌, ℕ, ◌+◌, List, [], ◌∷◌, ◌++◌}
 use Rattle.std.specs.List.{All}
+use Rattle.lc_frame.specs.declared.version.Version.TheVariants.{One}
 use Rattle.lc_frame.specs.declared.frame.Frame.{Frame}
 use Rattle.lc_frame.specs.Frame.{IsValid}
 use Rattle.lc_frame.specs.Stream.{of_lane}
@@ -67,7 +68,7 @@ FindsFull v queued = Unit {0}
 -- a pop that takes, and a pop that finds the queue empty
 abbrev pub Takes : View → Frame → View → Type 0
 Takes v frame w =
-    (w ≡ Drain (slots_of_view v) (next_of v) (popped_of v ++ frame ∷ []) (joined_of v)) × IsValid frame × All (IsBegun (slots_of_view v) (popped_of v ++ frame ∷ [])) (joined_of v)
+    (w ≡ Drain (slots_of_view v) (next_of v) (popped_of v ++ frame ∷ []) (joined_of v)) × IsValid One frame × All (IsBegun (slots_of_view v) (popped_of v ++ frame ∷ [])) (joined_of v)
 
 abbrev pub FindsEmpty : View → List Frame → Type 0
 FindsEmpty v queued = All (λ l. of_lane l.lane (popped_of v ++ queued) ≡ l.put) (joined_of v)

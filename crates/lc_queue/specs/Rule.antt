@@ -3,6 +3,7 @@ use Rattle.std.specs.Prelude.{◌≡◌, ℕ, ◌≤◌, ◌<◌, List, [], ◌+
 use Rattle.std.specs.List.{All}
 use mathlib.Core.Option.{Option, some, none}
 use lib.ListN.{get_elem?}
+use Rattle.lc_frame.specs.declared.version.Version.TheVariants.{One}
 use Rattle.lc_frame.specs.declared.frame.Frame.{Frame}
 use Rattle.lc_frame.specs.Frame.{IsValid}
 use Rattle.lc_frame.specs.Stream.{of_lane}
@@ -29,5 +30,5 @@ pub record KeepsLanes (queued : List Frame) (views : List View) : Type 0 where
   pub drain : ℕ
   pub popped : List Frame
   pub room : length queued ≤ slots
-  pub valid : All IsValid queued
+  pub valid : All (IsValid One) queued
   pub each : (pass : ℕ) (v : View) → get_elem? views pass ≡ some v → Fits slots seat drain popped (popped ++ queued) pass v

@@ -1,5 +1,6 @@
 //! Where the frames of all lanes are popped.
 ghost use Rattle.std.specs.Prelude.{◌≡◌, [], ◌∷◌, ◌++◌, MatchOption, IfSome, IfNone};
+ghost use Rattle.lc_frame.specs.declared.version.Version.TheVariants.{One};
 ghost use Rattle.lc_frame.specs.Frame.{IsValid};
 ghost use Rattle.lc_queue.specs.Parts.{IsSame, AllPopped, AreBegun, lane_of_end};
 
@@ -50,7 +51,7 @@ impl Drain {
     pub fn pop<R: Wait>(&mut self, rt: &R) -> Option<Frame>
         ensures same { IsSame self.new.queue self.old.queue }
         ensures after { MatchOption result (self.new ≡ self.old) (λ frame. self.new ≡ record self.old { popped = self.old.popped ++ frame ∷ [] }) }
-        ensures valid { IfSome result (λ frame. IsValid frame) }
+        ensures valid { IfSome result (λ frame. IsValid One frame) }
         ensures begun { IfSome result (λ _. AreBegun self.new) }
         ensures empty { IfNone result (AllPopped self.old) }
     {

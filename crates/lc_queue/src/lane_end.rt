@@ -1,5 +1,6 @@
 //! Where the frames of one lane are put.
 ghost use Rattle.std.specs.Prelude.{◌≡◌, ◌<◌, [], ◌∷◌, ◌++◌, MatchResult};
+ghost use Rattle.lc_frame.specs.declared.version.Version.TheVariants.{One};
 ghost use Rattle.lc_frame.specs.Frame.{lane_of, IsValid};
 ghost use Rattle.lc_queue.specs.Parts.{IsSameEnd};
 
@@ -59,7 +60,7 @@ impl LaneEnd {
     /// no clause here can say, since an end knows nothing of what is queued. It does not try again.
     /// After 2^62 pushes it does not return.
     pub fn push<R: Wait>(&mut self, rt: &R, frame: Frame) -> Result<(), Frame>
-        requires valid { IsValid frame }
+        requires valid { IsValid One frame }
         requires lane { lane_of frame ≡ self.old.lane }
         ensures same { IsSameEnd self.old self.new }
         ensures after { MatchResult result (λ _. self.new ≡ record self.old { put = self.old.put ++ frame ∷ [] }) (λ back. (back ≡ frame) × (self.new ≡ self.old)) }

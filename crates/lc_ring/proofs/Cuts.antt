@@ -7,6 +7,7 @@ use Rattle.std.specs.Prelude.{slice_get}
 use Rattle.std.specs.List.{AllByRecursion, sum_by}
 use Rattle.std.specs.Option.{option_map}
 use Rattle.circular_buffer.specs.Buffer.{keep_last, Buffer, buffer}
+use Rattle.lc_frame.specs.declared.version.Version.TheVariants.{Two}
 use Rattle.lc_frame.specs.Kind.{max_body}
 use Rattle.lc_ring.specs.Ring.{Ring, IsLength, IsRing, bytes, front, push}
 use Rattle.lc_ring.specs.Cuts.{cut, IsCut, AreOneRing}
@@ -38,7 +39,7 @@ count_small [] bytes h = omega arith
 count_small (n ∷ ns) bytes h = omega (arith, count_small ns (drop n bytes) h.3, length-drop n bytes, h.0, h.2)
 
 -- a message more
-IsCut-push : (ns bytes m : List ℕ) → 1 ≤ length m → length m ≤ max_body → IsCut ns bytes → IsCut (ns ++ length m ∷ []) (bytes ++ m)
+IsCut-push : (ns bytes m : List ℕ) → 1 ≤ length m → length m ≤ max_body Two → IsCut ns bytes → IsCut (ns ++ length m ∷ []) (bytes ++ m)
 IsCut-push [] bytes m some short h = (some, short, omega (arith, length-append bytes m), drop_all (length m) (bytes ++ m) (omega (arith, length-append bytes m, ap length h)))
 IsCut-push (n ∷ ns) bytes m some short h = (h.0, h.1, omega (arith, h.2, length-append bytes m), rw (drop-append-le n bytes m h.2) (IsCut-push ns (drop n bytes) m some short h.3))
 
@@ -61,7 +62,7 @@ filled b b' ys count n e h = e ∙ ap (λ (xs : List ℕ). buffer (b.items ++ xs
 
 module _ (ls ls' bs bs' : Buffer ℕ) (m : List ℕ) (count : ℕ)
     (keeps : AreOneRing ls bs)
-    (some : 1 ≤ length m) (short : length m ≤ max_body) (room : length m ≤ bs.capacity - length bs.items)
+    (some : 1 ≤ length m) (short : length m ≤ max_body Two) (room : length m ≤ bs.capacity - length bs.items)
     (n : count ≡ min (length m) (bs.capacity - length bs.items))
     (e : bs' ≡ buffer (bs.items ++ take count m) bs.capacity)
     (e' : ls' ≡ buffer (keep_last ls.capacity (ls.items ++ length m ∷ [])) ls.capacity) where

@@ -2,6 +2,7 @@
 use Rattle.std.specs.Prelude.{◌≡◌, ℕ, ◌≤◌, List, [], ◌∷◌, length, take, drop}
 use Rattle.circular_buffer.specs.Buffer.{Buffer}
 use Rattle.lc_frame.specs.Bounds.{IsCapacity}
+use Rattle.lc_frame.specs.declared.version.Version.TheVariants.{Two}
 use Rattle.lc_frame.specs.Kind.{max_body}
 
 -- the bytes, cut by the lengths
@@ -12,7 +13,7 @@ cut (n ∷ ns) bytes = take n bytes ∷ cut ns (drop n bytes)
 -- the lengths cut all of the bytes into messages
 abbrev pub IsCut : List ℕ → List ℕ → Type 0
 IsCut [] bytes = bytes ≡ []
-IsCut (n ∷ ns) bytes = (1 ≤ n) × (n ≤ max_body) × (n ≤ length bytes) × IsCut ns (drop n bytes)
+IsCut (n ∷ ns) bytes = (1 ≤ n) × (n ≤ max_body Two) × (n ≤ length bytes) × IsCut ns (drop n bytes)
 
 -- a ring of lengths and a ring of bytes make one receiving ring: both have its capacity, and the lengths cut the bytes
 pub record AreOneRing (lengths bytes : Buffer ℕ) : Type 0 where

@@ -3,6 +3,7 @@ use Rattle.std.specs.Prelude.{ℕ, ◌-◌, ◌≤◌, nat_lt, if◌then◌else�
 use Rattle.std.specs.List.{AllByRecursion, sum_by}
 use Rattle.lc_frame.specs.declared.buffer_too_small.BufferTooSmall.{BufferTooSmall}
 use Rattle.lc_frame.specs.Bounds.{IsCapacity}
+use Rattle.lc_frame.specs.declared.version.Version.TheVariants.{Two}
 use Rattle.lc_frame.specs.Kind.{max_body}
 use Rattle.lc_ring.specs.declared.ring.Full.{Full}
 
@@ -25,7 +26,7 @@ free r = r.capacity - bytes r
 -- a message has at least one byte and at most so many
 pub record IsLength (len : ℕ) : Type 0 where
   pub at_least : 1 ≤ len
-  pub at_most : len ≤ max_body
+  pub at_most : len ≤ max_body Two
 
 -- what every ring keeps: its capacity is one that a ring may have, its messages fit, and each of them is one
 pub record IsRing (r : Ring) : Type 0 where

@@ -3,6 +3,7 @@ ghost use Rattle.std.specs.Prelude.{◌≡◌, ◌+◌, ◌≤◌, ◌↔◌, �
 ghost use Rattle.std.specs.Option.{option_map};
 ghost use Rattle.std.specs.Result.{result_err};
 ghost use Rattle.lc_frame.specs.Bounds.{IsCapacity};
+ghost use Rattle.lc_frame.specs.declared.version.Version.TheVariants.{Two};
 ghost use Rattle.lc_frame.specs.Kind.{max_body};
 ghost use Rattle.lc_ring.specs.Ring.{new_ring, IsLength, IsRing, bytes, free, push_refusal, push, front, pop, take_answer, with_front};
 
@@ -142,7 +143,7 @@ impl RecvRing {
     #[inline]
     pub fn push(&mut self, message: &[u8]) -> Result<(), Full>
         requires at_least { 1 ≤ length message.now }
-        requires at_most { length message.now ≤ max_body }
+        requires at_most { length message.now ≤ max_body Two }
         ensures answer { result_err result ≡ push_refusal self.old (length message.now) }
         ensures after { self.new ≡ (if is_ok result then push self.old message.now else self.old) }
         ensures grows { OnOk result (bytes self.new ≡ bytes self.old + length message.now) }

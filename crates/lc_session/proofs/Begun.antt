@@ -2,6 +2,7 @@
 use Rattle.std.proofs.Common.{◌≡◌, ℕ, ◌+◌, List, [], ◌∷◌, None, length, map, take, drop, refl, sym, ap, ap₂, subst, ◌∙◌, arith}
 use Rattle.std.specs.List.{All}
 use Rattle.std.proofs.lemmas.List.Elements.{All-cons, All-nil}
+use Rattle.lc_frame.specs.Held.{nothing_held}
 use Rattle.lc_frame.specs.declared.channel.Channel.{Channel}
 use Rattle.lc_frame.specs.Channel.{number_of}
 use Rattle.lc_frame.proofs.Channels.{same_from_number}
@@ -89,7 +90,7 @@ begun q ins out incoming outgoing intake = record {
 
 begun_is_new : (config : Config) (q : QueueId) (ins : List Incoming) (out : List Outgoing) (incoming outgoing : List Side) (intake : IntakeState)
     → length out ≡ 7 → credits.AreNew ins out → credits.AreMatched ins out → inboxes.AreNew config.capacities (drop 7 (new_ends q)) incoming outgoing → inboxes.AreMatched incoming outgoing
-    → intake ≡ record { held = []; stop = None } → slots_of q ≡ config.slots
+    → intake ≡ record { held = nothing_held; stop = None } → slots_of q ≡ config.slots
     → IsNewSession config (begun q ins out incoming outgoing intake)
 begun_is_new config q ins out incoming outgoing intake seven new matched sides pairs nothing slots =
     let same = credits_of q channels out seven in
@@ -115,7 +116,7 @@ pub new_session : (config : Config) (s : SessionState) (drain : Outlet) (ends la
     → s.sending ≡ new_outboxes channels lanes out → s.receiving ≡ outgoing → s.reading ≡ record { side = record { credits = ins; inboxes = incoming }; intake = intake } → s.writing ≡ new_pumping drain
     → drain ≡ new_outlet drain.queue → ends ≡ new_ends drain.queue → lanes ≡ take 7 ends
     → length out ≡ 7 → credits.AreNew ins out → credits.AreMatched ins out → inboxes.AreNew config.capacities (drop 7 ends) incoming outgoing → inboxes.AreMatched incoming outgoing
-    → intake ≡ record { held = []; stop = None } → slots_of drain.queue ≡ config.slots
+    → intake ≡ record { held = nothing_held; stop = None } → slots_of drain.queue ≡ config.slots
     → IsNewSession config s
 new_session config s drain ends lanes ins out incoming outgoing intake sending receiving reading writing empty are first seven new matched sides pairs nothing slots =
     subst (IsNewSession config)

@@ -4,6 +4,7 @@ use Rattle.std.specs.Prelude.{sum, slice_get, slice_set, IsSomeAnd, ◌==◌}
 use Rattle.std.specs.List.{filter_map, cons_option}
 use Rattle.std.proofs.lemmas.Bool.Decides.{nat_tests}
 use Rattle.std.proofs.lemmas.List.Elements.{filter-append}
+use Rattle.lc_frame.specs.Held.{fed}
 use Rattle.lc_history.specs.Places.{ChangesAt}
 use Rattle.lc_history.proofs.Histories.{learned_same, made_one}
 use Rattle.lc_frame.specs.declared.channel.Channel.{Channel}
@@ -290,6 +291,6 @@ next_heard (Some v) old new arrived frames count is all = violates_kept v old ne
 
 pub runs_heard : RunsAreHeard
 runs_heard before after held old intake new max_reads end run arrived all =
-    let frames = frames_of (held ++ run.read) in
+    let frames = frames_of (fed held run.read) in
     next_heard (violation_of (stop_of end)) run.came.at new (arrived ++ take run.frames frames) frames run.frames run.came.next
     (all_heard (take run.frames frames) old run.came.at arrived run.came.arrived all)

@@ -4,6 +4,7 @@ use Rattle.std.specs.List.{flat_map}
 use Rattle.std.specs.Io.KnownBytes.{Appends, Keeps}
 use Rattle.std.proofs.lemmas.List.{take_at}
 use Rattle.std.proofs.lemmas.List.Concat.{flat_map-append}
+use Rattle.lc_frame.specs.declared.version.Version.TheVariants.{One}
 use Rattle.lc_frame.specs.declared.frame.Frame.{Frame}
 use Rattle.lc_frame.specs.Encoding.{encoding}
 use Rattle.lc_queue.specs.Parts.{Outlet}
@@ -62,7 +63,7 @@ pops_keep p q k h = record {
 
 -- the last of some frames, when all bytes were written
 last_of : (f : Frame) (fs : List Frame) → HasBegun (f ∷ fs) []
-last_of f [] = record { earlier = []; frame = f; last = refl; written = encoding f; some = omega arith; whole = sym (append-nil (encoding f)) }
+last_of f [] = record { earlier = []; frame = f; last = refl; written = encoding One f; some = omega arith; whole = sym (append-nil (encoding One f)) }
 last_of f (g ∷ fs) =
     let h = last_of g fs in
     record { earlier = f ∷ h.earlier; frame = h.frame; last = ap (λ (gs : List Frame). f ∷ gs) h.last; written = h.written; some = h.some; whole = h.whole }
@@ -88,10 +89,10 @@ rest_on frames begun written rest (inr h) e = inr (record {
   whole = h.whole ∙ ap (λ (xs : List ℕ). h.written ++ xs) e ∙ sym (append_assoc h.written written rest);
 })
 
-rest_after : (frames gone : List Frame) (begun written rest : List ℕ) → IsRest frames begun → begun ++ flat_map encoding gone ≡ written ++ rest → (gone ≡ []) ⊎ HasBegun gone rest → IsRest (frames ++ gone) rest
+rest_after : (frames gone : List Frame) (begun written rest : List ℕ) → IsRest frames begun → begun ++ flat_map (encoding One) gone ≡ written ++ rest → (gone ≡ []) ⊎ HasBegun gone rest → IsRest (frames ++ gone) rest
 rest_after frames gone begun written rest k e (inl none) =
     subst (λ (fs : List Frame). IsRest fs rest) (sym (append-nil frames) ∙ ap (λ (fs : List Frame). frames ++ fs) (sym none))
-    (rest_on frames begun written rest k (sym (append-nil begun) ∙ ap (λ (fs : List Frame). begun ++ flat_map encoding fs) (sym none) ∙ e))
+    (rest_on frames begun written rest k (sym (append-nil begun) ∙ ap (λ (fs : List Frame). begun ++ flat_map (encoding One) fs) (sym none) ∙ e))
 rest_after frames gone begun written rest k e (inr h) = inr (record {
   earlier = frames ++ h.earlier;
   frame = h.frame;
@@ -122,16 +123,16 @@ goes_all b b' begun waiting = record {
 
 -- ---- the steps of a run
 
-more_text : (begun : List ℕ) (fs gs : List Frame) → text begun (fs ++ gs) ≡ text begun fs ++ flat_map encoding gs
-more_text begun fs gs = ap (λ (xs : List ℕ). begun ++ xs) (flat_map-append encoding fs gs) ∙ sym (append_assoc begun (flat_map encoding fs) (flat_map encoding gs))
+more_text : (begun : List ℕ) (fs gs : List Frame) → text begun (fs ++ gs) ≡ text begun fs ++ flat_map (encoding One) gs
+more_text begun fs gs = ap (λ (xs : List ℕ). begun ++ xs) (flat_map-append (encoding One) fs gs) ∙ sym (append_assoc begun (flat_map (encoding One) fs) (flat_map (encoding One) gs))
 
 text_after : (n : ℕ) (b b' : BatchState) (h : LetsGo n b b') → text b.begun b.waiting ≡ h.written ++ text b'.begun b'.waiting
 text_after n b b' h =
-    ap (λ (fs : List Frame). b.begun ++ flat_map encoding fs) h.waiting
-    ∙ ap (λ (xs : List ℕ). b.begun ++ xs) (flat_map-append encoding h.gone b'.waiting)
-    ∙ sym (append_assoc b.begun (flat_map encoding h.gone) (flat_map encoding b'.waiting))
-    ∙ ap (λ (xs : List ℕ). xs ++ flat_map encoding b'.waiting) h.text_is
-    ∙ append_assoc h.written b'.begun (flat_map encoding b'.waiting)
+    ap (λ (fs : List Frame). b.begun ++ flat_map (encoding One) fs) h.waiting
+    ∙ ap (λ (xs : List ℕ). b.begun ++ xs) (flat_map-append (encoding One) h.gone b'.waiting)
+    ∙ sym (append_assoc b.begun (flat_map (encoding One) h.gone) (flat_map (encoding One) b'.waiting))
+    ∙ ap (λ (xs : List ℕ). xs ++ flat_map (encoding One) b'.waiting) h.text_is
+    ∙ append_assoc h.written b'.begun (flat_map (encoding One) b'.waiting)
 
 -- a write of what was pending, of which the writer took so many bytes
 pub writes_some : (a b : Option (List ℕ)) (n : ℕ) (x y : BatchState) (given : List ℕ) → given ≡ text x.begun x.waiting → Appends a b (take n given) → LetsGo n x y → Writes a b x y
@@ -189,8 +190,8 @@ pumps_then a b c p q r s t = record {
   text_is =
       ap (λ (fs : List Frame). text p.begun fs) (sym (append_assoc p.waiting s.popped t.popped))
       ∙ more_text p.begun (p.waiting ++ s.popped) t.popped
-      ∙ ap (λ (xs : List ℕ). xs ++ flat_map encoding t.popped) s.text_is
-      ∙ append_assoc s.taken (text q.begun q.waiting) (flat_map encoding t.popped)
+      ∙ ap (λ (xs : List ℕ). xs ++ flat_map (encoding One) t.popped) s.text_is
+      ∙ append_assoc s.taken (text q.begun q.waiting) (flat_map (encoding One) t.popped)
       ∙ ap (λ (xs : List ℕ). s.taken ++ xs) (sym (more_text q.begun q.waiting t.popped) ∙ t.text_is)
       ∙ sym (append_assoc s.taken t.taken (text r.begun r.waiting));
 }

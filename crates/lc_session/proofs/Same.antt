@@ -3,6 +3,7 @@ use Rattle.std.proofs.Common.{◌≡◌, ℕ, ◌+◌, List, [], ◌∷◌, map,
 use Rattle.std.specs.Prelude.{IfSome}
 use Rattle.std.specs.List.{All, AllZip}
 use Rattle.std.proofs.lemmas.List.Elements.{All-cons, All-head, All-nil, All-tail}
+use Rattle.lc_frame.specs.Held.{Held}
 use Rattle.lc_history.specs.Places.{ChangesAt}
 use Rattle.lc_frame.specs.declared.channel.Channel.{Channel}
 use Rattle.lc_frame.specs.declared.frame.Frame.{Frame}
@@ -108,12 +109,12 @@ next_same : (violation : Option Violation) (old new : ReadingSide) (frames : Lis
 next_same None old new frames count is = subst (IsSameReading old) (sym is.1) (reading_itself old)
 next_same (Some v) old new frames count is = violates_same v old new is.0 is.2
 
-read_same : (before after : Option (List ℕ)) (held : List ℕ) (old : ReadingSide) (intake : IntakeState) (new : ReadingSide) (max_reads : ℕ) (end : ReadEnd) → ReadsInto Arrives Violates before after held old intake new max_reads end → IsSameReading old new
+read_same : (before after : Option (List ℕ)) (held : Held) (old : ReadingSide) (intake : IntakeState) (new : ReadingSide) (max_reads : ℕ) (end : ReadEnd) → ReadsInto Arrives Violates before after held old intake new max_reads end → IsSameReading old new
 read_same before after held old intake new max_reads end run =
     reading_then old run.came.at new (all_same _ old run.came.at run.came.arrived) (next_same (violation_of (stop_of end)) run.came.at new _ run.frames run.came.next)
 
 -- a stream that was given up leaves all as it was
-pub run_same : {D : Type 0} (stop : Option Stop) (reader reader' : D) (before after : Option (List ℕ)) (held : List ℕ) (old : ReadingSide) (was intake : IntakeState) (new : ReadingSide) (max_reads : ℕ) (end : ReadEnd)
+pub run_same : {D : Type 0} (stop : Option Stop) (reader reader' : D) (before after : Option (List ℕ)) (held : Held) (old : ReadingSide) (was intake : IntakeState) (new : ReadingSide) (max_reads : ℕ) (end : ReadEnd)
     → IfSome stop (λ s. (end ≡ end_of s) × (new ≡ old) × (reader' ≡ reader) × (intake ≡ was)) → (stop ≡ None → ReadsInto Arrives Violates before after held old intake new max_reads end) → IsSameReading old new
 run_same None reader reader' before after held old was intake new max_reads end given reads = read_same before after held old intake new max_reads end (reads refl)
 run_same (Some s) reader reader' before after held old was intake new max_reads end given reads = subst (IsSameReading old) (sym given.1) (reading_itself old)

@@ -1,5 +1,6 @@
 -- What a reading side has heard, frame after frame. That a stream keeps its order is LCMUX's.
 use Rattle.std.specs.Prelude.{ℕ, List, [], ◌++◌, take, Option}
+use Rattle.lc_frame.specs.Held.{Held, fed}
 use Rattle.lc_frame.specs.declared.frame.Frame.{Frame}
 use Rattle.lc_frame.specs.Splits.{frames_of}
 use Rattle.lc_peer.specs.declared.config.Config.{Config}
@@ -19,5 +20,5 @@ abbrev pub NewSessionsHeardNothing : Type 0
 NewSessionsHeardNothing = (config : Config) (s : SessionState) → IsNewSession config s → HasHeardAll s.reading.side []
 
 abbrev pub RunsAreHeard : Type 0
-RunsAreHeard = (before after : Option (List ℕ)) (held : List ℕ) (old : ReadingSide) (intake : IntakeState) (new : ReadingSide) (max_reads : ℕ) (end : ReadEnd)
-    → (run : ReadsInto Arrives Violates before after held old intake new max_reads end) → HearsOn old (take run.frames (frames_of (held ++ run.read))) new
+RunsAreHeard = (before after : Option (List ℕ)) (held : Held) (old : ReadingSide) (intake : IntakeState) (new : ReadingSide) (max_reads : ℕ) (end : ReadEnd)
+    → (run : ReadsInto Arrives Violates before after held old intake new max_reads end) → HearsOn old (take run.frames (frames_of (fed held run.read))) new

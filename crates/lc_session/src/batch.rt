@@ -1,17 +1,18 @@
 //! The frames that a writing pump has popped, on their way out.
 ghost use Rattle.std.specs.Prelude.{◌≡◌, ◌+◌, ◌-◌, ◌≤◌, ◌↔◌, [], ◌∷◌, ◌++◌, length, take, drop, IsTrue, IfOk, vec_len, vec_capacity};
+ghost use Rattle.lc_frame.specs.declared.version.Version.TheVariants.{One};
 ghost use Rattle.lc_frame.specs.Kind.{max_frame};
 ghost use Rattle.lc_frame.specs.Frame.{IsValid};
 ghost use Rattle.lc_frame.specs.Encoding.{encoding};
 ghost use Rattle.lc_driver.specs.Writing.{text};
 ghost use Rattle.lc_session.specs.Batch.{BatchState, max_batch, waiting_in, AreWhole, EndsAt, LetsGo};
 
-use lc_frame::{Decoded, Frame, MAX_FRAME, decode};
+use lc_frame::{Decoded, Frame, Version, decode};
 use std::alloc::{AllocError, Global};
 use std::marker::Model;
 
 /// Room for two of the longest frames: while one has room, another frame can be popped.
-const MAX_BATCH: usize = 2 * MAX_FRAME;
+const MAX_BATCH: usize = 2 * 65_538;
 
 /// The bytes of frames that were popped and are not written yet, and how many of them are left of
 /// the one that was begun.
@@ -43,7 +44,7 @@ fn frame_end(bytes: &[u8], begun: usize, written: usize) -> (usize, usize)
     let mut end = begun;
     let mut frames = 0;
     'frames: while end < written {
-        match decode(bytes.split_at(end).1) {
+        match decode(Version::One, bytes.split_at(end).1) {
             Decoded::Whole { frame: _, used } => end += used,
             Decoded::More => unreachable!(),
             Decoded::Fault(_) => unreachable!(),
@@ -55,12 +56,12 @@ fn frame_end(bytes: &[u8], begun: usize, written: usize) -> (usize, usize)
 
 // Puts the bytes of a frame last in a buffer that has room for them.
 fn encode(frame: Frame, buffer: &mut Vec<u8>)
-    requires valid { IsValid frame }
-    requires room { vec_len buffer.old + max_frame ≤ vec_capacity buffer.old }
-    ensures items { buffer.new.items ≡ buffer.old.items ++ encoding frame }
+    requires valid { IsValid One frame }
+    requires room { vec_len buffer.old + max_frame One ≤ vec_capacity buffer.old }
+    ensures items { buffer.new.items ≡ buffer.old.items ++ encoding One frame }
     ensures capacity { vec_capacity buffer.old ≤ vec_capacity buffer.new }
 {
-    if frame.encode_into(buffer).is_err() {
+    if frame.encode_into(Version::One, buffer).is_err() {
         unreachable!();
     }
 }
@@ -140,18 +141,18 @@ impl Batch {
 
     // Whether any frame has room.
     pub(crate) fn has_room(&self) -> bool
-        ensures { IsTrue result ↔ (max_frame ≤ self.now.free) }
+        ensures { IsTrue result ↔ (max_frame One ≤ self.now.free) }
     {
-        MAX_BATCH - self.buffer.len() >= MAX_FRAME
+        MAX_BATCH - self.buffer.len() >= Version::One.max_frame()
     }
 
     // A frame waits behind the others.
     pub(crate) fn append(&mut self, frame: Frame)
-        requires valid { IsValid frame }
-        requires room { max_frame ≤ self.old.free }
+        requires valid { IsValid One frame }
+        requires room { max_frame One ≤ self.old.free }
         ensures begun { self.new.begun ≡ self.old.begun }
         ensures waiting { self.new.waiting ≡ self.old.waiting ++ frame ∷ [] }
-        ensures free { self.new.free ≡ self.old.free - length (encoding frame) }
+        ensures free { self.new.free ≡ self.old.free - length (encoding One frame) }
     {
         encode(frame, &mut self.buffer);
     }

@@ -2,6 +2,7 @@
 ghost use Rattle.std.specs.Prelude.{◌≡◌, ◌∷◌, [], ◌≤◌, map, OnOk, IfErr};
 ghost use Rattle.lc_history.specs.Places.{ChangesAt};
 ghost use Rattle.lc_frame.specs.Channel.{number_of};
+ghost use Rattle.lc_frame.specs.declared.version.Version.TheVariants.{Two};
 ghost use Rattle.lc_frame.specs.Frame.{IsValid, lane_of, channel_of};
 ghost use Rattle.lc_frame.specs.FrameRef.{frame_of};
 ghost use Rattle.lc_frame.specs.Kind.{max_amount};
@@ -40,7 +41,7 @@ impl Model for ReadingSide {
 
 // A frame arrives at an inbox.
 fn hear<R: Wait>(rt: &R, inbox: &mut InboxIn, frame: FrameRef<'_>) -> Result<(), Violation>
-    requires valid { IsValid (frame_of frame) }
+    requires valid { IsValid Two (frame_of frame) }
     requires lane { lane_of (frame_of frame) ≡ number_of inbox.old.key.channel }
     ensures ok { OnOk result (Hears (frame_of frame.entry) inbox.old inbox.new) }
     ensures err { IfErr result (λ v. Refuses v (frame_of frame.entry) inbox.old inbox.new) }
@@ -57,7 +58,7 @@ fn hear_at<R: Wait>(
     frame: FrameRef<'_>,
 ) -> Result<(), Violation>
     requires places { map channel_of_side inboxes.old ≡ channels }
-    requires valid { IsValid (frame_of frame) }
+    requires valid { IsValid Two (frame_of frame) }
     requires lane { lane_of (frame_of frame) ≡ number_of channel }
     ensures ok { OnOk result (ChangesAt (number_of channel) (Hears (frame_of frame.entry)) inboxes.old inboxes.new) }
     ensures err { IfErr result (λ v. ChangesAt (number_of channel) (Refuses v (frame_of frame.entry)) inboxes.old inboxes.new) }
@@ -105,7 +106,7 @@ impl ReadingSide {
         channel: Channel,
         frame: FrameRef<'_>,
     ) -> Result<(), Violation>
-        requires valid { IsValid (frame_of frame) }
+        requires valid { IsValid Two (frame_of frame) }
         requires lane { lane_of (frame_of frame) ≡ number_of channel }
         ensures ok { OnOk result (ToInbox channel (Hears (frame_of frame.entry)) self.old self.new) }
         ensures err { IfErr result (λ v. ToInbox channel (Refuses v (frame_of frame.entry)) self.old self.new) }

@@ -1,6 +1,7 @@
 //! Fourteen threads push and one drains.
 ghost use Rattle.std.specs.Prelude.{◌≡◌, [], ◌∷◌, ◌++◌, IfOk};
 ghost use Rattle.std.specs.List.{All};
+ghost use Rattle.lc_frame.specs.declared.version.Version.TheVariants.{One};
 ghost use Rattle.lc_frame.specs.Frame.{lane_of, IsValid};
 ghost use Rattle.lc_queue.specs.Parts.{IsSame, IsSameEnd};
 
@@ -27,7 +28,7 @@ type Pushing = PromisedHandle<LaneEnd, SameEnd>;
 
 // Pushes a frame, and yields the processor as long as the queue is full.
 fn push<R: Wait>(rt: &R, end: &mut LaneEnd, frame: Frame)
-    requires valid { IsValid frame }
+    requires valid { IsValid One frame }
     requires lane { lane_of frame ≡ end.old.lane }
     ensures { IsSameEnd end.old end.new }
 {

@@ -5,7 +5,7 @@ ghost use Rattle.lc_peer.specs.Inbox.{new_inbox};
 ghost use Rattle.lc_inbox.specs.Sides.{IsSameSide};
 ghost use Rattle.lc_sharing.specs.Arrivals.{arrived, IsNewPair};
 
-use lc_frame::{Frame, FrameRef};
+use lc_frame::{Frame, FrameRef, Version};
 use lc_inbox::{InboxEnd, InboxIn, InboxOut, SharedInbox, finish, share};
 use lc_peer::{Inbox, Take};
 use lc_queue::{Drain, LaneEnd, Lanes, lanes};
@@ -62,7 +62,7 @@ pub fn hear<R: Wait>(rt: &R, incoming: &mut InboxIn, body: &[u8]) -> bool
 {
     let channel = incoming.channel();
     let frame = FrameRef::Send { channel, body };
-    if !frame.is_valid() {
+    if !frame.is_valid(Version::One) {
         return false;
     }
     match incoming.arrive(rt, frame) {

@@ -11,7 +11,7 @@ ghost use Rattle.lc_session.specs.Report.{AreOfOneSession};
 
 use lc_book::Refusal;
 use lc_driver::{Counted, ReadEnd};
-use lc_frame::{Channel, FrameRef};
+use lc_frame::{Channel, FrameRef, Version};
 use lc_peer::{Config, Take};
 use lc_session::{Parts, ReadPump, RecvEnd, Report, SendEnd, Session, WritePump, finish};
 use lc_wake::Wake;
@@ -300,7 +300,7 @@ fn wait_for_runs<R: Wait>(rt: &R, end: &mut SendEnd, mut writer: PipeWriter, rou
         bound: 0,
     };
     let mut buffer = [0; 16];
-    let Ok(len) = frame.encode_to_slice(&mut buffer) else {
+    let Ok(len) = frame.encode_to_slice(Version::One, &mut buffer) else {
         return 0;
     };
     for round in 0..rounds {

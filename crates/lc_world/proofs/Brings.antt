@@ -1,12 +1,17 @@
 -- What bytes in flight bring to the end where they are delivered.
+use Rattle.lc_world.proofs.Fed.{fed_is, fed_told, one_frames, one_fault_free}
+use Rattle.lc_frame.specs.declared.version.Version.{Version}
+use Rattle.lc_frame.specs.Version.{version_of}
+use Rattle.lc_frame.specs.Held.{Held, held_in, fed, FaultIn}
 use Rattle.std.proofs.Common.{◌≡◌, ℕ, zero, suc, ◌+◌, ◌<◌, ◌≤◌, List, [], ◌∷◌, ◌++◌, length, get_or, take, drop, Option, Some, None, refl, sym, ap, ap₂, ◌∙◌, subst, inl, inr, arith}
-use Rattle.std.specs.Prelude.{◌-◌, All}
+use Rattle.std.specs.Prelude.{◌-◌, All, ◌⊎◌}
 use Rattle.std.specs.List.{AllByRecursion}
-use Rattle.std.proofs.lemmas.List.{append-nil, append_assoc, length-append, take-append-drop}
+use Rattle.std.proofs.lemmas.List.{append-nil, append_assoc, length-append, take-append-drop, nil_from_length}
 use Rattle.std.proofs.lemmas.List.Elements.{All-take, All-drop}
 use Rattle.std.proofs.lemmas.List.Concat.{flat_map-cons}
 use Rattle.std.proofs.lemmas.Grind.{flat_map-append}
-use Rattle.std.proofs.Math.Seq.{take-add, take-append-add, drop-append-add}
+use Rattle.std.proofs.Math.Seq.{take-append-add, drop-append-add}
+use Rattle.lc_frame.specs.declared.version.Version.TheVariants.{One}
 use Rattle.lc_frame.specs.declared.channel.Channel.{Channel}
 use Rattle.lc_frame.specs.declared.frame.Frame.{Frame}
 use Rattle.lc_frame.specs.declared.frame.Frame.TheVariants as frame
@@ -14,7 +19,7 @@ use Rattle.lc_frame.specs.declared.frame_fault.FrameFault.{FrameFault}
 use Rattle.lc_frame.specs.Channel.{number_of}
 use Rattle.lc_frame.specs.Kind.{max_amount}
 use Rattle.lc_frame.specs.Frame.{channel_of, IsValid}
-use Rattle.lc_frame.specs.Encoding.{encoding, FaultStands}
+use Rattle.lc_frame.specs.Encoding.{encoding}
 use Rattle.lc_frame.specs.Splits.{Splits, frames_of, rest_of}
 use Rattle.lc_frame.proofs.Channels.{number_below}
 use Rattle.lc_frame.proofs.SplitLaws.{front_law}
@@ -36,7 +41,7 @@ use Rattle.lc_world.specs.declared.endpoint.Endpoint.{Endpoint}
 use Rattle.lc_world.specs.State.{Line, line, other, stream, keep_pleads, size, arrive_first, deliver_over, deliver_on}
 use Rattle.lc_world.specs.Sound.{AllFit, Sound, IsSound}
 use Rattle.lc_world.specs.Delivery.{bytes_of, delivered}
-use Rattle.lc_world.specs.Endpoint.{line_of, capacity_of, streams_of, of_lines, IsLine, AreEnds, AreInStep, Brings}
+use Rattle.lc_world.specs.Endpoint.{line_of, capacity_of, streams_of, of_lines, IsLine, AreEnds, AreInStep, Brings, held_of}
 use Rattle.lc_world.proofs.Delivers.{deliver_keeps}
 use Rattle.lc_world.proofs.Streams.{stream-deliver}
 use Rattle.lc_world.proofs.Sound.{sound_delivers, sound_delivers_theirs}
@@ -68,10 +73,10 @@ none_of_none zero = refl
 none_of_none (suc n) = refl
 
 -- the bytes of the first frame, and more
-take_first : (f : Frame) (rest : List Frame) (n : ℕ) → size f ≤ n → take n (bytes_of (f ∷ rest)) ≡ encoding f ++ take (n - size f) (bytes_of rest)
+take_first : (f : Frame) (rest : List Frame) (n : ℕ) → size f ≤ n → take n (bytes_of (f ∷ rest)) ≡ encoding One f ++ take (n - size f) (bytes_of rest)
 take_first f rest n le =
-    ap₂ (λ (m : ℕ) (x : List ℕ). take m x) (let e : n ≡ size f + (n - size f) = omega (arith, le) in e) (flat_map-cons encoding f rest)
-    ∙ take-append-add (encoding f) (bytes_of rest) (n - size f)
+    ap₂ (λ (m : ℕ) (x : List ℕ). take m x) (let e : n ≡ size f + (n - size f) = omega (arith, le) in e) (flat_map-cons (encoding One) f rest)
+    ∙ take-append-add (encoding One f) (bytes_of rest) (n - size f)
 
 module _ (k : ℕ) (small : k ≤ max_amount) (mine : Line) where
   -- the first frame in flight arrives lawfully
@@ -127,9 +132,9 @@ module _ (k : ℕ) (small : k ≤ max_amount) (mine : Line) where
               bytes =
                   ap (λ (fs : List Frame). take n (bytes_of fs)) e
                   ∙ (take_first f rest n le
-                  ∙ (ap (λ (x : List ℕ). encoding f ++ x) later.bytes
-                  ∙ (sym (append_assoc (encoding f) (bytes_of later.came) (take last.begun (bytes_of last.in_flight)))
-                  ∙ ap (λ (x : List ℕ). x ++ take last.begun (bytes_of last.in_flight)) (sym (flat_map-cons encoding f later.came)))));
+                  ∙ (ap (λ (x : List ℕ). encoding One f ++ x) later.bytes
+                  ∙ (sym (append_assoc (encoding One f) (bytes_of later.came) (take last.begun (bytes_of last.in_flight)))
+                  ∙ ap (λ (x : List ℕ). x ++ take last.begun (bytes_of last.in_flight)) (sym (flat_map-cons (encoding One) f later.came)))));
               lawful = ap (λ (a : Arrival). a.violation) first ∙ later.lawful;
               count = ap (λ (a : Arrival). a.count) first ∙ (ap (λ (m : ℕ). m + 1) later.count ∙ omega arith);
               sums = subst (λ (a : Arrival). IsPeerOf (streams_of k mine last) a.peer) (sym first) later.sums;
@@ -146,7 +151,7 @@ taken_arrives (f ∷ rest) l = refl
 line_delivered : (count : ℕ) (l : Line) → IsLine l → IsLine (deliver_on count l)
 line_delivered count l h =
     record {
-      valid = subst (λ (fs : List Frame). AllByRecursion IsValid fs) (sym (stream-deliver count l)) h.valid;
+      valid = subst (λ (fs : List Frame). AllByRecursion (IsValid One) fs) (sym (stream-deliver count l)) h.valid;
       begun = begun_over l.in_flight (l.begun + count) l refl h.begun;
       taken_places = deliver_keeps (λ (x : Line). length x.taken ≡ 7) (record { begins = λ x n e. e; arrives = λ x e. taken_arrives x.in_flight x ∙ e }) count l h.taken_places;
       asked_places = places_deliver count l ∙ h.asked_places;
@@ -172,16 +177,31 @@ module _ (k : ℕ) (mine theirs : Line) (me peer : Endpoint) (h : AreEnds k mine
   brought = comes k h.small mine theirs.in_flight (theirs.begun + count) theirs me.peer refl h.their_line.asked_places (sound_to_a (of_lines k mine theirs) h.sound) h.my_end.peer.sums
 
   joined : peer.stream.items ≡ bytes_of theirs.arrived ++ text
-  joined = h.their_end.bytes ∙ flat_map-append encoding theirs.arrived theirs.in_flight
+  joined = h.their_end.bytes ∙ flat_map-append (encoding One) theirs.arrived theirs.in_flight
 
   left : drop peer.delivered peer.stream.items ≡ drop theirs.begun text
   left = ap₂ (λ (n : ℕ) (x : List ℕ). drop n x) h.their_end.count joined ∙ drop-append-add (bytes_of theirs.arrived) text theirs.begun
 
+  piece_of_text : piece ≡ take count (drop theirs.begun text)
+  piece_of_text = piece_is ∙ ap (take count) left
+
   -- what was held and what comes are the next bytes of the frames in flight
-  next_bytes : me.decoder.bytes ++ piece ≡ take (theirs.begun + count) text
-  next_bytes =
-      ap₂ (λ (x y : List ℕ). x ++ y) h.my_end.held (piece_is ∙ ap (take count) left)
-      ∙ sym (take-add theirs.begun count text)
+  front_is : (n : ℕ) → take (length (bytes_of theirs.arrived) + n) (bytes_of (stream theirs)) ≡ bytes_of theirs.arrived ++ take n text
+  front_is n = ap (take (length (bytes_of theirs.arrived) + n)) (flat_map-append (encoding One) theirs.arrived theirs.in_flight) ∙ take-append-add (bytes_of theirs.arrived) text n
+
+  later_front : take (delivered theirs + count) (bytes_of (stream theirs)) ≡ bytes_of theirs.arrived ++ take (theirs.begun + count) text
+  later_front = ap (λ (n : ℕ). take n (bytes_of (stream theirs))) (omega arith) ∙ front_is (theirs.begun + count)
+
+  abbrev now : Held
+  now = record { version = version_of (take (delivered theirs + count) (bytes_of (stream theirs))); bytes = take (theirs.begun + count) text }
+
+  fed_now : fed me.decoder piece ≡ now
+  fed_now =
+      ap₂ fed h.my_end.held piece_of_text
+      ∙ fed_is (stream theirs) (bytes_of theirs.arrived) text (flat_map-append (encoding One) theirs.arrived theirs.in_flight) theirs.begun count (delivered theirs) (front_is theirs.begun) later_front
+
+  now_told : (now.bytes ≡ []) ⊎ (now.version ≡ Some One)
+  now_told = fed_told (stream theirs) (bytes_of theirs.arrived) text (flat_map-append (encoding One) theirs.arrived theirs.in_flight) theirs.begun count (delivered theirs) (front_is theirs.begun) later_front
 
   are_bytes : All (λ b. b < 256) (take (theirs.begun + count) text)
   are_bytes =
@@ -191,42 +211,58 @@ module _ (k : ℕ) (mine theirs : Line) (me peer : Endpoint) (h : AreEnds k mine
       behind : drop (length (bytes_of theirs.arrived) + 0) (bytes_of theirs.arrived ++ text) ≡ text
       behind = drop-append-add (bytes_of theirs.arrived) text 0
 
-  valid : AllByRecursion IsValid (brought.came ++ new.in_flight)
-  valid = subst (λ (fs : List Frame). AllByRecursion IsValid fs) brought.parts (each_behind theirs.arrived theirs.in_flight h.their_line.valid)
+  valid : AllByRecursion (IsValid One) (brought.came ++ new.in_flight)
+  valid = subst (λ (fs : List Frame). AllByRecursion (IsValid One) fs) brought.parts (each_behind theirs.arrived theirs.in_flight h.their_line.valid)
 
-  split : Splits (take (theirs.begun + count) text) brought.came (take new.begun (bytes_of new.in_flight))
-  split = subst (λ (x : List ℕ). Splits x brought.came (take new.begun (bytes_of new.in_flight))) (sym brought.bytes) (part_splits brought.came new.in_flight new.begun (each_first brought.came new.in_flight valid) (each_behind brought.came new.in_flight valid) (line_delivered count theirs h.their_line).begun)
+  split : Splits (Some One) (take (theirs.begun + count) text) brought.came (take new.begun (bytes_of new.in_flight))
+  split = subst (λ (x : List ℕ). Splits (Some One) x brought.came (take new.begun (bytes_of new.in_flight))) (sym brought.bytes) (part_splits brought.came new.in_flight new.begun (each_first brought.came new.in_flight valid) (each_behind brought.came new.in_flight valid) (line_delivered count theirs h.their_line).begun)
 
-  frames_is : frames_of (me.decoder.bytes ++ piece) ≡ brought.came
-  frames_is = ap frames_of next_bytes ∙ (frames_are (take (theirs.begun + count) text) brought.came (take new.begun (bytes_of new.in_flight)) are_bytes split).0
+  one_frames_are : (frames_of (held_in One (take (theirs.begun + count) text)) ≡ brought.came) × ((rest_of (held_in One (take (theirs.begun + count) text))).bytes ≡ take new.begun (bytes_of new.in_flight))
+  one_frames_are = frames_are (take (theirs.begun + count) text) brought.came (take new.begun (bytes_of new.in_flight)) are_bytes split
 
-  rest_is : rest_of (me.decoder.bytes ++ piece) ≡ take new.begun (bytes_of new.in_flight)
-  rest_is = ap rest_of next_bytes ∙ (frames_are (take (theirs.begun + count) text) brought.came (take new.begun (bytes_of new.in_flight)) are_bytes split).1
+  frames_is : frames_of (fed me.decoder piece) ≡ brought.came
+  frames_is = ap frames_of fed_now ∙ (one_frames now.version now.bytes now_told).0 ∙ one_frames_are.0
+
+  rest_bytes : (rest_of (fed me.decoder piece)).bytes ≡ take new.begun (bytes_of new.in_flight)
+  rest_bytes = ap (λ (x : Held). (rest_of x).bytes) fed_now ∙ (one_frames now.version now.bytes now_told).1 ∙ one_frames_are.1
+
+  -- as many bytes of the stream were delivered
+  counted : delivered theirs + count ≡ delivered new
+  counted =
+      let whole : length peer.stream.items ≡ length (bytes_of theirs.arrived) + length text = ap length joined ∙ length-append (bytes_of theirs.arrived) text in
+      omega (arith, whole, within, h.their_end.count, begun_within theirs.in_flight theirs.begun h.their_line.begun) ∙ sym ((deliveries_add theirs h.their_line.begun).counts count)
+
+  rest_is : rest_of (fed me.decoder piece) ≡ held_of new
+  rest_is =
+      let version : (rest_of (fed me.decoder piece)).version ≡ version_of (take (delivered new) (bytes_of (stream new))) =
+      ap (λ (x : Held). x.version) fed_now
+      ∙ ap₂ (λ (n : ℕ) (fs : List Frame). version_of (take n (bytes_of fs))) counted (sym (stream-deliver count theirs)) in
+      ap₂ (λ (o : Option Version) (x : List ℕ). record { version = o; bytes = x }) version rest_bytes
 
   abbrev Arrived : Arrival
-  Arrived = arrivals me.peer (frames_of (me.decoder.bytes ++ piece))
+  Arrived = arrivals me.peer (frames_of (fed me.decoder piece))
 
   arrived_is : Arrived ≡ arrivals me.peer brought.came
   arrived_is = ap (arrivals me.peer) frames_is
 
   -- nothing stops it
-  pub no_violation_stops : (v : Violation) (held : List ℕ) → MetViolation v Arrived (me.decoder.bytes ++ piece) held → ⊥
+  pub no_violation_stops : (v : Violation) (held : Held) → MetViolation v Arrived (fed me.decoder piece) held → ⊥
   no_violation_stops v held met = let none : None ≡ Some v = sym brought.lawful ∙ (sym (ap (λ (a : Arrival). a.violation) arrived_is) ∙ met.violates) in cc
 
-  pub no_fault_stops : (e : FrameFault) (held : List ℕ) (taken : ℕ) → MetFault e Arrived (me.decoder.bytes ++ piece) held taken → ⊥
+  pub no_fault_stops : (e : FrameFault) (held : Held) (taken : ℕ) → MetFault e Arrived (fed me.decoder piece) held taken → ⊥
   no_fault_stops e held taken met =
-      (front_law theirs.in_flight brought.came (take (theirs.begun + count) text) (drop (theirs.begun + count) text) (take new.begun (bytes_of new.in_flight)) (each_behind theirs.arrived theirs.in_flight h.their_line.valid) (sym (take-append-drop (theirs.begun + count) text)) split).no_fault e
-      (subst (FaultStands e) rest_is met.stands)
+      let free = (front_law (Some One) theirs.in_flight brought.came (take (theirs.begun + count) text) (drop (theirs.begun + count) text) (take new.begun (bytes_of new.in_flight)) (each_behind theirs.arrived theirs.in_flight h.their_line.valid) (sym (take-append-drop (theirs.begun + count) text)) split).no_fault in
+      let short : now.bytes ≡ [] → take new.begun (bytes_of new.in_flight) ≡ [] = λ none. nil_from_length (take new.begun (bytes_of new.in_flight)) (omega (arith, ap length none, ap length split.whole, length-append (bytes_of brought.came) (take new.begun (bytes_of new.in_flight)))) in
+      let stands : FaultIn now.version e (take new.begun (bytes_of new.in_flight)) = subst (FaultIn now.version e) rest_bytes (subst (λ (x : Held). FaultIn x.version e (rest_of (fed me.decoder piece)).bytes) fed_now met.stands) in
+      one_fault_free now.version now.bytes (take new.begun (bytes_of new.in_flight)) now_told short free e stands
 
   -- and it leaves the ends of the lines after it
-  module _ (me' peer' : Endpoint) (frames : ℕ) (ep : me'.peer ≡ Arrived.peer) (ef : frames ≡ Arrived.count) (eh : me'.decoder.bytes ≡ rest_of (me.decoder.bytes ++ piece)) (es : me'.stream.items ≡ me.stream.items) (ed : me'.delivered ≡ me.delivered) (ep' : peer'.peer ≡ peer.peer) (es' : peer'.stream.items ≡ peer.stream.items) (ed' : peer'.delivered ≡ peer.delivered + count) (ec' : peer'.decoder.bytes ≡ peer.decoder.bytes) where
+  module _ (me' peer' : Endpoint) (frames : ℕ) (ep : me'.peer ≡ Arrived.peer) (ef : frames ≡ Arrived.count) (eh : me'.decoder ≡ rest_of (fed me.decoder piece)) (es : me'.stream.items ≡ me.stream.items) (ed : me'.delivered ≡ me.delivered) (ep' : peer'.peer ≡ peer.peer) (es' : peer'.stream.items ≡ peer.stream.items) (ed' : peer'.delivered ≡ peer.delivered + count) (ec' : peer'.decoder ≡ peer.decoder) where
     peer_is : me'.peer ≡ (arrivals me.peer brought.came).peer
     peer_is = ep ∙ ap (λ (a : Arrival). a.peer) arrived_is
 
     all_counted : peer'.delivered ≡ delivered new
-    all_counted =
-        let whole : length peer.stream.items ≡ length (bytes_of theirs.arrived) + length text = ap length joined ∙ length-append (bytes_of theirs.arrived) text in
-        ed' ∙ (ap (λ (n : ℕ). n + count) h.their_end.count ∙ (omega (arith, whole, within, h.their_end.count, begun_within theirs.in_flight theirs.begun h.their_line.begun) ∙ sym ((deliveries_add theirs h.their_line.begun).counts count)))
+    all_counted = ed' ∙ ap (λ (n : ℕ). n + count) h.their_end.count ∙ counted
 
     pub ends_brought : AreEnds k mine new me' peer'
     ends_brought =
@@ -263,17 +299,17 @@ module _ (k : ℕ) (mine theirs : Line) (me peer : Endpoint) (h : AreEnds k mine
     frames_brought = ap length brought.arrived ∙ (length-append theirs.arrived brought.came ∙ ap (λ (n : ℕ). length theirs.arrived + n) (sym (ef ∙ (ap (λ (a : Arrival). a.count) arrived_is ∙ brought.count))))
 
 -- what the peer's delivery says of it
-module _ (me peer : Endpoint) (h : AreInStep me peer) (count : ℕ) (within : peer.delivered + count ≤ length peer.stream.items) (piece : List ℕ) (piece_is : piece ≡ take count (drop peer.delivered peer.stream.items)) (d : Delivery) (q : PeerState) (held : List ℕ) (says : Delivers me.peer me.decoder.bytes piece q held d) where
+module _ (me peer : Endpoint) (h : AreInStep me peer) (count : ℕ) (within : peer.delivered + count ≤ length peer.stream.items) (piece : List ℕ) (piece_is : piece ≡ take count (drop peer.delivered peer.stream.items)) (d : Delivery) (q : PeerState) (held : Held) (says : Delivers me.peer me.decoder piece q held d) where
   abbrev StopsAs : Option Stop → Type 0
-  StopsAs o = StopsBy o (arrivals me.peer (frames_of (me.decoder.bytes ++ piece))) (me.decoder.bytes ++ piece) piece held d.taken
+  StopsAs o = StopsBy o (arrivals me.peer (frames_of (fed me.decoder piece))) (fed me.decoder piece) piece held d.taken
 
   pub nothing_stops : (stop : Stop) → d.stop ≡ Some stop → ⊥
   nothing_stops (Violated v) e = no_violation_stops (capacity_of me) (line_of me peer) (line_of peer me) me peer h.ends count within piece piece_is v held (subst StopsAs e says.stop)
   nothing_stops (Fault f) e = no_fault_stops (capacity_of me) (line_of me peer) (line_of peer me) me peer h.ends count within piece piece_is f held d.taken (subst StopsAs e says.stop)
 
-  pub delivery_brings : (new other : Endpoint) → d.stop ≡ None → new.peer ≡ q → new.decoder.bytes ≡ held → new.stream.items ≡ me.stream.items → new.delivered ≡ me.delivered → other.peer ≡ peer.peer → other.stream.items ≡ peer.stream.items → other.delivered ≡ peer.delivered + count → other.decoder.bytes ≡ peer.decoder.bytes → Brings me peer new other count d.frames
+  pub delivery_brings : (new other : Endpoint) → d.stop ≡ None → new.peer ≡ q → new.decoder ≡ held → new.stream.items ≡ me.stream.items → new.delivered ≡ me.delivered → other.peer ≡ peer.peer → other.stream.items ≡ peer.stream.items → other.delivered ≡ peer.delivered + count → other.decoder ≡ peer.decoder → Brings me peer new other count d.frames
   delivery_brings new other e ep eh es ed ep' es' ed' ec' =
-      let took : TookAll (arrivals me.peer (frames_of (me.decoder.bytes ++ piece))) (me.decoder.bytes ++ piece) piece held d.taken = subst StopsAs e says.stop in
+      let took : TookAll (arrivals me.peer (frames_of (fed me.decoder piece))) (fed me.decoder piece) piece held d.taken = subst StopsAs e says.stop in
       record {
         frames_are = frames_brought (capacity_of me) (line_of me peer) (line_of peer me) me peer h.ends count within piece piece_is new other d.frames (ep ∙ says.peer) says.frames (eh ∙ took.rest) es ed ep' es' ed' ec';
         ends = ends_brought (capacity_of me) (line_of me peer) (line_of peer me) me peer h.ends count within piece piece_is new other d.frames (ep ∙ says.peer) says.frames (eh ∙ took.rest) es ed ep' es' ed' ec';

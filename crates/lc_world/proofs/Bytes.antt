@@ -6,6 +6,7 @@ use Rattle.std.proofs.lemmas.List.{length-append}
 use Rattle.std.proofs.lemmas.List.Concat.{flat_map-cons}
 use Rattle.std.proofs.lemmas.Grind.{flat_map-append}
 use Rattle.std.proofs.Math.Seq.{take-append-add}
+use Rattle.lc_frame.specs.declared.version.Version.TheVariants.{One}
 use Rattle.lc_frame.specs.declared.frame.Frame.{Frame}
 use Rattle.lc_frame.specs.Encoding.{encoding}
 use Rattle.lc_world.specs.declared.event.Side.{Side}
@@ -22,10 +23,10 @@ use Rattle.lc_world.specs.Delivery.{bytes_of, delivered, HasBegun, IsCutByBytes,
 
 -- the bytes of one frame first, and of one list behind another
 pub size-cons : (f : Frame) (rest : List Frame) → length (bytes_of (f ∷ rest)) ≡ size f + length (bytes_of rest)
-size-cons f rest = ap length (flat_map-cons encoding f rest) ∙ length-append (encoding f) (bytes_of rest)
+size-cons f rest = ap length (flat_map-cons (encoding One) f rest) ∙ length-append (encoding One f) (bytes_of rest)
 
 pub bytes-append : (xs ys : List Frame) → length (bytes_of (xs ++ ys)) ≡ length (bytes_of xs) + length (bytes_of ys)
-bytes-append xs ys = ap length (flat_map-append encoding xs ys) ∙ length-append (bytes_of xs) (bytes_of ys)
+bytes-append xs ys = ap length (flat_map-append (encoding One) xs ys) ∙ length-append (bytes_of xs) (bytes_of ys)
 
 pub size-one : (f : Frame) → length (bytes_of (f ∷ [])) ≡ size f
 size-one f = size-cons f [] ∙ omega arith
@@ -134,7 +135,7 @@ more_is_missing (g ∷ mid) behind f n h = omega (arith, h, size-cons g mid)
 
 module _ (l : Line) (h : HasBegun l.in_flight l.begun) where
   front : bytes_of l.arrived ++ take l.begun (bytes_of l.in_flight) ≡ take (delivered l) (bytes_of (stream l))
-  front = sym (ap (take (delivered l)) (flat_map-append encoding l.arrived l.in_flight) ∙ take-append-add (bytes_of l.arrived) (bytes_of l.in_flight) l.begun)
+  front = sym (ap (take (delivered l)) (flat_map-append (encoding One) l.arrived l.in_flight) ∙ take-append-add (bytes_of l.arrived) (bytes_of l.in_flight) l.begun)
 
   whole : (before behind : List Frame) (f : Frame) → stream l ≡ before ++ f ∷ behind → (length before < length l.arrived) ↔ (length (bytes_of (before ++ f ∷ [])) ≤ delivered l)
   whole before behind f e =

@@ -1,11 +1,14 @@
 -- What an own event is to two ends.
-use Rattle.std.proofs.Common.{◌≡◌, ℕ, ◌+◌, ◌<◌, ◌≤◌, Bool, List, [], ◌∷◌, ◌++◌, length, get_or, set, take, drop, Option, Some, None, refl, sym, ap, ◌∙◌, subst, inl, inr, arith}
+use Rattle.lc_frame.specs.declared.version.Version.{Version}
+use Rattle.lc_frame.specs.Version.{version_of}
+use Rattle.std.proofs.Common.{◌≡◌, ℕ, ◌+◌, ◌<◌, ◌≤◌, Bool, List, [], ◌∷◌, ◌++◌, length, get_or, set, take, drop, Option, Some, None, refl, sym, ap, ◌∙◌, subst, inl, inr, arith, ap₂}
 use Rattle.std.specs.Prelude.{◌⊎◌, slice_get, All, IfSome, if◌then◌else◌}
 use Rattle.std.specs.List.{AllByRecursion}
 use Rattle.std.proofs.lemmas.Bool.Decides.{nat_tests}
 use Rattle.std.proofs.lemmas.List.{append-nil, length-set, get_or-set_same, get_or-set_other, take-append-le}
 use Rattle.std.proofs.lemmas.List.Concat.{flat_map-cons}
 use Rattle.std.proofs.lemmas.Grind.{flat_map-append}
+use Rattle.lc_frame.specs.declared.version.Version.TheVariants.{One}
 use Rattle.lc_frame.specs.declared.channel.Channel.{Channel}
 use Rattle.lc_frame.specs.declared.frame.Frame.{Frame}
 use Rattle.lc_frame.specs.declared.frame.Frame.TheVariants as frame
@@ -18,7 +21,6 @@ use Rattle.lc_book.specs.declared.fault.Refusal.TheVariants.{OutOfMemory}
 use Rattle.lc_book.specs.Client.{Client, amount_to_absolve}
 use Rattle.lc_book.specs.Server.{Server}
 use Rattle.lc_peer.specs.Peer.{PeerState, channel, server}
-use Rattle.lc_frame.specs.StreamDecoder.{Held}
 use Rattle.lc_peer.specs.Calls.{book_refusal, refusal_by_books, put, due, absolvings, put_honour, next, without_next, queue_refusal}
 use Rattle.lc_peer.specs.Streams.{IsChannelOf, IsEndOf, Streams, IsPeerOf, at, then_put, then_honours}
 use Rattle.lc_peer.proofs.StreamsKept.{calls_keep_streams}
@@ -31,11 +33,11 @@ use Rattle.lc_world.specs.declared.event.Answer.TheVariants.{Accepted, Absolved,
 use Rattle.lc_world.specs.State.{Line, stream, client_book, server_book, put_on, forget_on, size}
 use Rattle.lc_world.specs.Answers.{judged, honoured, frame_put, MayWantMemory, IsUnlessMemory, IsAnswerOf, put_any, mine_after, theirs_after}
 use Rattle.lc_world.specs.Delivery.{bytes_of, delivered, HasBegun}
-use Rattle.lc_world.specs.Endpoint.{line_of, capacity_of, streams_of, of_lines, IsPeerBetween, IsEnd, IsLine, AreEnds, AreInStep, Acts}
+use Rattle.lc_world.specs.Endpoint.{line_of, capacity_of, streams_of, of_lines, IsPeerBetween, IsEnd, IsLine, AreEnds, AreInStep, Acts, held_of}
 use Rattle.lc_world.specs.Calls.{with_next, own_channel, after_call, IsCallAnswer, Called}
 use Rattle.lc_world.proofs.Streams.{stream-put}
 use Rattle.lc_world.proofs.Steps.{sound_step}
-use Rattle.lc_world.proofs.Bytes.{begun_within, begun_mine}
+use Rattle.lc_world.proofs.Bytes.{begun_within, begun_mine, bytes-append}
 use Rattle.lc_world.proofs.Parts.{each_append}
 use Rattle.lc_world.proofs.Ends.{client_is, server_is}
 
@@ -71,11 +73,11 @@ module _ {X : Type 0} (xs : List X) (e : X) where
       ]
 
 -- the bytes of a stream with a frame more
-pub bytes_put : (l : Line) (f : Frame) → bytes_of (stream (put_on l f)) ≡ bytes_of (stream l) ++ encoding f
+pub bytes_put : (l : Line) (f : Frame) → bytes_of (stream (put_on l f)) ≡ bytes_of (stream l) ++ encoding One f
 bytes_put l f =
     ap bytes_of (stream-put l f)
-    ∙ (flat_map-append encoding (stream l) (f ∷ [])
-    ∙ ap (λ (x : List ℕ). bytes_of (stream l) ++ x) (flat_map-cons encoding f [] ∙ append-nil (encoding f)))
+    ∙ (flat_map-append (encoding One) (stream l) (f ∷ [])
+    ∙ ap (λ (x : List ℕ). bytes_of (stream l) ++ x) (flat_map-cons (encoding One) f [] ∙ append-nil (encoding One f)))
 
 -- the answer to an honour says what is due
 absolved_due : (o : Option ℕ) (amount : ℕ) → (Absolved amount ≡ honoured o) ⊎ (Unit {0} × (Absolved amount ≡ Refused OutOfMemory)) → o ≡ Some amount
@@ -138,11 +140,11 @@ module _ (k : ℕ) (mine theirs : Line) (p : PeerState) (h : IsPeerBetween k min
   called act answer d e places r = stays
 
 -- what the two lines keep
-pub line_put : (l : Line) (o : Option Frame) → IfSome o IsValid → IsLine l → IsLine (put_any l o)
+pub line_put : (l : Line) (o : Option Frame) → IfSome o (IsValid One) → IsLine l → IsLine (put_any l o)
 line_put l None valid h = h
 line_put l (Some f) valid h =
     record {
-      valid = subst (λ (fs : List Frame). AllByRecursion IsValid fs) (sym (stream-put l f)) (each_append (stream l) (f ∷ []) h.valid (valid, tt));
+      valid = subst (λ (fs : List Frame). AllByRecursion (IsValid One) fs) (sym (stream-put l f)) (each_append (stream l) (f ∷ []) h.valid (valid, tt));
       begun = begun_mine l (Some f) h.begun;
       taken_places = h.taken_places;
       asked_places = h.asked_places;
@@ -150,6 +152,18 @@ line_put l (Some f) valid h =
 
 line_forgets : (l : Line) (c : Channel) → IsLine l → IsLine (forget_on c l)
 line_forgets l c h = record { valid = h.valid; begun = h.begun; taken_places = h.taken_places; asked_places = length-set l.asked (number_of c) None ∙ h.asked_places }
+
+delivered_within : (l : Line) → HasBegun l.in_flight l.begun → delivered l ≤ length (bytes_of (stream l))
+delivered_within l begun = omega (arith, bytes-append l.arrived l.in_flight, begun_within l.in_flight l.begun begun)
+
+-- what is held of a line is so with a frame more
+held_put : (l : Line) (f : Frame) → HasBegun l.in_flight l.begun → held_of l ≡ held_of (put_on l f)
+held_put l f begun =
+    let version : take (delivered l) (bytes_of (stream l)) ≡ take (delivered l) (bytes_of (stream (put_on l f))) =
+    sym (ap (take (delivered l)) (bytes_put l f) ∙ take-append-le (delivered l) (bytes_of (stream l)) (encoding One f) (delivered_within l begun)) in
+    let bytes : take l.begun (bytes_of l.in_flight) ≡ take l.begun (bytes_of (l.in_flight ++ f ∷ [])) =
+    sym (ap (take l.begun) (flat_map-append (encoding One) l.in_flight (f ∷ [])) ∙ take-append-le l.begun (bytes_of l.in_flight) (bytes_of (f ∷ [])) (begun_within l.in_flight l.begun begun)) in
+    ap₂ (λ (o : Option Version) (x : List ℕ). record { version = o; bytes = x }) (ap version_of version) bytes
 
 -- the end that reads a line with a frame more, and the one that writes a line of which a plead is forgotten
 reader_of_put : (k : ℕ) (mine theirs : Line) (e : Endpoint) (o : Option Frame) → HasBegun mine.in_flight mine.begun → IsEnd k theirs mine e → IsEnd k theirs (put_any mine o) e
@@ -160,7 +174,7 @@ reader_of_put k mine theirs e (Some f) begun h =
       bytes = h.bytes;
       are_bytes = h.are_bytes;
       count = h.count;
-      held = h.held ∙ sym (ap (take mine.begun) (flat_map-append encoding mine.in_flight (f ∷ [])) ∙ take-append-le mine.begun (bytes_of mine.in_flight) (bytes_of (f ∷ [])) (begun_within mine.in_flight mine.begun begun));
+      held = h.held ∙ held_put mine f begun;
     }
 
 writer_forgets : (k : ℕ) (mine theirs : Line) (e : Endpoint) (c : Channel) → IsEnd k theirs mine e → IsEnd k (forget_on c theirs) mine e
@@ -206,7 +220,7 @@ module _ (k : ℕ) (mine theirs : Line) where
   next_is (LimitReceiving c n) Accepted d p e h r = ap (λ (fs : List Frame). slice_get (fs ++ frame.LimitReceiving c n ∷ []) 0) h.none_waits
   next_is act answer d p e h r = ap (λ (fs : List Frame). slice_get fs 0) h.none_waits
 
-  held_same : (act : Act) (answer : Answer) (d : Channel) → own_channel act ≡ Some d → take theirs.begun (bytes_of theirs.in_flight) ≡ take (theirs_after mine theirs act answer).begun (bytes_of (theirs_after mine theirs act answer).in_flight)
+  held_same : (act : Act) (answer : Answer) (d : Channel) → own_channel act ≡ Some d → held_of theirs ≡ held_of (theirs_after mine theirs act answer)
   held_same Arrive answer d e = absurd (let f = e in cc)
   held_same (Deliver count) answer d e = absurd (let f = e in cc)
   held_same (Take c) answer d e = absurd (let f = e in cc)
@@ -254,7 +268,7 @@ module _ (k : ℕ) (mine theirs : Line) where
 
 -- an own event at the first of two ends
 module _ (k : ℕ) (mine theirs : Line) (me peer : Endpoint) (h : AreEnds k mine theirs me peer) where
-  own_ends : (new : Endpoint) (act : Act) (answer : Answer) (d : Channel) → own_channel act ≡ Some d → IsAnswerOf k mine theirs act answer → IfSome (frame_put act answer) IsValid → Writes me new act answer → AreEnds k (mine_after mine theirs act answer) (theirs_after mine theirs act answer) new peer
+  own_ends : (new : Endpoint) (act : Act) (answer : Answer) (d : Channel) → own_channel act ≡ Some d → IsAnswerOf k mine theirs act answer → IfSome (frame_put act answer) (IsValid One) → Writes me new act answer → AreEnds k (mine_after mine theirs act answer) (theirs_after mine theirs act answer) new peer
   own_ends new act answer d e right valid w =
       let o : Option Frame = frame_put act answer in
       record {
@@ -264,7 +278,7 @@ module _ (k : ℕ) (mine theirs : Line) (me peer : Endpoint) (h : AreEnds k mine
           bytes = w.stream ∙ (ap (λ (x : List ℕ). with_next o x) h.my_end.bytes ∙ stream_with mine o);
           are_bytes = w.are_bytes;
           count = w.delivered ∙ (h.my_end.count ∙ count_with mine o);
-          held = ap (λ (x : Held). x.bytes) w.decoder ∙ (h.my_end.held ∙ held_same k mine theirs act answer d e);
+          held = w.decoder ∙ (h.my_end.held ∙ held_same k mine theirs act answer d e);
         };
         their_end = their_end k mine theirs act answer d peer e h.my_line.begun h.their_end;
         my_line = line_put mine o valid h.my_line;
@@ -273,7 +287,7 @@ module _ (k : ℕ) (mine theirs : Line) (me peer : Endpoint) (h : AreEnds k mine
       }
 
 module _ (me peer : Endpoint) (h : AreInStep me peer) where
-  pub own_acts : (new : Endpoint) (act : Act) (answer : Answer) (d : Channel) → own_channel act ≡ Some d → IsAnswerOf (capacity_of me) (line_of me peer) (line_of peer me) act answer → IfSome (frame_put act answer) IsValid → Writes me new act answer → Acts me peer new peer act answer
+  pub own_acts : (new : Endpoint) (act : Act) (answer : Answer) (d : Channel) → own_channel act ≡ Some d → IsAnswerOf (capacity_of me) (line_of me peer) (line_of peer me) act answer → IfSome (frame_put act answer) (IsValid One) → Writes me new act answer → Acts me peer new peer act answer
   own_acts new act answer d e right valid w = record { right = right; ends = own_ends (capacity_of me) (line_of me peer) (line_of peer me) me peer h.ends new act answer d e right valid w }
 
   pub between : IsPeerBetween (capacity_of me) (line_of me peer) (line_of peer me) me.peer
@@ -291,9 +305,9 @@ module _ (me peer : Endpoint) (h : AreInStep me peer) where
     goes_next : next q ≡ frame_put act answer
     goes_next = ap next call.after ∙ next_is (capacity_of me) (line_of me peer) (line_of peer me) act answer d me.peer own between right_now
 
-    pub own_returns : (bytes : List ℕ) → new.peer ≡ without_next q → new.stream.items ≡ with_next (next q) bytes → bytes ≡ me.stream.items → IfSome (next q) IsValid → All (λ b. b < 256) new.stream.items → new.delivered ≡ me.delivered → new.decoder ≡ me.decoder → Acts me peer new peer act answer
+    pub own_returns : (bytes : List ℕ) → new.peer ≡ without_next q → new.stream.items ≡ with_next (next q) bytes → bytes ≡ me.stream.items → IfSome (next q) (IsValid One) → All (λ b. b < 256) new.stream.items → new.delivered ≡ me.delivered → new.decoder ≡ me.decoder → Acts me peer new peer act answer
     own_returns bytes ep es eb valid all ed ec =
-        own_acts new act answer d own right_now (subst (λ (o : Option Frame). IfSome o IsValid) goes_next valid) (record {
+        own_acts new act answer d own right_now (subst (λ (o : Option Frame). IfSome o (IsValid One)) goes_next valid) (record {
           peer = ep ∙ ap without_next call.after;
           stream = es ∙ (ap (λ (o : Option Frame). with_next o bytes) goes_next ∙ ap (λ (x : List ℕ). with_next (frame_put act answer) x) eb);
           are_bytes = all;
@@ -301,10 +315,10 @@ module _ (me peer : Endpoint) (h : AreInStep me peer) where
           decoder = ec;
         })
 
-    pub own_room : (len room cap : ℕ) → ((a : Answer) → IfSome (frame_put act a) (λ f. IsValid f → size f ≤ room)) → len + room ≤ cap → IfSome (next q) (λ f. IsValid f → len + size f ≤ cap)
-    own_room len room cap most le = subst (λ (o : Option Frame). IfSome o (λ f. IsValid f → len + size f ≤ cap)) (sym goes_next) (fits (frame_put act answer) (most answer))
+    pub own_room : (len room cap : ℕ) → ((a : Answer) → IfSome (frame_put act a) (λ f. IsValid One f → size f ≤ room)) → len + room ≤ cap → IfSome (next q) (λ f. IsValid One f → len + size f ≤ cap)
+    own_room len room cap most le = subst (λ (o : Option Frame). IfSome o (λ f. IsValid One f → len + size f ≤ cap)) (sym goes_next) (fits (frame_put act answer) (most answer))
       where
-        fits : (o : Option Frame) → IfSome o (λ f. IsValid f → size f ≤ room) → IfSome o (λ f. IsValid f → len + size f ≤ cap)
+        fits : (o : Option Frame) → IfSome o (λ f. IsValid One f → size f ≤ room) → IfSome o (λ f. IsValid One f → len + size f ≤ cap)
         fits None h = tt
         fits (Some f) h = λ valid. omega (arith, h valid, le)
 

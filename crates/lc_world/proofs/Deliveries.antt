@@ -1,9 +1,11 @@
 -- The answers to a delivery and to an arrival.
+use Rattle.lc_frame.specs.Held.{Held}
 use Rattle.std.proofs.Common.{◌≡◌, ℕ, ◌+◌, ◌<◌, ◌≤◌, List, [], ◌∷◌, ◌++◌, length, take, drop, Option, None, refl, sym, ap, ap₂, ◌∙◌, subst, inl, inr, arith}
 use Rattle.std.specs.Prelude.{◌-◌, min}
 use Rattle.std.proofs.lemmas.List.{length-append, length-take, length-drop, take_all}
 use Rattle.std.proofs.lemmas.Grind.{flat_map-append}
 use Rattle.std.proofs.Math.Seq.{drop-append_seam}
+use Rattle.lc_frame.specs.declared.version.Version.TheVariants.{One}
 use Rattle.lc_frame.specs.declared.frame.Frame.{Frame}
 use Rattle.lc_frame.specs.declared.frame_fault.FrameFault.{FrameFault}
 use Rattle.std.specs.List.{AllByRecursion}
@@ -59,7 +61,7 @@ delivers_as k mine theirs count f rest e passes =
 
 module _ (k : ℕ) (mine theirs : Line) (me peer : Endpoint) (h : AreEnds k mine theirs me peer) where
   joined : peer.stream.items ≡ bytes_of theirs.arrived ++ bytes_of theirs.in_flight
-  joined = h.their_end.bytes ∙ flat_map-append encoding theirs.arrived theirs.in_flight
+  joined = h.their_end.bytes ∙ flat_map-append (encoding One) theirs.arrived theirs.in_flight
 
   whole : length peer.stream.items ≡ length (bytes_of theirs.arrived) + length (bytes_of theirs.in_flight)
   whole = ap length joined ∙ length-append (bytes_of theirs.arrived) (bytes_of theirs.in_flight)
@@ -74,7 +76,7 @@ module _ (k : ℕ) (mine theirs : Line) (me peer : Endpoint) (h : AreEnds k mine
   left_is = omega (arith, whole, h.their_end.count)
 
   pub held_is : length me.decoder.bytes ≡ theirs.begun
-  held_is = ap length h.my_end.held ∙ omega (arith, length-take theirs.begun (bytes_of theirs.in_flight), begun_within theirs.in_flight theirs.begun h.their_line.begun)
+  held_is = ap (λ (x : Held). length x.bytes) h.my_end.held ∙ omega (arith, length-take theirs.begun (bytes_of theirs.in_flight), begun_within theirs.in_flight theirs.begun h.their_line.begun)
 
   -- what stands behind what the decoder holds is the first frame in flight
   text_is : drop (peer.delivered - length me.decoder.bytes) peer.stream.items ≡ bytes_of theirs.in_flight
@@ -82,10 +84,10 @@ module _ (k : ℕ) (mine theirs : Line) (me peer : Endpoint) (h : AreEnds k mine
       ap₂ (λ (n : ℕ) (x : List ℕ). drop n x) (let e : peer.delivered - length me.decoder.bytes ≡ length (bytes_of theirs.arrived) = omega (arith, h.their_end.count, held_is) in e) joined
       ∙ drop-append_seam (bytes_of theirs.arrived) (bytes_of theirs.in_flight)
 
-  stands : (f : Frame) (rest : List Frame) → theirs.in_flight ≡ f ∷ rest → FrameStands f (drop (peer.delivered - length me.decoder.bytes) peer.stream.items)
+  stands : (f : Frame) (rest : List Frame) → theirs.in_flight ≡ f ∷ rest → FrameStands One f (drop (peer.delivered - length me.decoder.bytes) peer.stream.items)
   stands f rest e =
-      subst (FrameStands f) (sym (text_is ∙ ap bytes_of e))
-      (first_stands f rest (subst (λ (fs : List Frame). AllByRecursion IsValid fs) e (each_behind theirs.arrived theirs.in_flight h.their_line.valid)).0)
+      subst (FrameStands One f) (sym (text_is ∙ ap bytes_of e))
+      (first_stands f rest (subst (λ (fs : List Frame). AllByRecursion (IsValid One) fs) e (each_behind theirs.arrived theirs.in_flight h.their_line.valid)).0)
 
 module _ (me peer : Endpoint) (h : AreInStep me peer) where
   abbrev k : ℕ
@@ -126,16 +128,16 @@ module _ (me peer : Endpoint) (h : AreInStep me peer) where
     is_first : theirs.in_flight ≡ first ∷ rest
     is_first = (first_in_flight k mine theirs me peer h.ends lt).2
 
-    first_there : FrameStands first bytes
-    first_there = subst (FrameStands first) (sym (bytes_are ∙ ap (λ (n : ℕ). drop (peer.delivered - n) peer.stream.items) held_says)) (stands k mine theirs me peer h.ends first rest is_first)
+    first_there : FrameStands One first bytes
+    first_there = subst (FrameStands One first) (sym (bytes_are ∙ ap (λ (n : ℕ). drop (peer.delivered - n) peer.stream.items) held_says)) (stands k mine theirs me peer h.ends first rest is_first)
 
-    pub first_is_known : IsOpen bytes → ⊥
+    pub first_is_known : IsOpen One bytes → ⊥
     first_is_known is_open = is_open.no_frame first first_there
 
-    pub first_is_no_fault : (e : FrameFault) → OnlyFault e bytes → ⊥
+    pub first_is_no_fault : (e : FrameFault) → OnlyFault One e bytes → ⊥
     first_is_no_fault e only = only.no_frame first first_there
 
-    module _ (f : Frame) (used : ℕ) (only : OnlyFrame f bytes) (used_is : used ≡ length (encoding f)) where
+    module _ (f : Frame) (used : ℕ) (only : OnlyFrame One f bytes) (used_is : used ≡ length (encoding One f)) where
       used_first : used ≡ size first
       used_first = used_is ∙ ap size (sym (only.same first first_there))
 

@@ -1,9 +1,11 @@
 -- Two ends stand for the lines that they are the ends of.
-use Rattle.std.proofs.Common.{◌≡◌, ℕ, ◌<◌, List, [], ◌∷◌, length, map, get_or, take, drop, Option, None, refl, sym, ap, ap₂, ◌∙◌, subst, arith}
+use Rattle.std.proofs.Common.{◌≡◌, ℕ, ◌<◌, List, [], ◌∷◌, length, map, get_or, take, drop, Option, None, refl, sym, ap, ap₂, ◌∙◌, subst, arith, Some}
 use Rattle.std.specs.Prelude.{◌-◌, All}
 use Rattle.std.proofs.lemmas.List.{append-nil, length-drop, length-take}
 use Rattle.std.proofs.lemmas.List.Elements.{All-take}
 use Rattle.std.proofs.Math.Seq.{drop-append_seam}
+use Rattle.lc_frame.specs.Held.{held_in}
+use Rattle.lc_frame.specs.declared.version.Version.TheVariants.{One}
 use Rattle.lc_frame.specs.declared.channel.Channel.{Channel}
 use Rattle.lc_frame.specs.declared.channel.Channel.TheVariants.{ReconciliationChannel}
 use Rattle.lc_frame.specs.declared.frame.Frame.{Frame}
@@ -63,19 +65,19 @@ module _ (k : ℕ) (mine theirs : Line) (p : PeerState) (h : IsPeerBetween k min
 
 -- the frames of the bytes of a line
 record Reads (bytes : List ℕ) (count : ℕ) (l : Line) : Type 0 where
-  all : frames_of bytes ≡ stream l
-  came : frames_of (take count bytes) ≡ l.arrived
-  rest : rest_of (take count bytes) ≡ take l.begun (bytes_of l.in_flight)
+  all : frames_of (held_in One bytes) ≡ stream l
+  came : frames_of (held_in One (take count bytes)) ≡ l.arrived
+  rest : (rest_of (held_in One (take count bytes))).bytes ≡ take l.begun (bytes_of l.in_flight)
 
 reads : (l : Line) → IsLine l → All (λ b. b < 256) (bytes_of (stream l)) → Reads (bytes_of (stream l)) (delivered l) l
 reads l h all =
     let text : List ℕ = bytes_of (stream l) in
     let came = each_first l.arrived l.in_flight h.valid in
     let rest = each_behind l.arrived l.in_flight h.valid in
-    let cut : Splits (take (delivered l) text) l.arrived (take l.begun (bytes_of l.in_flight)) =
-    subst (λ (x : List ℕ). Splits x l.arrived (take l.begun (bytes_of l.in_flight))) (is_cut l h.begun).front (part_splits l.arrived l.in_flight l.begun came rest h.begun) in
-    let whole : Splits text (stream l) [] =
-    subst (λ (x : List ℕ). Splits x (stream l) []) (append-nil text) (part_splits (stream l) [] 0 h.valid tt refl) in
+    let cut : Splits (Some One) (take (delivered l) text) l.arrived (take l.begun (bytes_of l.in_flight)) =
+    subst (λ (x : List ℕ). Splits (Some One) x l.arrived (take l.begun (bytes_of l.in_flight))) (is_cut l h.begun).front (part_splits l.arrived l.in_flight l.begun came rest h.begun) in
+    let whole : Splits (Some One) text (stream l) [] =
+    subst (λ (x : List ℕ). Splits (Some One) x (stream l) []) (append-nil text) (part_splits (stream l) [] 0 h.valid tt refl) in
     let part = frames_are (take (delivered l) text) l.arrived (take l.begun (bytes_of l.in_flight)) (All-take (λ b. b < 256) (delivered l) text all) cut in
     record { all = (frames_are text (stream l) [] all whole).0; came = part.0; rest = part.1 }
 
@@ -94,7 +96,7 @@ line_in_is bytes count p l h r taken asked =
     r.came
     (ap₂ (λ (xs fs : List Frame). drop (length xs) fs) r.came r.all ∙ drop-append_seam l.arrived l.in_flight)
     (ap length r.rest ∙ omega (arith, length-take l.begun (bytes_of l.in_flight), begun_within l.in_flight l.begun h.begun))
-    (taken (frames_of (take count bytes)) r.came)
+    (taken (frames_of (held_in One (take count bytes))) r.came)
     asked
 
 line_is : (k : ℕ) (mine theirs : Line) (writer reader : Endpoint) → IsLine mine → IsEnd k mine theirs writer → IsEnd k theirs mine reader → line_of writer reader ≡ mine

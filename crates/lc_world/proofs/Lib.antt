@@ -16,6 +16,7 @@ pub mod Parts
 pub mod Ends
 pub mod Calls
 pub mod Answered
+pub mod Fed
 pub mod Brings
 pub mod Deliveries
 pub mod Takes

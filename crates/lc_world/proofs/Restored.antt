@@ -2,6 +2,7 @@
 use Rattle.std.proofs.Common.{◌≡◌, ℕ, ◌+◌, ◌≤◌, Bool, false, List, [], ◌∷◌, ◌++◌, Option, Some, None, refl, sym, ap, ◌∙◌, inl, arith}
 use Rattle.std.specs.Prelude.{◌==◌, nat_lt, if◌then◌else◌}
 use Rattle.std.proofs.lemmas.Bool.Decides.{nat_tests}
+use Rattle.lc_frame.specs.declared.version.Version.TheVariants.{One}
 use Rattle.lc_frame.specs.declared.channel.Channel.{Channel}
 use Rattle.lc_frame.specs.declared.frame.Frame.{Frame}
 use Rattle.lc_frame.specs.declared.frame.Frame.TheVariants as frame
@@ -41,9 +42,9 @@ may_issue : (b : Server) (n : ℕ) → 1 ≤ n → is_past b.receive_left n ≡ 
 may_issue b n some free fits total =
     not_this (n == 0) _ _ (not_zero n some) (not_this (is_past b.receive_left n) _ _ free (not_this (nat_lt (room b) n) _ _ (not_below (room b) n fits) (not_this (nat_lt max_total (b.issued + n)) _ _ (not_below max_total (b.issued + n) total) refl)))
 
-may_send : (b : Client) (n : ℕ) → 1 ≤ n → n ≤ max_body → is_past b.send_left n ≡ false → n ≤ held b → spend_refusal b n ≡ None
+may_send : (b : Client) (n : ℕ) → 1 ≤ n → n ≤ (max_body One) → is_past b.send_left n ≡ false → n ≤ held b → spend_refusal b n ≡ None
 may_send b n some small free fits =
-    not_this (n == 0) _ _ (not_zero n some) (not_this (nat_lt max_body n) _ _ (not_below max_body n small) (not_this (is_past b.send_left n) _ _ free (not_this (nat_lt (held b) n) _ _ (not_below (held b) n fits) refl)))
+    not_this (n == 0) _ _ (not_zero n some) (not_this (nat_lt (max_body One) n) _ _ (not_below (max_body One) n small) (not_this (is_past b.send_left n) _ _ free (not_this (nat_lt (held b) n) _ _ (not_below (held b) n fits) refl)))
 
 -- the frame that was put is the only one in flight, and it arrives
 only_one : (l : Line) (f : Frame) → l.in_flight ≡ [] → (put_on l f).in_flight ≡ f ∷ []

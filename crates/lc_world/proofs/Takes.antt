@@ -6,7 +6,6 @@ use Rattle.std.proofs.lemmas.List.{length-set}
 use Rattle.lc_frame.specs.declared.channel.Channel.{Channel}
 use Rattle.lc_frame.specs.Channel.{number_of}
 use Rattle.lc_frame.proofs.Channels.{number_below}
-use Rattle.lc_frame.specs.StreamDecoder.{Held}
 use Rattle.lc_book.specs.declared.fault.Refusal.TheVariants.{OutOfMemory}
 use Rattle.lc_book.specs.Server.{Server}
 use Rattle.lc_peer.specs.declared.inbox.Take.{Take as Taken}
@@ -90,7 +89,7 @@ module _ (k : ℕ) (mine theirs : Line) (me peer : Endpoint) (h : AreEnds k mine
           bytes = es ∙ h.my_end.bytes;
           are_bytes = subst (λ (x : List ℕ). All (λ b. b < 256) x) (sym (es)) h.my_end.are_bytes;
           count = ed ∙ h.my_end.count;
-          held = ap (λ (x : Held). x.bytes) ec ∙ h.my_end.held;
+          held = ec ∙ h.my_end.held;
         };
         their_end = record {
           peer = record { sums = h.their_end.peer.sums; one_slot = h.their_end.peer.one_slot; none_waits = h.their_end.peer.none_waits };
@@ -118,7 +117,7 @@ module _ (k : ℕ) (mine theirs : Line) (me peer : Endpoint) (h : AreEnds k mine
           bytes = es ∙ h.my_end.bytes;
           are_bytes = subst (λ (x : List ℕ). All (λ b. b < 256) x) (sym (es)) h.my_end.are_bytes;
           count = ed ∙ h.my_end.count;
-          held = ap (λ (x : Held). x.bytes) ec ∙ h.my_end.held;
+          held = ec ∙ h.my_end.held;
         };
         their_end = h.their_end;
         my_line = h.my_line;

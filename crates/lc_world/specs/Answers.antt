@@ -2,6 +2,7 @@
 use Rattle.std.specs.Prelude.{◌≡◌, ℕ, zero, ◌+◌, ◌-◌, min, nat_lt, if◌then◌else◌, ◌⊎◌, List, [], ◌∷◌, length, drop, Option, Some, None}
 use Rattle.std.specs.List.{flat_map}
 use Rattle.std.specs.Option.{option_or, option_and_then}
+use Rattle.lc_frame.specs.declared.version.Version.TheVariants.{One}
 use Rattle.lc_frame.specs.declared.channel.Channel.{Channel}
 use Rattle.lc_frame.specs.declared.frame.Frame.{Frame}
 use Rattle.lc_frame.specs.declared.frame.Frame.TheVariants as frame
@@ -67,7 +68,7 @@ arrive_answer capacity mine theirs (f ∷ rest) = arrival (violation (client_boo
 
 -- the bytes in flight
 abbrev pub bytes_in_flight : Line → ℕ
-bytes_in_flight l = length (flat_map encoding l.in_flight) - l.begun
+bytes_in_flight l = length (flat_map (encoding One) l.in_flight) - l.begun
 
 -- so many bytes of the frames in flight have been delivered: the violation of the first whole one that has any, by the books after those before it
 abbrev pub delivery_violation : ℕ → Line → List Frame → ℕ → Line → Option Violation

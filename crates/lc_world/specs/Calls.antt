@@ -1,5 +1,7 @@
 -- What an own event is to the peer of its side, for src/endpoint.rt and src/act.rt.
 use Rattle.std.specs.Prelude.{◌≡◌, ℕ, List, [], ◌++◌, replicate, Option, Some, None, IfSome, Result, Ok, Err}
+use Rattle.lc_frame.specs.Held.{nothing_held}
+use Rattle.lc_frame.specs.declared.version.Version.TheVariants.{One}
 use Rattle.lc_frame.specs.declared.channel.Channel.{Channel}
 use Rattle.lc_frame.specs.declared.frame.Frame.{Frame}
 use Rattle.lc_frame.specs.Encoding.{encoding}
@@ -19,12 +21,12 @@ pub record IsNewEnd (capacity : ℕ) (e : Endpoint) : Type 0 where
   pub peer : e.peer ≡ new_peer (record { capacities = replicate 7 capacity; slots = 1 })
   pub stream : e.stream.items ≡ []
   pub delivered : e.delivered ≡ 0
-  pub decoder : e.decoder.bytes ≡ []
+  pub decoder : e.decoder ≡ nothing_held
 
 -- a stream of bytes with a frame, if there is one, put last
 abbrev pub with_next : Option Frame → List ℕ → List ℕ
 with_next None bytes = bytes
-with_next (Some f) bytes = bytes ++ encoding f
+with_next (Some f) bytes = bytes ++ encoding One f
 
 -- the channel of an own event
 abbrev pub own_channel : Act → Option Channel

@@ -1,5 +1,6 @@
 -- Where the bytes of a ring are. That guarantees are neither lost nor made up is LCMUX's; that each byte is always in one place, and comes back, is this project's own way to say it.
 use Rattle.std.specs.Prelude.{◌≡◌, ℕ, ◌+◌, ◌≤◌, min, false, [], ◌∷◌, ◌++◌, None}
+use Rattle.lc_frame.specs.declared.version.Version.TheVariants.{One}
 use Rattle.lc_frame.specs.declared.channel.Channel.{Channel}
 use Rattle.lc_frame.specs.Kind.{max_body, max_total}
 use Rattle.lc_frame.specs.Stream.{cost, issued, absolved}
@@ -42,7 +43,7 @@ reissue s c n = (record { side = other s; act = Issue c n }, Accepted) ∷ (reco
 pub record IsRestored (capacity : ℕ) (history : History) (s : Side) (c : Channel) : Type 0 where
   pub legal : IsHistory capacity history
   pub full : held (client (state_of capacity history) s c) ≡ capacity
-  pub sends : (len : ℕ) → 1 ≤ len → len ≤ min capacity max_body → is_past (client (state_of capacity history) s c).send_left len ≡ false → spend_refusal (client (state_of capacity history) s c) len ≡ None
+  pub sends : (len : ℕ) → 1 ≤ len → len ≤ min capacity (max_body One) → is_past (client (state_of capacity history) s c).send_left len ≡ false → spend_refusal (client (state_of capacity history) s c) len ≡ None
 
 -- so it is once there was room, neither a limit nor the greatest total forbade to issue it, and it has arrived
 abbrev pub CreditComesBack : Type 0

@@ -1,6 +1,7 @@
 -- The bytes of a stream, and which of its frames have arrived when so many of them were delivered. That a stream keeps its order is LCMUX's; that it may be cut at any byte is this project's own.
 use Rattle.std.specs.Prelude.{◌≡◌, ◌↔◌, ℕ, ◌+◌, ◌-◌, ◌<◌, ◌≤◌, min, List, [], ◌∷◌, ◌++◌, length, take}
 use Rattle.std.specs.List.{flat_map}
+use Rattle.lc_frame.specs.declared.version.Version.TheVariants.{One}
 use Rattle.lc_frame.specs.declared.frame.Frame.{Frame}
 use Rattle.lc_frame.specs.Encoding.{encoding}
 use Rattle.lc_world.specs.declared.event.Side.{Side}
@@ -11,7 +12,7 @@ use Rattle.lc_world.specs.Guarantee.{state_of}
 
 -- the bytes of frames, one frame after the other
 abbrev pub bytes_of : List Frame → List ℕ
-bytes_of frames = flat_map encoding frames
+bytes_of frames = flat_map (encoding One) frames
 
 -- how many bytes of a stream were delivered
 abbrev pub delivered : Line → ℕ

@@ -1,6 +1,9 @@
 -- One end of a world as it is kept, the lines that two of them stand for, and what they keep. A device of the proofs: a world is seen as the lines alone.
 use Rattle.std.specs.Prelude.{◌≡◌, ℕ, ◌+◌, ◌-◌, ◌<◌, ◌≤◌, List, [], ◌∷◌, length, map, take, drop, All, Option}
 use Rattle.std.specs.List.{AllByRecursion}
+use Rattle.lc_frame.specs.Held.{Held, held_in}
+use Rattle.lc_frame.specs.Version.{version_of}
+use Rattle.lc_frame.specs.declared.version.Version.TheVariants.{One}
 use Rattle.lc_frame.specs.declared.channel.Channel.{Channel}
 use Rattle.lc_frame.specs.declared.channel.Channel.TheVariants.{ReconciliationChannel, DataChannel, OverlapChannel, CapabilityChannel, AreaOfInterestChannel, PayloadRequestChannel, StaticTokenChannel}
 use Rattle.lc_frame.specs.declared.frame.Frame.{Frame}
@@ -32,10 +35,10 @@ pleads_of reader = map (λ c. (client reader c).asked) every_channel
 -- the line of a stream of bytes, of which so many were delivered to its reader
 abbrev pub line_in : List ℕ → ℕ → PeerState → Line
 line_in bytes count reader = record {
-  arrived = frames_of (take count bytes);
-  in_flight = drop (length (frames_of (take count bytes))) (frames_of bytes);
-  begun = length (rest_of (take count bytes));
-  taken = taken_by reader (frames_of (take count bytes));
+  arrived = frames_of (held_in One (take count bytes));
+  in_flight = drop (length (frames_of (held_in One (take count bytes)))) (frames_of (held_in One bytes));
+  begun = length (rest_of (held_in One (take count bytes))).bytes;
+  taken = taken_by reader (frames_of (held_in One (take count bytes)));
   asked = pleads_of reader;
 }
 
@@ -60,17 +63,21 @@ pub record IsPeerBetween (capacity : ℕ) (mine theirs : Line) (p : PeerState) :
   pub one_slot : p.slots ≡ 1
   pub none_waits : p.waiting ≡ []
 
+-- what the reader of a line holds: what was delivered of its first frame in flight, and from the first byte of the stream on the version
+abbrev pub held_of : Line → Held
+held_of l = record { version = version_of (take (delivered l) (bytes_of (stream l))); bytes = take l.begun (bytes_of l.in_flight) }
+
 -- the end of two lines: its peer is theirs, its stream is the bytes of the first, and its decoder holds what was delivered of a frame of the second
 pub record IsEnd (capacity : ℕ) (mine theirs : Line) (e : Endpoint) : Type 0 where
   pub peer : IsPeerBetween capacity mine theirs e.peer
   pub bytes : e.stream.items ≡ bytes_of (stream mine)
   pub are_bytes : All (λ b. b < 256) e.stream.items
   pub count : e.delivered ≡ delivered mine
-  pub held : e.decoder.bytes ≡ take theirs.begun (bytes_of theirs.in_flight)
+  pub held : e.decoder ≡ held_of theirs
 
 -- what every line keeps
 pub record IsLine (l : Line) : Type 0 where
-  pub valid : AllByRecursion IsValid (stream l)
+  pub valid : AllByRecursion (IsValid One) (stream l)
   pub begun : HasBegun l.in_flight l.begun
   pub taken_places : length l.taken ≡ 7
   pub asked_places : length l.asked ≡ 7

@@ -1,5 +1,6 @@
 -- The state of two peers: what each put on its stream, what of it has arrived, what of its messages was taken, and which pleads are kept. Streams that keep order, guarantees and their balances are LCMUX's; that one plead is kept for each channel is this project's own.
 use Rattle.std.specs.Prelude.{ℕ, ◌+◌, ◌-◌, nat_lt, if◌then◌else◌, List, [], ◌∷◌, ◌++◌, length, take, replicate, slice_index, slice_index_or, slice_set, sum_by, Option, Some, None}
+use Rattle.lc_frame.specs.declared.version.Version.TheVariants.{One}
 use Rattle.lc_frame.specs.declared.channel.Channel.{Channel}
 use Rattle.lc_frame.specs.declared.frame.Frame.{Frame}
 use Rattle.lc_frame.specs.declared.frame.Frame.TheVariants.{Plead}
@@ -90,7 +91,7 @@ arrive_on l = arrive_first l l.in_flight
 
 -- how many bytes a frame has
 abbrev pub size : Frame → ℕ
-size f = length (encoding f)
+size f = length (encoding One f)
 
 -- so many bytes of the frames in flight have been delivered: each frame whose last byte is among them arrives, and the rest of them are of the next
 abbrev pub deliver_over : List Frame → ℕ → Line → Line

@@ -2,6 +2,7 @@
 ghost use Rattle.std.specs.Prelude.{◌≡◌, ◌+◌, ◌≤◌, ◌<◌, length, IfOk, IsSome, IfSome, OnErr, OnOk, Some, None};
 ghost use Rattle.std.specs.Option.{option_map};
 ghost use Rattle.std.specs.Result.{result_err};
+ghost use Rattle.lc_frame.specs.declared.version.Version.TheVariants.{One};
 ghost use Rattle.lc_frame.specs.Frame.{IsValid};
 ghost use Rattle.lc_frame.specs.FrameRef.{frame_of};
 ghost use Rattle.lc_ring.specs.Ring.{front};
@@ -17,7 +18,7 @@ ghost use Rattle.lc_world.specs.Endpoint.{AreInStep, Acts, Brings};
 use crate::endpoint::{Endpoint, go_out};
 use crate::event::{Act, Answer};
 use lc_book::Refusal;
-use lc_frame::{Body, Channel, Decoded, FrameRef, MAX_AMOUNT, MAX_FRAME, decode};
+use lc_frame::{Body, Channel, Decoded, FrameRef, MAX_AMOUNT, Version, decode};
 use lc_peer::{Peer, Take};
 use std::alloc::{AllocError, Global};
 
@@ -42,11 +43,13 @@ fn own_frame(act: &Act) -> Option<FrameRef<'_>>
 // How many bytes the frame of an own event has at most; an honour's is an absolving, all of which
 // have one length.
 fn room(channel: Channel, act: &Act) -> usize
-    ensures { (answer : Answer) → IfSome (frame_put act.now answer) (λ f. IsValid f → size f ≤ result) }
+    ensures { (answer : Answer) → IfSome (frame_put act.now answer) (λ f. IsValid One f → size f ≤ result) }
 {
     let amount = MAX_AMOUNT;
     let frame = own_frame(act).unwrap_or(FrameRef::Absolve { channel, amount });
-    frame.encoded_len().min(MAX_FRAME)
+    frame
+        .encoded_len(Version::One)
+        .min(Version::One.max_frame())
 }
 
 fn judged(judgement: Result<(), Refusal>) -> Answer
@@ -143,7 +146,7 @@ fn arrive(me: &mut Endpoint, peer: &mut Endpoint) -> Answer
         return Answer::NothingInFlight;
     }
     let held = me.decoder.held();
-    match decode(&peer.stream[peer.delivered - held..]) {
+    match decode(Version::One, &peer.stream[peer.delivered - held..]) {
         Decoded::Whole { used, .. } => {
             bring(me, peer, used - held);
             Answer::Arrived

@@ -1,5 +1,6 @@
 //! One end of a world: a peer, the stream that it writes, and what came of a frame of the other.
 ghost use Rattle.std.specs.Prelude.{◌≡◌, ◌↔◌, replicate, ◌+◌, ◌≤◌, ◌<◌, All, IfOk, IfSome, Err, vec_len, vec_capacity};
+ghost use Rattle.lc_frame.specs.declared.version.Version.TheVariants.{One};
 ghost use Rattle.lc_frame.specs.Bounds.{IsCapacity};
 ghost use Rattle.lc_frame.specs.Frame.{IsValid};
 ghost use Rattle.lc_peer.specs.Config as configs;
@@ -7,7 +8,7 @@ ghost use Rattle.lc_peer.specs.Calls.{next, without_next};
 ghost use Rattle.lc_world.specs.State.{size};
 ghost use Rattle.lc_world.specs.Calls.{IsNewEnd, with_next};
 
-use lc_frame::StreamDecoder;
+use lc_frame::{StreamDecoder, Version};
 use lc_peer::{Config, Peer, PeerFault};
 use lc_ring::NewFault;
 use std::alloc::Global;
@@ -64,15 +65,15 @@ impl Endpoint {
 
 /// The frame that waits, if there is one, goes to the stream, where there is room for it.
 pub(crate) fn go_out(peer: &mut Peer, stream: &mut Vec<u8>)
-    requires { IfSome (next peer.old) (λ f. IsValid f → vec_len stream.old + size f ≤ vec_capacity stream.old) }
+    requires { IfSome (next peer.old) (λ f. IsValid One f → vec_len stream.old + size f ≤ vec_capacity stream.old) }
     ensures peer { peer.new ≡ without_next peer.old }
     ensures stream { stream.new.items ≡ with_next (next peer.old) stream.old.items }
-    ensures valid { IfSome (next peer.old) IsValid }
+    ensures valid { IfSome (next peer.old) (IsValid One) }
     ensures bytes { All (λ b. b < 256) stream.new.items }
 {
     match peer.next_out() {
         Some(frame) => {
-            if frame.encode_into(stream).is_err() {
+            if frame.encode_into(Version::One, stream).is_err() {
                 unreachable!();
             }
         }

@@ -84,18 +84,54 @@ fn a_picture_has_a_most_of_events(rt: HostRuntime) -> Result<(), Fail> {
     Ok(())
 }
 
-#[test]
-fn a_fault_of_a_stream_stands_behind_its_frames(rt: HostRuntime) -> Result<(), Fail> {
-    let cut = shown(rt.alloc(), "lcmux_chart frames", b"\x21\0\0\0\x05\x11\0").ok_or("no run")?;
-    has_lines(
-        &rt,
-        cut.as_str(),
+// Streams, with lines of their pictures and how the runs end.
+const STREAMS: [(&str, &str); 6] = [
+    (
+        "\x21\0\0\0\x05\x11\0",
         "1. At byte 0: issue 5 on channel 1.
 <text class=\"bad\" x=\"158\" y=\"152\">F4 in the frame at byte 5</text>
 </svg>
 lcmux_chart: F4 in the frame at byte 5
 = 2",
-    );
+    ),
+    (
+        "LCM\x02\x11\0\0\0\x02hi",
+        "1. At byte 4: send 2 bytes on channel 1.
+</svg>
+= 0",
+    ),
+    (
+        "LCM\x02\x21\0\0\0\x05\x11\0",
+        "1. At byte 4: issue 5 on channel 1.
+</svg>
+lcmux_chart: F4 in the frame at byte 9
+= 2",
+    ),
+    (
+        "LCM\x02",
+        "</svg>
+= 0",
+    ),
+    (
+        "LCM\x03",
+        "</svg>
+lcmux_chart: F1 in the frame at byte 0
+= 2",
+    ),
+    (
+        "LCM",
+        "</svg>
+lcmux_chart: F4 in the frame at byte 0
+= 2",
+    ),
+];
+
+#[test]
+fn a_fault_of_a_stream_stands_behind_its_frames(rt: HostRuntime) -> Result<(), Fail> {
+    for &(stream, lines) in &STREAMS {
+        let picture = shown(rt.alloc(), "lcmux_chart frames", stream.as_bytes()).ok_or("no run")?;
+        has_lines(&rt, picture.as_str(), lines);
+    }
     Ok(())
 }
 

@@ -53,6 +53,7 @@ pub struct Troubled<R> {
 }
 
 impl<R> Troubled<R> {
+    /// The network `net`, in this trouble at that call.
     pub fn new(alloc: Global, net: R, trouble: Trouble, at: u64) -> Result<Troubled<R>, AllocError>
     where
         R: Drop,

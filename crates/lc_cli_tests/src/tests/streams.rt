@@ -1,5 +1,5 @@
 //! Streams that `frames` lists: each kind of frame, each number at the ends of its range and one
-//! past them, each fault.
+//! past them, each fault, and streams with a greeting.
 use super::same;
 use super::transcript::{run_as_shown, shown};
 use std::alloc::Global;
@@ -114,10 +114,6 @@ x 70
 ! lcmux: F1 in the frame at byte 0
 = 2
 $ lcmux frames
-x 4c 43 4d 02
-! lcmux: F1 in the frame at byte 0
-= 2
-$ lcmux frames
 x ff
 ! lcmux: F1 in the frame at byte 0
 = 2
@@ -188,10 +184,70 @@ x 60 00 00 00 00 00 00 00 00 21 00 00 00 01 11 00 00 21 00 00 00 01
 = 2
 ";
 
+// Streams of version Two, greetings that break or end, and one that comes too late.
+const GREETINGS: &str = "$ lcmux frames
+x 4c 43 4d 02
+= 0
+$ lcmux frames
+x 4c 43 4d 02 11 00 00 00 02 68 69
+> send 1 6869
+= 0
+$ lcmux frames
+x 4c 43 4d 02 26 00 00 00 01 51 00 00 00 00 00 00 00 03 16 00 00 00 01 ff
+> issue 6 1
+> limit-sending 1 3
+> send 6 ff
+= 0
+$ lcmux frames
+x 4c 43 4d 02 77
+! lcmux: F1 in the frame at byte 4
+= 2
+$ lcmux frames
+x 4c 43 4d 02 4c 43 4d 02
+! lcmux: F1 in the frame at byte 4
+= 2
+$ lcmux frames
+x 4c 43 4d 02 11 00 00 00 00
+! lcmux: F2 in the frame at byte 4
+= 2
+$ lcmux frames
+x 4c 43 4d 02 11 00 10 00 01
+! lcmux: F3 in the frame at byte 4
+= 2
+$ lcmux frames
+x 4c 43 4d 02 21 00 00 00 05 11 00 00
+> issue 1 5
+! lcmux: F4 in the frame at byte 9
+= 2
+$ lcmux frames
+x 4c 43 4d 03
+! lcmux: F1 in the frame at byte 0
+= 2
+$ lcmux frames
+x 4c 44
+! lcmux: F1 in the frame at byte 0
+= 2
+$ lcmux frames
+x 4c
+! lcmux: F4 in the frame at byte 0
+= 2
+$ lcmux frames
+x 4c 43 4d
+! lcmux: F4 in the frame at byte 0
+= 2
+$ lcmux frames
+x 21 00 00 00 05 4c 43 4d 02
+> issue 1 5
+! lcmux: F1 in the frame at byte 5
+= 2
+";
+
 #[test]
 fn lists_frames(rt: HostRuntime) -> Result<(), Fail> {
-    run_as_shown(&rt, rt.alloc(), FRAMES)?;
-    run_as_shown(&rt, rt.alloc(), FAULTS)
+    for cases in &[FRAMES, FAULTS, GREETINGS] {
+        run_as_shown(&rt, rt.alloc(), cases)?;
+    }
+    Ok(())
 }
 
 // What a stream of so many frames shows.

@@ -6,7 +6,7 @@ ghost use Rattle.std.specs.Prelude.{◌≡◌};
 ghost use Rattle.lc_inbox.specs.Sides.{AreOfOne};
 
 use crate::tests::same;
-use lc_frame::{Decoded, decode};
+use lc_frame::{Decoded, Version, decode};
 use lc_inbox::{InboxIn, InboxOut, SharedInbox, finish};
 use lc_queue::Drain;
 use std::alloc::Global;
@@ -34,9 +34,9 @@ fn hear<R: Wait>(rt: &R, alloc: Global, incoming: &mut InboxIn, digits: &str) ->
     ensures { incoming.new.inbox ≡ incoming.old.inbox }
 {
     let bytes = hex::decode(alloc, digits).ok()?;
-    match decode(&bytes) {
+    match decode(Version::One, &bytes) {
         Decoded::Whole { frame, used: _ } => {
-            if !frame.is_valid() || frame.lane() != incoming.channel().number() {
+            if !frame.is_valid(Version::Two) || frame.lane() != incoming.channel().number() {
                 return None;
             }
             text(alloc, &incoming.arrive(rt, frame))

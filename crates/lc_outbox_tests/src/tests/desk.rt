@@ -9,7 +9,7 @@ ghost use Rattle.lc_credit.specs.Channels.{AreMatched, SameCredit, SameCredits};
 
 use crate::tests::same;
 use lc_credit::{CreditIn, CreditOut, CreditParts, credits, settle};
-use lc_frame::{Body, Channel, Frame, MAX_AMOUNT};
+use lc_frame::{Body, Channel, Frame, MAX_AMOUNT, Version};
 use lc_outbox::Outbox;
 use lc_queue::{Drain, LaneEnd, Lanes, lanes};
 use std::alloc::Global;
@@ -122,7 +122,7 @@ fn send<R: Wait>(rt: &R, alloc: Global, outbox: &mut Outbox, digits: &str) -> Op
 fn pop<R: Wait>(rt: &R, alloc: Global, drain: &mut Drain) -> Option<String> {
     let frame = drain.pop(rt)?;
     let mut bytes = Vec::new(alloc);
-    frame.encode_into(&mut bytes).ok()?;
+    frame.encode_into(Version::One, &mut bytes).ok()?;
     hex::encode(alloc, &bytes).ok()
 }
 

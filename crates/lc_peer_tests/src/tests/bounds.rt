@@ -2,7 +2,7 @@
 use crate::tests::inbox::inbox;
 use crate::tests::same;
 use crate::tests::script::{peer, text};
-use lc_frame::{Channel, FrameRef};
+use lc_frame::{Channel, FrameRef, Version};
 use lc_peer::{Config, Inbox, NewFault, Peer, PeerFault, Refusal, Take, Violation};
 use std::alloc::Global;
 use std::process::Abort;
@@ -75,7 +75,7 @@ fn are_bad(rt: &impl Abort, alloc: Global) {
 }
 
 fn arrives(rt: &impl Abort, peer: &mut Peer, frame: FrameRef<'_>) {
-    assert!(rt; frame.is_valid() && peer.arrive(frame).is_ok());
+    assert!(rt; frame.is_valid(Version::Two) && peer.arrive(frame).is_ok());
 }
 
 // The book refuses a message. Then nine guarantees come, and the wish that four are left of them.
@@ -132,7 +132,7 @@ fn finds_no_place(rt: &impl Abort, peer: &mut Peer) -> bool {
 fn violates(rt: &impl Abort, peer: &mut Peer) {
     let (channel, amount) = (CHANNEL, 9);
     let frame = FrameRef::Absolve { channel, amount };
-    assert!(rt; frame.is_valid());
+    assert!(rt; frame.is_valid(Version::Two));
     assert!(rt; peer.arrive(frame) == Err(Violation::AbsolvedTooMuch));
 }
 

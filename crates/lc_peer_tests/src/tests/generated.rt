@@ -2,7 +2,7 @@
 ghost use Rattle.std.specs.Prelude.{◌<◌};
 
 use crate::tests::script::Side;
-use lc_frame::{Channel, FrameRef};
+use lc_frame::{Channel, FrameRef, Version};
 use lc_peer::{Peer, Take};
 use rand_core::utils::NextWord;
 use rand_pcg::Pcg32;
@@ -25,7 +25,7 @@ struct Done {
 }
 
 fn arrives(rt: &impl Abort, peer: &mut Peer, frame: FrameRef<'_>) -> bool {
-    assert!(rt; frame.is_valid());
+    assert!(rt; frame.is_valid(Version::Two));
     peer.arrive(frame).is_ok()
 }
 

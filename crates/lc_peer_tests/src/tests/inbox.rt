@@ -1,7 +1,7 @@
 //! A script of calls on an inbox by itself.
 use crate::tests::script::{bytes, text};
 use crate::tests::{Subject, answers, same};
-use lc_frame::{Decoded, FrameRef, decode};
+use lc_frame::{Decoded, FrameRef, Version, decode};
 use lc_peer::{Inbox, Refusal, Violation};
 use std::alloc::Global;
 use std::test::Fail;
@@ -27,7 +27,7 @@ const CALLS: &str = "pop => Empty
 // A frame for the server arrives.
 fn arrive(alloc: Global, inbox: &mut Inbox, digits: &str) -> Option<Result<(), Violation>> {
     let bytes = bytes(alloc, digits)?;
-    match decode(&bytes) {
+    match decode(Version::One, &bytes) {
         Decoded::Whole {
             frame: FrameRef::Send { body, .. },
             used: _,

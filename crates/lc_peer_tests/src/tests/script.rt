@@ -3,7 +3,7 @@
 //! the run says, `feed` bytes for the decoder alone, and `take` the room of its buffer, whose bytes
 //! were 238. `each` asks on every channel.
 use crate::tests::{Subject, answers};
-use lc_frame::{Channel, Decoded, StreamDecoder, decode};
+use lc_frame::{Channel, Decoded, StreamDecoder, Version, decode};
 use lc_peer::{Config, Delivery, Peer};
 use std::alloc::Global;
 use std::fmt::Debug;
@@ -58,8 +58,10 @@ fn channel(word: &str) -> Option<Channel> {
 
 fn arrive(alloc: Global, peer: &mut Peer, digits: &str) -> Option<String> {
     let bytes = bytes(alloc, digits)?;
-    match decode(&bytes) {
-        Decoded::Whole { frame, used: _ } => text(alloc, &peer.arrive(frame)),
+    match decode(Version::One, &bytes) {
+        Decoded::Whole { frame, used: _ } if frame.is_valid(Version::Two) => {
+            text(alloc, &peer.arrive(frame))
+        }
         _ => None,
     }
 }

@@ -327,11 +327,7 @@ fn is_balanced(rt: &impl Abort, client: &Report, server: &Report, bytes: u64) {
 
 /// Of each exchange: the messages of a channel, the bytes of its ring, the slots of the queues, and the
 /// bytes of all messages of a channel.
-const EXCHANGES: [(u32, u32, u32, u64); 3] = [
-    (1000, 32, 4, 9994),
-    (300, 4, 1, 1200),
-    (1, 32, 4, 4),
-];
+const EXCHANGES: [(u32, u32, u32, u64); 3] = [(250, 32, 4, 2485), (100, 4, 1, 400), (1, 32, 4, 4)];
 
 // By which both sessions are stopped, wherever their parts are.
 fn clones(a: &Session, b: &Session) -> Result<[Session; 2], AllocError> {

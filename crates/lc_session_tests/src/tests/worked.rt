@@ -4,7 +4,7 @@ use std::test::Fail;
 
 /// Of each: the slots of the queue, the bytes that come, the calls with what they answer, and what
 /// the report says then.
-const WORKED: [(u32, &str, &str, &str); 5] = [
+const WORKED: [(u32, &str, &str, &str); 7] = [
     // All that was put goes out in one write.
     (
         4,
@@ -87,6 +87,28 @@ const WORKED: [(u32, &str, &str, &str); 5] = [
         "server 0 => (1, 0, 1)
         server 3 => (3, 0, 3)
         server 6 => (2, 0, 2)
+        left => (0, 0)",
+    ),
+    // A stream of version Two is heard like one of version One.
+    (
+        4,
+        "4c434d02110000000268692100000005",
+        "issue 1 2 => Ok(())
+        read 10 all => Clean
+        take 1 => 6869
+        held 1 => 5",
+        "client 1 => (5, 5, 0, 0)
+        server 1 => (0, 0, 2)
+        left => (1, 0)",
+    ),
+    // A greeting breaks at its third byte.
+    (
+        4,
+        "4c4300",
+        "read 2 1 => TurnsSpent
+        read 1 1 => Fault(BadTag)
+        read 10 all => Fault(BadTag)",
+        "client 1 => (0, 0, 0, 0)
         left => (0, 0)",
     ),
 ];

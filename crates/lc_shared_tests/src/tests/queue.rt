@@ -3,7 +3,7 @@ ghost use Rattle.std.specs.Prelude.{IfOk};
 ghost use Rattle.std.specs.List.{All};
 ghost use Rattle.lc_queue.specs.Parts.{IsSame, IsSameEnd};
 
-use lc_frame::{Body, Channel, Frame};
+use lc_frame::{Body, Channel, Frame, Version};
 use lc_queue::{Drain, LaneEnd, Lanes, LanesFault, lanes};
 use lc_sharing::keeps_order;
 use std::alloc::Global;
@@ -25,7 +25,7 @@ fn send(alloc: Global, channel: Channel, text: &[u8]) -> Result<Frame, Fail> {
 fn push(rt: &(impl Wait + Abort), end: &mut LaneEnd, frame: Frame) -> Result<(), Frame>
     ensures { IsSameEnd end.old end.new }
 {
-    assert!(rt; frame.is_valid() && frame.lane() == end.lane());
+    assert!(rt; frame.is_valid(Version::One) && frame.lane() == end.lane());
     end.push(rt, frame)
 }
 

@@ -1,29 +1,46 @@
 //! Streams that are fed in pieces.
 use super::frames::{bytes_of, frame_in};
 use super::{Subject, answers, same, text};
-use lc_frame::{Channel, FrameRef, StreamDecoder};
+use lc_frame::{Channel, FrameRef, StreamDecoder, Version};
 use std::alloc::{AllocError, Global};
 use std::test::Fail;
 
-// Streams, each with its frames and how it ends.
-const STREAMS: &str = " => Ok(())
-11 00 02 68 69 21 00 00 00 05 60 00 00 00 00 00 00 00 0a => Send { channel: DataChannel, body: [104, 105] }, Issue { channel: DataChannel, amount: 5 }, LimitReceiving { channel: ReconciliationChannel, bound: 10 }, Ok(())
-11 00 02 61 62 11 00 => Send { channel: DataChannel, body: [97, 98] }, Err(Truncated)
-36 00 00 00 03 46 00 00 00 03 50 00 00 00 00 00 00 00 03 => Absolve { channel: StaticTokenChannel, amount: 3 }, Plead { channel: StaticTokenChannel, target: 3 }, LimitSending { channel: ReconciliationChannel, bound: 3 }, Ok(())
-11 => Err(Truncated)
-11 00 02 68 => Err(Truncated)
-21 02 => Err(Truncated)
-11 00 00 => Err(ZeroLength)
-17 => Err(BadTag)
-77 => Err(BadTag)
-01 => Err(BadTag)
-70 => Err(BadTag)
-21 01 00 00 01 => Err(BadNumber)
-21 00 00 00 00 => Err(BadNumber)
-41 01 00 00 01 => Err(BadNumber)
-60 40 00 00 00 00 00 00 01 => Err(BadNumber)
-21 00 00 00 05 17 21 00 00 00 05 => Issue { channel: DataChannel, amount: 5 }, Err(BadTag)
-11 00 01 61 11 00 00 11 00 01 61 => Send { channel: DataChannel, body: [97] }, Err(ZeroLength)
+// Streams, each with its frames, how it ends, and its version.
+const STREAMS: &str = " => Ok(()) None
+11 00 02 68 69 21 00 00 00 05 60 00 00 00 00 00 00 00 0a => Send { channel: DataChannel, body: [104, 105] }, Issue { channel: DataChannel, amount: 5 }, LimitReceiving { channel: ReconciliationChannel, bound: 10 }, Ok(()) Some(One)
+11 00 02 61 62 11 00 => Send { channel: DataChannel, body: [97, 98] }, Err(Truncated) Some(One)
+36 00 00 00 03 46 00 00 00 03 50 00 00 00 00 00 00 00 03 => Absolve { channel: StaticTokenChannel, amount: 3 }, Plead { channel: StaticTokenChannel, target: 3 }, LimitSending { channel: ReconciliationChannel, bound: 3 }, Ok(()) Some(One)
+11 => Err(Truncated) Some(One)
+11 00 02 68 => Err(Truncated) Some(One)
+21 02 => Err(Truncated) Some(One)
+11 00 00 => Err(ZeroLength) Some(One)
+17 => Err(BadTag) Some(One)
+77 => Err(BadTag) Some(One)
+01 => Err(BadTag) Some(One)
+70 => Err(BadTag) Some(One)
+21 01 00 00 01 => Err(BadNumber) Some(One)
+21 00 00 00 00 => Err(BadNumber) Some(One)
+41 01 00 00 01 => Err(BadNumber) Some(One)
+60 40 00 00 00 00 00 00 01 => Err(BadNumber) Some(One)
+21 00 00 00 05 17 21 00 00 00 05 => Issue { channel: DataChannel, amount: 5 }, Err(BadTag) Some(One)
+11 00 01 61 11 00 00 11 00 01 61 => Send { channel: DataChannel, body: [97] }, Err(ZeroLength) Some(One)
+11 00 00 00 02 68 69 => Err(ZeroLength) Some(One)
+11 00 01 61 4c 43 4d 02 => Send { channel: DataChannel, body: [97] }, Err(BadTag) Some(One)
+4c => Err(Truncated) None
+4c 43 4d => Err(Truncated) None
+4c 43 4d 02 => Ok(()) Some(Two)
+4c 43 4d 03 => Err(BadTag) None
+4c 44 => Err(BadTag) None
+4c 43 02 => Err(BadTag) None
+4c 43 4d 02 4c 43 4d 02 => Err(BadTag) Some(Two)
+4c 43 4d 02 11 00 00 00 02 68 69 => Send { channel: DataChannel, body: [104, 105] }, Ok(()) Some(Two)
+4c 43 4d 02 11 00 00 00 00 => Err(ZeroLength) Some(Two)
+4c 43 4d 02 11 00 10 00 01 => Err(BadNumber) Some(Two)
+4c 43 4d 02 11 00 00 00 02 61 62 => Send { channel: DataChannel, body: [97, 98] }, Ok(()) Some(Two)
+4c 43 4d 02 51 00 00 00 00 00 00 00 01 11 00 00 00 02 61 62 => LimitSending { channel: DataChannel, bound: 1 }, Send { channel: DataChannel, body: [97, 98] }, Ok(()) Some(Two)
+4c 43 4d 02 21 00 00 00 05 77 => Issue { channel: DataChannel, amount: 5 }, Err(BadTag) Some(Two)
+4c 43 4d 02 60 40 00 00 00 00 00 00 01 => Err(BadNumber) Some(Two)
+4c 43 4d 02 11 00 00 00 02 61 62 11 00 => Send { channel: DataChannel, body: [97, 98] }, Err(Truncated) Some(Two)
 ";
 
 // Feeds a piece, writes each of its frames down, and drops it.
@@ -53,15 +70,15 @@ impl Subject for Cut {
         let mut seen = String::new(alloc);
         drain(&mut decoder, first, &mut seen)?;
         drain(&mut decoder, second, &mut seen)?;
-        write!(seen, "{:?}", decoder.end()).ok()?;
+        write!(seen, "{:?} {:?}", decoder.end(), decoder.version()).ok()?;
         Some(seen)
     }
 }
 
-// The longest of the streams has 19 bytes.
+// The longest of the streams has 20 bytes.
 #[test]
 fn streams_are_read_however_they_are_cut(rt: HostRuntime) {
-    for len in 0..20 {
+    for len in 0..21 {
         answers(&rt, rt.alloc(), &mut Cut(len), STREAMS);
     }
 }
@@ -91,56 +108,72 @@ fn what_stands_stops_the_feed(rt: HostRuntime) -> Result<(), Fail> {
     Ok(())
 }
 
-// The bytes of the longest message, behind its tag and its length.
-fn longest(alloc: Global) -> Result<Vec<u8>, AllocError> {
-    let mut bytes = Vec::from_slice(alloc, b"\x11\xff\xff")?;
-    for place in 0..65_535u32 {
+// The bytes of the longest message of a version, behind its tag and its length.
+fn longest(alloc: Global, version: Version) -> Result<Vec<u8>, AllocError> {
+    let header = match version {
+        Version::One => &b"\x11\xff\xff"[..],
+        Version::Two => &b"\x11\x00\x10\x00\x00"[..],
+    };
+    let mut bytes = Vec::from_slice(alloc, header)?;
+    for place in 0..version.max_body() {
         bytes.push((place % 251) as u8)?;
     }
     Ok(bytes)
 }
 
-// A decoder that was fed these bytes in pieces.
-fn fed(alloc: Global, bytes: &[u8]) -> Result<StreamDecoder, AllocError> {
+// A decoder that was fed these bytes in pieces, behind a greeting where the version has one.
+fn fed(alloc: Global, version: Version, bytes: &[u8]) -> Result<StreamDecoder, AllocError> {
     let mut decoder = StreamDecoder::new(alloc)?;
+    decoder.feed(version.greeting());
     for piece in bytes.chunks(512) {
         decoder.feed(piece);
     }
     Ok(decoder)
 }
 
-fn message_of(bytes: &[u8]) -> Option<FrameRef<'_>> {
+fn message_of(version: Version, bytes: &[u8]) -> Option<FrameRef<'_>> {
+    let start = bytes.len().checked_sub(version.max_body())?;
     Some(FrameRef::Send {
         channel: Channel::DataChannel,
-        body: bytes.get(3..)?,
+        body: bytes.get(start..)?,
     })
 }
 
 // What is written of the owned form of the decoder's frame.
-fn encoded(alloc: Global, decoder: &StreamDecoder) -> Option<Vec<u8>> {
+fn encoded(alloc: Global, version: Version, decoder: &StreamDecoder) -> Option<Vec<u8>> {
     let frame = decoder.frame()?.to_frame(alloc).ok()?;
-    if !frame.is_valid() {
+    if !frame.is_valid(version) {
         return None;
     }
     let mut out = Vec::new(alloc);
-    frame.encode_into(&mut out).ok()?;
+    frame.encode_into(version, &mut out).ok()?;
     Some(out)
 }
 
 // Whether the decoder's frame is this message, and is written with the same bytes.
-fn compared(alloc: Global, decoder: &StreamDecoder, bytes: &[u8]) -> Option<String> {
-    let out = encoded(alloc, decoder)?;
-    let is_whole = decoder.frame() == message_of(bytes);
+fn compared(
+    alloc: Global,
+    version: Version,
+    decoder: &StreamDecoder,
+    bytes: &[u8],
+) -> Option<String> {
+    let out = encoded(alloc, version, decoder)?;
+    let is_whole = decoder.frame() == message_of(version, bytes);
     let is_written = out.as_slice() == bytes;
     text(alloc, &(is_whole, is_written, out.len()))
 }
 
 #[test]
 fn the_longest_frame_comes_in_pieces(rt: HostRuntime) -> Result<(), Fail> {
-    let bytes = longest(rt.alloc())?;
-    let decoder = fed(rt.alloc(), bytes.as_slice())?;
-    let found = compared(rt.alloc(), &decoder, bytes.as_slice());
-    same(&rt, "the longest frame", found, "(true, true, 65538)");
+    for (version, wanted) in [
+        (Version::One, "(true, true, 65538)"),
+        (Version::Two, "(true, true, 1048581)"),
+    ] {
+        let bytes = longest(rt.alloc(), version)?;
+        let decoder = fed(rt.alloc(), version, bytes.as_slice())?;
+        let found = compared(rt.alloc(), version, &decoder, bytes.as_slice());
+        same(&rt, "the longest frame", found, wanted);
+    }
     Ok(())
 }
 
@@ -155,11 +188,11 @@ struct Buffer(Vec<u8>);
 impl Subject for Buffer {
     fn answer(&mut self, alloc: Global, digits: &str) -> Option<String> {
         let bytes = bytes_of(alloc, digits)?;
-        let frame = frame_in(bytes.as_slice())?;
-        if !frame.is_valid() {
+        let frame = frame_in(Version::One, bytes.as_slice())?;
+        if !frame.is_valid(Version::One) {
             return None;
         }
-        frame.encode_into(&mut self.0).ok()?;
+        frame.encode_into(Version::One, &mut self.0).ok()?;
         text(alloc, &self.0)
     }
 }

@@ -1,6 +1,6 @@
 //! Frames and their bytes, both ways, owned and borrowed.
 use super::{Subject, answers, text};
-use lc_frame::{Channel, Decoded, Frame, FrameRef, decode};
+use lc_frame::{Channel, Decoded, Frame, FrameRef, Version, decode};
 use std::alloc::Global;
 
 // The bytes of a frame, and what it is.
@@ -51,6 +51,25 @@ ff => Fault(BadTag)
 51 00 00 00 00 00 00 00 => More
 ";
 
+// The same of version Two.
+const FRAMES_IN_TWO: &str =
+    "11 00 00 00 02 68 69 => lane 1, DataChannel, 7 bytes, Send { channel: DataChannel, body: [104, 105] }
+16 00 00 00 01 21 => lane 6, StaticTokenChannel, 6 bytes, Send { channel: StaticTokenChannel, body: [33] }
+21 00 00 00 05 => lane 8, DataChannel, 5 bytes, Issue { channel: DataChannel, amount: 5 }
+60 40 00 00 00 00 00 00 00 => lane 7, ReconciliationChannel, 9 bytes, LimitReceiving { channel: ReconciliationChannel, bound: 4611686018427387904 }
+";
+
+const FAULTS_IN_TWO: &str = "11 00 00 00 00 => Fault(ZeroLength)
+11 00 10 00 01 => Fault(BadNumber)
+11 ff ff ff ff => Fault(BadNumber)
+4c 43 4d 02 => Fault(BadTag)
+21 01 00 00 01 => Fault(BadNumber)
+11 00 00 => More
+11 00 00 00 => More
+11 00 10 00 00 => More
+11 00 00 00 02 68 => More
+";
+
 /// The bytes that a text writes in hexadecimal, with spaces between them.
 pub fn bytes_of(alloc: Global, text: &str) -> Option<Vec<u8>> {
     let mut bytes = Vec::new(alloc);
@@ -62,8 +81,8 @@ pub fn bytes_of(alloc: Global, text: &str) -> Option<Vec<u8>> {
 }
 
 /// The frame that these bytes are, and no more.
-pub fn frame_in(bytes: &[u8]) -> Option<FrameRef<'_>> {
-    match decode(bytes) {
+pub fn frame_in(version: Version, bytes: &[u8]) -> Option<FrameRef<'_>> {
+    match decode(version, bytes) {
         Decoded::Whole { frame, used } if used == bytes.len() => Some(frame),
         _ => None,
     }
@@ -75,25 +94,25 @@ fn is_front(bytes: &[u8], slice: &[u8]) -> bool {
 }
 
 // Whether a frame is written with these bytes, to the end of a buffer and to the front of a slice.
-fn is_written(alloc: Global, frame: FrameRef<'_>, bytes: &[u8]) -> Option<bool> {
-    if !frame.is_valid() {
+fn is_written(alloc: Global, version: Version, frame: FrameRef<'_>, bytes: &[u8]) -> Option<bool> {
+    if !frame.is_valid(version) {
         return None;
     }
     let mut out = Vec::new(alloc);
-    frame.encode_into(&mut out).ok()?;
+    frame.encode_into(version, &mut out).ok()?;
     let mut slice = [0xaa; 12];
-    let used = frame.encode_to_slice(&mut slice).ok()?;
+    let used = frame.encode_to_slice(version, &mut slice).ok()?;
     Some(out.as_slice() == bytes && used == bytes.len() && is_front(bytes, &slice))
 }
 
-fn owned_is_written(alloc: Global, frame: &Frame, bytes: &[u8]) -> Option<bool> {
-    if !frame.is_valid() {
+fn owned_is_written(alloc: Global, version: Version, frame: &Frame, bytes: &[u8]) -> Option<bool> {
+    if !frame.is_valid(version) {
         return None;
     }
     let mut out = Vec::new(alloc);
-    frame.encode_into(&mut out).ok()?;
+    frame.encode_into(version, &mut out).ok()?;
     let mut slice = [0xaa; 12];
-    let used = frame.encode_to_slice(&mut slice).ok()?;
+    let used = frame.encode_to_slice(version, &mut slice).ok()?;
     Some(out.as_slice() == bytes && used == bytes.len() && is_front(bytes, &slice))
 }
 
@@ -114,50 +133,57 @@ fn shown(
 
 // Frames that are read, and written with the same bytes.
 #[derive(Drop)]
-struct Borrowed;
+struct Borrowed(Version);
 
 impl Subject for Borrowed {
     fn answer(&mut self, alloc: Global, digits: &str) -> Option<String> {
+        let version = self.0;
         let bytes = bytes_of(alloc, digits)?;
-        let frame = frame_in(bytes.as_slice())?;
-        if !is_written(alloc, frame, bytes.as_slice())? {
+        let frame = frame_in(version, bytes.as_slice())?;
+        if !is_written(alloc, version, frame, bytes.as_slice())? {
             return other_bytes(alloc);
         }
-        let (lane, channel, len) = (frame.lane(), frame.channel(), frame.encoded_len());
+        let (lane, channel, len) = (frame.lane(), frame.channel(), frame.encoded_len(version));
         shown(alloc, lane, channel, len, frame)
     }
 }
 
 // The same of their owned forms.
 #[derive(Drop)]
-struct Owned;
+struct Owned(Version);
 
 impl Subject for Owned {
     fn answer(&mut self, alloc: Global, digits: &str) -> Option<String> {
+        let version = self.0;
         let bytes = bytes_of(alloc, digits)?;
-        let frame = frame_in(bytes.as_slice())?.to_frame(alloc).ok()?;
-        if !owned_is_written(alloc, &frame, bytes.as_slice())? {
+        let frame = frame_in(version, bytes.as_slice())?.to_frame(alloc).ok()?;
+        if !owned_is_written(alloc, version, &frame, bytes.as_slice())? {
             return other_bytes(alloc);
         }
-        let (lane, channel, len) = (frame.lane(), frame.channel(), frame.encoded_len());
+        let (lane, channel, len) = (frame.lane(), frame.channel(), frame.encoded_len(version));
         shown(alloc, lane, channel, len, frame.view())
     }
 }
 
 // What begins no frame.
 #[derive(Drop)]
-struct Faults;
+struct Faults(Version);
 
 impl Subject for Faults {
     fn answer(&mut self, alloc: Global, digits: &str) -> Option<String> {
         let bytes = bytes_of(alloc, digits)?;
-        text(alloc, &decode(bytes.as_slice()))
+        text(alloc, &decode(self.0, bytes.as_slice()))
     }
 }
 
 #[test]
 fn frames_are_read_and_written(rt: HostRuntime) {
-    answers(&rt, rt.alloc(), &mut Borrowed, FRAMES);
-    answers(&rt, rt.alloc(), &mut Owned, FRAMES);
-    answers(&rt, rt.alloc(), &mut Faults, FAULTS);
+    for (version, frames, faults) in [
+        (Version::One, FRAMES, FAULTS),
+        (Version::Two, FRAMES_IN_TWO, FAULTS_IN_TWO),
+    ] {
+        answers(&rt, rt.alloc(), &mut Borrowed(version), frames);
+        answers(&rt, rt.alloc(), &mut Owned(version), frames);
+        answers(&rt, rt.alloc(), &mut Faults(version), faults);
+    }
 }

@@ -214,9 +214,9 @@ fn a_full_ring_of_messages_of_one_byte(rt: HostRuntime) -> Result<(), Fail> {
 // slices of the first are then, what a take answers, and whether it takes the same.
 const CAPACITIES: &str = "0 => BadCapacity
 1 => (Err(Full { free: 1 }), None, Ok(None), false)
-65534 => (Err(Full { free: 65534 }), None, Ok(None), false)
-65535 => (Ok(()), Some((65535, 0)), Ok(Some(65535)), true)
-16777216 => (Ok(()), Some((65535, 0)), Ok(Some(65535)), true)
+1048575 => (Err(Full { free: 1048575 }), None, Ok(None), false)
+1048576 => (Ok(()), Some((1048576, 0)), Ok(Some(1048576)), true)
+16777216 => (Ok(()), Some((1048576, 0)), Ok(Some(1048576)), true)
 16777217 => BadCapacity
 4294967295 => BadCapacity
 ";

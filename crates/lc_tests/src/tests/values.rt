@@ -1,6 +1,8 @@
 //! Channels, bodies, frames that are not valid, and slices with and without room.
 use super::{same, text};
-use lc_frame::{Body, Channel, Frame, FrameRef, MAX_AMOUNT, MAX_BODY, MAX_FRAME, MAX_TOTAL};
+use lc_frame::{
+    Body, Channel, Frame, FrameRef, MAX_AMOUNT, MAX_BODY, MAX_FRAME, MAX_TOTAL, Version,
+};
 use std::alloc::{AllocError, Global};
 use std::process::Abort;
 use std::test::Fail;
@@ -52,7 +54,10 @@ fn all_channels_stand_by_their_numbers(rt: HostRuntime) -> Result<(), Fail> {
 // Whether the frame is valid, borrowed and owned.
 fn validity(alloc: Global, frame: FrameRef<'_>) -> Option<String> {
     let owned = frame.to_frame(alloc).ok()?;
-    text(alloc, &(frame.is_valid(), owned.is_valid()))
+    text(
+        alloc,
+        &(frame.is_valid(Version::One), owned.is_valid(Version::One)),
+    )
 }
 
 fn is_not_valid(rt: &impl Abort, alloc: Global, what: &str, frame: FrameRef<'_>) {
@@ -139,8 +144,8 @@ fn a_slice_takes_a_frame_only_where_there_is_room(rt: HostRuntime) {
     };
     let (mut short, mut long) = ([0xaa_u8; 4], [0xaa_u8; 6]);
     let answers = (
-        frame.encode_to_slice(&mut short),
-        frame.encode_to_slice(&mut long),
+        frame.encode_to_slice(Version::One, &mut short),
+        frame.encode_to_slice(Version::One, &mut long),
     );
     let found = text(rt.alloc(), &(answers, short, long));
     let wanted =
@@ -151,6 +156,6 @@ fn a_slice_takes_a_frame_only_where_there_is_room(rt: HostRuntime) {
 #[test]
 fn the_limits_are_those_of_the_format(rt: HostRuntime) {
     let found = text(rt.alloc(), &(MAX_BODY, MAX_AMOUNT, MAX_TOTAL, MAX_FRAME));
-    let wanted = "(65535, 16777216, 4611686018427387904, 65538)";
+    let wanted = "(1048576, 16777216, 4611686018427387904, 1048581)";
     same(&rt, "limits", found, wanted);
 }

@@ -1,6 +1,6 @@
 //! Worked sequences of events at two peers, on one channel, and the books that they leave.
 use super::{Subject, answers, same, text};
-use lc_frame::{Body, Channel, MAX_FRAME};
+use lc_frame::{Body, Channel, Version};
 use lc_world::{Act, Answer, Event, NewFault, Side, World, run};
 use std::alloc::Global;
 use std::process::Abort;
@@ -179,7 +179,7 @@ impl ByteByByte {
     fn arrive(&mut self, side: Side) -> Answer {
         let act = Act::Deliver { count: 1 };
         let event = Event { side, act };
-        for _ in 0..MAX_FRAME {
+        for _ in 0..Version::One.max_frame() {
             match self.0.step(&event) {
                 Answer::Delivered {
                     bytes: 1,

@@ -10,7 +10,7 @@ pub reads-init : goal.reads-init
 reads-init g c =
     let none = c.in-None.is in
     record {
-      so_far = nothing_read g.S.FrameSink.arrived _ c.args.intake.now c.args.sink.now c.stop.ensures.bytes (c.stop.ensures.undecided none) (sym c.stop.ensures.value ∙ none);
+      so_far = nothing_read g.S.FrameSink.arrived _ c.args.intake.now c.args.sink.now c.stop.ensures.bytes c.stop.ensures.settled (c.stop.ensures.undecided none) (sym c.stop.ensures.value ∙ none);
       counts = refl;
       calls = omega arith;
     }

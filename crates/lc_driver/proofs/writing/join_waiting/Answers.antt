@@ -1,4 +1,5 @@
 use Rattle.std.proofs.Common.{arith, ap, ◌∙◌, ◌++◌, List, ℕ}
+use Rattle.lc_frame.specs.declared.version.Version.TheVariants.{One}
 use Rattle.lc_frame.specs.FrameRef.{frame_of}
 use Rattle.lc_frame.specs.Encoding.{encoding}
 use Rattle.lc_driver.proofs.Frames.{joins, joined_none}
@@ -8,7 +9,7 @@ pub frames-preserved : goal.frames-preserved
 frames-preserved c = record {
   joined =
       c.if-not-append.ensures.after
-      ∙ ap (λ (x : List ℕ). x ++ encoding (frame_of c.in-Some.frame)) c.frames.invariant.joined
+      ∙ ap (λ (x : List ℕ). x ++ encoding One (frame_of c.in-Some.frame)) c.frames.invariant.joined
       ∙ joins c.args.outgo.now.pending c.args.peer.now.waiting c.frames.place (frame_of c.in-Some.frame) c.in-Some.ensures.value;
 }
 

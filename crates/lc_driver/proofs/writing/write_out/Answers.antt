@@ -1,5 +1,6 @@
 use Rattle.std.proofs.Common.{◌≡◌, ◌∙◌, arith, ap, subst, refl, take, List, ℕ, length-append}
 use Rattle.std.specs.List.{flat_map}
+use Rattle.lc_frame.specs.declared.version.Version.TheVariants.{One}
 use Rattle.lc_frame.specs.Encoding.{encoding}
 use Rattle.lc_driver.specs.Writing.{Writes, fault_written}
 use Rattle.lc_driver.proofs.Counting.{none_told_then}
@@ -11,7 +12,7 @@ pub batches-init : goal.batches-init
 batches-init g c =
     let waiting = c.waiting-waiting.ensures in
     record {
-      small = omega (arith, c.pending-pending.ensures.value, c.pending-pending.ensures.most, waiting.value, waiting.small, all_fit c.args.peer.now.waiting waiting.kept.each, length-append c.args.outgo.now.pending (flat_map encoding c.args.peer.now.waiting));
+      small = omega (arith, c.pending-pending.ensures.value, c.pending-pending.ensures.most, waiting.value, waiting.small, all_fit c.args.peer.now.waiting waiting.kept.each, length-append c.args.outgo.now.pending (flat_map (encoding One) c.args.peer.now.waiting));
       writes = writes_nothing _ _ _ 0 refl;
       counts = refl;
       untouched = λ nothing. refl;

@@ -15,5 +15,5 @@ returns-in-Whole-clause-step c =
     let held : new ≡ old ++ take count piece = c.append.ensures.items ∙ ap (λ (x : List ℕ). old ++ x) c.split_at.ensures.front in
     let below : length old + count ≤ need = omega arith in
     let enough : length new ≤ need = omega (arith, ap length held, length-append old (take count piece), length-take count piece) in
-    let found : FindsFrame c.in-Whole.head c.in-Whole.used new = subst (λ (x : List ℕ). FindsFrame c.in-Whole.head c.in-Whole.used x) c.deref.ensures.value c.in-Whole.ensures in
-    advances old piece need wanted new count _ held (omega arith) below (omega arith) (whole_holds c.in-Whole.head c.in-Whole.used new new found (fills_all old piece need wanted new count c.in-Whole.head c.in-Whole.used held enough found))
+    let found : FindsFrame c.args.version c.in-Whole.head c.in-Whole.used new = subst (λ (x : List ℕ). FindsFrame c.args.version c.in-Whole.head c.in-Whole.used x) c.deref.ensures.value c.in-Whole.ensures in
+    advances c.args.version old piece need wanted new count _ held (omega arith) below (omega arith) (whole_holds c.args.version c.in-Whole.head c.in-Whole.used new new found (fills_all c.args.version old piece need wanted new count c.in-Whole.head c.in-Whole.used held enough found))

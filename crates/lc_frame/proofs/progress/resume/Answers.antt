@@ -13,20 +13,20 @@ returns-then-is_empty-clause-step c =
     let taken = c.steps.taken + c.advance-step.result.taken in
     let left = left_further _ _ _ _ _ at.held at.left _ _ c.split_at.ensures.back in
     let none : length c.split_at.result.1.now ≡ 0 = eqb-true _ _ (sym c.if-is_empty.ensures) in
-    subst (λ (p : Progress). Takes c.args.buffer.now.items new c.args.piece.now taken p) c.in-Wants.is (
-    takes_further _ _ _ _ _ at.held at.left _ _ _ at.within at.shortest step (λ lt. absurd (omega (arith, lt, ap length left, length-drop taken c.args.piece.now, none))))
+    subst (λ (p : Progress). Takes c.args.version c.args.buffer.now.items new c.args.piece.now taken p) c.in-Wants.is (
+    takes_further _ _ _ _ _ at.held at.left c.args.version _ _ _ at.within at.shortest step (λ lt. absurd (omega (arith, lt, ap length left, length-drop taken c.args.piece.now, none))))
 
 pub steps-preserved : goal.steps-preserved
 steps-preserved c =
     let at = c.steps.invariant in
     let step = c.advance-step.ensures.step in
     record {
-      room = c.advance-step.ensures.room;
-      wanted = subst (λ (p : Progress). Holds p c.advance-step.new.buffer.items) c.in-Wants.is step.knows;
+      capacity = omega (arith, at.capacity, c.advance-step.ensures.capacity);
+      wanted = subst (λ (p : Progress). Holds c.args.version p c.advance-step.new.buffer.items) c.in-Wants.is step.knows;
       within = within_further _ _ _ _ _ at.held at.left _ at.within step.count;
       left = left_further _ _ _ _ _ at.held at.left _ _ c.split_at.ensures.back;
       held = held_further _ _ _ _ _ at.held at.left _ _ step.held;
-      shortest = open_further _ _ _ _ _ at.held at.left _ at.shortest step.shortest;
+      shortest = open_further _ _ _ _ _ at.held at.left c.args.version _ at.shortest step.shortest;
     }
 
 pub returns-in-Whole-clause-step : goal.returns-in-Whole-clause-step
@@ -34,14 +34,14 @@ returns-in-Whole-clause-step c =
     let at = c.steps.invariant in
     let step = c.advance-step.ensures.step in
     let new = c.advance-step.new.buffer.items in
-    takes_further _ _ _ _ _ at.held at.left _ _ _ at.within at.shortest step (λ lt. known_frame _ new (subst (λ (p : Progress). Holds p new) c.in-Whole.is step.knows))
+    takes_further _ _ _ _ _ at.held at.left c.args.version _ _ _ at.within at.shortest step (λ lt. known_frame c.args.version _ new (subst (λ (p : Progress). Holds c.args.version p new) c.in-Whole.is step.knows))
 
 pub returns-in-Fault-clause-step : goal.returns-in-Fault-clause-step
 returns-in-Fault-clause-step c =
     let at = c.steps.invariant in
     let step = c.advance-step.ensures.step in
     let new = c.advance-step.new.buffer.items in
-    takes_further _ _ _ _ _ at.held at.left _ _ _ at.within at.shortest step (λ lt. known_fault _ new (subst (λ (p : Progress). Holds p new) c.in-Fault.is step.knows))
+    takes_further _ _ _ _ _ at.held at.left c.args.version _ _ _ at.within at.shortest step (λ lt. known_fault c.args.version _ new (subst (λ (p : Progress). Holds c.args.version p new) c.in-Fault.is step.knows))
 
 pub steps-smaller : goal.steps-smaller
 steps-smaller c = search rules

@@ -1,4 +1,4 @@
-use Rattle.std.proofs.Common.{◌≡◌, sym, ap, subst}
+use Rattle.std.proofs.Common.{sym, ap, subst}
 use Rattle.lc_session.specs.Parts.{state_of}
 use Rattle.lc_session.specs.Report.{SessionState, AreOfOneSession}
 use Rattle.lc_loopback.specs.declared.ends.Playing.{Playing}

@@ -1,27 +1,30 @@
-use Rattle.std.proofs.Common.{ℕ, List, subst, arith, rules}
+use Rattle.std.proofs.Common.{ℕ, List, length, drop, subst, ap, arith}
 use Rattle.std.proofs.lemmas.List.{length-drop}
 use Rattle.lc_peer.specs.declared.delivery.Step.TheVariants.{Stopped}
 use Rattle.lc_peer.specs.Steps.{Steps, FrameArrives, StaysOpen}
-use Rattle.lc_peer.proofs.Deliveries.{nothing_yet, one_more, ends_open, ends_stopped, all_bytes}
+use Rattle.lc_peer.proofs.Deliveries.{nothing_yet, took_some, one_more, ends_open, ends_stopped, fed_bytes}
 use Rattle.lc_peer.proofs.delivery.deliver_to.Goals as goal
 
 pub frames-init : goal.frames-init
-frames-init g c = nothing_yet g.S.FrameSink.arrived c.args.sink.now c.args.decoder.now.bytes c.args.piece.now
+frames-init g c = nothing_yet g.S.FrameSink.arrived c.args.sink.now c.args.decoder.now c.args.piece.now c.held-held.ensures.settled
 
 pub frames-smaller : goal.frames-smaller
-frames-smaller g c = search rules
+frames-smaller g c =
+    let a = subst (λ (xs : List ℕ). FrameArrives g.S.FrameSink.arrived c.frames.sink c.frames.decoder xs c.go_on.new.sink c.go_on.new.decoder c.in-Arrived.count) c.split_at.ensures.back c.in-Arrived.ensures in
+    let some = took_some g.S.FrameSink.arrived c.frames.sink c.frames.decoder (drop c.frames.taken c.args.piece.now) c.go_on.new.sink c.go_on.new.decoder c.in-Arrived.count a in
+    omega (arith, some, ap length a.cleared, a.within, length-drop c.frames.taken c.args.piece.now, c.frames.invariant.within)
 
 pub frames-preserved : goal.frames-preserved
 frames-preserved g c =
-    let a = subst (λ (xs : List ℕ). FrameArrives g.S.FrameSink.arrived c.frames.sink c.frames.decoder.bytes xs c.go_on.new.sink c.go_on.new.decoder.bytes c.in-Arrived.count) c.split_at.ensures.back c.in-Arrived.ensures in
-    one_more g.S.FrameSink.arrived c.args.sink.now c.args.decoder.now.bytes c.args.piece.now c.frames.sink c.frames.decoder.bytes c.frames.taken c.frames.frames c.go_on.new.sink c.go_on.new.decoder.bytes c.in-Arrived.count c.frames.invariant a (omega (arith, a.within, length-drop c.frames.taken c.args.piece.now))
+    let a = subst (λ (xs : List ℕ). FrameArrives g.S.FrameSink.arrived c.frames.sink c.frames.decoder xs c.go_on.new.sink c.go_on.new.decoder c.in-Arrived.count) c.split_at.ensures.back c.in-Arrived.ensures in
+    one_more g.S.FrameSink.arrived c.args.sink.now c.args.decoder.now c.args.piece.now c.frames.sink c.frames.decoder c.frames.taken c.frames.frames c.go_on.new.sink c.go_on.new.decoder c.in-Arrived.count c.frames.invariant a (omega (arith, a.within, length-drop c.frames.taken c.args.piece.now))
 
 pub returns-in-Open : goal.returns-in-Open
 returns-in-Open g c =
-    let o = subst (λ (xs : List ℕ). StaysOpen c.frames.sink c.frames.decoder.bytes xs c.go_on.new.sink c.go_on.new.decoder.bytes c.in-Open.count) c.split_at.ensures.back c.in-Open.ensures in
-    ends_open g.S.FrameSink.arrived g.S.FrameSink.violated c.args.sink.now c.args.decoder.now.bytes c.args.piece.now c.frames.sink c.frames.decoder.bytes c.frames.taken c.frames.frames c.frames.invariant c.go_on.new.sink c.go_on.new.decoder.bytes c.in-Open.count (all_bytes c.args.decoder.now.bytes c.args.piece.now c.held-held.ensures.bytes (λ i. omega (arith, c.type_inv.piece i))) o
+    let o = subst (λ (xs : List ℕ). StaysOpen c.frames.sink c.frames.decoder xs c.go_on.new.sink c.go_on.new.decoder c.in-Open.count) c.split_at.ensures.back c.in-Open.ensures in
+    ends_open g.S.FrameSink.arrived g.S.FrameSink.violated c.args.sink.now c.args.decoder.now c.args.piece.now c.frames.sink c.frames.decoder c.frames.taken c.frames.frames c.frames.invariant c.go_on.new.sink c.go_on.new.decoder c.in-Open.count (fed_bytes c.args.decoder.now c.args.piece.now c.held-held.ensures.bytes (λ i. omega (arith, c.type_inv.piece i))) o
 
 pub returns-in-Stopped : goal.returns-in-Stopped
 returns-in-Stopped g c =
-    let o = subst (λ (xs : List ℕ). Steps g.S.FrameSink.arrived g.S.FrameSink.violated (Stopped c.in-Stopped.stop c.in-Stopped.count) c.frames.sink c.frames.decoder.bytes xs c.go_on.new.sink c.go_on.new.decoder.bytes) c.split_at.ensures.back c.in-Stopped.ensures in
-    ends_stopped g.S.FrameSink.arrived g.S.FrameSink.violated c.args.sink.now c.args.decoder.now.bytes c.args.piece.now c.frames.sink c.frames.decoder.bytes c.frames.taken c.frames.frames c.frames.invariant c.in-Stopped.stop c.go_on.new.sink c.go_on.new.decoder.bytes c.in-Stopped.count (all_bytes c.args.decoder.now.bytes c.args.piece.now c.held-held.ensures.bytes (λ i. omega (arith, c.type_inv.piece i))) o
+    let o = subst (λ (xs : List ℕ). Steps g.S.FrameSink.arrived g.S.FrameSink.violated (Stopped c.in-Stopped.stop c.in-Stopped.count) c.frames.sink c.frames.decoder xs c.go_on.new.sink c.go_on.new.decoder) c.split_at.ensures.back c.in-Stopped.ensures in
+    ends_stopped g.S.FrameSink.arrived g.S.FrameSink.violated c.args.sink.now c.args.decoder.now c.args.piece.now c.frames.sink c.frames.decoder c.frames.taken c.frames.frames c.frames.invariant c.in-Stopped.stop c.go_on.new.sink c.go_on.new.decoder c.in-Stopped.count (fed_bytes c.args.decoder.now c.args.piece.now c.held-held.ensures.bytes (λ i. omega (arith, c.type_inv.piece i))) o

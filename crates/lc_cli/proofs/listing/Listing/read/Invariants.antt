@@ -1,9 +1,9 @@
 use Rattle.std.proofs.Common.{◌≤◌, ◌-◌}
-use Rattle.lc_frame.specs.Decoded.{IsOpen}
+use Rattle.lc_frame.specs.Held.{IsUndecided}
 use Rattle.lc_cli.proofs.listing.Listing.read.Given as goal
 
 abbrev pub invariant-loop-input : goal.invariant-loop-input
-invariant-loop-input g l = (l.self.position ≤ 16777216) × IsOpen l.self.decoder.bytes
+invariant-loop-input g l = (l.self.position ≤ 16777216) × IsUndecided l.self.decoder
 
 abbrev pub decreases-loop-input : goal.decreases-loop-input
 decreases-loop-input g l = 16777216 - l.self.position

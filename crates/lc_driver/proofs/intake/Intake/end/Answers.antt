@@ -6,4 +6,4 @@ use Rattle.lc_driver.proofs.intake.Intake.end.Goals as goal
 pub returns-in-Ok : goal.returns-in-Ok
 returns-in-Ok c =
     let undecided = c.self.invariant (ap (λ (s : IntakeState). s.stop) c.self.view_is ∙ c.requires) in
-    sym (ap (λ (s : IntakeState). s.held) c.self.view_is) ∙ ends_clean c.self.inside.decoder.bytes c.in-Ok.ensures undecided
+    sym (ap (λ (s : IntakeState). s.held.bytes) c.self.view_is) ∙ ends_clean c.self.inside.decoder c.in-Ok.ensures undecided

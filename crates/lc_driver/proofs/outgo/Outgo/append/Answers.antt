@@ -4,8 +4,8 @@ use Rattle.lc_driver.specs.declared.outgo.Outgo.TheInside.{Inside}
 use Rattle.lc_driver.proofs.outgo.Outgo.append.Goals as goal
 use Rattle.lc_driver.proofs.outgo.Outgo.append.Goals.{then-self-len, else-self-len}
 
-pub returns-then-len-encoded_len-clause-room : goal.returns-then-len-encoded_len-clause-room
-returns-then-len-encoded_len-clause-room c = λ nothing.
+pub returns-then-max_frame-len-clause-room : goal.returns-then-max_frame-len-clause-room
+returns-then-max_frame-len-clause-room c = λ nothing.
     let long = c.encoded_len.ensures.longest c.requires in
     elim c.if-self-len.branch [
       | then-self-len w ↦ absurd (omega (arith, long, ap (λ (inside : Inside). vec_len inside.buffer) w.self-inside-is))

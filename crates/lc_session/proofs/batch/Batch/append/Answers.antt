@@ -1,4 +1,5 @@
 use Rattle.std.proofs.Common.{◌++◌, ◌∷◌, [], ◌∙◌, ap, arith, length, length-append}
+use Rattle.lc_frame.specs.declared.version.Version.TheVariants.{One}
 use Rattle.lc_frame.specs.Encoding.{encoding}
 use Rattle.lc_session.specs.Batch.{BatchState}
 use Rattle.lc_session.proofs.Batches.{encoded, longest}
@@ -9,7 +10,7 @@ invariant_of-self c =
     let at = c.self.invariant in
     let old = c.self.inside.buffer.ok.0 in
     let new = c.encode.new.buffer.ok.0 in
-    let grown = ap length c.encode.ensures.items ∙ length-append c.self.inside.buffer.items (encoding c.args.frame) in
+    let grown = ap length c.encode.ensures.items ∙ length-append c.self.inside.buffer.items (encoding One c.args.frame) in
     let free = ap (λ (b : BatchState). b.free) c.self.view_is in
     let whole = encoded _ _ _ _ _ (omega (arith, at.within, old)) at.whole c.requires.valid c.encode.ensures.items in
     record {

@@ -1,0 +1,5 @@
+use Rattle.lc_frame.proofs.Held.{fed_fed}
+use Rattle.lc_frame.proofs.laws.pieces_add_up.Goals as goal
+
+pub returns : goal.returns
+returns c = fed_fed

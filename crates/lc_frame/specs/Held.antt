@@ -1,0 +1,85 @@
+-- What is held of a stream, of which the first bytes say its version, and what stands at the front of that. These rules are this project's own.
+use Rattle.std.specs.Prelude.{◌≡◌, ℕ, ◌⊎◌, List, [], ◌++◌, length, take, drop, Option, Some, None}
+use Rattle.std.specs.List.{flat_map}
+use Rattle.lc_frame.specs.declared.version.Version.{Version}
+use Rattle.lc_frame.specs.declared.frame.Frame.{Frame}
+use Rattle.lc_frame.specs.declared.frame_fault.FrameFault.{FrameFault}
+use Rattle.lc_frame.specs.declared.frame_fault.FrameFault.TheVariants.{BadTag}
+use Rattle.lc_frame.specs.Version.{greeting, version_of, GreetingBreaks}
+use Rattle.lc_frame.specs.Frame.{IsValid}
+use Rattle.lc_frame.specs.Encoding.{encoding, FrameStands, FaultStands}
+
+-- the version of the stream, where it is known, and the bytes that came since then, or since a frame ended: where it is not known, all bytes
+pub record Held : Type 0 where
+  pub version : Option Version
+  pub bytes : List ℕ
+
+-- nothing came yet
+abbrev pub nothing_held : Held
+nothing_held = record { version = None; bytes = [] }
+
+-- bytes of frames of a version
+abbrev pub held_in : Version → List ℕ → Held
+held_in v bytes = record { version = Some v; bytes = bytes }
+
+-- the bytes of a stream from its start, which tell this version: a greeting is gone once it is whole
+abbrev pub opened_as : Option Version → List ℕ → Held
+opened_as None bytes = record { version = None; bytes = bytes }
+opened_as (Some v) bytes = held_in v (drop (length (greeting v)) bytes)
+
+abbrev pub opened : List ℕ → Held
+opened bytes = opened_as (version_of bytes) bytes
+
+abbrev pub held_as : Option Version → List ℕ → Held
+held_as None bytes = opened bytes
+held_as (Some v) bytes = held_in v bytes
+
+-- what is held once these bytes come too
+abbrev pub fed : Held → List ℕ → Held
+fed h more = held_as h.version (h.bytes ++ more)
+
+-- the version is known as soon as the bytes tell it
+abbrev pub IsSettled : Held → Type 0
+IsSettled h = h ≡ held_as h.version h.bytes
+
+-- what frames are where a version is known, and where none is
+abbrev pub IsValidIn : Option Version → Frame → Type 0
+IsValidIn None = λ f. ⊥
+IsValidIn (Some v) = IsValid v
+
+abbrev pub encoding_in : Option Version → Frame → List ℕ
+encoding_in None = λ f. []
+encoding_in (Some v) = encoding v
+
+-- what is held, with the bytes of these frames in front
+abbrev pub before : List Frame → Held → Held
+before frames h = record { version = h.version; bytes = flat_map (encoding_in h.version) frames ++ h.bytes }
+
+-- the first so many of the bytes that are held
+abbrev pub front : ℕ → Held → Held
+front n h = record { version = h.version; bytes = take n h.bytes }
+
+-- what stands at the front of bytes: a frame where a version is known, and where none is known a byte that breaks a greeting, which is no tag
+abbrev pub FrameIn : Option Version → Frame → List ℕ → Type 0
+FrameIn None f bytes = ⊥
+FrameIn (Some v) f bytes = FrameStands v f bytes
+
+abbrev pub FaultIn : Option Version → FrameFault → List ℕ → Type 0
+FaultIn None e bytes = (e ≡ BadTag) × GreetingBreaks bytes
+FaultIn (Some v) e bytes = FaultStands v e bytes
+
+-- this frame, or this fault, stands at the front of what is held
+abbrev pub HasFrame : Frame → Held → Type 0
+HasFrame f h = FrameIn h.version f h.bytes
+
+abbrev pub HasFault : FrameFault → Held → Type 0
+HasFault e h = FaultIn h.version e h.bytes
+
+-- neither a frame nor a fault does
+pub record IsUndecided (h : Held) : Type 0 where
+  pub no_frame : (f : Frame) → ¬ HasFrame f h
+  pub no_fault : (e : FrameFault) → ¬ HasFault e h
+
+-- a frame or a fault does
+abbrev pub IsDecided : Held → Type 0
+IsDecided h = ((f : Frame) × HasFrame f h) ⊎ ((e : FrameFault) × HasFault e h)

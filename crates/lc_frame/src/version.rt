@@ -1,0 +1,52 @@
+//! The versions of the format.
+ghost use Rattle.std.specs.Prelude.{◌≡◌, ◌≤◌};
+ghost use Rattle.lc_frame.specs.declared.version.Version.TheVariants.{Two};
+ghost use Rattle.lc_frame.specs.Version.{greeting};
+ghost use Rattle.lc_frame.specs.Kind.{max_body, max_frame};
+
+use crate::encoding::MAX_FRAME;
+
+/// A version of the format. A stream of version Two begins with a greeting of four bytes, and the
+/// length of a message has four bytes there, where it has two in version One. All else is one.
+#[derive(Clone, Copy, Debug, PartialEq, Eq)]
+pub enum Version {
+    One,
+    Two,
+}
+
+/// The bytes that a stream of version Two begins with.
+pub const GREETING: [u8; 4] = [0x4c, 0x43, 0x4d, 0x02];
+
+impl Version {
+    /// The bytes in front of a stream's frames: none in version One.
+    pub fn greeting(self) -> &'static [u8]
+        ensures { result.now ≡ greeting self }
+    {
+        match self {
+            Version::One => &[],
+            Version::Two => &GREETING,
+        }
+    }
+
+    /// The longest message, in bytes.
+    #[inline]
+    pub fn max_body(self) -> usize
+        ensures { result ≡ max_body self }
+    {
+        match self {
+            Version::One => 65_535,
+            Version::Two => 1_048_576,
+        }
+    }
+    /// The longest frame, in bytes: a Send of the longest message.
+    #[inline]
+    pub fn max_frame(self) -> usize
+        ensures value { result ≡ max_frame self }
+        ensures most { result ≤ max_frame Two }
+    {
+        match self {
+            Version::One => 65_538,
+            Version::Two => MAX_FRAME,
+        }
+    }
+}
