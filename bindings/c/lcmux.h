@@ -53,7 +53,7 @@ enum {
 
     /* Refusals: the call is not allowed now, and nothing has changed. */
     LCMUX_EMPTY_BODY = 1,         /* a message has at least 1 byte */
-    LCMUX_BODY_TOO_LONG = 2,      /* a message has at most 65,535 bytes */
+    LCMUX_BODY_TOO_LONG = 2,      /* a message has at most 65,535 bytes in version 1, 1,048,576 in version 2 */
     LCMUX_PAST_SEND_LIMIT = 3,    /* number: what the own limit on sending leaves */
     LCMUX_NO_GUARANTEE = 4,       /* number: the guarantees that are held */
     LCMUX_ZERO_AMOUNT = 5,        /* an amount is at least 1 */
@@ -72,7 +72,7 @@ enum {
     LCMUX_NO_PEER = 32,           /* the handle is empty */
     LCMUX_HAS_PEER = 33,          /* lcmux_peer_new on a handle that has a peer */
     LCMUX_NO_CHANNEL = 34,        /* a channel above 6 */
-    LCMUX_BAD_VERSION = 35,       /* config.version is not 1 */
+    LCMUX_BAD_VERSION = 35,       /* config.version is neither 1 nor 2 */
     LCMUX_BAD_CAPACITY = 36,      /* number: the first channel whose ring would not have 1 to 2^24 bytes */
     LCMUX_BAD_SLOTS = 37,         /* config.slots is not 1 to 65,536 */
     LCMUX_NO_CODE = 38,           /* lcmux_text of a number that is no code */
@@ -112,7 +112,7 @@ typedef struct lcmux_answer {
 } lcmux_answer;
 
 typedef struct lcmux_config {
-    uint32_t version;       /* of the format that goes out: 1 */
+    uint32_t version;       /* of the format that goes out: 1 or 2. Either may come */
     uint32_t slots;         /* how many frames may wait to go out, 1 to 65,536 */
     uint32_t capacities[7]; /* the bytes of each channel's receiving ring, 1 to 2^24 */
 } lcmux_config;
@@ -150,15 +150,17 @@ typedef struct lcmux_server {
 
 /* Makes a peer behind an empty handle. LCMUX_HAS_PEER, LCMUX_BAD_VERSION, LCMUX_BAD_CAPACITY,
  * LCMUX_BAD_SLOTS and LCMUX_OUT_OF_MEMORY, in this order; the handle is then as it was. It asks for 18
- * blocks: the rings, the list of frames, a buffer of 1,048,581 bytes for a frame that comes, one of
- * 65,538 bytes for a frame that goes out, and the peer. */
+ * blocks: the rings, the list of frames, two buffers of 1,048,581 bytes of addresses, for a frame that
+ * comes and for one that goes out, and the peer. In version 2 the first bytes that go out are the
+ * greeting of the stream, 4c 43 4d 02, which waits from here on. */
 lcmux_answer lcmux_peer_new(const lcmux_config *config, lcmux_peer *peer) LCMUX_NONNULL;
 
 /* Gives all of it back, with the messages and frames that are there, and empties the handle.
  * LCMUX_NO_PEER where it was empty. */
 lcmux_answer lcmux_peer_free(lcmux_peer *peer) LCMUX_NONNULL;
 
-/* Sends a copy of 1 to 65,535 bytes as one message. Codes 1, 2, 3, 4, 14 and 13, in this order. */
+/* Sends a copy of 1 to 65,535 bytes as one message, in version 2 of 1 to 1,048,576. Codes 1, 2, 3, 4,
+ * 14 and 13, in this order. */
 lcmux_answer lcmux_peer_send(lcmux_peer *peer, uint32_t channel, const uint8_t *body, size_t len) LCMUX_NONNULL;
 
 /* Issues guarantees. Codes 5, 9, 10, 12 and 13. */
@@ -192,7 +194,8 @@ lcmux_answer lcmux_peer_end(lcmux_peer *peer) LCMUX_NONNULL;
 
 /* The next bytes that go out, to the front of buffer: as many as there are and have room, which is the
  * number. What is left of a frame that was begun stays inside. The bytes count as sent: a program that
- * cannot send them has lost the stream. A buffer of 65,538 bytes holds any frame. */
+ * cannot send them has lost the stream. A buffer of 65,538 bytes holds any frame of version 1, one of
+ * 1,048,581 bytes any of version 2. */
 lcmux_answer lcmux_peer_write(lcmux_peer *peer, uint8_t *buffer, size_t len) LCMUX_NONNULL;
 
 /* The number is how many bytes lcmux_peer_write would give now. It looks at each frame that waits. */

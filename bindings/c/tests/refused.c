@@ -118,10 +118,12 @@ int main(void) {
     must(lcmux_peer_pending(&peer).code == LCMUX_OK, "which leaves the peer");
     must(lcmux_peer_free(&peer).code == LCMUX_OK, "free");
     empty_handle(&peer);
-    config.version = 2;
     config.capacities[3] = 0;
-    must(lcmux_peer_new(&config, &peer).code == LCMUX_BAD_VERSION, "version");
-    config.version = 1;
+    config.version = 0;
+    must(lcmux_peer_new(&config, &peer).code == LCMUX_BAD_VERSION, "version 0");
+    config.version = 3;
+    must(lcmux_peer_new(&config, &peer).code == LCMUX_BAD_VERSION, "version 3");
+    config.version = 2;
     config.slots = 65537;
     lcmux_answer bad = lcmux_peer_new(&config, &peer);
     must(bad.code == LCMUX_BAD_CAPACITY && bad.number == 3, "capacity");

@@ -11,7 +11,7 @@
 /* One side, and its bytes that did not arrive yet. */
 struct side {
     lcmux_peer peer;
-    uint8_t out[1 << 17];
+    uint8_t out[1 << 21];
     size_t from, to;
 };
 
@@ -100,7 +100,7 @@ static void say_server(lcmux_peer *peer, uint32_t channel) {
 
 /* One line without its answer. Answers whether it is an own call with a plain answer. */
 static bool own_call(lcmux_peer *peer, const char *word, uint32_t channel, const char *arg, lcmux_answer *answer) {
-    static uint8_t body[1 << 17];
+    static uint8_t body[1 << 21];
     uint64_t number = strtoull(arg, NULL, 10);
     if (!strcmp(word, "send"))
         *answer = lcmux_peer_send(peer, channel, body, unhex(arg, body));
@@ -122,7 +122,7 @@ static bool own_call(lcmux_peer *peer, const char *word, uint32_t channel, const
 }
 
 static bool other_call(struct side *me, struct side *other, const char *word, const char *first, const char *second) {
-    static uint8_t bytes[1 << 17];
+    static uint8_t bytes[1 << 21];
     uint32_t channel = (uint32_t)strtoull(first, NULL, 10);
     lcmux_answer answer = {LCMUX_OK, 0};
     if (!strcmp(word, "arrive"))
@@ -161,8 +161,8 @@ static bool other_call(struct side *me, struct side *other, const char *word, co
     return true;
 }
 
-static bool begin(uint32_t capacity, uint32_t slots) {
-    lcmux_config config = {.version = 1, .slots = slots};
+static bool begin(uint32_t capacity, uint32_t slots, uint32_t version) {
+    lcmux_config config = {.version = version, .slots = slots};
     for (int c = 0; c < 7; c++)
         config.capacities[c] = capacity;
     for (int s = 0; s < 2; s++) {
@@ -176,10 +176,10 @@ static bool begin(uint32_t capacity, uint32_t slots) {
 
 static bool run(char *line) {
     char name[2] = "", word[24] = "", first[256] = "", second[32] = "";
-    uint32_t capacity, slots;
+    uint32_t capacity, slots, version = 1;
     lcmux_answer answer;
-    if (sscanf(line, "rings %" SCNu32 " %" SCNu32, &capacity, &slots) == 2)
-        return begin(capacity, slots);
+    if (sscanf(line, "rings %" SCNu32 " %" SCNu32 " %" SCNu32, &capacity, &slots, &version) >= 2)
+        return begin(capacity, slots, version);
     char *want = strstr(line, " => ");
     if (!want || (*want = 0, sscanf(line, "%1s %23s %255s %31s", name, word, first, second)) < 2)
         return false;

@@ -9,7 +9,7 @@ use std::io;
 pub enum Refusal {
     /// 1. A message has at least 1 byte.
     EmptyBody,
-    /// 2. A message has at most 65,535 bytes.
+    /// 2. A message has at most 65,535 bytes in version One, 1,048,576 in version Two.
     BodyTooLong,
     /// 3. The message is longer than what the own limit on sending leaves.
     PastSendLimit {
@@ -115,7 +115,7 @@ impl Display for Refusal {
     fn fmt(&self, f: &mut Formatter<'_>) -> fmt::Result {
         match self {
             Refusal::EmptyBody => write!(f, "the message is empty"),
-            Refusal::BodyTooLong => write!(f, "the message is longer than 65,535 bytes"),
+            Refusal::BodyTooLong => write!(f, "the message is too long"),
             Refusal::PastSendLimit { left } => {
                 write!(f, "the limit on sending leaves {left} bytes")
             }
@@ -237,10 +237,10 @@ impl Fault {
 impl Display for Fault {
     fn fmt(&self, f: &mut Formatter<'_>) -> fmt::Result {
         f.write_str(match self {
-            Fault::BadTag => "the first byte of a frame names no kind or no channel",
+            Fault::BadTag => "a byte names no kind or channel, or is not the greeting's",
             Fault::ZeroLength => "a message has length 0",
             Fault::BadNumber => "a number in a frame is out of its range",
-            Fault::Truncated => "the stream ends within a frame",
+            Fault::Truncated => "the stream ends within a frame or a greeting",
         })
     }
 }

@@ -13,6 +13,34 @@ pub enum Version {
     /// The first: messages of 1 to 65,535 bytes.
     #[default]
     One,
+    /// The second: messages of 1 to 1,048,576 bytes. The stream begins with a greeting of four bytes,
+    /// which waits to go out from the first.
+    Two,
+}
+
+impl Version {
+    /// The version's number, 1 or 2.
+    pub fn number(self) -> u8 {
+        match self {
+            Version::One => 1,
+            Version::Two => 2,
+        }
+    }
+
+    /// The version of a number, `None` where it is neither 1 nor 2.
+    ///
+    /// ```
+    /// use lcmux::Version;
+    /// assert_eq!(Version::from_number(2), Some(Version::Two));
+    /// assert_eq!(Version::from_number(3), None);
+    /// ```
+    pub fn from_number(number: u8) -> Option<Version> {
+        match number {
+            1 => Some(Version::One),
+            2 => Some(Version::Two),
+            _ => None,
+        }
+    }
 }
 
 /// The bounds of a peer.
@@ -29,6 +57,16 @@ pub struct Config {
 
 impl Config {
     /// Version One, with rings of these sizes and so many slots. [`Peer::new`] judges them.
+    ///
+    /// ```
+    /// use lcmux::{Config, Peer, Version};
+    /// let mut config = Config::new([8; 7], 4);
+    /// config.version = Version::Two;
+    /// let mut wire = Vec::new();
+    /// Peer::new(&config)?.write_to(&mut wire)?;
+    /// assert_eq!(wire, [0x4c, 0x43, 0x4d, 0x02]);
+    /// # Ok::<(), Box<dyn std::error::Error>>(())
+    /// ```
     pub fn new(capacities: [u32; 7], slots: u32) -> Config {
         Config {
             version: Version::One,
@@ -113,7 +151,7 @@ fn some_unless_none(number: u64) -> Option<u64> {
 /// let (mut alice, mut bob) = (Peer::new(&config)?, Peer::new(&config)?);
 /// assert_eq!(alice.send(Data, b"hello"), Err(Refusal::NoGuarantee { held: 0 }));
 ///
-/// // Bob promises room for 8 bytes; 65,538 bytes hold any frame.
+/// // Bob promises room for 8 bytes; 65,538 bytes hold any frame of version One.
 /// let mut wire = vec![0; 65_538];
 /// bob.issue(Data, 8)?;
 /// let count = bob.write(&mut wire);
@@ -148,9 +186,7 @@ impl Peer {
     /// ```
     pub fn new(config: &Config) -> Result<Peer, PeerFault> {
         let bounds = sys::Config {
-            version: match config.version {
-                Version::One => 1,
-            },
+            version: config.version.number().into(),
             slots: config.slots,
             capacities: config.capacities,
         };
@@ -166,8 +202,8 @@ impl Peer {
         }
     }
 
-    /// A copy of 1 to 65,535 bytes is sent as one message. Refused by 1, 2, 3, 4, 14 and 13, in this
-    /// order.
+    /// A copy of 1 to 65,535 bytes is sent as one message, in version Two of 1 to 1,048,576. Refused by
+    /// 1, 2, 3, 4, 14 and 13, in this order.
     pub fn send(&mut self, channel: Channel, body: &[u8]) -> Result<(), Refusal> {
         done(self.handle.send(channel.number().into(), body))
     }

@@ -1,5 +1,5 @@
 //! The worked examples and hostile bytes of `bindings/rows.txt`, through the crate.
-use lcmux::{Channel, Config, Peer, Refusal, Stop, Take};
+use lcmux::{Channel, Config, Peer, Refusal, Stop, Take, Version};
 
 struct Side {
     peer: Peer,
@@ -154,7 +154,7 @@ fn answer(me: &mut Side, other: &mut Side, words: &[&str], piece: usize) -> Stri
                 if words.len() > 2 {
                     number(2) as usize
                 } else {
-                    65_535
+                    1_048_576
                 }
             ];
             let take = peer.take_into(channel, &mut buffer);
@@ -167,9 +167,14 @@ fn answer(me: &mut Side, other: &mut Side, words: &[&str], piece: usize) -> Stri
     }
 }
 
-fn side(capacity: u32, slots: u32) -> Side {
+// The bytes of every ring, how many frames may wait, and the version where it is not One.
+fn side(words: &[&str]) -> Side {
+    let mut config = Config::new([words[0].parse().unwrap(); 7], words[1].parse().unwrap());
+    if let Some(number) = words.get(2) {
+        config.version = Version::from_number(number.parse().unwrap()).unwrap();
+    }
     Side {
-        peer: Peer::new(&Config::new([capacity; 7], slots)).unwrap(),
+        peer: Peer::new(&config).unwrap(),
         wire: Vec::new(),
     }
 }
@@ -185,8 +190,7 @@ fn run(piece: usize) {
         let (call, want) = line.split_once(" => ").unwrap_or((line, ""));
         let words: Vec<&str> = call.split(' ').collect();
         if words[0] == "rings" {
-            let (capacity, slots) = (words[1].parse().unwrap(), words[2].parse().unwrap());
-            sides = Some((side(capacity, slots), side(capacity, slots)));
+            sides = Some((side(&words[1..]), side(&words[1..])));
             continue;
         }
         let (a, b) = sides.as_mut().unwrap();

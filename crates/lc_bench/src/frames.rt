@@ -1,7 +1,6 @@
 //! Where frames are put, and where they are taken out: the lanes of a session's queue and their
 //! drain, and the kit's queue, which has no lanes.
 ghost use Rattle.std.specs.Prelude.{◌≡◌, IfSome};
-ghost use Rattle.lc_frame.specs.declared.version.Version.TheVariants.{One};
 ghost use Rattle.lc_frame.specs.Frame.{lane_of, IsValid};
 
 use crossbeam_queue::ArrayQueue;
@@ -29,14 +28,14 @@ pub trait Outlet {
     fn take<R: Wait>(&mut self, rt: &R) -> bool;
 }
 
-// An Issue of a lane; `None` where the lane has none.
+// An Issue of a lane, in a version; `None` where the lane has none.
 #[inline]
-fn issue_in(lane: u8) -> Option<Frame>
-    ensures { IfSome result (λ frame. IsValid One frame × (lane_of frame ≡ lane)) }
+fn issue_in(version: Version, lane: u8) -> Option<Frame>
+    ensures { IfSome result (λ frame. IsValid version frame × (lane_of frame ≡ lane)) }
 {
     let channel = Channel::from_number(lane.checked_sub(FIRST)?)?;
     let frame = Frame::Issue { channel, amount: 5 };
-    if frame.is_valid(Version::One) && frame.lane() == lane {
+    if frame.is_valid(version) && frame.lane() == lane {
         Some(frame)
     } else {
         None
@@ -45,7 +44,7 @@ fn issue_in(lane: u8) -> Option<Frame>
 
 impl Inlet for LaneEnd {
     fn put<R: Wait>(&mut self, rt: &R) -> bool {
-        let Some(frame) = issue_in(self.lane()) else {
+        let Some(frame) = issue_in(self.version(), self.lane()) else {
             return false;
         };
         match self.push(rt, frame) {
@@ -73,7 +72,7 @@ pub struct Shared {
 
 impl Inlet for Shared {
     fn put<R: Wait>(&mut self, rt: &R) -> bool {
-        let Some(frame) = issue_in(self.lane) else {
+        let Some(frame) = issue_in(Version::One, self.lane) else {
             return false;
         };
         match self.queue.push(rt, frame) {
@@ -94,7 +93,7 @@ impl Outlet for Shared {
 
 /// The ends of the first so many lanes that Issues have, and the drain, of a new queue.
 pub fn new_lanes(alloc: Global, count: usize) -> io::Result<(Vec<LaneEnd>, Drain)> {
-    let Ok(parts) = lanes(alloc, SLOTS) else {
+    let Ok(parts) = lanes(alloc, SLOTS, Version::One) else {
         return Err(io::Error::other("no queue was made"));
     };
     let mut inlets = Vec::new(alloc);

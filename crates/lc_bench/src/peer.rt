@@ -1,8 +1,10 @@
 //! Two peers on one thread: a message there, and its guarantees back.
+ghost use Rattle.std.specs.Prelude.{◌≡◌};
+
 use crate::figures::{Figure, Turns};
 use crate::plan::Plan;
 use lc_driver::{Counted, Intake, Outgo, ReadEnd, read_in, write_out};
-use lc_frame::Channel;
+use lc_frame::{Channel, Version};
 use lc_peer::{Config, Peer, Take};
 use std::alloc::Global;
 use std::io;
@@ -26,6 +28,8 @@ struct Side {
     peer: Peer,
     outgo: Outgo,
     intake: Intake,
+    // What goes out is written in the peer's version.
+    ghost one_version: { outgo.version ≡ peer.version },
 }
 
 // One call, wherever a side is dropped.
@@ -41,9 +45,10 @@ impl Drop for Side {
 
 impl Side {
     fn new(alloc: Global) -> io::Result<Side> {
-        let outgo = Outgo::new(alloc)?;
+        let outgo = Outgo::new(alloc, Version::One)?;
         let intake = Intake::new(alloc)?;
         let config = Config {
+            version: Version::One,
             capacities: [CAPACITY; 7],
             slots: SLOTS,
         };

@@ -1,7 +1,7 @@
 //! A peer to which the bytes of a walk are delivered.
 ghost use Rattle.std.specs.Prelude.{◌<◌};
 
-use lc_frame::{Channel, StreamDecoder};
+use lc_frame::{Channel, StreamDecoder, Version};
 use lc_peer::{Config, Delivery, Peer, Take};
 use std::alloc::Global;
 use std::io;
@@ -22,6 +22,7 @@ impl Receiver {
         let mut capacities = [1; 7];
         capacities[CHANNEL.index()] = room;
         let config = Config {
+            version: Version::One,
             capacities,
             slots: 2,
         };

@@ -1,6 +1,7 @@
 -- Books of sums after one frame more.
 use Rattle.std.proofs.Common.{◌≡◌, ℕ, ◌+◌, List, [], ◌∷◌, ◌++◌, length, Option, refl, sym, ◌∙◌, arith}
 use Rattle.lc_frame.specs.declared.channel.Channel.{Channel}
+use Rattle.lc_frame.specs.declared.version.Version.{Version}
 use Rattle.lc_frame.specs.declared.frame.Frame.{Frame}
 use Rattle.lc_frame.specs.declared.frame.Frame.TheVariants.{Send, Issue, Absolve, Plead, LimitSending, LimitReceiving}
 use Rattle.lc_frame.specs.Frame.{channel_of}
@@ -10,12 +11,12 @@ use Rattle.lc_book.specs.Client.{Client}
 use Rattle.lc_book.specs.Server.{Server}
 use Rattle.lc_book.specs.Sums.{client_of, server_of, client_after_put, client_after_arrival, server_after_put, server_after_arrival, asked_after, ClientKeepsSums, ServerKeepsSums, BooksKeepSums, HonourKeepsSums, EveryHonourKeepsSums}
 
-client_same : (r r' s s' a a' : ℕ) (l l' m m' p p' : Option ℕ) → r ≡ r' → s ≡ s' → a ≡ a' → l ≡ l' → m ≡ m' → p ≡ p' → ◌≡◌ {A = Client} (record { received = r; spent = s; absolved = a; send_left = l; receive_left = m; asked = p }) (record { received = r'; spent = s'; absolved = a'; send_left = l'; receive_left = m'; asked = p' })
-client_same r r' s s' a a' l l' m m' p p' er es ea el em ep = cc
+client_same : (v v' : Version) (r r' s s' a a' : ℕ) (l l' m m' p p' : Option ℕ) → v ≡ v' → r ≡ r' → s ≡ s' → a ≡ a' → l ≡ l' → m ≡ m' → p ≡ p' → ◌≡◌ {A = Client} (record { version = v; received = r; spent = s; absolved = a; send_left = l; receive_left = m; asked = p }) (record { version = v'; received = r'; spent = s'; absolved = a'; send_left = l'; receive_left = m'; asked = p' })
+client_same v v' r r' s s' a a' l l' m m' p p' ev er es ea el em ep = cc
 
 -- two books with the same fields are one
-pub client_is : (a b : Client) → a.received ≡ b.received → a.spent ≡ b.spent → a.absolved ≡ b.absolved → a.send_left ≡ b.send_left → a.receive_left ≡ b.receive_left → a.asked ≡ b.asked → a ≡ b
-client_is a b er es ea el em ep = client_same a.received b.received a.spent b.spent a.absolved b.absolved a.send_left b.send_left a.receive_left b.receive_left a.asked b.asked er es ea el em ep
+pub client_is : (a b : Client) → a.version ≡ b.version → a.received ≡ b.received → a.spent ≡ b.spent → a.absolved ≡ b.absolved → a.send_left ≡ b.send_left → a.receive_left ≡ b.receive_left → a.asked ≡ b.asked → a ≡ b
+client_is a b ev er es ea el em ep = client_same a.version b.version a.received b.received a.spent b.spent a.absolved b.absolved a.send_left b.send_left a.receive_left b.receive_left a.asked b.asked ev er es ea el em ep
 
 server_same : (k k' n n' r r' t t' a a' : ℕ) (l l' m m' : Option ℕ) → k ≡ k' → n ≡ n' → r ≡ r' → t ≡ t' → a ≡ a' → l ≡ l' → m ≡ m' → ◌≡◌ {A = Server} (record { capacity = k; issued = n; arrived = r; taken = t; absolved = a; send_left = l; receive_left = m }) (record { capacity = k'; issued = n'; arrived = r'; taken = t'; absolved = a'; send_left = l'; receive_left = m' })
 server_same k k' n n' r r' t t' a a' l l' m m' ek en er et ea el em = cc
@@ -42,22 +43,22 @@ none_issued_more frames f e = omega (arith, issued_more frames f 0 e)
 none_absolved_more : (frames : List Frame) (f : Frame) → absolved (channel_of f) (f ∷ []) ≡ 0 → absolved (channel_of f) frames ≡ absolved (channel_of f) (frames ++ f ∷ [])
 none_absolved_more frames f e = omega (arith, absolved_more frames f 0 e)
 
-module _ (put arrived : List Frame) (asked : Option ℕ) where
-  client_put_here : (f : Frame) → client_after_put f (client_of (channel_of f) put arrived asked) ≡ client_of (channel_of f) (put ++ f ∷ []) arrived asked
-  client_put_here (Send c body) = let f : Frame = Send c body in client_is _ _ refl (cost_more put f (length body) (cost-one f ∙ omega arith)) (none_absolved_more put f (absolved-one f)) (sym (send_left-push put f)) refl refl
-  client_put_here (Issue c n) = let f : Frame = Issue c n in client_is _ _ refl (no_cost_more put f (cost-one f)) (none_absolved_more put f (absolved-one f)) (sym (send_left-push put f)) refl refl
-  client_put_here (Absolve c n) = let f : Frame = Absolve c n in client_is _ _ refl (no_cost_more put f (cost-one f)) (absolved_more put f n (absolved-one f ∙ omega arith)) (sym (send_left-push put f)) refl refl
-  client_put_here (Plead c n) = let f : Frame = Plead c n in client_is _ _ refl (no_cost_more put f (cost-one f)) (none_absolved_more put f (absolved-one f)) (sym (send_left-push put f)) refl refl
-  client_put_here (LimitSending c n) = let f : Frame = LimitSending c n in client_is _ _ refl (no_cost_more put f (cost-one f)) (none_absolved_more put f (absolved-one f)) (sym (send_left-push put f)) refl refl
-  client_put_here (LimitReceiving c n) = let f : Frame = LimitReceiving c n in client_is _ _ refl (no_cost_more put f (cost-one f)) (none_absolved_more put f (absolved-one f)) (sym (send_left-push put f)) refl refl
+module _ (version : Version) (put arrived : List Frame) (asked : Option ℕ) where
+  client_put_here : (f : Frame) → client_after_put f (client_of version (channel_of f) put arrived asked) ≡ client_of version (channel_of f) (put ++ f ∷ []) arrived asked
+  client_put_here (Send c body) = let f : Frame = Send c body in client_is _ _ refl refl (cost_more put f (length body) (cost-one f ∙ omega arith)) (none_absolved_more put f (absolved-one f)) (sym (send_left-push put f)) refl refl
+  client_put_here (Issue c n) = let f : Frame = Issue c n in client_is _ _ refl refl (no_cost_more put f (cost-one f)) (none_absolved_more put f (absolved-one f)) (sym (send_left-push put f)) refl refl
+  client_put_here (Absolve c n) = let f : Frame = Absolve c n in client_is _ _ refl refl (no_cost_more put f (cost-one f)) (absolved_more put f n (absolved-one f ∙ omega arith)) (sym (send_left-push put f)) refl refl
+  client_put_here (Plead c n) = let f : Frame = Plead c n in client_is _ _ refl refl (no_cost_more put f (cost-one f)) (none_absolved_more put f (absolved-one f)) (sym (send_left-push put f)) refl refl
+  client_put_here (LimitSending c n) = let f : Frame = LimitSending c n in client_is _ _ refl refl (no_cost_more put f (cost-one f)) (none_absolved_more put f (absolved-one f)) (sym (send_left-push put f)) refl refl
+  client_put_here (LimitReceiving c n) = let f : Frame = LimitReceiving c n in client_is _ _ refl refl (no_cost_more put f (cost-one f)) (none_absolved_more put f (absolved-one f)) (sym (send_left-push put f)) refl refl
 
-  client_arrived_here : (f : Frame) → client_after_arrival f (client_of (channel_of f) put arrived asked) ≡ client_of (channel_of f) put (arrived ++ f ∷ []) (asked_after f asked)
-  client_arrived_here (Send c body) = let f : Frame = Send c body in client_is _ _ (none_issued_more arrived f (issued-one f)) refl refl refl (sym (receive_left-push arrived f)) refl
-  client_arrived_here (Issue c n) = let f : Frame = Issue c n in client_is _ _ (issued_more arrived f n (issued-one f ∙ omega arith)) refl refl refl (sym (receive_left-push arrived f)) refl
-  client_arrived_here (Absolve c n) = let f : Frame = Absolve c n in client_is _ _ (none_issued_more arrived f (issued-one f)) refl refl refl (sym (receive_left-push arrived f)) refl
-  client_arrived_here (Plead c n) = let f : Frame = Plead c n in client_is _ _ (none_issued_more arrived f (issued-one f)) refl refl refl (sym (receive_left-push arrived f)) refl
-  client_arrived_here (LimitSending c n) = let f : Frame = LimitSending c n in client_is _ _ (none_issued_more arrived f (issued-one f)) refl refl refl (sym (receive_left-push arrived f)) refl
-  client_arrived_here (LimitReceiving c n) = let f : Frame = LimitReceiving c n in client_is _ _ (none_issued_more arrived f (issued-one f)) refl refl refl (sym (receive_left-push arrived f)) refl
+  client_arrived_here : (f : Frame) → client_after_arrival f (client_of version (channel_of f) put arrived asked) ≡ client_of version (channel_of f) put (arrived ++ f ∷ []) (asked_after f asked)
+  client_arrived_here (Send c body) = let f : Frame = Send c body in client_is _ _ refl (none_issued_more arrived f (issued-one f)) refl refl refl (sym (receive_left-push arrived f)) refl
+  client_arrived_here (Issue c n) = let f : Frame = Issue c n in client_is _ _ refl (issued_more arrived f n (issued-one f ∙ omega arith)) refl refl refl (sym (receive_left-push arrived f)) refl
+  client_arrived_here (Absolve c n) = let f : Frame = Absolve c n in client_is _ _ refl (none_issued_more arrived f (issued-one f)) refl refl refl (sym (receive_left-push arrived f)) refl
+  client_arrived_here (Plead c n) = let f : Frame = Plead c n in client_is _ _ refl (none_issued_more arrived f (issued-one f)) refl refl refl (sym (receive_left-push arrived f)) refl
+  client_arrived_here (LimitSending c n) = let f : Frame = LimitSending c n in client_is _ _ refl (none_issued_more arrived f (issued-one f)) refl refl refl (sym (receive_left-push arrived f)) refl
+  client_arrived_here (LimitReceiving c n) = let f : Frame = LimitReceiving c n in client_is _ _ refl (none_issued_more arrived f (issued-one f)) refl refl refl (sym (receive_left-push arrived f)) refl
 
 module _ (capacity : ℕ) (put arrived : List Frame) (taken : ℕ) where
   server_put_here : (f : Frame) → server_after_put f (server_of capacity (channel_of f) put arrived taken) ≡ server_of capacity (channel_of f) (put ++ f ∷ []) arrived taken
@@ -76,12 +77,12 @@ module _ (capacity : ℕ) (put arrived : List Frame) (taken : ℕ) where
   server_arrived_here (LimitSending c n) = let f : Frame = LimitSending c n in server_is _ _ refl refl (no_cost_more arrived f (cost-one f)) refl (none_absolved_more arrived f (absolved-one f)) (sym (send_left-push arrived f)) refl
   server_arrived_here (LimitReceiving c n) = let f : Frame = LimitReceiving c n in server_is _ _ refl refl (no_cost_more arrived f (cost-one f)) refl (none_absolved_more arrived f (absolved-one f)) (sym (send_left-push arrived f)) refl
 
-client_keeps : (put arrived : List Frame) (asked : Option ℕ) (f : Frame) → ClientKeepsSums put arrived asked f
-client_keeps put arrived asked f = record {
-  put_here = client_put_here put arrived asked f;
-  put_elsewhere = λ c apart. client_is _ _ refl (sym (cost-other c put f apart)) (sym (absolved-other c put f apart)) (sym (send_left-other c put f apart)) refl refl;
-  arrived_here = client_arrived_here put arrived asked f;
-  arrived_elsewhere = λ c apart. client_is _ _ (sym (issued-other c arrived f apart)) refl refl refl (sym (receive_left-other c arrived f apart)) refl;
+client_keeps : (version : Version) (put arrived : List Frame) (asked : Option ℕ) (f : Frame) → ClientKeepsSums version put arrived asked f
+client_keeps version put arrived asked f = record {
+  put_here = client_put_here version put arrived asked f;
+  put_elsewhere = λ c apart. client_is _ _ refl refl (sym (cost-other c put f apart)) (sym (absolved-other c put f apart)) (sym (send_left-other c put f apart)) refl refl;
+  arrived_here = client_arrived_here version put arrived asked f;
+  arrived_elsewhere = λ c apart. client_is _ _ refl (sym (issued-other c arrived f apart)) refl refl refl (sym (receive_left-other c arrived f apart)) refl;
 }
 
 server_keeps : (capacity : ℕ) (put arrived : List Frame) (taken : ℕ) (f : Frame) → ServerKeepsSums capacity put arrived taken f
@@ -93,13 +94,13 @@ server_keeps capacity put arrived taken f = record {
 }
 
 pub books_keep_sums : BooksKeepSums
-books_keep_sums capacity put arrived asked taken f = (client_keeps put arrived asked f, server_keeps capacity put arrived taken f)
+books_keep_sums version capacity put arrived asked taken f = (client_keeps version put arrived asked f, server_keeps capacity put arrived taken f)
 
-honour_keeps : (c : Channel) (put arrived : List Frame) (asked : Option ℕ) → HonourKeepsSums c put arrived asked
-honour_keeps c put arrived asked = record {
-  absolves = λ amount e. let f : Frame = Absolve c amount in client_is _ _ refl (no_cost_more put f (cost-one f)) (rw e (absolved_more put f amount (absolved-one f ∙ omega arith))) (sym (send_left-push put f)) refl refl;
-  forgets = λ e. client_is _ _ refl refl (rw e (omega arith)) refl refl refl;
+honour_keeps : (version : Version) (c : Channel) (put arrived : List Frame) (asked : Option ℕ) → HonourKeepsSums version c put arrived asked
+honour_keeps version c put arrived asked = record {
+  absolves = λ amount e. let f : Frame = Absolve c amount in client_is _ _ refl refl (no_cost_more put f (cost-one f)) (rw e (absolved_more put f amount (absolved-one f ∙ omega arith))) (sym (send_left-push put f)) refl refl;
+  forgets = λ e. client_is _ _ refl refl refl (rw e (omega arith)) refl refl refl;
 }
 
 pub every_honour_keeps_sums : EveryHonourKeepsSums
-every_honour_keeps_sums c put arrived asked = honour_keeps c put arrived asked
+every_honour_keeps_sums version c put arrived asked = honour_keeps version c put arrived asked

@@ -2,14 +2,13 @@
 use Rattle.std.proofs.Common.{◌≡◌, ℕ, ◌≤◌, length, Option, Some, None, refl, arith}
 use Rattle.std.proofs.lemmas.Bool.Decides.{nat_tests}
 use Rattle.lc_frame.specs.declared.channel.Channel.{Channel}
-use Rattle.lc_frame.specs.declared.version.Version.TheVariants.{One}
 use Rattle.lc_frame.specs.Kind.{max_body, max_amount, max_total}
 use Rattle.lc_book.specs.Limit.{limit_refusal}
 use Rattle.lc_book.specs.Client.{Client, IsClient, spend_refusal, absolve_refusal, amount_to_absolve}
 use Rattle.lc_book.specs.Server.{Server, IsServer, issue_refusal, plead_refusal}
 use Rattle.lc_book.specs.Sums.{PutsValidFrames, EveryBookPutsValidFrames}
 
-sends_in_range : (b : Client) (n : ℕ) → spend_refusal b n ≡ None → (1 ≤ n) × (n ≤ max_body One)
+sends_in_range : (b : Client) (n : ℕ) → spend_refusal b n ≡ None → (1 ≤ n) × (n ≤ max_body b.version)
 sends_in_range b n e = grind (arith, nat_tests)
 
 absolves_in_range : (b : Client) (n : ℕ) → IsClient b → absolve_refusal b n ≡ None → (1 ≤ n) × (n ≤ max_amount)

@@ -1,7 +1,7 @@
 -- The client's book of one channel direction, and what each call on it refuses and leaves. Guarantees, sending within them and absolving are LCMUX's, also that a server may plead; the order of refusals, what a plead names and what an honour absolves are this project's own.
 use Rattle.std.specs.Prelude.{ℕ, ◌+◌, ◌-◌, ◌≤◌, ◌==◌, nat_lt, if◌then◌else◌, Option, Some, None, unwrap_or}
 use Rattle.std.specs.Option.{option_and_then, ForSome}
-use Rattle.lc_frame.specs.declared.version.Version.TheVariants.{One}
+use Rattle.lc_frame.specs.declared.version.Version.{Version}
 use Rattle.lc_frame.specs.Kind.{max_body, max_amount, max_total}
 use Rattle.lc_book.specs.declared.client.ClientParts.{ClientParts}
 use Rattle.lc_book.specs.declared.fault.Refusal.{Refusal}
@@ -10,8 +10,9 @@ use Rattle.lc_book.specs.declared.fault.Violation.{Violation}
 use Rattle.lc_book.specs.declared.fault.Violation.TheVariants.{IssuedPastLimit, TooManyGuarantees, ReceiveLimitRaised, TotalPassed}
 use Rattle.lc_book.specs.Limit.{is_past, less, left_of}
 
--- the guarantees that came, those that messages used up, those that the client gave up, what is left of both limits, and the target of the plead that is kept
+-- the version of the client's stream, the guarantees that came, those that messages used up, those that the client gave up, what is left of both limits, and the target of the plead that is kept
 pub record Client : Type 0 where
+  pub version : Version
   pub received : ℕ
   pub spent : ℕ
   pub absolved : ℕ
@@ -19,8 +20,8 @@ pub record Client : Type 0 where
   pub receive_left : Option ℕ
   pub asked : Option ℕ
 
-abbrev pub new_client : Client
-new_client = record { received = 0; spent = 0; absolved = 0; send_left = None; receive_left = None; asked = None }
+abbrev pub new_client : Version → Client
+new_client version = record { version = version; received = 0; spent = 0; absolved = 0; send_left = None; receive_left = None; asked = None }
 
 -- the guarantees that the client has left. On these numbers the minus stops at 0; IsClient says that it never has to
 abbrev pub held : Client → ℕ
@@ -36,23 +37,23 @@ pub record IsClient (b : Client) : Type 0 where
   pub target : ForSome b.asked (λ target. target ≤ max_amount)
 
 abbrev pub client_of_parts : ClientParts → Client
-client_of_parts p = record { received = p.received; spent = p.spent; absolved = p.absolved; send_left = p.send_left; receive_left = p.receive_left; asked = p.asked }
+client_of_parts p = record { version = p.version; received = p.received; spent = p.spent; absolved = p.absolved; send_left = p.send_left; receive_left = p.receive_left; asked = p.asked }
 
 -- why a message of so many bytes may not be sent where so much is left of the limit on sending; where neither its length nor the limit forbids it, `otherwise` says why
-abbrev pub message_refusal_or : Option ℕ → ℕ → Option Refusal → Option Refusal
-message_refusal_or left len otherwise =
+abbrev pub message_refusal_or : Version → Option ℕ → ℕ → Option Refusal → Option Refusal
+message_refusal_or version left len otherwise =
     if len == 0 then Some EmptyBody
-    else (if nat_lt (max_body One) len then Some BodyTooLong
+    else (if nat_lt (max_body version) len then Some BodyTooLong
     else (if is_past left len then Some (PastSendLimit (left_of left))
     else otherwise))
 
 -- the same, whatever is held
-abbrev pub message_refusal : Option ℕ → ℕ → Option Refusal
-message_refusal left len = message_refusal_or left len None
+abbrev pub message_refusal : Version → Option ℕ → ℕ → Option Refusal
+message_refusal version left len = message_refusal_or version left len None
 
 -- why a client may not send so many bytes, and what a message leaves
 abbrev pub spend_refusal : Client → ℕ → Option Refusal
-spend_refusal b len = message_refusal_or b.send_left len (if nat_lt (held b) len then Some (NoGuarantee (held b)) else None)
+spend_refusal b len = message_refusal_or b.version b.send_left len (if nat_lt (held b) len then Some (NoGuarantee (held b)) else None)
 
 abbrev pub spend : Client → ℕ → Client
 spend b len = record b { spent = b.spent + len; send_left = less b.send_left len }

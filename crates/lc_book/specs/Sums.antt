@@ -1,6 +1,6 @@
 -- The books as sums over the streams of both sides, and what one frame more makes of them. That a book's balances are those of the frames on the streams is what LCMUX means by guarantees issued, used and absolved.
 use Rattle.std.specs.Prelude.{◌≡◌, ℕ, ◌+◌, ◌<◌, ◌≤◌, List, [], ◌∷◌, ◌++◌, length, take, get_or, sum_by, false, Option, Some, None}
-use Rattle.lc_frame.specs.declared.version.Version.TheVariants.{One}
+use Rattle.lc_frame.specs.declared.version.Version.{Version}
 use Rattle.lc_frame.specs.declared.channel.Channel.{Channel}
 use Rattle.lc_frame.specs.declared.frame.Frame.{Frame}
 use Rattle.lc_frame.specs.declared.frame.Frame.TheVariants.{Send, Issue, Absolve, Plead, LimitSending, LimitReceiving}
@@ -11,10 +11,11 @@ use Rattle.lc_book.specs.Limit.{limit_refusal}
 use Rattle.lc_book.specs.Client.{Client, IsClient, spend_refusal, spend, absolve_refusal, absolve, amount_to_absolve, honour, limit_client, add_received, keep_plead, note_receive_limit}
 use Rattle.lc_book.specs.Server.{Server, IsServer, buffered, issue_refusal, issue, plead_refusal, limit_server, note_taken, add_arrived, add_absolved, note_send_limit}
 
--- the client's book of a channel, by all frames that it put, the frames that arrived at it, and the target of the plead that it keeps
-abbrev pub client_of : Channel → List Frame → List Frame → Option ℕ → Client
-client_of c put arrived asked =
+-- the client's book of a channel, by the version of its stream, all frames that it put, the frames that arrived at it, and the target of the plead that it keeps
+abbrev pub client_of : Version → Channel → List Frame → List Frame → Option ℕ → Client
+client_of version c put arrived asked =
     record {
+      version = version;
       received = issued_on c arrived;
       spent = cost c put;
       absolved = absolved_on c put;
@@ -67,11 +68,11 @@ asked_after (Plead c target) asked = Some target
 asked_after f asked = asked
 
 -- a book of sums is one again after a frame: by the frame's own effect on its channel, as it was on every other
-pub record ClientKeepsSums (put arrived : List Frame) (asked : Option ℕ) (f : Frame) : Type 0 where
-  pub put_here : client_after_put f (client_of (channel_of f) put arrived asked) ≡ client_of (channel_of f) (put ++ f ∷ []) arrived asked
-  pub put_elsewhere : (c : Channel) → is_same c (channel_of f) ≡ false → client_of c put arrived asked ≡ client_of c (put ++ f ∷ []) arrived asked
-  pub arrived_here : client_after_arrival f (client_of (channel_of f) put arrived asked) ≡ client_of (channel_of f) put (arrived ++ f ∷ []) (asked_after f asked)
-  pub arrived_elsewhere : (c : Channel) → is_same c (channel_of f) ≡ false → client_of c put arrived asked ≡ client_of c put (arrived ++ f ∷ []) asked
+pub record ClientKeepsSums (version : Version) (put arrived : List Frame) (asked : Option ℕ) (f : Frame) : Type 0 where
+  pub put_here : client_after_put f (client_of version (channel_of f) put arrived asked) ≡ client_of version (channel_of f) (put ++ f ∷ []) arrived asked
+  pub put_elsewhere : (c : Channel) → is_same c (channel_of f) ≡ false → client_of version c put arrived asked ≡ client_of version c (put ++ f ∷ []) arrived asked
+  pub arrived_here : client_after_arrival f (client_of version (channel_of f) put arrived asked) ≡ client_of version (channel_of f) put (arrived ++ f ∷ []) (asked_after f asked)
+  pub arrived_elsewhere : (c : Channel) → is_same c (channel_of f) ≡ false → client_of version c put arrived asked ≡ client_of version c put (arrived ++ f ∷ []) asked
 
 pub record ServerKeepsSums (capacity : ℕ) (put arrived : List Frame) (taken : ℕ) (f : Frame) : Type 0 where
   pub put_here : server_after_put f (server_of capacity (channel_of f) put arrived taken) ≡ server_of capacity (channel_of f) (put ++ f ∷ []) arrived taken
@@ -80,15 +81,15 @@ pub record ServerKeepsSums (capacity : ℕ) (put arrived : List Frame) (taken : 
   pub arrived_elsewhere : (c : Channel) → is_same c (channel_of f) ≡ false → server_of capacity c put arrived taken ≡ server_of capacity c put (arrived ++ f ∷ []) taken
 
 abbrev pub BooksKeepSums : Type 0
-BooksKeepSums = (capacity : ℕ) (put arrived : List Frame) (asked : Option ℕ) (taken : ℕ) (f : Frame) → ClientKeepsSums put arrived asked f × ServerKeepsSums capacity put arrived taken f
+BooksKeepSums = (version : Version) (capacity : ℕ) (put arrived : List Frame) (asked : Option ℕ) (taken : ℕ) (f : Frame) → ClientKeepsSums version put arrived asked f × ServerKeepsSums capacity put arrived taken f
 
 -- an honour that absolves is that absolving, and forgets the plead; one that does not only forgets it
-pub record HonourKeepsSums (c : Channel) (put arrived : List Frame) (asked : Option ℕ) : Type 0 where
-  pub absolves : (amount : ℕ) → amount_to_absolve (client_of c put arrived asked) ≡ Some amount → honour (client_of c put arrived asked) ≡ client_of c (put ++ Absolve c amount ∷ []) arrived None
-  pub forgets : amount_to_absolve (client_of c put arrived asked) ≡ None → honour (client_of c put arrived asked) ≡ client_of c put arrived None
+pub record HonourKeepsSums (version : Version) (c : Channel) (put arrived : List Frame) (asked : Option ℕ) : Type 0 where
+  pub absolves : (amount : ℕ) → amount_to_absolve (client_of version c put arrived asked) ≡ Some amount → honour (client_of version c put arrived asked) ≡ client_of version c (put ++ Absolve c amount ∷ []) arrived None
+  pub forgets : amount_to_absolve (client_of version c put arrived asked) ≡ None → honour (client_of version c put arrived asked) ≡ client_of version c put arrived None
 
 abbrev pub EveryHonourKeepsSums : Type 0
-EveryHonourKeepsSums = (c : Channel) (put arrived : List Frame) (asked : Option ℕ) → HonourKeepsSums c put arrived asked
+EveryHonourKeepsSums = (version : Version) (c : Channel) (put arrived : List Frame) (asked : Option ℕ) → HonourKeepsSums version c put arrived asked
 
 -- the bytes of the first messages on a channel, as many as were taken
 abbrev pub taken_cost : Channel → List Frame → ℕ → ℕ
@@ -103,15 +104,15 @@ pub record TakeKeepsSums (capacity : ℕ) (c : Channel) (put arrived : List Fram
 abbrev pub EveryTakeKeepsSums : Type 0
 EveryTakeKeepsSums = (capacity : ℕ) (c : Channel) (put arrived : List Frame) (count : ℕ) → TakeKeepsSums capacity c put arrived count
 
--- the frame of an event that is accepted is valid
+-- the frame of an event that is accepted is valid in the version of the stream
 pub record PutsValidFrames (client : Client) (server : Server) (c : Channel) : Type 0 where
-  pub send : (body : List ℕ) → spend_refusal client (length body) ≡ None → IsValid One (Send c body)
-  pub absolve : (amount : ℕ) → absolve_refusal client amount ≡ None → IsValid One (Absolve c amount)
-  pub honour : (amount : ℕ) → amount_to_absolve client ≡ Some amount → IsValid One (Absolve c amount)
-  pub limit_sending : (bound : ℕ) → limit_refusal client.send_left bound ≡ None → IsValid One (LimitSending c bound)
-  pub issue : (amount : ℕ) → issue_refusal server amount ≡ None → IsValid One (Issue c amount)
-  pub plead : (target : ℕ) → plead_refusal server target ≡ None → IsValid One (Plead c target)
-  pub limit_receiving : (bound : ℕ) → limit_refusal server.receive_left bound ≡ None → IsValid One (LimitReceiving c bound)
+  pub send : (body : List ℕ) → spend_refusal client (length body) ≡ None → IsValid client.version (Send c body)
+  pub absolve : (amount : ℕ) → absolve_refusal client amount ≡ None → IsValid client.version (Absolve c amount)
+  pub honour : (amount : ℕ) → amount_to_absolve client ≡ Some amount → IsValid client.version (Absolve c amount)
+  pub limit_sending : (bound : ℕ) → limit_refusal client.send_left bound ≡ None → IsValid client.version (LimitSending c bound)
+  pub issue : (amount : ℕ) → issue_refusal server amount ≡ None → IsValid client.version (Issue c amount)
+  pub plead : (target : ℕ) → plead_refusal server target ≡ None → IsValid client.version (Plead c target)
+  pub limit_receiving : (bound : ℕ) → limit_refusal server.receive_left bound ≡ None → IsValid client.version (LimitReceiving c bound)
 
 abbrev pub EveryBookPutsValidFrames : Type 0
 EveryBookPutsValidFrames = (client : Client) (server : Server) (c : Channel) → IsClient client → IsServer server → PutsValidFrames client server c

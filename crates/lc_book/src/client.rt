@@ -8,12 +8,13 @@ ghost use Rattle.lc_book.specs.Client.{IsClient, client_of_parts, new_client, he
 
 use crate::fault::{Refusal, Violation};
 use crate::limit::{after_message, check_limit, is_bound, take_from};
-use lc_frame::{MAX_AMOUNT, MAX_TOTAL};
+use lc_frame::{MAX_AMOUNT, MAX_TOTAL, Version};
 use std::marker::Model;
 
 /// The book of a channel direction at its client. All numbers count bytes of messages.
 #[derive(Clone, Copy, Debug, PartialEq, Eq)]
 pub struct ClientBook {
+    version: Version,
     received: u64,
     spent: u64,
     absolved: u64,
@@ -27,16 +28,18 @@ impl Model for ClientBook {
 
     ghost Value = { Client };
 
-    ghost view = { λ b. record { received = b.received; spent = b.spent; absolved = b.absolved; send_left = b.send_left; receive_left = b.receive_left; asked = b.asked } };
+    ghost view = { λ b. record { version = b.version; received = b.received; spent = b.spent; absolved = b.absolved; send_left = b.send_left; receive_left = b.receive_left; asked = b.asked } };
 
-    ghost invariant = { λ b. IsClient (record { received = b.received; spent = b.spent; absolved = b.absolved; send_left = b.send_left; receive_left = b.receive_left; asked = b.asked }) };
+    ghost invariant = { λ b. IsClient (record { version = b.version; received = b.received; spent = b.spent; absolved = b.absolved; send_left = b.send_left; receive_left = b.receive_left; asked = b.asked }) };
 
-    ghost inverse = { λ b. record { received = b.received; spent = b.spent; absolved = b.absolved; send_left = b.send_left; receive_left = b.receive_left; asked = b.asked } };
+    ghost inverse = { λ b. record { version = b.version; received = b.received; spent = b.spent; absolved = b.absolved; send_left = b.send_left; receive_left = b.receive_left; asked = b.asked } };
 }
 
-/// The fields of a client's book, by name, in bytes of messages.
-#[derive(Clone, Copy, Debug, Default, PartialEq, Eq)]
+/// The fields of a client's book, by name, the numbers in bytes of messages.
+#[derive(Clone, Copy, Debug, PartialEq, Eq)]
 pub struct ClientParts {
+    /// The version of the stream on which messages are sent, which bounds their length.
+    pub version: Version,
     /// All guarantees that arrived, 0 to 2^62.
     pub received: u64,
     /// The guarantees that messages used up.
@@ -52,11 +55,13 @@ pub struct ClientParts {
 }
 
 impl ClientBook {
-    /// The book of a channel on which nothing has happened.
-    pub fn new() -> ClientBook
-        ensures { result ≡ new_client }
+    /// The book of a channel on which nothing has happened, where messages go on a stream of this
+    /// version.
+    pub fn new(version: Version) -> ClientBook
+        ensures { result ≡ new_client version }
     {
         ClientBook {
+            version,
             received: 0,
             spent: 0,
             absolved: 0,
@@ -74,6 +79,7 @@ impl ClientBook {
         ensures value { IfSome result (λ b. b ≡ client_of_parts parts) }
     {
         let ClientParts {
+            version,
             received,
             spent,
             absolved,
@@ -91,6 +97,7 @@ impl ClientBook {
             return None;
         }
         Some(ClientBook {
+            version,
             received,
             spent,
             absolved,
@@ -98,6 +105,13 @@ impl ClientBook {
             receive_left,
             asked,
         })
+    }
+
+    /// The version of the stream on which messages are sent.
+    pub fn version(&self) -> Version
+        ensures { result ≡ self.now.version }
+    {
+        self.version
     }
 
     /// The guarantees held, 0 to 2^24: received, and neither spent nor absolved.
@@ -165,7 +179,7 @@ impl ClientBook {
         ensures answer { result_err result ≡ spend_refusal self.old len }
         ensures after { self.new ≡ (if is_ok result then spend self.old len else self.old) }
     {
-        let send_left = after_message(self.send_left, len as usize)?;
+        let send_left = after_message(self.version, self.send_left, len as usize)?;
         let cost = u64::from(len);
         let held = self.held();
         if cost > held {
@@ -264,14 +278,6 @@ impl ClientBook {
         }
         self.receive_left = Some(bound);
         Ok(())
-    }
-}
-
-impl Default for ClientBook {
-    ghost is_default = { λ b. b ≡ new_client };
-
-    fn default() -> ClientBook {
-        ClientBook::new()
     }
 }
 

@@ -11,8 +11,8 @@ pub enum Refusal {
     /// 1. A message has at least 1 byte.
     #[error("the message is empty")]
     EmptyBody,
-    /// 2. A message has at most 65,535 bytes.
-    #[error("the message is longer than 65,535 bytes")]
+    /// 2. A message has at most 65,535 bytes in version One, and 1,048,576 in version Two.
+    #[error("the message is longer than the version allows")]
     BodyTooLong,
     /// 3. The message is longer than what the client's own limit leaves.
     #[error("the limit on sending leaves {left} bytes")]

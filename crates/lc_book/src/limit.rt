@@ -2,7 +2,6 @@
 ghost use Rattle.std.specs.Prelude.{◌≡◌, ◌<◌, ◌≤◌, ◌↔◌, if◌then◌else◌, Ok, Err, IfOk, OnOk, IsTrue};
 ghost use Rattle.std.specs.Option.{ForSome};
 ghost use Rattle.std.specs.Result.{result_err};
-ghost use Rattle.lc_frame.specs.declared.version.Version.TheVariants.{One};
 ghost use Rattle.lc_frame.specs.Kind.{max_body, max_total};
 ghost use Rattle.lc_book.specs.Limit.{is_past, less, left_of, limit_refusal};
 ghost use Rattle.lc_book.specs.Client.{message_refusal};
@@ -10,17 +9,21 @@ ghost use Rattle.lc_book.specs.Client.{message_refusal};
 use crate::fault::Refusal;
 use lc_frame::{MAX_TOTAL, Version};
 
-/// What a limit on sending of which `left` is left leaves after a message of `len` bytes, whatever
-/// guarantees are held. Refused by 1, 2 and 3, in this order.
-pub fn after_message(left: Option<u64>, len: usize) -> Result<Option<u64>, Refusal>
-    ensures answer { result_err result ≡ message_refusal left len }
+/// What a limit on sending of which `left` is left leaves after a message of `len` bytes in a stream
+/// of the version, whatever guarantees are held. Refused by 1, 2 and 3, in this order.
+pub fn after_message(
+    version: Version,
+    left: Option<u64>,
+    len: usize,
+) -> Result<Option<u64>, Refusal>
+    ensures answer { result_err result ≡ message_refusal version left len }
     ensures value { IfOk result (λ after. after ≡ less left len) }
-    ensures range { OnOk result ((0 < len) × (len ≤ max_body One)) }
+    ensures range { OnOk result ((0 < len) × (len ≤ max_body version)) }
 {
     if len == 0 {
         return Err(Refusal::EmptyBody);
     }
-    if len > Version::One.max_body() {
+    if len > version.max_body() {
         return Err(Refusal::BodyTooLong);
     }
     match take_from(left, len as u64) {

@@ -6,7 +6,6 @@ use Rattle.std.proofs.lemmas.List.{length-take, length-drop, drop-drop, take_at,
 use Rattle.std.proofs.lemmas.List.Concat.{flat_map-cons}
 use Rattle.std.proofs.Math.Seq.{take-add}
 use Rattle.lc_frame.specs.declared.frame.Frame.{Frame}
-use Rattle.lc_frame.specs.declared.version.Version.TheVariants.{One}
 use Rattle.lc_frame.specs.Encoding.{encoding}
 use Rattle.lc_peer.specs.Peer.{PeerState}
 use Rattle.lc_peer.specs.Calls.{without_next}
@@ -15,27 +14,27 @@ use Rattle.lc_c.specs.Pending.{PendingState}
 use Rattle.lc_c.specs.Streams.{text, GivesOut, Begins}
 use Rattle.lc_c.proofs.Waiting.{some_bytes, first_of, length-split, length-take-more}
 
-length-text : (s : Side) → length (text s) ≡ length s.pending.bytes + length (flat_map (encoding One) s.peer.waiting)
-length-text s = length-append s.pending.bytes (flat_map (encoding One) s.peer.waiting)
+length-text : (s : Side) → length (text s) ≡ length s.pending.bytes + length (flat_map (encoding s.peer.version) s.peer.waiting)
+length-text s = length-append s.pending.bytes (flat_map (encoding s.peer.version) s.peer.waiting)
 
 -- the next frame is begun
-pub begins : (old : Side) (f : Frame) (next : PeerState) (begun : PendingState) → length old.pending.bytes ≤ 0 → Some f ≡ slice_get old.peer.waiting 0 → next ≡ without_next old.peer → begun.bytes ≡ encoding One f → Begins old (record { peer = next; decoder = old.decoder; stop = old.stop; pending = begun })
+pub begins : (old : Side) (f : Frame) (next : PeerState) (begun : PendingState) → length old.pending.bytes ≤ 0 → Some f ≡ slice_get old.peer.waiting 0 → next ≡ without_next old.peer → begun.bytes ≡ encoding old.peer.version f → Begins old (record { peer = next; decoder = old.decoder; stop = old.stop; pending = begun })
 begins old f next begun none first gone is =
     let nothing : old.pending.bytes ≡ [] = nil_from_length old.pending.bytes (omega (arith, none)) in
-    let there : flat_map (encoding One) old.peer.waiting ≡ encoding One f ++ flat_map (encoding One) (drop 1 old.peer.waiting) = ap (λ (ws : List Frame). flat_map (encoding One) ws) (first_of old.peer.waiting f first) ∙ flat_map-cons (encoding One) f (drop 1 old.peer.waiting) in
-    let same : begun.bytes ++ flat_map (encoding One) next.waiting ≡ text old =
-    ap (λ (p : PeerState). begun.bytes ++ flat_map (encoding One) p.waiting) gone
-    ∙ ap (λ (x : List ℕ). x ++ flat_map (encoding One) (drop 1 old.peer.waiting)) is
+    let there : flat_map (encoding old.peer.version) old.peer.waiting ≡ encoding old.peer.version f ++ flat_map (encoding old.peer.version) (drop 1 old.peer.waiting) = ap (λ (ws : List Frame). flat_map (encoding old.peer.version) ws) (first_of old.peer.waiting f first) ∙ flat_map-cons (encoding old.peer.version) f (drop 1 old.peer.waiting) in
+    let same : begun.bytes ++ flat_map (encoding next.version) next.waiting ≡ text old =
+    ap (λ (p : PeerState). begun.bytes ++ flat_map (encoding p.version) p.waiting) gone
+    ∙ ap (λ (x : List ℕ). x ++ flat_map (encoding old.peer.version) (drop 1 old.peer.waiting)) is
     ∙ sym there
-    ∙ ap (λ (x : List ℕ). x ++ flat_map (encoding One) old.peer.waiting) (sym nothing) in
+    ∙ ap (λ (x : List ℕ). x ++ flat_map (encoding old.peer.version) old.peer.waiting) (sym nothing) in
     record {
       same = same;
       gone = 1;
       peer = gone;
       one = λ _. refl;
       first = λ _. nothing;
-      some = λ _. omega (arith, ap length is, some_bytes f);
-      ready = λ e. absurd (omega (arith, ap length is, some_bytes f, ap length e));
+      some = λ _. omega (arith, ap length is, some_bytes old.peer.version f);
+      ready = λ e. absurd (omega (arith, ap length is, some_bytes old.peer.version f, ap length e));
       decoder = refl;
       stop = refl;
     }
@@ -47,23 +46,23 @@ gives_one n room a b left begun count some rest =
     record {
       within = omega (arith, fits, ap length begun.same, length-text b);
       rest =
-          ap (λ (x : List ℕ). x ++ flat_map (encoding One) b.peer.waiting) rest
-          ∙ sym (drop-append-le n b.pending.bytes (flat_map (encoding One) b.peer.waiting) fits)
+          ap (λ (x : List ℕ). x ++ flat_map (encoding b.peer.version) b.peer.waiting) rest
+          ∙ sym (drop-append-le n b.pending.bytes (flat_map (encoding b.peer.version) b.peer.waiting) fits)
           ∙ ap (λ (x : List ℕ). drop n x) begun.same;
       gone = begun.gone;
       peer = begun.peer;
       begun = λ k h.
           let more : 0 < begun.gone = omega (arith, h) in
           let first : k ≡ 0 = omega (arith, h, begun.one more) in
-          let none : length (flat_map (encoding One) (take k a.peer.waiting)) ≡ 0 = ap (λ (i : ℕ). length (flat_map (encoding One) (take i a.peer.waiting))) first in
-          omega (arith, none, some, count, ap length (begun.first more), begun.some more, length-append a.pending.bytes (flat_map (encoding One) (take k a.peer.waiting)));
+          let none : length (flat_map (encoding a.peer.version) (take k a.peer.waiting)) ≡ 0 = ap (λ (i : ℕ). length (flat_map (encoding a.peer.version) (take i a.peer.waiting))) first in
+          omega (arith, none, some, count, ap length (begun.first more), begun.some more, length-append a.pending.bytes (flat_map (encoding a.peer.version) (take k a.peer.waiting)));
       decoder = begun.decoder;
       stop = begun.stop;
     }
 
 pub written_one : (n room : ℕ) (a b : Side) (out written : List ℕ) → Begins a b → n ≡ min (length b.pending.bytes) room → written ≡ take n b.pending.bytes ++ drop n out → written ≡ take n (text a) ++ drop n out
 written_one n room a b out written begun count is =
-    is ∙ ap (λ (x : List ℕ). x ++ drop n out) (sym (take-append-le n b.pending.bytes (flat_map (encoding One) b.peer.waiting) (omega (arith, count))) ∙ ap (λ (x : List ℕ). take n x) begun.same)
+    is ∙ ap (λ (x : List ℕ). x ++ drop n out) (sym (take-append-le n b.pending.bytes (flat_map (encoding b.peer.version) b.peer.waiting) (omega (arith, count))) ∙ ap (λ (x : List ℕ). take n x) begun.same)
 
 -- where nothing was given, there is nothing to give
 pub none_left : (n room : ℕ) (a b c : Side) → Begins a b → n ≡ min (length b.pending.bytes) room → 0 < room → GivesOut n a c → n ≡ 0 → text c ≡ []
@@ -82,9 +81,6 @@ gives_nothing s = record {
   stop = refl;
 }
 
-waiting_after : (n : ℕ) (p q : PeerState) → q ≡ record p { waiting = drop n p.waiting } → q.waiting ≡ drop n p.waiting
-waiting_after n p q e = ap (λ (s : PeerState). s.waiting) e
-
 gone_then : (n m : ℕ) (p q r : PeerState) → q ≡ record p { waiting = drop n p.waiting } → r ≡ record q { waiting = drop m q.waiting } → r ≡ record p { waiting = drop (n + m) p.waiting }
 gone_then n m p q r e f = f ∙ ap (λ (s : PeerState). record s { waiting = drop m s.waiting }) e ∙ ap (λ (ws : List Frame). record p { waiting = ws }) (drop-drop m n p.waiting)
 
@@ -92,22 +88,22 @@ left_after : {n : ℕ} {a b : Side} → GivesOut n a b → length (text b) ≡ l
 left_after {n} {a} {b} g = ap length g.rest ∙ length-drop n (text a)
 
 -- the frames that left first have as many bytes as were given beyond those that were pending
-gone_bytes : {n : ℕ} {a b : Side} (g : GivesOut n a b) → length a.pending.bytes + length (flat_map (encoding One) (take g.gone a.peer.waiting)) ≡ n + length b.pending.bytes
+gone_bytes : {n : ℕ} {a b : Side} (g : GivesOut n a b) → length a.pending.bytes + length (flat_map (encoding a.peer.version) (take g.gone a.peer.waiting)) ≡ n + length b.pending.bytes
 gone_bytes {n} {a} {b} g =
-    let behind : length (flat_map (encoding One) b.peer.waiting) ≡ length (flat_map (encoding One) (drop g.gone a.peer.waiting)) = ap (λ (ws : List Frame). length (flat_map (encoding One) ws)) (waiting_after g.gone a.peer b.peer g.peer) in
-    omega (arith, left_after g, g.within, length-text a, length-text b, length-split g.gone a.peer.waiting, behind)
+    let behind : length (flat_map (encoding b.peer.version) b.peer.waiting) ≡ length (flat_map (encoding a.peer.version) (drop g.gone a.peer.waiting)) = ap (λ (p : PeerState). length (flat_map (encoding p.version) p.waiting)) g.peer in
+    omega (arith, left_after g, g.within, length-text a, length-text b, length-split a.peer.version g.gone a.peer.waiting, behind)
 
-begun_then : {n m : ℕ} {a b c : Side} (s : GivesOut n a b) (t : GivesOut m b c) (k : ℕ) → k < s.gone + t.gone → length (a.pending.bytes ++ flat_map (encoding One) (take k a.peer.waiting)) < n + m
+begun_then : {n m : ℕ} {a b c : Side} (s : GivesOut n a b) (t : GivesOut m b c) (k : ℕ) → k < s.gone + t.gone → length (a.pending.bytes ++ flat_map (encoding a.peer.version) (take k a.peer.waiting)) < n + m
 begun_then {n} {m} {a} {b} {c} s t k h =
     elim (cases_lt k s.gone) [
       | inl first ↦ omega (arith, s.begun k first)
       | inr second ↦
           let j = k - s.gone in
           let at : k ≡ s.gone + j = omega arith in
-          let later : length (b.pending.bytes ++ flat_map (encoding One) (take j b.peer.waiting)) < m = t.begun j (omega arith) in
-          let same : length (flat_map (encoding One) (take j b.peer.waiting)) ≡ length (flat_map (encoding One) (take j (drop s.gone a.peer.waiting))) = ap (λ (ws : List Frame). length (flat_map (encoding One) (take j ws))) (waiting_after s.gone a.peer b.peer s.peer) in
-          let both : length (flat_map (encoding One) (take k a.peer.waiting)) ≡ length (flat_map (encoding One) (take (s.gone + j) a.peer.waiting)) = ap (λ (i : ℕ). length (flat_map (encoding One) (take i a.peer.waiting))) at in
-          omega (arith, later, same, both, gone_bytes s, length-take-more s.gone j a.peer.waiting, length-append a.pending.bytes (flat_map (encoding One) (take k a.peer.waiting)), length-append b.pending.bytes (flat_map (encoding One) (take j b.peer.waiting)))
+          let later : length (b.pending.bytes ++ flat_map (encoding b.peer.version) (take j b.peer.waiting)) < m = t.begun j (omega arith) in
+          let same : length (flat_map (encoding b.peer.version) (take j b.peer.waiting)) ≡ length (flat_map (encoding a.peer.version) (take j (drop s.gone a.peer.waiting))) = ap (λ (p : PeerState). length (flat_map (encoding p.version) (take j p.waiting))) s.peer in
+          let both : length (flat_map (encoding a.peer.version) (take k a.peer.waiting)) ≡ length (flat_map (encoding a.peer.version) (take (s.gone + j) a.peer.waiting)) = ap (λ (i : ℕ). length (flat_map (encoding a.peer.version) (take i a.peer.waiting))) at in
+          omega (arith, later, same, both, gone_bytes s, length-take-more a.peer.version s.gone j a.peer.waiting, length-append a.pending.bytes (flat_map (encoding a.peer.version) (take k a.peer.waiting)), length-append b.pending.bytes (flat_map (encoding b.peer.version) (take j b.peer.waiting)))
     ]
 
 pub gives_then : {n m : ℕ} {a b c : Side} → GivesOut n a b → GivesOut m b c → GivesOut (n + m) a c

@@ -1,6 +1,10 @@
--- What makes a peer behind a handle, and why there is none. That the format has versions is this project's own, and so are all bounds.
-use Rattle.std.specs.Prelude.{◌≡◌, ◌==◌, ◌⊎◌, Bool, true, false, if◌then◌else◌, [], Option, Some, None}
+-- What makes a peer behind a handle, and why there is none. That the format has two versions is this project's own, and so are all bounds.
+use Rattle.std.specs.Prelude.{◌≡◌, ◌==◌, ◌⊎◌, Bool, true, false, ℕ, if◌then◌else◌, Option, Some, None}
+use Rattle.std.specs.Option.{option_map}
+use Rattle.lc_frame.specs.declared.version.Version.{Version}
+use Rattle.lc_frame.specs.declared.version.Version.TheVariants.{One, Two}
 use Rattle.lc_frame.specs.Channel.{number_of}
+use Rattle.lc_frame.specs.Version.{greeting}
 use Rattle.lc_frame.specs.Held.{nothing_held}
 use Rattle.lc_book.specs.declared.fault.Refusal.TheVariants as refusals
 use Rattle.lc_peer.specs.declared.config.Config.{Config}
@@ -18,25 +22,33 @@ fault_answer (BadCapacity c) = record { code = bad_capacity; number = number_of 
 fault_answer BadSlots = only bad_slots
 fault_answer OutOfMemory = refusal_answer refusals.OutOfMemory
 
-abbrev pub config_in : LcmuxConfig → Config
-config_in config = record { capacities = config.capacities; slots = config.slots }
+-- the version of a number, where there is one
+abbrev pub version_at : ℕ → Option Version
+version_at number = if number == 1 then Some One else if number == 2 then Some Two else None
 
--- nothing has happened, and no byte came or went
+abbrev pub config_in : LcmuxConfig → Version → Config
+config_in config version = record { version = version; capacities = config.capacities; slots = config.slots }
+
+-- nothing has happened, and no byte came or went: the greeting of the stream is to go out
 abbrev pub new_side : Config → Side
-new_side config = record { peer = new_peer config; decoder = nothing_held; stop = None; pending = record { bytes = [] } }
+new_side config = record { peer = new_peer config; decoder = nothing_held; stop = None; pending = record { bytes = greeting config.version } }
 
 abbrev pub fault_or_done : Option PeerFault → LcmuxAnswer
 fault_or_done None = only done
 fault_or_done (Some fault) = fault_answer fault
 
+abbrev pub bounds_answer : Option Config → LcmuxAnswer
+bounds_answer None = only bad_version
+bounds_answer (Some config) = fault_or_done (config_fault config)
+
 -- a full handle comes first, then the version, then the bounds, and then memory
 abbrev pub make_answer : Option Side → LcmuxConfig → LcmuxAnswer
 make_answer (Some side) config = only has_peer
-make_answer None config = if config.version == 1 then fault_or_done (config_fault (config_in config)) else only bad_version
+make_answer None config = bounds_answer (option_map (config_in config) (version_at config.version))
 
 abbrev pub MakeAnswers : Option Side → LcmuxConfig → LcmuxAnswer → Type 0
 MakeAnswers held config answer = (answer ≡ make_answer held config) ⊎ ((make_answer held config ≡ only done) × (answer ≡ fault_answer OutOfMemory))
 
 abbrev pub made : Bool → Option Side → LcmuxConfig → Option Side
-made true held config = Some (new_side (config_in config))
+made true held config = option_map (λ version. new_side (config_in config version)) (version_at config.version)
 made false held config = held

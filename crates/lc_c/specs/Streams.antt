@@ -1,7 +1,6 @@
 -- What goes out of a side and what comes to it. That a stream may be cut at any byte is this project's own to say.
 use Rattle.std.specs.Prelude.{◌≡◌, ℕ, ◌+◌, ◌<◌, ◌≤◌, min, List, [], ◌++◌, length, take, drop, Option, Some, None, Result, Ok, Err}
 use Rattle.std.specs.List.{flat_map}
-use Rattle.lc_frame.specs.declared.version.Version.TheVariants.{One}
 use Rattle.lc_frame.specs.declared.frame_fault.FrameFault.{FrameFault}
 use Rattle.lc_frame.specs.FrameFault.{fault_number}
 use Rattle.lc_frame.specs.Encoding.{encoding}
@@ -17,9 +16,9 @@ use Rattle.lc_c.specs.declared.wire.LcmuxDelivery.{LcmuxDelivery}
 use Rattle.lc_c.specs.declared.side.Side.{Side}
 use Rattle.lc_c.specs.Answers.{done, only, no_peer}
 
--- the bytes that are to go out: the rest of the frame that was begun, and then those of the frames that wait
+-- the bytes that are to go out: the rest of the greeting or of the frame that was begun, and then those of the frames that wait
 abbrev pub text : Side → List ℕ
-text side = side.pending.bytes ++ flat_map (encoding One) side.peer.waiting
+text side = side.pending.bytes ++ flat_map (encoding side.peer.version) side.peer.waiting
 
 -- a side gave out the first so many of them; a frame leaves the peer with its first byte, and nothing else changes
 pub record GivesOut (n : ℕ) (old new : Side) : Type 0 where
@@ -27,11 +26,11 @@ pub record GivesOut (n : ℕ) (old new : Side) : Type 0 where
   pub rest : text new ≡ drop n (text old)
   pub gone : ℕ
   pub peer : new.peer ≡ record old.peer { waiting = drop gone old.peer.waiting }
-  pub begun : (k : ℕ) → k < gone → length (old.pending.bytes ++ flat_map (encoding One) (take k old.peer.waiting)) < n
+  pub begun : (k : ℕ) → k < gone → length (old.pending.bytes ++ flat_map (encoding old.peer.version) (take k old.peer.waiting)) < n
   pub decoder : new.decoder ≡ old.decoder
   pub stop : new.stop ≡ old.stop
 
--- where nothing is left of a frame, the next one is begun, if one waits
+-- where nothing is left of a greeting or a frame, the next one is begun, if one waits
 pub record Begins (old new : Side) : Type 0 where
   pub same : text new ≡ text old
   pub gone : ℕ

@@ -3,7 +3,7 @@ ghost use Rattle.std.specs.Prelude.{◌≡◌, None, IfOk, is_some, if◌then◌
 ghost use Rattle.std.specs.Result.{result_err};
 ghost use Rattle.lc_peer.specs.Config.{IsNewAnswer};
 ghost use Rattle.lc_c.specs.Answers.{only, done, no_peer, is_done};
-ghost use Rattle.lc_c.specs.Make.{fault_answer, new_side, MakeAnswers, made};
+ghost use Rattle.lc_c.specs.Make.{fault_answer, new_side, MakeAnswers, made, version_at};
 
 use crate::answer::{
     BAD_CAPACITY, BAD_SLOTS, BAD_VERSION, DONE, HAS_PEER, LcmuxAnswer, NO_PEER, only, refused,
@@ -12,7 +12,7 @@ use crate::peer::{LcmuxPeer, open};
 use crate::pending::Pending;
 use crate::side::Side;
 use lc_book::Refusal;
-use lc_frame::StreamDecoder;
+use lc_frame::{StreamDecoder, Version};
 use lc_peer::{Config, Peer, PeerFault};
 use std::alloc::Global;
 
@@ -20,12 +20,23 @@ use std::alloc::Global;
 #[repr(C)]
 #[derive(Clone, Copy, Debug, PartialEq, Eq)]
 pub struct LcmuxConfig {
-    /// The version of the format that goes out: 1. Either may come.
+    /// The version of the format that goes out: 1 or 2. Either may come.
     pub version: u32,
     /// How many frames may wait to go out, 1 to 65,536.
     pub slots: u32,
     /// The bytes of each channel's receiving ring, 1 to 2^24, by the channel's number.
     pub capacities: [u32; 7],
+}
+
+// The version of a number.
+fn version_at(number: u32) -> Option<Version>
+    ensures { result ≡ version_at number }
+{
+    match number {
+        1 => Some(Version::One),
+        2 => Some(Version::Two),
+        _ => None,
+    }
 }
 
 // Why there is no peer.
@@ -51,7 +62,7 @@ fn new_side(alloc: Global, config: Config) -> Result<Box<Side>, PeerFault>
     let Ok(decoder) = StreamDecoder::new(alloc) else {
         return Err(PeerFault::OutOfMemory);
     };
-    let Ok(pending) = Pending::new(alloc) else {
+    let Ok(pending) = Pending::new(alloc, config.version) else {
         return Err(PeerFault::OutOfMemory);
     };
     let side = Side {
@@ -84,10 +95,12 @@ pub extern "C" fn lcmux_peer_new(
         }
         None => {}
     }
-    if config.version != 1 {
-        return only(BAD_VERSION);
-    }
+    let version = match version_at(config.version) {
+        Some(version) => version,
+        None => return only(BAD_VERSION),
+    };
     let bounds = Config {
+        version,
         capacities: config.capacities,
         slots: config.slots,
     };

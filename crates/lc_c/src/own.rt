@@ -10,7 +10,8 @@ use crate::peer::LcmuxPeer;
 use crate::reach::{Target, reach};
 use std::alloc::Global;
 
-/// A message of 1 to 65,535 bytes is sent. Codes 1, 2, 3, 4, 14 and 13, in this order.
+/// A message is sent, of 1 to 65,535 bytes in version 1 and to 1,048,576 in version 2. Codes 1, 2,
+/// 3, 4, 14 and 13, in this order.
 #[unsafe(no_mangle)]
 pub extern "C" fn lcmux_peer_send(
     alloc: Global,

@@ -1,15 +1,16 @@
-//! What is left of a frame that was begun.
-ghost use Rattle.std.specs.Prelude.{◌≡◌, ◌≤◌, [], ◌++◌, length, take, drop, min, IfOk};
-ghost use Rattle.lc_frame.specs.declared.version.Version.TheVariants.{One};
+//! What is left of a frame that was begun, or of the greeting.
+ghost use Rattle.std.specs.Prelude.{◌≡◌, ◌≤◌, ◌++◌, length, take, drop, min, IfOk};
+ghost use Rattle.lc_frame.specs.declared.version.Version.TheVariants.{Two};
+ghost use Rattle.lc_frame.specs.Version.{greeting};
 ghost use Rattle.lc_frame.specs.Kind.{max_frame};
 ghost use Rattle.lc_frame.specs.Frame.{IsValid};
 ghost use Rattle.lc_frame.specs.Encoding.{encoding};
 
-use lc_frame::{Frame, Version};
+use lc_frame::{Frame, MAX_FRAME, Version};
 use std::alloc::{AllocError, Global};
 use std::marker::Model;
 
-/// The bytes that are left of a frame whose first ones went out.
+/// The bytes that are left of a frame whose first ones went out, or of the greeting of a new stream.
 #[derive(Debug, Drop)]
 pub struct Pending {
     buffer: Vec<u8>,
@@ -28,21 +29,20 @@ impl Model for Pending {
 }
 
 impl Pending {
-    /// Nothing is left. It takes the memory for the longest frame of version One here and
-    /// none later.
-    pub(crate) fn new(alloc: Global) -> Result<Pending, AllocError>
-        ensures { IfOk result (λ pending. pending.bytes ≡ []) }
+    /// The start of a stream: its greeting is left, which is nothing in version One. It takes the
+    /// memory for the longest frame of either version here and none later.
+    pub(crate) fn new(alloc: Global, version: Version) -> Result<Pending, AllocError>
+        ensures { IfOk result (λ pending. pending.bytes ≡ greeting version) }
     {
-        Ok(Pending {
-            buffer: Vec::with_capacity(alloc, Version::One.max_frame())?,
-            start: 0,
-        })
+        let mut buffer = Vec::with_capacity(alloc, MAX_FRAME)?;
+        buffer.extend_from_slice(version.greeting())?;
+        Ok(Pending { buffer, start: 0 })
     }
 
     /// How many bytes are left.
     pub(crate) fn len(&self) -> usize
         ensures value { result ≡ length self.now.bytes }
-        ensures most { result ≤ max_frame One }
+        ensures most { result ≤ max_frame Two }
     {
         self.buffer.len() - self.start
     }
@@ -61,14 +61,14 @@ impl Pending {
         count
     }
 
-    /// A frame is begun, where nothing is left of another.
-    pub(crate) fn begin(&mut self, frame: &Frame)
-        requires { IsValid One frame.now }
-        ensures { self.new.bytes ≡ encoding One frame.now }
+    /// A frame of a version is begun, where nothing is left of another.
+    pub(crate) fn begin(&mut self, version: Version, frame: &Frame)
+        requires { IsValid version frame.now }
+        ensures { self.new.bytes ≡ encoding version frame.now }
     {
         self.buffer.clear();
         self.start = 0;
-        if frame.encode_into(Version::One, &mut self.buffer).is_err() {
+        if frame.encode_into(version, &mut self.buffer).is_err() {
             unreachable!();
         }
     }

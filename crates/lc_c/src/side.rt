@@ -4,7 +4,7 @@ use lc_frame::StreamDecoder;
 use lc_peer::{Peer, Stop};
 
 /// A peer, what came of its stream and is no whole frame yet, why that stream was given up, if it
-/// was, and what is left of the frame that was begun to go out.
+/// was, and what is left of the frame that was begun to go out, or of the greeting.
 #[derive(Debug, Drop)]
 pub struct Side {
     pub peer: Peer,

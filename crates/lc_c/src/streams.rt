@@ -3,23 +3,24 @@ ghost use Rattle.std.specs.Prelude.{◌≡◌, ◌<◌, ◌≤◌, ◌++◌, [],
 ghost use Rattle.lc_c.specs.Streams.{text, Begins, GivesOut, DeliversAt};
 
 use crate::side::Side;
-use lc_frame::Version;
 use lc_peer::Delivery;
 
-// Where nothing is left of a frame, the next one is begun.
+// Where nothing is left of a frame or of the greeting, the next frame is begun.
 fn begin_next(side: &mut Side)
     ensures { Begins side.old side.new }
 {
     if side.pending.len() > 0 {
         return;
     }
+    let version = side.peer.version();
     match side.peer.next_out() {
-        Some(frame) => side.pending.begin(&frame),
+        Some(frame) => side.pending.begin(version, &frame),
         None => {}
     }
 }
 
-// What is left of the frame that was begun, or the next frame, as far as there is room.
+// What is left of the greeting or of the frame that was begun, or the next frame, as far as there
+// is room.
 fn give_next(side: &mut Side, out: &mut [u8]) -> usize
     requires { 0 < length out.old }
     ensures count { result ≤ length out.old }
@@ -53,10 +54,11 @@ pub(crate) fn give(side: &mut Side, out: &mut [u8]) -> usize
 pub(crate) fn count(side: &Side) -> usize
     ensures { result ≡ length (text side.now) }
 {
+    let version = side.peer.version();
     let mut count = side.pending.len();
     'frames: for place in 0..side.peer.waiting() {
         match side.peer.waiting_frame(place) {
-            Some(frame) => count += frame.encoded_len(Version::One),
+            Some(frame) => count += frame.encoded_len(version),
             None => unreachable!(),
         }
     }

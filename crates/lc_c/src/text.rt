@@ -64,10 +64,10 @@ fn arrival_sentence(code: u32) -> &'static [u8] {
         106 => b"more than 2^24 guarantees held",
         107 => b"a limit on receiving that raises an earlier one",
         108 => b"more than 2^62 guarantees on one channel",
-        201 => b"the first byte of a frame names no kind or no channel",
+        201 => b"a byte names no kind or channel, or is not the greeting's",
         202 => b"a message has length 0",
         203 => b"a number in a frame is out of its range",
-        204 => b"the stream ends within a frame",
+        204 => b"the stream ends within a frame or a greeting",
         _ => b"",
     }
 }

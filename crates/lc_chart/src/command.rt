@@ -1,5 +1,6 @@
 //! The command line, and what each command draws.
 ghost use Rattle.std.specs.Prelude.{◌≡◌, ℕ, IfErr};
+ghost use Rattle.lc_frame.specs.declared.version.Version.{Version};
 ghost use Rattle.lc_chart.specs.Fault.{chart_status};
 
 use crate::fault::ChartFault;
@@ -7,7 +8,7 @@ use crate::picture::draw_session;
 use crate::session::{MAX_EVENTS, Session};
 use crate::stream::{Survey, draw_stream};
 use lc_cli::{Fault, Status, buffered, parse_decimal, parse_script, read_all};
-use lc_frame::is_capacity;
+use lc_frame::{Version, is_capacity};
 use lc_world::Event;
 use std::alloc::Global;
 use std::env::Args;
@@ -39,10 +40,12 @@ pub fn chart<R: Read, W: Write, E: Write>(
     out: &mut W,
     err: &mut E,
 ) -> u8
-    ensures bad_script_draws_nothing { (capacity : ℕ) → command ≡ Command.Session capacity → result ≡ 2 → out.new ≡ out.old }
+    ensures bad_script_draws_nothing { (capacity : ℕ) (version : Version) → command ≡ Command.Session capacity version → result ≡ 2 → out.new ≡ out.old }
 {
     let drawn = match command {
-        Command::Session { capacity } => chart_session(alloc, capacity, input, out),
+        Command::Session { capacity, version } => {
+            chart_session(alloc, capacity, version, input, out)
+        }
         Command::Frames => chart_frames(alloc, input, out),
     };
     match drawn {
@@ -54,8 +57,8 @@ pub fn chart<R: Read, W: Write, E: Write>(
 /// What the program is asked to draw.
 #[derive(Clone, Copy, Debug, PartialEq, Eq)]
 pub enum Command {
-    /// The session of a script, with receiving rings of so many bytes.
-    Session { capacity: u32 },
+    /// The session of a script, with receiving rings of so many bytes and streams of the version.
+    Session { capacity: u32, version: Version },
     /// The frames of a stream.
     Frames,
 }
@@ -77,6 +80,11 @@ impl Command {
             [_, word] if word.as_str() == "frames" => Some(Command::Frames),
             [_, capacity] => Some(Command::Session {
                 capacity: parse_capacity(capacity.as_str())?,
+                version: Version::One,
+            }),
+            [_, capacity, version] => Some(Command::Session {
+                capacity: parse_capacity(capacity.as_str())?,
+                version: parse_version(version.as_str())?,
             }),
             _ => None,
         }
@@ -88,9 +96,15 @@ fn parse_capacity(text: &str) -> Option<u32> {
     is_capacity(capacity).then_some(capacity)
 }
 
+// Where a version is named it is 2.
+fn parse_version(text: &str) -> Option<Version> {
+    (text == "2").then_some(Version::Two)
+}
+
 fn chart_session<R: Read, W: Write>(
     alloc: Global,
     capacity: u32,
+    version: Version,
     input: &mut R,
     out: &mut W,
 ) -> Result<(), ChartFault>
@@ -101,7 +115,7 @@ fn chart_session<R: Read, W: Write>(
     if events.len() > usize::from(MAX_EVENTS) {
         return Err(ChartFault::TooManyEvents);
     }
-    let session = Session::new(alloc, capacity, events.as_slice())?;
+    let session = Session::new(alloc, capacity, version, events.as_slice())?;
     print_session(alloc, &session, events.as_slice(), out)
 }
 

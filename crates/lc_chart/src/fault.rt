@@ -13,7 +13,7 @@ use thiserror::Error;
 /// without the program's name.
 #[derive(Clone, Copy, Debug, PartialEq, Eq, Error)]
 pub enum ChartFault {
-    #[error("usage: lcmux_chart CAPACITY, lcmux_chart frames")]
+    #[error("usage: lcmux_chart CAPACITY [2], lcmux_chart frames")]
     Usage,
     #[error("more than 2000 events")]
     TooManyEvents,

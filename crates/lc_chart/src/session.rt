@@ -3,7 +3,7 @@ ghost use Rattle.std.specs.Prelude.{◌<◌};
 
 use crate::fault::ChartFault;
 use lc_cli::Fault;
-use lc_frame::Channel;
+use lc_frame::{Channel, Version};
 use lc_world::{Act, Answer, Event, NewFault, Side, World};
 use std::alloc::{AllocError, Global};
 use std::collections::VecDeque;
@@ -105,13 +105,15 @@ impl Standing {
 }
 
 impl Session {
-    /// Answers the events, of which those behind `MAX_EVENTS` are left out.
+    /// Answers the events between peers that both write this version. Those behind `MAX_EVENTS` are left
+    /// out.
     pub(crate) fn new(
         alloc: Global,
         capacity: u32,
+        version: Version,
         events: &[Event],
     ) -> Result<Session, ChartFault> {
-        let mut world = match World::new(alloc, capacity) {
+        let mut world = match World::new_as(alloc, capacity, [version; 2]) {
             Ok(world) => world,
             Err(NewFault::BadCapacity) => return Err(ChartFault::Usage),
             Err(NewFault::OutOfMemory) => return Err(ChartFault::Shared(Fault::OutOfMemory)),

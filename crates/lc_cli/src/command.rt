@@ -3,8 +3,8 @@ use crate::fault::Fault;
 use crate::listing::frames;
 use crate::looping::print_loopback;
 use crate::number::parse_decimal;
-use crate::replaying::replay;
-use lc_frame::is_capacity;
+use crate::replaying::replay_as;
+use lc_frame::{Version, is_capacity};
 use lc_loopback::{LoopFault, LoopReport};
 use std::alloc::Global;
 use std::env::Args;
@@ -32,7 +32,9 @@ where
     requires { F.IsAlwaysCallable loopback }
 {
     match Command::from_arguments(alloc, arguments) {
-        Ok(Command::Replay { capacity }) => replay(alloc, capacity, input, out, err),
+        Ok(Command::Replay { capacity, version }) => {
+            replay_as(alloc, capacity, version, input, out, err)
+        }
         Ok(Command::Frames) => frames(alloc, input, out, err),
         Ok(Command::Loopback { count }) => { print_loopback(alloc, loopback(count), out, err) }
         Err(fault) => fault.report(err),
@@ -42,8 +44,8 @@ where
 // What the program is asked to do.
 #[derive(Clone, Copy)]
 enum Command {
-    // Replay a script, with receiving rings of so many bytes.
-    Replay { capacity: u32 },
+    // Replay a script, with receiving rings of so many bytes and streams of the version.
+    Replay { capacity: u32, version: Version },
     // Print the frames of a stream.
     Frames,
     // Let two sessions exchange so many messages on each channel.
@@ -64,6 +66,11 @@ impl Command {
         match words {
             [_, name, capacity] if name.as_str() == "replay" => Some(Command::Replay {
                 capacity: parse_capacity(capacity.as_str())?,
+                version: Version::One,
+            }),
+            [_, name, capacity, version] if name.as_str() == "replay" => Some(Command::Replay {
+                capacity: parse_capacity(capacity.as_str())?,
+                version: parse_version(version.as_str())?,
             }),
             [_, name] if name.as_str() == "frames" => Some(Command::Frames),
             [_, name, count] if name.as_str() == "loopback" => Some(Command::Loopback {
@@ -77,6 +84,11 @@ impl Command {
 fn parse_capacity(text: &str) -> Option<u32> {
     let capacity = u32::try_from(parse_decimal(text)?).ok()?;
     is_capacity(capacity).then_some(capacity)
+}
+
+// Where a version is named it is 2.
+fn parse_version(text: &str) -> Option<Version> {
+    (text == "2").then_some(Version::Two)
 }
 
 fn parse_count(text: &str) -> Option<u32> {

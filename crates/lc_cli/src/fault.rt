@@ -30,7 +30,7 @@ impl Status {
 /// Why a run fails. What is displayed is the line on standard error, without the program's name.
 #[derive(Clone, Copy, Debug, PartialEq, Eq, Error)]
 pub enum Fault {
-    #[error("usage: lcmux replay CAPACITY, lcmux frames, lcmux loopback N")]
+    #[error("usage: lcmux replay CAPACITY [2], lcmux frames, lcmux loopback N")]
     Usage,
     /// Lines are counted from 1, skipped ones too.
     #[error("line {line}: bad script line")]

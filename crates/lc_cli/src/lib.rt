@@ -21,5 +21,5 @@ pub use listing::frames;
 pub use looping::print_loopback;
 pub use number::parse_decimal;
 pub use output::buffered;
-pub use replaying::replay;
+pub use replaying::{replay, replay_as};
 pub use script::parse_script;

@@ -8,15 +8,13 @@ use crate::fault::{Fault, Status};
 use crate::input::read_all;
 use crate::output::buffered;
 use crate::script::parse_script;
-use lc_frame::is_capacity;
-use lc_world::{Answer, Event, NewFault, run};
+use lc_frame::{Version, is_capacity};
+use lc_world::{Answer, Event, NewFault, run_as};
 use std::alloc::Global;
 use std::io;
 use std::io::{Read, Write};
 
-/// Replays the script that the input holds between two new peers, whose receiving rings have
-/// `capacity` bytes each. The answers go to `out`, a fault's line to `err`, and the exit status is
-/// answered. The whole script is read and checked before the first event.
+/// Replays a script as `replay_as` does, where both streams are of version One.
 pub fn replay<R: Read, W: Write, E: Write>(
     alloc: Global,
     capacity: u32,
@@ -27,7 +25,25 @@ pub fn replay<R: Read, W: Write, E: Write>(
     ensures bad_input_prints_nothing { result ≡ 2 → out.new ≡ out.old }
     ensures capacity { ¬ IsCapacity capacity → (result ≡ 2) × (input.new ≡ input.old) }
 {
-    match try_replay(alloc, capacity, input, out) {
+    replay_as(alloc, capacity, Version::One, input, out, err)
+}
+
+/// Replays the script that the input holds between two new peers, whose receiving rings have
+/// `capacity` bytes each and whose streams are both of the version. The answers go to `out`, a
+/// fault's line to `err`, and the exit status is answered. The whole script is read and checked
+/// before the first event.
+pub fn replay_as<R: Read, W: Write, E: Write>(
+    alloc: Global,
+    capacity: u32,
+    version: Version,
+    input: &mut R,
+    out: &mut W,
+    err: &mut E,
+) -> u8
+    ensures bad_input_prints_nothing { result ≡ 2 → out.new ≡ out.old }
+    ensures capacity { ¬ IsCapacity capacity → (result ≡ 2) × (input.new ≡ input.old) }
+{
+    match try_replay(alloc, capacity, version, input, out) {
         Ok(()) => Status::Done.code(),
         Err(fault) => fault.report(err),
     }
@@ -36,6 +52,7 @@ pub fn replay<R: Read, W: Write, E: Write>(
 fn try_replay<R: Read, W: Write>(
     alloc: Global,
     capacity: u32,
+    version: Version,
     input: &mut R,
     out: &mut W,
 ) -> Result<(), Fault>
@@ -47,7 +64,7 @@ fn try_replay<R: Read, W: Write>(
         return Err(Fault::Usage);
     }
     let events = read_events(alloc, input)?;
-    let answers = match run(alloc, capacity, events.as_slice()) {
+    let answers = match run_as(alloc, capacity, [version; 2], events.as_slice()) {
         Ok(answers) => answers,
         Err(NewFault::BadCapacity) => return Err(Fault::Usage),
         Err(NewFault::OutOfMemory) => return Err(Fault::OutOfMemory),

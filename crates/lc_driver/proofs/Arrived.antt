@@ -1,6 +1,6 @@
 -- What came of the bytes that were read, one read and another.
-use Rattle.std.proofs.Common.{◌≡◌, ℕ, ◌+◌, ◌*◌, ◌<◌, ◌≤◌, ◌⊎◌, List, [], ◌++◌, length, Option, Some, None, refl, sym, ap, subst, ◌∙◌, append_assoc, arith, inl, inr, length-append}
-use Rattle.std.specs.Prelude.{All}
+use Rattle.std.proofs.Common.{◌≡◌, ℕ, ◌+◌, ◌*◌, ◌<◌, ◌≤◌, ◌⊎◌, List, [], ◌∷◌, ◌++◌, length, Option, Some, None, refl, sym, ap, subst, ◌∙◌, append_assoc, arith, inl, inr, length-append}
+use Rattle.std.specs.Prelude.{All, IfSome}
 use Rattle.std.proofs.lemmas.List.{append-nil}
 use Rattle.std.proofs.lemmas.List.Elements.{All-append}
 use Rattle.std.specs.Io.KnownBytes.{Consumes, Keeps}
@@ -18,7 +18,7 @@ use Rattle.lc_peer.specs.declared.delivery.Delivery.{Delivery}
 use Rattle.lc_peer.specs.declared.delivery.Stop.{Stop}
 use Rattle.lc_peer.specs.declared.delivery.Stop.TheVariants as stops
 use Rattle.lc_peer.specs.Peer.{PeerState}
-use Rattle.lc_peer.specs.Arrivals.{Arrival, arrivals}
+use Rattle.lc_peer.specs.Arrivals.{Arrival, arrive, arrive_unless, arrivals, violation_at}
 use Rattle.lc_peer.specs.Sinks.{Arrives, Violates, AllArrive, ArriveUpTo}
 use Rattle.lc_peer.specs.Deliveries.{violation_of, LeavesRest, Leaves, DeliversTo}
 use Rattle.lc_peer.proofs.Sinks.{up_to_all, all_up_to, up_to_then, came}
@@ -226,3 +226,18 @@ reads a b held p q i max_reads end h =
 pub ends_clean : (held : Held) → (held.bytes ≡ []) ⊎ ((f : Frame) × HasFrame f held) → IsUndecided held → held.bytes ≡ []
 ends_clean held (inl nothing) o = nothing
 ends_clean held (inr frame) o = absurd (o.no_frame frame.0 frame.1)
+
+unless_keeps : (p : PeerState) (v : Option Violation) (later : Arrival) → later.peer.version ≡ p.version → (arrive_unless p v later).peer.version ≡ p.version
+unless_keeps p None later e = e
+unless_keeps p (Some v) later e = refl
+
+-- no frame that arrives changes the version that a peer writes
+arrivals_keep : (p : PeerState) (frames : List Frame) → (arrivals p frames).peer.version ≡ p.version
+arrivals_keep p [] = refl
+arrivals_keep p (f ∷ frames) = unless_keeps p (violation_at p f) (arrivals (arrive p f) frames) (arrivals_keep (arrive p f) frames)
+
+-- nor does a call, whether the stream was given up before it or not
+module _ (before after : Option (List ℕ)) (held : Held) (old : PeerState) (intake : IntakeState) (new : PeerState) (max_reads : ℕ) (end : ReadEnd) where
+  pub version_kept : (stop : Option Stop) (GivenUp : Stop → Type 0) → IfSome stop GivenUp → ((s : Stop) → GivenUp s → new ≡ old) → (stop ≡ None → Reads before after held old intake new max_reads end) → new.version ≡ old.version
+  version_kept None P given same reads = ap (λ (p : PeerState). p.version) (reads refl).peer ∙ arrivals_keep old (frames_of (fed held (reads refl).read))
+  version_kept (Some s) P given same reads = ap (λ (p : PeerState). p.version) (same s given)

@@ -85,6 +85,7 @@ pub fn read_in<R: CountedRead>(
 ) -> ReadEnd
     ensures given_up { IfSome intake.old.stop (λ stop. (result ≡ end_of stop) × (peer.new ≡ peer.old) × (reader.new ≡ reader.old) × (intake.new ≡ intake.old)) }
     ensures reads { intake.old.stop ≡ None → Reads (R.remaining reader.old) (R.remaining reader.new) intake.old.held peer.old intake.new peer.new max_reads result }
+    ensures version { peer.new.version ≡ peer.old.version }
     ensures at_end { EndsInput result (R.remaining reader.new) }
     ensures counts { CountsReads result (R.counts reader.old) (R.counts reader.new) }
     ensures calls { (R.counts reader.new).calls ≤ (R.counts reader.old).calls + max_reads }

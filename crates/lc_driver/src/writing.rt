@@ -2,14 +2,12 @@
 ghost use Rattle.std.specs.Prelude.{◌≡◌, ℕ, ◌+◌, ◌<◌, ◌≤◌, ◌^◌, [], ◌++◌, length, take, drop, OnOk, IfOk};
 ghost use Rattle.std.specs.List.{flat_map};
 ghost use Rattle.std.specs.Io.KnownBytes.{Appends};
-ghost use Rattle.lc_frame.specs.declared.version.Version.TheVariants.{One};
 ghost use Rattle.lc_frame.specs.Encoding.{encoding};
 ghost use Rattle.lc_frame.specs.Kind.{max_frame};
 ghost use Rattle.lc_driver.specs.Writing.{Writes, CountsWrites, written_in, fault_written, fault_after, IsAhead, LetsGo, text};
 
 use crate::counted::CountedWrite;
 use crate::outgo::Outgo;
-use lc_frame::Version;
 use lc_peer::Peer;
 use thiserror::Error;
 
@@ -53,7 +51,9 @@ fn written_of(wrote: &Result<u64, WriteFault>) -> u64
 
 // Encodes frames that wait after what is pending, as long as a whole one has room.
 fn join_waiting(peer: &Peer, outgo: &mut Outgo)
-    ensures ahead { IsAhead (length outgo.old.pending) outgo.new.pending peer.now.waiting }
+    requires { outgo.old.version ≡ peer.now.version }
+    ensures version { outgo.new.version ≡ outgo.old.version }
+    ensures ahead { IsAhead outgo.old.version (length outgo.old.pending) outgo.new.pending peer.now.waiting }
     ensures begun { take (length outgo.old.pending) outgo.new.pending ≡ outgo.old.pending }
     ensures none { outgo.new.pending ≡ [] → peer.now.waiting ≡ [] }
 {
@@ -73,17 +73,20 @@ fn join_waiting(peer: &Peer, outgo: &mut Outgo)
 // among them leave the peer. Answers how many bytes are left of the frame that was begun last.
 fn note_taken(peer: &mut Peer, outgo: &mut Outgo, begun: usize, taken: usize) -> usize
     requires within { taken ≤ length outgo.old.pending }
-    requires small { length outgo.old.pending ≤ max_frame One }
-    requires ahead { IsAhead begun outgo.old.pending peer.old.waiting }
+    requires version { outgo.old.version ≡ peer.old.version }
+    requires small { length outgo.old.pending ≤ max_frame outgo.old.version }
+    requires ahead { IsAhead outgo.old.version begun outgo.old.pending peer.old.waiting }
     ensures advanced { outgo.new.pending ≡ drop taken outgo.old.pending }
-    ensures ahead { IsAhead result outgo.new.pending peer.new.waiting }
-    ensures gone { LetsGo outgo.old.pending begun taken (taken + result) peer.old peer.new }
+    ensures version { outgo.new.version ≡ outgo.old.version }
+    ensures ahead { IsAhead outgo.old.version result outgo.new.pending peer.new.waiting }
+    ensures gone { LetsGo outgo.old.version outgo.old.pending begun taken (taken + result) peer.old peer.new }
 {
+    let version = outgo.version();
     outgo.advance(taken);
     let mut end = begun;
     'frames: while end < taken {
         match peer.next_out() {
-            Some(frame) => end += frame.encoded_len(Version::One),
+            Some(frame) => end += frame.encoded_len(version),
             None => unreachable!(),
         }
     }
@@ -112,16 +115,18 @@ pub fn write_all<W: CountedWrite>(writer: &mut W, bytes: &[u8]) -> Result<u64, W
     Ok(done as u64)
 }
 
-// Writes all that is in Outgo: the rest of the frame that was begun, as long as is said, and
-// after it frames that wait.
+// Writes all that is in Outgo: the rest of the greeting or of the frame that was begun, as long as
+// is said, and after it frames that wait.
 fn write_joined<W: CountedWrite>(
     peer: &mut Peer,
     outgo: &mut Outgo,
     writer: &mut W,
     rest: usize,
 ) -> Result<u64, WriteFault>
-    requires ahead { IsAhead rest outgo.old.pending peer.old.waiting }
-    ensures writes { Writes (W.contents writer.old) (W.contents writer.new) (take rest outgo.old.pending) peer.old outgo.new.pending peer.new (written_in result) }
+    requires version { outgo.old.version ≡ peer.old.version }
+    requires ahead { IsAhead outgo.old.version rest outgo.old.pending peer.old.waiting }
+    ensures writes { Writes outgo.old.version (W.contents writer.old) (W.contents writer.new) (take rest outgo.old.pending) peer.old outgo.new.pending peer.new (written_in result) }
+    ensures version { outgo.new.version ≡ outgo.old.version }
     ensures all { IfOk result (λ n. (outgo.new.pending ≡ []) × (n ≡ length outgo.old.pending)) }
     ensures counts { CountsWrites result (W.counts writer.old) (W.counts writer.new) }
 {
@@ -133,18 +138,22 @@ fn write_joined<W: CountedWrite>(
     result
 }
 
-/// Writes the rest of the frame that was begun, and then all frames that wait, several in one write
-/// as far as they fit the longest frame. `Ok` carries the number of bytes that were written.
+/// Writes the rest of the greeting or of the frame that was begun, and then all frames that wait,
+/// several in one write as far as they fit the longest frame. `Ok` carries the number of bytes that
+/// were written.
 ///
-/// A frame leaves the peer when the writer takes its first byte. After a fault what is left of that
-/// frame is pending in Outgo, frames that were not begun wait in the peer, and a further call goes on
-/// with the next byte. It doesn't flush, and tries no failed write again.
+/// Outgo has the peer's version: a struct that holds both says so in a ghost field, which every
+/// call here keeps. A frame leaves the peer when the writer takes its first byte. After a fault what
+/// is left of that frame is pending in Outgo, frames that were not begun wait in the peer, and a
+/// further call goes on with the next byte. It doesn't flush, and tries no failed write again.
 pub fn write_out<W: CountedWrite>(
     peer: &mut Peer,
     outgo: &mut Outgo,
     writer: &mut W,
 ) -> Result<u64, WriteFault>
-    ensures writes { Writes (W.contents writer.old) (W.contents writer.new) outgo.old.pending peer.old outgo.new.pending peer.new (written_in result) }
+    requires { outgo.old.version ≡ peer.old.version }
+    ensures writes { Writes outgo.old.version (W.contents writer.old) (W.contents writer.new) outgo.old.pending peer.old outgo.new.pending peer.new (written_in result) }
+    ensures version { outgo.new.version ≡ outgo.old.version }
     ensures all { OnOk result ((outgo.new.pending ≡ []) × (peer.new.waiting ≡ [])) }
     ensures none { outgo.old.pending ≡ [] → peer.old.waiting ≡ [] → writer.new ≡ writer.old }
     ensures counts { CountsWrites result (W.counts writer.old) (W.counts writer.new) }

@@ -7,8 +7,8 @@ use thiserror::Error;
 /// Why the bytes of a stream are no frame.
 #[derive(Clone, Copy, Debug, PartialEq, Eq, Error)]
 pub enum FrameFault {
-    /// The first byte names no kind of frame or no channel.
-    #[error("the first byte of a frame names no kind or no channel")]
+    /// The first byte names no kind of frame or no channel, or a byte differs from the greeting.
+    #[error("the first byte of a frame names no kind or no channel, or a byte differs from the greeting")]
     BadTag,
     /// The length of a message is 0.
     #[error("a message has length 0")]
@@ -16,8 +16,8 @@ pub enum FrameFault {
     /// A number is out of its range.
     #[error("a number in a frame is out of its range")]
     BadNumber,
-    /// The stream ends within a frame.
-    #[error("the stream ends within a frame")]
+    /// The stream ends within a frame or a greeting.
+    #[error("the stream ends within a frame or a greeting")]
     Truncated,
 }
 

@@ -1,5 +1,6 @@
 -- What every end with an inbox keeps.
 use Rattle.std.proofs.Common.{◌≡◌, ℕ, [], ◌∷◌, ◌++◌, Option, None, Some, refl, sym, ◌∙◌, ap, subst, ◌+◌}
+use Rattle.lc_frame.specs.declared.version.Version.TheVariants.{One}
 use Rattle.lc_frame.specs.declared.channel.Channel.{Channel}
 use Rattle.lc_frame.specs.declared.frame.Frame.{Frame}
 use Rattle.lc_frame.specs.declared.frame.Frame.TheVariants.{Send, Issue, Absolve, Plead, LimitSending, LimitReceiving}
@@ -29,7 +30,7 @@ pub put_keeps : (f : Frame) (h : Held) → channel_of f ≡ h.channel → IsHeld
 put_keeps f h on kept =
     let of : Server = server_of 0 h.channel h.lane.put [] 0 in
     let now : OfPut (server_after_put f h.inbox.book) ≡ OfPut (server_after_put f of) = after_put f h.inbox.book of (λ i. (kept.issued i, kept.left i)) in
-    let sums : server_after_put f of ≡ server_of 0 h.channel (h.lane.put ++ f ∷ []) [] 0 = subst (λ (c : Channel). server_after_put f (server_of 0 c h.lane.put [] 0) ≡ server_of 0 c (h.lane.put ++ f ∷ []) [] 0) on (books_keep_sums 0 h.lane.put [] None 0 f).1.put_here in
+    let sums : server_after_put f of ≡ server_of 0 h.channel (h.lane.put ++ f ∷ []) [] 0 = subst (λ (c : Channel). server_after_put f (server_of 0 c h.lane.put [] 0) ≡ server_of 0 c (h.lane.put ++ f ∷ []) [] 0) on (books_keep_sums One 0 h.lane.put [] None 0 f).1.put_here in
     record { lane = kept.lane; issued = ap (λ (p : ℕ × Option ℕ). p.0) now ∙ ap (λ (b : Server). b.issued) sums; left = ap (λ (p : ℕ × Option ℕ). p.1) now ∙ ap (λ (b : Server). b.receive_left) sums }
 
 of_arrival : (f : Frame) (b : Server) → OfPut (server_after_arrival f b) ≡ OfPut b

@@ -6,6 +6,7 @@ use Rattle.std.proofs.lemmas.List.Sums.{sum_by-append}
 use Rattle.std.proofs.lemmas.List.Elements.{filter_map-append}
 use Rattle.lc_history.specs.History.{IsHistoryAfter, IsHistory}
 use Rattle.lc_history.proofs.Histories.{history-push}
+use Rattle.lc_frame.specs.declared.version.Version.TheVariants.{One}
 use Rattle.lc_frame.specs.declared.channel.Channel.{Channel}
 use Rattle.lc_frame.specs.declared.frame.Frame.{Frame}
 use Rattle.lc_frame.specs.declared.frame.Frame.TheVariants.{Send, Issue, Absolve, Plead, LimitSending, LimitReceiving}
@@ -63,9 +64,9 @@ server_lane c (LimitReceiving d n) on = same_from_number d c (omega arith)
 
 -- a state that is made of these
 held_is : (key : Key) (history : List Entry) (p h : List Frame) (t r : List (List ℕ)) → put history ≡ p → heard history ≡ h → took history ≡ t → waiting key history ≡ r
-    → record { channel = key.channel; inbox = record { book = server_of key.capacity key.channel p h (sum_by length t); ring = record { messages = r; capacity = key.capacity } }; lane = record { queue = key.lane.value.queue; lane = key.lane.value.lane; put = p } } ≡ held_after key history
+    → record { channel = key.channel; inbox = record { book = server_of key.capacity key.channel p h (sum_by length t); ring = record { messages = r; capacity = key.capacity } }; lane = record key.lane.value { put = p } } ≡ held_after key history
 held_is key history p h t r puts hears takes waits =
-    λ i. record { channel = key.channel; inbox = record { book = server_of key.capacity key.channel (sym puts i) (sym hears i) (sum_by length (sym takes i)); ring = record { messages = sym waits i; capacity = key.capacity } }; lane = record { queue = key.lane.value.queue; lane = key.lane.value.lane; put = sym puts i } }
+    λ i. record { channel = key.channel; inbox = record { book = server_of key.capacity key.channel (sym puts i) (sym hears i) (sum_by length (sym takes i)); ring = record { messages = sym waits i; capacity = key.capacity } }; lane = record key.lane.value { put = sym puts i } }
 
 ring_after : (f : Frame) (taken : List (List ℕ)) (ring : Ring) → (taken ++ ring.messages) ++ messages (channel_of f) (f ∷ []) ≡ taken ++ (ring_after_arrival f ring).messages
 ring_after (Send c body) taken ring = let f : Frame = Send c body in rw (messages-one f) (append_assoc taken ring.messages (body ∷ []))
@@ -85,10 +86,10 @@ same_capacity (LimitReceiving c n) ring = refl
 
 -- the book of the sums, with one frame more
 book_heard : (capacity : ℕ) (c : Channel) (f : Frame) (p h : List Frame) (t : ℕ) → channel_of f ≡ c → server_after_arrival f (server_of capacity c p h t) ≡ server_of capacity c p (h ++ f ∷ []) t
-book_heard capacity c f p h t on = subst (λ (d : Channel). server_after_arrival f (server_of capacity d p h t) ≡ server_of capacity d p (h ++ f ∷ []) t) on (books_keep_sums capacity p h None t f).1.arrived_here
+book_heard capacity c f p h t on = subst (λ (d : Channel). server_after_arrival f (server_of capacity d p h t) ≡ server_of capacity d p (h ++ f ∷ []) t) on (books_keep_sums One capacity p h None t f).1.arrived_here
 
 book_put : (capacity : ℕ) (c : Channel) (f : Frame) (p h : List Frame) (t : ℕ) → channel_of f ≡ c → server_after_put f (server_of capacity c p h t) ≡ server_of capacity c (p ++ f ∷ []) h t
-book_put capacity c f p h t on = subst (λ (d : Channel). server_after_put f (server_of capacity d p h t) ≡ server_of capacity d (p ++ f ∷ []) h t) on (books_keep_sums capacity p h None t f).1.put_here
+book_put capacity c f p h t on = subst (λ (d : Channel). server_after_put f (server_of capacity d p h t) ≡ server_of capacity d (p ++ f ∷ []) h t) on (books_keep_sums One capacity p h None t f).1.put_here
 
 messages_heard : (c : Channel) (f : Frame) (h : List Frame) (t : List (List ℕ)) (ring : Ring) → channel_of f ≡ c → messages c h ≡ t ++ ring.messages → messages c (h ++ f ∷ []) ≡ t ++ (ring_after_arrival f ring).messages
 messages_heard c f h t ring on is = subst (λ (d : Channel). messages d h ≡ t ++ ring.messages → messages d (h ++ f ∷ []) ≡ t ++ (ring_after_arrival f ring).messages) on
@@ -150,7 +151,7 @@ pub in_order : (key : Key) (history : List Entry) → IsHistory (MayFollow key) 
 in_order key history legal = order_after key [] history refl legal
 
 -- an inbox in which nothing happened
-pub left_new : (key : Key) (held : Held) → held ≡ record { channel = key.channel; inbox = new_inbox key.capacity; lane = record { queue = key.lane.value.queue; lane = key.lane.value.lane; put = [] } } → IsLeftBy key held []
+pub left_new : (key : Key) (held : Held) → held ≡ record { channel = key.channel; inbox = new_inbox key.capacity; lane = record key.lane.value { put = [] } } → IsLeftBy key held []
 left_new key held is = record { legal = tt; is = is }
 
 -- what one entry more leaves
@@ -191,7 +192,7 @@ module _ (key : Key) (log : List Entry) where
       let book = book_put key.capacity key.channel f (put log) (heard log) (sum_by length (took log)) on in
       record {
         legal = history-push (MayFollow key) log e may h.legal;
-        is = is ∙ (ap (put_frame f) h.is ∙ ((λ i. record { channel = key.channel; inbox = record { book = book i; ring = (inbox_after key log).ring }; lane = record { queue = key.lane.value.queue; lane = key.lane.value.lane; put = put log ++ f ∷ [] } }) ∙ held_is key (log ++ e ∷ []) (put log ++ f ∷ []) (heard log) (took log) (waiting key log) puts hears takes (same_waiting key log e refl refl)));
+        is = is ∙ (ap (put_frame f) h.is ∙ ((λ i. record { channel = key.channel; inbox = record { book = book i; ring = (inbox_after key log).ring }; lane = record key.lane.value { put = put log ++ f ∷ [] } }) ∙ held_is key (log ++ e ∷ []) (put log ++ f ∷ []) (heard log) (took log) (waiting key log) puts hears takes (same_waiting key log e refl refl)));
       }
 
   take_is : (h : Held) (body : List ℕ) → slice_get h.inbox.ring.messages 0 ≡ Some body → record h { inbox = take_first h.inbox } ≡ record h { inbox = record { book = note_taken h.inbox.book (length body); ring = record h.inbox.ring { messages = drop 1 h.inbox.ring.messages } } }

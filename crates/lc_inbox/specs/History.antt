@@ -51,7 +51,7 @@ abbrev pub inbox_after : Key → List Entry → InboxState
 inbox_after key history = record { book = book_after key history; ring = record { messages = waiting key history; capacity = key.capacity } }
 
 abbrev pub lane_after : Key → List Entry → End
-lane_after key history = record { queue = key.lane.value.queue; lane = key.lane.value.lane; put = put history }
+lane_after key history = record key.lane.value { put = put history }
 
 abbrev pub held_after : Key → List Entry → Held
 held_after key history = record { channel = key.channel; inbox = inbox_after key history; lane = lane_after key history }

@@ -1,7 +1,7 @@
 //! One channel's inbox, with the lane that its server puts on.
 ghost use Rattle.std.specs.Prelude.{◌≡◌, ◌+◌, ◌<◌, ◌≤◌, [], length, if◌then◌else◌, is_ok, IfOk, IfErr, OnOk, MatchOption, Some, None};
 ghost use Rattle.std.specs.Result.{result_err};
-ghost use Rattle.lc_frame.specs.declared.version.Version.TheVariants.{One, Two};
+ghost use Rattle.lc_frame.specs.declared.version.Version.TheVariants.{Two};
 ghost use Rattle.lc_frame.specs.declared.frame.Frame.TheVariants.{Issue, Plead, LimitReceiving};
 ghost use Rattle.lc_frame.specs.Channel.{number_of, channel_at};
 ghost use Rattle.lc_frame.specs.Frame.{IsValid, lane_of, channel_of};
@@ -186,7 +186,7 @@ impl InboxEnd {
 
     // Puts a frame that the book accepted, with the book that it leaves.
     fn put<R: Wait>(&mut self, rt: &R, frame: Frame, book: ServerBook) -> Result<(), Refusal>
-        requires valid { IsValid One frame }
+        requires valid { IsValid self.old.lane.version frame }
         requires lane { (lane_of frame ≡ 7 + number_of self.old.channel) × (channel_of frame ≡ self.old.channel) }
         requires allowed { refusal_of frame self.old.inbox.book ≡ None }
         requires book { book ≡ server_after_put frame self.old.inbox.book }

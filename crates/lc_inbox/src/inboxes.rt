@@ -2,6 +2,7 @@
 ghost use Rattle.std.specs.Prelude.{◌≡◌, ◌∷◌, [], IfOk, take, drop, length};
 ghost use Rattle.std.specs.List.{All, AllZip};
 ghost use Rattle.std.specs.Result.{result_err};
+ghost use Rattle.lc_frame.specs.declared.version.Version.{Version};
 ghost use Rattle.lc_queue.specs.Parts.{QueueId, new_ends};
 ghost use Rattle.lc_inbox.specs.Inboxes.{IsServerEnd, IsNewShared, AreParts, AreNew, AreMatched, IsSharingAnswer};
 
@@ -10,6 +11,7 @@ use crate::inbox_end::InboxEnd;
 use crate::inbox_in::InboxIn;
 use crate::inbox_out::InboxOut;
 use crate::shared_inbox::{SharedInbox, share};
+use lc_frame::Version;
 use lc_peer::{Config, Inbox, PeerFault};
 use lc_queue::LaneEnd;
 use lc_ring::NewFault;
@@ -94,7 +96,7 @@ fn share_all_of(
     capacities: &[u32; 7],
     ends: [LaneEnd; 14],
 ) -> Result<Inboxes, AllocError>
-    requires { (queue : QueueId) × (ends ≡ new_ends queue) }
+    requires { (queue : QueueId) × (version : Version) × (ends ≡ new_ends queue version) }
     ensures new { IfOk result (λ inboxes. AreNew capacities.now (drop 7 ends) inboxes.incoming inboxes.outgoing) }
     ensures matched { IfOk result (λ inboxes. AreMatched inboxes.incoming inboxes.outgoing) }
     ensures clients { IfOk result (λ inboxes. inboxes.clients ≡ take 7 ends) }
@@ -116,7 +118,7 @@ pub fn share_all(
     capacities: [u32; 7],
     ends: [LaneEnd; 14],
 ) -> Result<Inboxes, PeerFault>
-    requires { (queue : QueueId) × (ends ≡ new_ends queue) }
+    requires { (queue : QueueId) × (version : Version) × (ends ≡ new_ends queue version) }
     ensures answer { IsSharingAnswer capacities (result_err result) }
     ensures new { IfOk result (λ inboxes. AreNew capacities (drop 7 ends) inboxes.incoming inboxes.outgoing) }
     ensures matched { IfOk result (λ inboxes. AreMatched inboxes.incoming inboxes.outgoing) }
@@ -124,6 +126,7 @@ pub fn share_all(
 {
     // One slot is as many as a peer may have, so that a capacity alone can be at fault.
     Config {
+        version: Version::One,
         capacities,
         slots: 1,
     }

@@ -1,8 +1,10 @@
--- There are two finished sessions and an order of their steps of which the laws speak. Session B limits what it issues to 9, issues 5 and pleads for 1; session A limits what it sends to 10, takes 4 out of its credit and gives them back, sends three bytes, and honours the plead by absolving 1; B takes the message, and issues 2 more, which are under way at the end. Nothing was written: the frames were left in the queues.
+-- There are two finished sessions and an order of their steps of which the laws speak. Session B limits what it issues to 9, issues 5 and pleads for 1; session A limits what it sends to 10, takes 4 out of its credit and gives them back, sends three bytes, and honours the plead by absolving 1; B takes the message, and issues 2 more, which are under way at the end. Nothing was written: the frames were left in the queues, and B's greeting, since B writes in version Two and A in version One.
 use Rattle.std.proofs.Common.{◌≡◌, ℕ, zero, suc, ◌+◌, ◌≤◌, List, [], ◌∷◌, Option, Some, None, refl, arith}
 use Rattle.std.specs.Prelude.{All}
 use Rattle.std.specs.List.{AllByRecursion}
 use Rattle.atomic_table.specs.Seated.{TableId}
+use Rattle.lc_frame.specs.declared.version.Version.{Version}
+use Rattle.lc_frame.specs.declared.version.Version.TheVariants.{One, Two}
 use Rattle.lc_frame.specs.declared.channel.Channel.{Channel}
 use Rattle.lc_frame.specs.declared.channel.Channel.TheVariants.{ReconciliationChannel, DataChannel, OverlapChannel, CapabilityChannel, AreaOfInterestChannel, PayloadRequestChannel, StaticTokenChannel}
 use Rattle.lc_frame.specs.declared.frame.Frame.{Frame}
@@ -10,7 +12,7 @@ use Rattle.lc_frame.specs.declared.frame.Frame.TheVariants.{Send, Issue, Absolve
 use Rattle.lc_frame.specs.Held.{nothing_held}
 use Rattle.lc_frame.specs.Channel.{number_of}
 use Rattle.lc_book.specs.Server.{Server}
-use Rattle.lc_queue.specs.Parts.{End}
+use Rattle.lc_queue.specs.Parts.{End, new_outlet}
 use Rattle.lc_credit.specs.declared.balance.Balance.{Balance}
 use Rattle.lc_credit.specs.declared.history.Entry as credit
 use Rattle.lc_credit.specs.declared.history.Entry.TheVariants.{Received, Used, Returned, Asked, Taken}
@@ -23,6 +25,7 @@ use Rattle.lc_inbox.specs.History.{book_after, lane_after}
 use Rattle.lc_inbox.specs.Sides as sides
 use Rattle.lc_inbox.specs.Sides.{Side}
 use Rattle.lc_session.specs.Reading.{HasHeard, HasHeardAll}
+use Rattle.lc_session.specs.Pumping.{new_pumping}
 use Rattle.lc_session.specs.Report.{SessionState, AreOfOneSession, PutsOn, ServesOn, GaveAll, GaveAllOf, IsReport}
 use Rattle.lc_interleaving.specs.Steps.{entries, without_refusals}
 use Rattle.lc_interleaving.specs.Steps.Step.{puts, hears, takes}
@@ -87,35 +90,35 @@ nothing = record { received = 0; held = 0; spent = 0; absolved = 0 }
 
 -- which queue, which credits and which inboxes they are does not matter
 module _ (id : TableId) (base : Side) where
-  abbrev pub end_of : ℕ → List Frame → End
-  end_of lane frames = record { queue = id; lane = lane; put = frames }
+  abbrev pub end_of : Version → ℕ → List Frame → End
+  end_of v lane frames = record { queue = id; version = v; lane = lane; put = frames }
 
-  abbrev pub outbox : Channel → List Frame → Outgoing → Option ℕ → OutboxState
-  outbox c frames credit left = record { channel = c; lane = end_of (number_of c) frames; credit = credit; send_left = left; asked = None }
+  abbrev pub outbox : Version → Channel → List Frame → Outgoing → Option ℕ → OutboxState
+  outbox v c frames credit left = record { channel = c; lane = end_of v (number_of c) frames; credit = credit; send_left = left; asked = None }
 
-  abbrev pub key : Channel → Key
-  key c = record base.key { channel = c; capacity = 6; lane = record base.key.lane { value = end_of (7 + number_of c) [] } }
+  abbrev pub key : Version → Channel → Key
+  key v c = record base.key { channel = c; capacity = 6; lane = record base.key.lane { value = end_of v (7 + number_of c) [] } }
 
-  abbrev pub side : Channel → List Entry → Side
-  side c seen = record { inbox = id; key = key c; seen = seen; turns = 0 }
+  abbrev pub side : Version → Channel → List Entry → Side
+  side v c seen = record { inbox = id; key = key v c; seen = seen; turns = 0 }
 
   -- a session of which only the data channel was used
-  abbrev pub session : OutboxState → Incoming → List Entry → List Entry → SessionState
-  session o i reads receives = record {
-    sending = listed (λ c. outbox c [] (new_outgoing id) None) o;
-    receiving = listed (λ c. side c []) (side DataChannel receives);
+  abbrev pub session : Version → OutboxState → Incoming → List Entry → List Entry → SessionState
+  session v o i reads receives = record {
+    sending = listed (λ c. outbox v c [] (new_outgoing id) None) o;
+    receiving = listed (λ c. side v c []) (side v DataChannel receives);
     reading = record {
-      side = record { credits = listed (λ c. new_incoming id) i; inboxes = listed (λ c. side c []) (side DataChannel reads) };
+      side = record { credits = listed (λ c. new_incoming id) i; inboxes = listed (λ c. side v c []) (side v DataChannel reads) };
       intake = record { held = nothing_held; stop = None };
     };
-    writing = record { drain = record { queue = id; popped = []; joined = [] }; begun = []; waiting = [] };
+    writing = new_pumping (new_outlet id v);
   }
 
-  abbrev pub books : List Entry → List Server
-  books history = listed (λ c. book_after (key c) []) (book_after (key DataChannel) history)
+  abbrev pub books : Version → List Entry → List Server
+  books v history = listed (λ c. book_after (key v c) []) (book_after (key v DataChannel) history)
 
-  abbrev pub lanes : List Entry → List End
-  lanes history = listed (λ c. lane_after (key c) []) (lane_after (key DataChannel) history)
+  abbrev pub lanes : Version → List Entry → List End
+  lanes v history = listed (λ c. lane_after (key v c) []) (lane_after (key v DataChannel) history)
 
   -- a channel that was not used
   unfoldable pub unused : (c : Channel) → IsSettled (new_incoming id) (new_outgoing id) nothing
@@ -132,11 +135,11 @@ module _ (id : TableId) (base : Side) where
     all_used = refl;
   }
 
-  pub unused_outbox : (c : Channel) → IsOutbox (outbox c [] (new_outgoing id) None)
-  unused_outbox c = record { lane = refl; idle = refl; spent = refl; absolved = refl; uses = refl; left = refl; rules = tt }
+  pub unused_outbox : (v : Version) (c : Channel) → IsOutbox (outbox v c [] (new_outgoing id) None)
+  unused_outbox v c = record { lane = refl; idle = refl; spent = refl; absolved = refl; uses = refl; left = refl; rules = tt }
 
-  unfoldable pub unused_inbox : (c : Channel) → sides.IsFinished (side c []) (side c []) (book_after (key c) []) (lane_after (key c) [])
-  unused_inbox c = record {
+  unfoldable pub unused_inbox : (v : Version) (c : Channel) → sides.IsFinished (side v c []) (side v c []) (book_after (key v c) []) (lane_after (key v c) [])
+  unused_inbox v c = record {
     history = [];
     legal = tt;
     reads = record { later = []; begins = refl; others = refl };
@@ -149,19 +152,19 @@ module _ (id : TableId) (base : Side) where
     in_order = refl;
   }
 
-  -- A, which sent
+  -- A, which sent, in version One
   abbrev pub a_outbox : OutboxState
-  a_outbox = outbox DataChannel a_frames (record { credit = id; seen = credit_whole; looks = 0; spent = 3; absolved = 1; pending = None; least = 0 }) (Some 7)
+  a_outbox = outbox One DataChannel a_frames (record { credit = id; seen = credit_whole; looks = 0; spent = 3; absolved = 1; pending = None; least = 0 }) (Some 7)
 
   abbrev pub a_incoming : Incoming
   a_incoming = record { credit = id; seen = credit_begun; looks = 0; received = 5; left = Some 4 }
 
   abbrev pub a : Finished
   a = record {
-    session = session a_outbox a_incoming [] [];
+    session = session One a_outbox a_incoming [] [];
     arrived = a_heard;
     clients = listed (λ c. nothing) (record { received = 5; held = 1; spent = 3; absolved = 1 });
-    servers = books [];
+    servers = books One [];
     left = 3;
     partly = 0;
   }
@@ -183,28 +186,31 @@ module _ (id : TableId) (base : Side) where
   pub a_is_outbox : IsOutbox a_outbox
   a_is_outbox = record { lane = refl; idle = refl; spent = refl; absolved = refl; uses = refl; left = refl; rules = ((refl, refl), ((refl, refl), ((refl, omega arith, omega arith), tt))) }
 
-  pub one_session : (o : OutboxState) (i : Incoming) (reads receives : List Entry) → o.channel ≡ DataChannel → o.lane.queue ≡ id → o.credit.credit ≡ i.credit → i.credit ≡ id → AreOfOneSession (session o i reads receives)
-  one_session o i reads receives channel queue credits known = record {
+  pub one_session : (v : Version) (o : OutboxState) (i : Incoming) (reads receives : List Entry) → o.channel ≡ DataChannel → o.lane.queue ≡ id → o.lane.version ≡ v → o.credit.credit ≡ i.credit → i.credit ≡ id → AreOfOneSession (session v o i reads receives)
+  one_session v o i reads receives channel queue version credits known = record {
     senders = cc;
     receivers = refl;
-    clients_put = all_of (PutsOn id) (session o i reads receives).sending (refl, (cc, (refl, (refl, (refl, (refl, (refl, tt)))))));
-    servers_put = all_of (ServesOn id) (session o i reads receives).reading.side.inboxes (serves ReconciliationChannel [], (serves DataChannel reads, (serves OverlapChannel [], (serves CapabilityChannel [], (serves AreaOfInterestChannel [], (serves PayloadRequestChannel [], (serves StaticTokenChannel [], tt)))))));
+    clients_put = all_of (PutsOn id v) (session v o i reads receives).sending (unused_puts ReconciliationChannel, (record { queue_is = cc; version_is = version }, (unused_puts OverlapChannel, (unused_puts CapabilityChannel, (unused_puts AreaOfInterestChannel, (unused_puts PayloadRequestChannel, (unused_puts StaticTokenChannel, tt)))))));
+    servers_put = all_of (ServesOn id v) (session v o i reads receives).reading.side.inboxes (serves ReconciliationChannel [], (serves DataChannel reads, (serves OverlapChannel [], (serves CapabilityChannel [], (serves AreaOfInterestChannel [], (serves PayloadRequestChannel [], (serves StaticTokenChannel [], tt)))))));
     credits_match = cc;
     inboxes_match = refl;
   }
     where
-      serves : (c : Channel) (seen : List Entry) → ServesOn id (side c seen)
-      serves c seen = record { queue_is = refl; lane_is = refl }
+      unused_puts : (c : Channel) → PutsOn id v (outbox v c [] (new_outgoing id) None)
+      unused_puts c = record { queue_is = refl; version_is = refl }
+
+      serves : (c : Channel) (seen : List Entry) → ServesOn id v (side v c seen)
+      serves c seen = record { queue_is = refl; version_is = refl; lane_is = refl }
 
   unfoldable pub a_report : IsReport a.session a.clients a.servers a.left a.partly
   a_report = record {
     last = a_frames;
-    outboxes = all_of IsOutbox a.session.sending (unused_outbox ReconciliationChannel, (a_is_outbox, (unused_outbox OverlapChannel, (unused_outbox CapabilityChannel, (unused_outbox AreaOfInterestChannel, (unused_outbox PayloadRequestChannel, (unused_outbox StaticTokenChannel, tt)))))));
+    outboxes = all_of IsOutbox a.session.sending (unused_outbox One ReconciliationChannel, (a_is_outbox, (unused_outbox One OverlapChannel, (unused_outbox One CapabilityChannel, (unused_outbox One AreaOfInterestChannel, (unused_outbox One PayloadRequestChannel, (unused_outbox One StaticTokenChannel, tt)))))));
     clients_gave = all_of (GaveAll a_frames) a.session.sending (refl, (refl, (refl, (refl, (refl, (refl, (refl, tt)))))));
     settled = (unused ReconciliationChannel, (a_settled, (unused OverlapChannel, (unused CapabilityChannel, (unused AreaOfInterestChannel, (unused PayloadRequestChannel, (unused StaticTokenChannel, tt)))))));
-    lanes = lanes [];
-    finished = (unused_inbox ReconciliationChannel, (unused_inbox DataChannel, (unused_inbox OverlapChannel, (unused_inbox CapabilityChannel, (unused_inbox AreaOfInterestChannel, (unused_inbox PayloadRequestChannel, (unused_inbox StaticTokenChannel, tt)))))));
-    servers_gave = all_of (GaveAllOf a_frames) (lanes []) (refl, (refl, (refl, (refl, (refl, (refl, (refl, tt)))))));
+    lanes = lanes One [];
+    finished = (unused_inbox One ReconciliationChannel, (unused_inbox One DataChannel, (unused_inbox One OverlapChannel, (unused_inbox One CapabilityChannel, (unused_inbox One AreaOfInterestChannel, (unused_inbox One PayloadRequestChannel, (unused_inbox One StaticTokenChannel, tt)))))));
+    servers_gave = all_of (GaveAllOf a_frames) (lanes One []) (refl, (refl, (refl, (refl, (refl, (refl, (refl, tt)))))));
     left_is = refl;
     partly_is = refl;
   }
@@ -220,20 +226,20 @@ module _ (id : TableId) (base : Side) where
       (record { inbox = refl; received = refl; left = refl; asked = refl })
 
   unfoldable pub a_finished : IsFinished a
-  a_finished = record { one = one_session a_outbox a_incoming [] [] refl refl refl refl; heard = a_has_heard; report = a_report }
+  a_finished = record { one = one_session One a_outbox a_incoming [] [] refl refl refl refl refl; heard = a_has_heard; report = a_report }
 
-  -- B, which took
+  -- B, which took, and writes in version Two
   abbrev pub b : Finished
   b = record {
-    session = session (outbox DataChannel [] (new_outgoing id) None) (new_incoming id) inbox_begun inbox_whole;
+    session = session Two (outbox Two DataChannel [] (new_outgoing id) None) (new_incoming id) inbox_begun inbox_whole;
     arrived = a_frames;
     clients = listed (λ c. nothing) nothing;
-    servers = books inbox_whole;
+    servers = books Two inbox_whole;
     left = 4;
-    partly = 0;
+    partly = 4;
   }
 
-  unfoldable pub b_inbox : sides.IsFinished (side DataChannel inbox_begun) (side DataChannel inbox_whole) (book_after (key DataChannel) inbox_whole) (lane_after (key DataChannel) inbox_whole)
+  unfoldable pub b_inbox : sides.IsFinished (side Two DataChannel inbox_begun) (side Two DataChannel inbox_whole) (book_after (key Two DataChannel) inbox_whole) (lane_after (key Two DataChannel) inbox_whole)
   b_inbox = record {
     history = inbox_whole;
     legal = ((refl, refl), ((refl, refl), ((refl, refl), ((refl, refl), ((refl, refl), (refl, ((refl, refl), ((refl, refl), tt))))))));
@@ -250,12 +256,12 @@ module _ (id : TableId) (base : Side) where
   unfoldable pub b_report : IsReport b.session b.clients b.servers b.left b.partly
   b_report = record {
     last = b_frames;
-    outboxes = all_of IsOutbox b.session.sending (unused_outbox ReconciliationChannel, (unused_outbox DataChannel, (unused_outbox OverlapChannel, (unused_outbox CapabilityChannel, (unused_outbox AreaOfInterestChannel, (unused_outbox PayloadRequestChannel, (unused_outbox StaticTokenChannel, tt)))))));
+    outboxes = all_of IsOutbox b.session.sending (unused_outbox Two ReconciliationChannel, (unused_outbox Two DataChannel, (unused_outbox Two OverlapChannel, (unused_outbox Two CapabilityChannel, (unused_outbox Two AreaOfInterestChannel, (unused_outbox Two PayloadRequestChannel, (unused_outbox Two StaticTokenChannel, tt)))))));
     clients_gave = all_of (GaveAll b_frames) b.session.sending (refl, (refl, (refl, (refl, (refl, (refl, (refl, tt)))))));
     settled = (unused ReconciliationChannel, (unused DataChannel, (unused OverlapChannel, (unused CapabilityChannel, (unused AreaOfInterestChannel, (unused PayloadRequestChannel, (unused StaticTokenChannel, tt)))))));
-    lanes = lanes inbox_whole;
-    finished = (unused_inbox ReconciliationChannel, (b_inbox, (unused_inbox OverlapChannel, (unused_inbox CapabilityChannel, (unused_inbox AreaOfInterestChannel, (unused_inbox PayloadRequestChannel, (unused_inbox StaticTokenChannel, tt)))))));
-    servers_gave = all_of (GaveAllOf b_frames) (lanes inbox_whole) (refl, (refl, (refl, (refl, (refl, (refl, (refl, tt)))))));
+    lanes = lanes Two inbox_whole;
+    finished = (unused_inbox Two ReconciliationChannel, (b_inbox, (unused_inbox Two OverlapChannel, (unused_inbox Two CapabilityChannel, (unused_inbox Two AreaOfInterestChannel, (unused_inbox Two PayloadRequestChannel, (unused_inbox Two StaticTokenChannel, tt)))))));
+    servers_gave = all_of (GaveAllOf b_frames) (lanes Two inbox_whole) (refl, (refl, (refl, (refl, (refl, (refl, (refl, tt)))))));
     left_is = refl;
     partly_is = refl;
   }
@@ -271,7 +277,7 @@ module _ (id : TableId) (base : Side) where
       (record { inbox = refl; received = refl; left = refl; asked = refl })
 
   unfoldable pub b_finished : IsFinished b
-  b_finished = record { one = one_session (outbox DataChannel [] (new_outgoing id) None) (new_incoming id) inbox_begun inbox_whole refl refl refl refl; heard = b_has_heard; report = b_report }
+  b_finished = record { one = one_session Two (outbox Two DataChannel [] (new_outgoing id) None) (new_incoming id) inbox_begun inbox_whole refl refl refl refl refl; heard = b_has_heard; report = b_report }
 
   -- the order is one of their steps
   pub enough : 5 ≤ 5

@@ -5,6 +5,7 @@ use Rattle.std.proofs.lemmas.Bool.Decides.{nat_tests}
 use Rattle.std.proofs.lemmas.List.Elements.{filter_map-append}
 use Rattle.lc_history.specs.History.{IsHistoryAfter}
 use Rattle.lc_history.proofs.Histories.{follows_each}
+use Rattle.lc_frame.specs.declared.version.Version.{Version}
 use Rattle.lc_frame.specs.declared.channel.Channel.{Channel}
 use Rattle.lc_frame.specs.declared.frame.Frame.{Frame}
 use Rattle.lc_frame.specs.declared.frame.Frame.TheVariants.{Send, Issue, Absolve, Plead, LimitSending, LimitReceiving}
@@ -24,7 +25,8 @@ use Rattle.lc_inbox.specs.declared.history.Entry.TheVariants.{Refused}
 use Rattle.lc_inbox.specs.Ends.{violation_of}
 use Rattle.lc_inbox.specs.History as inboxes
 use Rattle.lc_inbox.specs.History.{book_after}
-use Rattle.lc_world.specs.State.{State, Line, opening, stream, kept_plead, server_book}
+use Rattle.lc_world.specs.declared.event.Side.TheVariants.{A, B}
+use Rattle.lc_world.specs.State.{State, Versions, Line, opening, stream, kept_plead, server_book}
 use Rattle.lc_world.specs.Answers.{after}
 use Rattle.lc_world.specs.Histories.{History, after_all}
 use Rattle.lc_world.specs.Guarantee.{state_of}
@@ -33,6 +35,7 @@ use Rattle.lc_world.proofs.Lawful.{SoundTo, no_violation, sound_to_a, sound_to_b
 use Rattle.lc_interleaving.specs.Steps.{Step, put, heard, client_then, server_then}
 use Rattle.lc_interleaving.specs.Interleaving.{Trace, Joint, a_step, b_step, of_a, of_b, IsCausal}
 use Rattle.lc_interleaving.specs.History.{history_of}
+use Rattle.lc_interleaving.specs.State.{versions_of}
 use Rattle.lc_interleaving.specs.Lawful.{NextIsLawful, IsLawfulAfter, RefusedIsNotNext, IsCreditThen, RefusedByCredit}
 use Rattle.lc_interleaving.proofs.Books.{later_reason}
 use Rattle.lc_interleaving.proofs.Cuts.{begins_after}
@@ -40,65 +43,67 @@ use Rattle.lc_interleaving.proofs.Lines.{MayStep, IsLineOf, StandsFor, MayStepAl
 use Rattle.lc_interleaving.proofs.Sides.{KeepsReceiving, book_is, book_lasting}
 
 -- which plead is kept does not matter
-no_plead : (c : Channel) (put heard : List Frame) (asked : Option ℕ) (server : Server) (f : Frame) → violation (client_of c put heard None) server f ≡ violation (client_of c put heard asked) server f
-no_plead c put heard asked server (Send d body) = refl
-no_plead c put heard asked server (Issue d n) = refl
-no_plead c put heard asked server (Absolve d n) = refl
-no_plead c put heard asked server (Plead d n) = refl
-no_plead c put heard asked server (LimitSending d n) = refl
-no_plead c put heard asked server (LimitReceiving d n) = refl
+no_plead : (version : Version) (c : Channel) (put heard : List Frame) (asked : Option ℕ) (server : Server) (f : Frame) → violation (client_of version c put heard None) server f ≡ violation (client_of version c put heard asked) server f
+no_plead version c put heard asked server (Send d body) = refl
+no_plead version c put heard asked server (Issue d n) = refl
+no_plead version c put heard asked server (Absolve d n) = refl
+no_plead version c put heard asked server (Plead d n) = refl
+no_plead version c put heard asked server (LimitSending d n) = refl
+no_plead version c put heard asked server (LimitReceiving d n) = refl
 
-next_is_lawful : (capacity : ℕ) → capacity ≤ max_amount → (mine theirs : Line) (me peer : List Step) → SoundTo capacity mine theirs → IsLineOf mine me peer → IsLineOf theirs peer me → NextIsLawful capacity me peer
-next_is_lawful capacity small mine theirs me peer sound m t f next =
+next_is_lawful : (v w : Version) (capacity : ℕ) → capacity ≤ max_amount → (mine theirs : Line) (me peer : List Step) → SoundTo capacity mine theirs → IsLineOf v mine me peer → IsLineOf w theirs peer me → NextIsLawful capacity v me peer
+next_is_lawful v w capacity small mine theirs me peer sound m t f next =
     let c : Channel = channel_of f in
     let first : theirs.in_flight ≡ f ∷ next.0 = first_in_flight theirs (put peer) (heard me) f next.0 t.put t.heard next.1 in
-    ap (λ (fs : List Frame). violation (client_of c fs (heard me) None) (server_then capacity c me) f) (sym m.put)
-    ∙ (ap (λ (fs : List Frame). violation (client_of c (stream mine) fs None) (server_then capacity c me) f) (sym t.heard)
-    ∙ (ap (λ (b : Server). violation (client_of c (stream mine) theirs.arrived None) b f) (sym (server_is capacity mine theirs me peer m t c))
-    ∙ (no_plead c (stream mine) theirs.arrived (kept_plead c theirs) (server_book capacity c mine theirs) f
-    ∙ no_violation capacity small mine theirs sound f next.0 first)))
+    ap (λ (x : Version). violation (client_of x c (put me) (heard me) None) (server_then capacity c me) f) (sym m.is_version)
+    ∙ (ap (λ (fs : List Frame). violation (client_of mine.version c fs (heard me) None) (server_then capacity c me) f) (sym m.put)
+    ∙ (ap (λ (fs : List Frame). violation (client_of mine.version c (stream mine) fs None) (server_then capacity c me) f) (sym t.heard)
+    ∙ (ap (λ (b : Server). violation (client_of mine.version c (stream mine) theirs.arrived None) b f) (sym (server_is capacity mine theirs me peer m t c))
+    ∙ (no_plead mine.version c (stream mine) theirs.arrived (kept_plead c theirs) (server_book capacity c mine theirs) f
+    ∙ no_violation capacity small mine theirs sound f next.0 first))))
 
 -- no history changes the capacity
 capacity_stays : (w : State) (history : History) → (after_all w history).capacity ≡ w.capacity
 capacity_stays w [] = refl
 capacity_stays w (p ∷ history) = capacity_stays (after w p.0 p.1) history ∙ same_capacity w p.0.side p.0.act p.1
 
-lawful : (capacity : ℕ) (order : List Joint) → capacity ≤ max_amount → MayStepAll capacity order → IsLawfulAfter capacity order
-lawful capacity order small may =
-    let w : State = state_of capacity (history_of order) in
-    let s : StandsFor w (of_a order) (of_b order) = (whole capacity order small may).stands in
-    let e : w.capacity ≡ capacity = capacity_stays (opening capacity) (history_of order) in
+lawful : (capacity : ℕ) (a b : Trace) (order : List Joint) → capacity ≤ max_amount → MayStepAll capacity (versions_of a b) order → IsLawfulAfter capacity a b order
+lawful capacity a b order small may =
+    let versions = versions_of a b in
+    let w : State = state_of capacity versions (history_of order) in
+    let s : StandsFor a.version b.version w (of_a order) (of_b order) = (whole capacity versions order small may).stands in
+    let e : w.capacity ≡ capacity = capacity_stays (opening capacity versions) (history_of order) in
     record {
-      at_a = next_is_lawful capacity small w.a w.b (of_a order) (of_b order) (subst (λ (n : ℕ). SoundTo n w.a w.b) e (sound_to_a w s.sound)) s.a_line s.b_line;
-      at_b = next_is_lawful capacity small w.b w.a (of_b order) (of_a order) (subst (λ (n : ℕ). SoundTo n w.b w.a) e (sound_to_b w s.sound)) s.b_line s.a_line;
+      at_a = next_is_lawful a.version b.version capacity small w.a w.b (of_a order) (of_b order) (subst (λ (n : ℕ). SoundTo n w.a w.b) e (sound_to_a w s.sound)) s.a_line s.b_line;
+      at_b = next_is_lawful b.version a.version capacity small w.b w.a (of_b order) (of_a order) (subst (λ (n : ℕ). SoundTo n w.b w.a) e (sound_to_b w s.sound)) s.b_line s.a_line;
     }
 
 -- as the beginning of an order is one, so it is at each moment
-begins : (capacity : ℕ) (order earlier later : List Joint) → order ≡ earlier ++ later → MayStepAll capacity order → MayStepAll capacity earlier
-begins capacity order earlier later is may = record {
-  a_may = begins_after (MayStep capacity) [] (of_a earlier) (of_a later) (subst (λ (xs : List Step). IsHistoryAfter (MayStep capacity) [] xs) (ap of_a is ∙ filter_map-append a_step earlier later) may.a_may);
-  b_may = begins_after (MayStep capacity) [] (of_b earlier) (of_b later) (subst (λ (xs : List Step). IsHistoryAfter (MayStep capacity) [] xs) (ap of_b is ∙ filter_map-append b_step earlier later) may.b_may);
+begins : (capacity : ℕ) (versions : Versions) (order earlier later : List Joint) → order ≡ earlier ++ later → MayStepAll capacity versions order → MayStepAll capacity versions earlier
+begins capacity versions order earlier later is may = record {
+  a_may = begins_after (MayStep capacity (versions A)) [] (of_a earlier) (of_a later) (subst (λ (xs : List Step). IsHistoryAfter (MayStep capacity (versions A)) [] xs) (ap of_a is ∙ filter_map-append a_step earlier later) may.a_may);
+  b_may = begins_after (MayStep capacity (versions B)) [] (of_b earlier) (of_b later) (subst (λ (xs : List Step). IsHistoryAfter (MayStep capacity (versions B)) [] xs) (ap of_b is ∙ filter_map-append b_step earlier later) may.b_may);
   causal = begins_after IsCausal [] earlier later (subst (λ (js : List Joint). IsHistoryAfter IsCausal [] js) is may.causal);
 }
 
-pub lawful_after : (capacity : ℕ) (order earlier later : List Joint) → capacity ≤ max_amount → order ≡ earlier ++ later → MayStepAll capacity order → IsLawfulAfter capacity earlier
-lawful_after capacity order earlier later small is may = lawful capacity earlier small (begins capacity order earlier later is may)
+pub lawful_after : (capacity : ℕ) (a b : Trace) (order earlier later : List Joint) → capacity ≤ max_amount → order ≡ earlier ++ later → MayStepAll capacity (versions_of a b) order → IsLawfulAfter capacity a b earlier
+lawful_after capacity a b order earlier later small is may = lawful capacity a b earlier small (begins capacity (versions_of a b) order earlier later is may)
 
 -- what an inbox refuses, the books of its side refuse
-refused_by : (c : Channel) (k n : ℕ) (here : List Step) (f : Frame) (v : Violation) → lane_of f ≡ number_of c → violation_of f (server_then k c here) ≡ Some v → violation (client_then (channel_of f) here) (server_then n (channel_of f) here) f ≡ None → ⊥
-refused_by c k n here (Send d body) v lane e none = let same : d ≡ c = same_from_number d c lane in let some : violation_of (Send d body) (server_then k d here) ≡ Some v = subst (λ (x : Channel). violation_of (Send d body) (server_then k x here) ≡ Some v) (sym same) e in absurd (cc)
-refused_by c k n here (Absolve d m) v lane e none = let same : d ≡ c = same_from_number d c lane in let some : violation_of (Absolve d m) (server_then k d here) ≡ Some v = subst (λ (x : Channel). violation_of (Absolve d m) (server_then k x here) ≡ Some v) (sym same) e in absurd (cc)
-refused_by c k n here (LimitSending d m) v lane e none = let same : d ≡ c = same_from_number d c lane in let some : violation_of (LimitSending d m) (server_then k d here) ≡ Some v = subst (λ (x : Channel). violation_of (LimitSending d m) (server_then k x here) ≡ Some v) (sym same) e in absurd (cc)
-refused_by c k n here (Issue d m) v lane e none = absurd (cc)
-refused_by c k n here (Plead d m) v lane e none = absurd (cc)
-refused_by c k n here (LimitReceiving d m) v lane e none = absurd (cc)
+refused_by : (version : Version) (c : Channel) (k n : ℕ) (here : List Step) (f : Frame) (v : Violation) → lane_of f ≡ number_of c → violation_of f (server_then k c here) ≡ Some v → violation (client_then version (channel_of f) here) (server_then n (channel_of f) here) f ≡ None → ⊥
+refused_by version c k n here (Send d body) v lane e none = let same : d ≡ c = same_from_number d c lane in let some : violation_of (Send d body) (server_then k d here) ≡ Some v = subst (λ (x : Channel). violation_of (Send d body) (server_then k x here) ≡ Some v) (sym same) e in absurd (cc)
+refused_by version c k n here (Absolve d m) v lane e none = let same : d ≡ c = same_from_number d c lane in let some : violation_of (Absolve d m) (server_then k d here) ≡ Some v = subst (λ (x : Channel). violation_of (Absolve d m) (server_then k x here) ≡ Some v) (sym same) e in absurd (cc)
+refused_by version c k n here (LimitSending d m) v lane e none = let same : d ≡ c = same_from_number d c lane in let some : violation_of (LimitSending d m) (server_then k d here) ≡ Some v = subst (λ (x : Channel). violation_of (LimitSending d m) (server_then k x here) ≡ Some v) (sym same) e in absurd (cc)
+refused_by version c k n here (Issue d m) v lane e none = absurd (cc)
+refused_by version c k n here (Plead d m) v lane e none = absurd (cc)
+refused_by version c k n here (LimitReceiving d m) v lane e none = absurd (cc)
 
-pub refused_is_not_next : (capacity : ℕ) (t : Trace) (here there : List Step) → ((c : Channel) → KeepsReceiving capacity c (t.inbox c)) → NextIsLawful capacity here there → RefusedIsNotNext t here there
-refused_is_not_next capacity t here there receiving next c before later f is so_far first =
+pub refused_is_not_next : (capacity : ℕ) (version : Version) (t : Trace) (here there : List Step) → ((c : Channel) → KeepsReceiving capacity c (t.inbox c)) → NextIsLawful capacity version here there → RefusedIsNotNext t here there
+refused_is_not_next capacity version t here there receiving next c before later f is so_far first =
     let r : KeepsReceiving capacity c (t.inbox c) = receiving c in
     let may : inboxes.MayFollow r.key before (Refused f) = follows_each (inboxes.MayFollow r.key) (t.inbox c) before (Refused f) later r.legal is in
     let book : server_then r.key.capacity c here ≡ book_after r.key before = sym (book_is r.key c here r.channel_is) ∙ (ap (book_after r.key) so_far ∙ book_lasting r.key before) in
-    refused_by c r.key.capacity capacity here f may.1.0 (may.0 ∙ ap number_of r.channel_is) (ap (violation_of f) book ∙ may.1.1) (next f first)
+    refused_by version c r.key.capacity capacity here f may.1.0 (may.0 ∙ ap number_of r.channel_is) (ap (violation_of f) book ∙ may.1.1) (next f first)
 
 -- what a credit refuses, the books of its side refuse
 no_reason : {E : Type 0} (b : Bool) (r : E) (x : Option E) → b ≡ true → (if b then Some r else x) ≡ None → ⊥
@@ -108,21 +113,21 @@ no_reason false r x is e = cc
 beyond : (most n : ℕ) → most < n → nat_lt most n ≡ true
 beyond most n more = grind (arith, nat_tests, more)
 
-issue_refused : (c : Channel) (n : ℕ) (v : Violation) (here : List Step) (old new : Incoming) → IsNotAdded v n old new → IsCreditThen c here old new → issued_violation (client_then c here) n ≡ None → ⊥
-issue_refused c n IssuedPastLimit here old new refused is none = no_reason (is_past (client_then c here).receive_left n) IssuedPastLimit _ (ap (λ (o : Option ℕ). is_past o n) (sym is.left_is) ∙ refused.past) none
-issue_refused c n TooManyGuarantees here old new refused is none =
+issue_refused : (version : Version) (c : Channel) (n : ℕ) (v : Violation) (here : List Step) (old new : Incoming) → IsNotAdded v n old new → IsCreditThen c here old new → issued_violation (client_then version c here) n ≡ None → ⊥
+issue_refused version c n IssuedPastLimit here old new refused is none = no_reason (is_past (client_then version c here).receive_left n) IssuedPastLimit _ (ap (λ (o : Option ℕ). is_past o n) (sym is.left_is) ∙ refused.past) none
+issue_refused version c n TooManyGuarantees here old new refused is none =
     let room = refused.1 in
-    let held_is : room.held ≤ held (client_then c here) = omega (arith, room.loads.held, is.counted, is.received_is, is.paid) in
-    no_reason (nat_lt max_amount (held (client_then c here) + n)) TooManyGuarantees _ (beyond max_amount (held (client_then c here) + n) (omega (arith, held_is, room.over)))
-    (later_reason (is_past (client_then c here).receive_left n) IssuedPastLimit _ none)
-issue_refused c n TotalPassed here old new refused is none =
+    let held_is : room.held ≤ held (client_then version c here) = omega (arith, room.loads.held, is.counted, is.received_is, is.paid) in
+    no_reason (nat_lt max_amount (held (client_then version c here) + n)) TooManyGuarantees _ (beyond max_amount (held (client_then version c here) + n) (omega (arith, held_is, room.over)))
+    (later_reason (is_past (client_then version c here).receive_left n) IssuedPastLimit _ none)
+issue_refused version c n TotalPassed here old new refused is none =
     let over = refused.2 in
-    no_reason (nat_lt max_total ((client_then c here).received + n)) TotalPassed _ (beyond max_total ((client_then c here).received + n) (omega (arith, over, is.received_is)))
-    (later_reason (nat_lt max_amount (held (client_then c here) + n)) TooManyGuarantees _ (later_reason (is_past (client_then c here).receive_left n) IssuedPastLimit _ none))
-issue_refused c n v here old new refused is none = absurd refused
+    no_reason (nat_lt max_total ((client_then version c here).received + n)) TotalPassed _ (beyond max_total ((client_then version c here).received + n) (omega (arith, over, is.received_is)))
+    (later_reason (nat_lt max_amount (held (client_then version c here) + n)) TooManyGuarantees _ (later_reason (is_past (client_then version c here).receive_left n) IssuedPastLimit _ none))
+issue_refused version c n v here old new refused is none = absurd refused
 
-pub refused_by_credit : (capacity : ℕ) (here there : List Step) → NextIsLawful capacity here there → RefusedByCredit here there
-refused_by_credit capacity here there next = record {
-  issue = λ c n v old new refused is first. issue_refused c n v here old new refused is (next (Issue c n) first);
-  limit = λ c bound old new refused left first. no_reason (is_past (client_then c here).receive_left bound) ReceiveLimitRaised None (ap (λ (o : Option ℕ). is_past o bound) (sym left) ∙ refused.past) (next (LimitReceiving c bound) first);
+pub refused_by_credit : (capacity : ℕ) (version : Version) (here there : List Step) → NextIsLawful capacity version here there → RefusedByCredit here there
+refused_by_credit capacity version here there next = record {
+  issue = λ c n v old new refused is first. issue_refused version c n v here old new refused is (next (Issue c n) first);
+  limit = λ c bound old new refused left first. no_reason (is_past (client_then version c here).receive_left bound) ReceiveLimitRaised None (ap (λ (o : Option ℕ). is_past o bound) (sym left) ∙ refused.past) (next (LimitReceiving c bound) first);
 }

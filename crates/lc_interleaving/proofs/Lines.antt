@@ -5,6 +5,7 @@ use Rattle.std.specs.List.{filter_map, cons_option}
 use Rattle.std.proofs.lemmas.List.{append-nil, append_assoc, append_cancel_left, length-append, take_at, drop_at}
 use Rattle.std.proofs.lemmas.List.Elements.{filter_map-append}
 use Rattle.lc_history.specs.History.{IsHistoryAfter}
+use Rattle.lc_frame.specs.declared.version.Version.{Version}
 use Rattle.lc_frame.specs.declared.channel.Channel.{Channel}
 use Rattle.lc_frame.specs.declared.frame.Frame.{Frame}
 use Rattle.lc_frame.specs.declared.frame.Frame.TheVariants.{Send, Issue, Absolve, Plead, LimitSending, LimitReceiving}
@@ -20,7 +21,7 @@ use Rattle.lc_peer.specs.Calls.{book_refusal}
 use Rattle.lc_world.specs.declared.event.Side.TheVariants.{A, B}
 use Rattle.lc_world.specs.declared.event.Act.TheVariants.{Arrive}
 use Rattle.lc_world.specs.declared.event.Answer.TheVariants.{Accepted, Arrived}
-use Rattle.lc_world.specs.State.{State, Line, opening, stream, taken_count, taken_messages, client_book, server_book, kept_plead, put_on, arrive_first, arrive_on, take_on}
+use Rattle.lc_world.specs.State.{State, Versions, Line, opening, stream, taken_count, taken_messages, client_book, server_book, kept_plead, put_on, arrive_first, arrive_on, take_on}
 use Rattle.lc_world.specs.Answers.{judged, arrival, arrive_answer, take_answer, waiting, IsAnswerOf, mine_after, theirs_after, state_after}
 use Rattle.lc_world.specs.Histories.{after_all, IsLegal}
 use Rattle.lc_world.specs.Sound.{IsSound}
@@ -35,10 +36,10 @@ use Rattle.lc_interleaving.specs.Interleaving.Joint.{at_a, at_b}
 use Rattle.lc_interleaving.specs.History.{act_putting, act_of, answer_to, history_of}
 
 -- a side's step may follow those before it, by its own books: its frame is not refused, and it takes the first message that waits
-abbrev pub MayStep : ℕ → List Step → Step → Type 0
-MayStep capacity before (puts f) = book_refusal (client_then (channel_of f) before) (server_then capacity (channel_of f) before) f ≡ None
-MayStep capacity before (hears f) = Unit {0}
-MayStep capacity before (takes c body) = slice_get (drop (length (took c before)) (messages c (heard before))) 0 ≡ Some body
+abbrev pub MayStep : ℕ → Version → List Step → Step → Type 0
+MayStep capacity version before (puts f) = book_refusal (client_then version (channel_of f) before) (server_then capacity (channel_of f) before) f ≡ None
+MayStep capacity version before (hears f) = Unit {0}
+MayStep capacity version before (takes c body) = slice_get (drop (length (took c before)) (messages c (heard before))) 0 ≡ Some body
 
 -- a frame that the books allow is accepted
 accepted : (capacity : ℕ) (mine theirs : Line) (f : Frame) → book_refusal (client_book (channel_of f) mine theirs) (server_book capacity (channel_of f) mine theirs) f ≡ None → IsAnswerOf capacity mine theirs (act_putting f) Accepted
@@ -78,7 +79,8 @@ pub record TakesOf (l : Line) (reader : List Step) (c : Channel) : Type 0 where
   pub some : messages c (heard reader) ≡ took c reader ++ rest
 
 -- a line is the stream that one side put, as far as the other heard and took it
-pub record IsLineOf (l : Line) (writer reader : List Step) : Type 0 where
+pub record IsLineOf (version : Version) (l : Line) (writer reader : List Step) : Type 0 where
+  pub is_version : l.version ≡ version
   pub put : stream l ≡ put writer
   pub heard : l.arrived ≡ heard reader
   pub takes : (c : Channel) → TakesOf l reader c
@@ -91,22 +93,24 @@ takes_stay l reader step eh et c s = record {
   some = ap (messages c) (sym (same heard_of reader step eh)) ∙ (s.some ∙ ap (λ (ms : List (List ℕ)). ms ++ s.rest) (same (took_of c) reader step (et c)));
 }
 
-writer_stays : (l : Line) (writer reader : List Step) (step : Step) → put_of step ≡ None → IsLineOf l writer reader → IsLineOf l (writer ++ step ∷ []) reader
-writer_stays l writer reader step e s = record { put = s.put ∙ same put_of writer step e; heard = s.heard; takes = s.takes }
+writer_stays : {v : Version} (l : Line) (writer reader : List Step) (step : Step) → put_of step ≡ None → IsLineOf v l writer reader → IsLineOf v l (writer ++ step ∷ []) reader
+writer_stays l writer reader step e s = record { is_version = s.is_version; put = s.put ∙ same put_of writer step e; heard = s.heard; takes = s.takes }
 
-reader_stays : (l : Line) (writer reader : List Step) (step : Step) → heard_of step ≡ None → ((c : Channel) → took_of c step ≡ None) → IsLineOf l writer reader → IsLineOf l writer (reader ++ step ∷ [])
-reader_stays l writer reader step eh et s = record { put = s.put; heard = s.heard ∙ same heard_of reader step eh; takes = λ c. takes_stay l reader step eh et c (s.takes c) }
+reader_stays : {v : Version} (l : Line) (writer reader : List Step) (step : Step) → heard_of step ≡ None → ((c : Channel) → took_of c step ≡ None) → IsLineOf v l writer reader → IsLineOf v l writer (reader ++ step ∷ [])
+reader_stays l writer reader step eh et s = record { is_version = s.is_version; put = s.put; heard = s.heard ∙ same heard_of reader step eh; takes = λ c. takes_stay l reader step eh et c (s.takes c) }
 
 -- a frame is put, arrives, and a message is taken
-line_puts : (l : Line) (writer reader : List Step) (f : Frame) → IsLineOf l writer reader → IsLineOf (put_on l f) (writer ++ puts f ∷ []) reader
+line_puts : {v : Version} (l : Line) (writer reader : List Step) (f : Frame) → IsLineOf v l writer reader → IsLineOf v (put_on l f) (writer ++ puts f ∷ []) reader
 line_puts l writer reader f s = record {
+  is_version = s.is_version;
   put = stream-put l f ∙ (ap (λ (fs : List Frame). fs ++ f ∷ []) s.put ∙ grown put_of writer (puts f));
   heard = s.heard;
   takes = λ c. let t : TakesOf l reader c = s.takes c in record { count = t.count; rest = t.rest; some = t.some };
 }
 
-line_hears : (l : Line) (writer reader : List Step) (f : Frame) (rest : List Frame) → l.in_flight ≡ f ∷ rest → IsLineOf l writer reader → IsLineOf (arrive_on l) writer (reader ++ hears f ∷ [])
+line_hears : {v : Version} (l : Line) (writer reader : List Step) (f : Frame) (rest : List Frame) → l.in_flight ≡ f ∷ rest → IsLineOf v l writer reader → IsLineOf v (arrive_on l) writer (reader ++ hears f ∷ [])
 line_hears l writer reader f rest e s = record {
+  is_version = ap (λ (fs : List Frame). (arrive_first l fs).version) e ∙ s.is_version;
   put = stream-arrive l ∙ s.put;
   heard = arrived_is l f rest e ∙ (ap (λ (fs : List Frame). fs ++ f ∷ []) s.heard ∙ grown heard_of reader (hears f));
   takes = λ c.
@@ -130,7 +134,7 @@ taken_here d body = ap (λ (b : Bool). if b then Some body else None) (same_is_s
 taken_elsewhere : (c d : Channel) (body : List ℕ) → is_same c d ≡ false → took_of c (takes d body) ≡ None
 taken_elsewhere c d body apart = ap (λ (b : Bool). if b then Some body else None) apart
 
-takes_here : (l : Line) (writer reader : List Step) (d : Channel) (body : List ℕ) (rest : List (List ℕ)) → number_of d < length l.taken → messages d (heard reader) ≡ took d reader ++ body ∷ rest → IsLineOf l writer reader → TakesOf (take_on d l) (reader ++ takes d body ∷ []) d
+takes_here : {v : Version} (l : Line) (writer reader : List Step) (d : Channel) (body : List ℕ) (rest : List (List ℕ)) → number_of d < length l.taken → messages d (heard reader) ≡ took d reader ++ body ∷ rest → IsLineOf v l writer reader → TakesOf (take_on d l) (reader ++ takes d body ∷ []) d
 takes_here l writer reader d body rest places e s =
     let t : TakesOf l reader d = s.takes d in
     let one : took d reader ++ body ∷ [] ≡ took d (reader ++ takes d body ∷ []) = ap (λ o. took d reader ++ cons_option o []) (sym (taken_here d body)) ∙ grown (took_of d) reader (takes d body) in
@@ -144,7 +148,7 @@ takes_here l writer reader d body rest places e s =
           ∙ ap (λ (ms : List (List ℕ)). ms ++ rest) one));
     }
 
-takes_elsewhere : (l : Line) (writer reader : List Step) (c d : Channel) (body : List ℕ) → is_same c d ≡ false → IsLineOf l writer reader → TakesOf (take_on d l) (reader ++ takes d body ∷ []) c
+takes_elsewhere : {v : Version} (l : Line) (writer reader : List Step) (c d : Channel) (body : List ℕ) → is_same c d ≡ false → IsLineOf v l writer reader → TakesOf (take_on d l) (reader ++ takes d body ∷ []) c
 takes_elsewhere l writer reader c d body apart s =
     let t : TakesOf l reader c = s.takes c in
     let none : took c reader ≡ took c (reader ++ takes d body ∷ []) = same (took_of c) reader (takes d body) (taken_elsewhere c d body apart) in
@@ -154,8 +158,9 @@ takes_elsewhere l writer reader c d body apart s =
       some = ap (messages c) (sym (same heard_of reader (takes d body) refl)) ∙ (t.some ∙ ap (λ (ms : List (List ℕ)). ms ++ t.rest) none);
     }
 
-line_takes : (l : Line) (writer reader : List Step) (d : Channel) (body : List ℕ) (rest : List (List ℕ)) → number_of d < length l.taken → messages d (heard reader) ≡ took d reader ++ body ∷ rest → IsLineOf l writer reader → IsLineOf (take_on d l) writer (reader ++ takes d body ∷ [])
+line_takes : {v : Version} (l : Line) (writer reader : List Step) (d : Channel) (body : List ℕ) (rest : List (List ℕ)) → number_of d < length l.taken → messages d (heard reader) ≡ took d reader ++ body ∷ rest → IsLineOf v l writer reader → IsLineOf v (take_on d l) writer (reader ++ takes d body ∷ [])
 line_takes l writer reader d body rest places e s = record {
+  is_version = s.is_version;
   put = s.put;
   heard = s.heard ∙ same heard_of reader (takes d body) refl;
   takes = λ c.
@@ -177,7 +182,7 @@ waits_first l reader c body s may =
     (first.0, s.some ∙ ap (λ (ms : List (List ℕ)). took c reader ++ ms) first.1)
 
 -- the messages taken off a line
-pub taken_off : (l : Line) (writer reader : List Step) (c : Channel) → IsLineOf l writer reader → taken_messages c l ≡ took c reader
+pub taken_off : {v : Version} (l : Line) (writer reader : List Step) (c : Channel) → IsLineOf v l writer reader → taken_messages c l ≡ took c reader
 taken_off l writer reader c s =
     let t : TakesOf l reader c = s.takes c in
     ap (λ (n : ℕ). take n (messages c l.arrived)) t.count
@@ -186,13 +191,13 @@ taken_off l writer reader c s =
     ∙ take_at (took c reader) t.rest (length (took c reader)) refl))
 
 -- what a side's own books allow, those of the lines do; which plead is kept does not matter
-no_plead : (c : Channel) (put heard : List Frame) (asked : Option ℕ) (server : Server) (f : Frame) → book_refusal (client_of c put heard asked) server f ≡ book_refusal (client_of c put heard None) server f
-no_plead c put heard asked server (Send d body) = refl
-no_plead c put heard asked server (Issue d n) = refl
-no_plead c put heard asked server (Absolve d n) = refl
-no_plead c put heard asked server (Plead d n) = refl
-no_plead c put heard asked server (LimitSending d n) = refl
-no_plead c put heard asked server (LimitReceiving d n) = refl
+no_plead : (version : Version) (c : Channel) (put heard : List Frame) (asked : Option ℕ) (server : Server) (f : Frame) → book_refusal (client_of version c put heard asked) server f ≡ book_refusal (client_of version c put heard None) server f
+no_plead version c put heard asked server (Send d body) = refl
+no_plead version c put heard asked server (Issue d n) = refl
+no_plead version c put heard asked server (Absolve d n) = refl
+no_plead version c put heard asked server (Plead d n) = refl
+no_plead version c put heard asked server (LimitSending d n) = refl
+no_plead version c put heard asked server (LimitReceiving d n) = refl
 
 -- what a step leaves of the lines, where a frame is put
 mine_put : (mine theirs : Line) (f : Frame) → mine_after mine theirs (act_putting f) Accepted ≡ put_on mine f
@@ -212,33 +217,34 @@ theirs_put mine theirs (LimitSending d n) = refl
 theirs_put mine theirs (LimitReceiving d n) = refl
 
 -- a step at the side whose line is the first
-record Steps (capacity : ℕ) (mine theirs : Line) (me peer : List Step) (step : Step) : Type 0 where
+record Steps (v w : Version) (capacity : ℕ) (mine theirs : Line) (me peer : List Step) (step : Step) : Type 0 where
   right : IsAnswerOf capacity mine theirs (act_of step) (answer_to step)
-  mine_is : IsLineOf (mine_after mine theirs (act_of step) (answer_to step)) (me ++ step ∷ []) peer
-  theirs_is : IsLineOf (theirs_after mine theirs (act_of step) (answer_to step)) peer (me ++ step ∷ [])
+  mine_is : IsLineOf v (mine_after mine theirs (act_of step) (answer_to step)) (me ++ step ∷ []) peer
+  theirs_is : IsLineOf w (theirs_after mine theirs (act_of step) (answer_to step)) peer (me ++ step ∷ [])
 
 -- the server's book, by the lines and by what the side did
-pub server_is : (capacity : ℕ) (mine theirs : Line) (me peer : List Step) → IsLineOf mine me peer → IsLineOf theirs peer me → (c : Channel) → server_book capacity c mine theirs ≡ server_then capacity c me
+pub server_is : {v w : Version} (capacity : ℕ) (mine theirs : Line) (me peer : List Step) → IsLineOf v mine me peer → IsLineOf w theirs peer me → (c : Channel) → server_book capacity c mine theirs ≡ server_then capacity c me
 server_is capacity mine theirs me peer m t c =
     ap (λ (fs : List Frame). server_of capacity c fs theirs.arrived (sum_by length (taken_messages c theirs))) m.put
     ∙ (ap (λ (fs : List Frame). server_of capacity c (put me) fs (sum_by length (taken_messages c theirs))) t.heard
     ∙ ap (λ (ms : List (List ℕ)). server_of capacity c (put me) (heard me) (sum_by length ms)) (taken_off theirs peer me c t))
 
-module _ (capacity : ℕ) (small : capacity ≤ max_amount) (mine theirs : Line) (me peer : List Step) (sound : SoundTo capacity mine theirs) (places : (c : Channel) → number_of c < length theirs.taken) (m : IsLineOf mine me peer) (t : IsLineOf theirs peer me) where
-  allowed : (f : Frame) → MayStep capacity me (puts f) → book_refusal (client_book (channel_of f) mine theirs) (server_book capacity (channel_of f) mine theirs) f ≡ None
+module _ (v w : Version) (capacity : ℕ) (small : capacity ≤ max_amount) (mine theirs : Line) (me peer : List Step) (sound : SoundTo capacity mine theirs) (places : (c : Channel) → number_of c < length theirs.taken) (m : IsLineOf v mine me peer) (t : IsLineOf w theirs peer me) where
+  allowed : (f : Frame) → MayStep capacity v me (puts f) → book_refusal (client_book (channel_of f) mine theirs) (server_book capacity (channel_of f) mine theirs) f ≡ None
   allowed f may =
       let c : Channel = channel_of f in
-      no_plead c (stream mine) theirs.arrived (kept_plead c theirs) (server_book capacity c mine theirs) f
-      ∙ (ap (λ (fs : List Frame). book_refusal (client_of c fs theirs.arrived None) (server_book capacity c mine theirs) f) m.put
-      ∙ (ap (λ (fs : List Frame). book_refusal (client_of c (put me) fs None) (server_book capacity c mine theirs) f) t.heard
-      ∙ (ap (λ (b : Server). book_refusal (client_then c me) b f) (server_is capacity mine theirs me peer m t c)
-      ∙ may)))
+      no_plead mine.version c (stream mine) theirs.arrived (kept_plead c theirs) (server_book capacity c mine theirs) f
+      ∙ (ap (λ (fs : List Frame). book_refusal (client_of mine.version c fs theirs.arrived None) (server_book capacity c mine theirs) f) m.put
+      ∙ (ap (λ (fs : List Frame). book_refusal (client_of mine.version c (put me) fs None) (server_book capacity c mine theirs) f) t.heard
+      ∙ (ap (λ (x : Version). book_refusal (client_then x c me) (server_book capacity c mine theirs) f) m.is_version
+      ∙ (ap (λ (b : Server). book_refusal (client_then v c me) b f) (server_is capacity mine theirs me peer m t c)
+      ∙ may))))
 
-  steps : (step : Step) → MayStep capacity me step → HearsNext peer me step → Steps capacity mine theirs me peer step
+  steps : (step : Step) → MayStep capacity v me step → HearsNext peer me step → Steps v w capacity mine theirs me peer step
   steps (puts f) may next = record {
     right = accepted capacity mine theirs f (allowed f may);
-    mine_is = subst (λ (l : Line). IsLineOf l (me ++ puts f ∷ []) peer) (sym (mine_put mine theirs f)) (line_puts mine me peer f m);
-    theirs_is = subst (λ (l : Line). IsLineOf l peer (me ++ puts f ∷ [])) (sym (theirs_put mine theirs f)) (reader_stays theirs peer me (puts f) refl (λ c. refl) t);
+    mine_is = subst (λ (l : Line). IsLineOf v l (me ++ puts f ∷ []) peer) (sym (mine_put mine theirs f)) (line_puts mine me peer f m);
+    theirs_is = subst (λ (l : Line). IsLineOf w l peer (me ++ puts f ∷ [])) (sym (theirs_put mine theirs f)) (reader_stays theirs peer me (puts f) refl (λ c. refl) t);
   }
   steps (hears f) may next =
       let first : theirs.in_flight ≡ f ∷ next.0 = first_in_flight theirs (put peer) (heard me) f next.0 t.put t.heard next.1 in
@@ -261,17 +267,17 @@ module _ (capacity : ℕ) (small : capacity ≤ max_amount) (mine theirs : Line)
         theirs_is = line_takes theirs peer me c body first.0 (places c) first.1 t;
       }
 
--- a state that stands for what both sides did
-pub record StandsFor (w : State) (a b : List Step) : Type 0 where
-  pub a_line : IsLineOf w.a a b
-  pub b_line : IsLineOf w.b b a
+-- a state that stands for what both sides did, whose streams are of these versions
+pub record StandsFor (va vb : Version) (w : State) (a b : List Step) : Type 0 where
+  pub a_line : IsLineOf va w.a a b
+  pub b_line : IsLineOf vb w.b b a
   pub sound : IsSound w
 
-opened : (capacity : ℕ) → StandsFor (opening capacity) [] []
-opened capacity = record {
-  a_line = record { put = refl; heard = refl; takes = λ c. record { count = omega (arith, ((sound_opened capacity).sums A c).taken_of_arrived); rest = []; some = refl } };
-  b_line = record { put = refl; heard = refl; takes = λ c. record { count = omega (arith, ((sound_opened capacity).sums B c).taken_of_arrived); rest = []; some = refl } };
-  sound = sound_opened capacity;
+opened : (capacity : ℕ) (versions : Versions) → StandsFor (versions A) (versions B) (opening capacity versions) [] []
+opened capacity versions = record {
+  a_line = record { is_version = refl; put = refl; heard = refl; takes = λ c. record { count = omega (arith, ((sound_opened capacity versions).sums A c).taken_of_arrived); rest = []; some = refl } };
+  b_line = record { is_version = refl; put = refl; heard = refl; takes = λ c. record { count = omega (arith, ((sound_opened capacity versions).sums B c).taken_of_arrived); rest = []; some = refl } };
+  sound = sound_opened capacity versions;
 }
 
 -- the order is causal, where so much was done on both sides before it
@@ -298,39 +304,39 @@ causal_after before (at_b step ∷ later) a b ea eb h = (
 )
 
 -- the rest of an order is the rest of a history, and what it leaves stands for all
-pub record GoesOn (w : State) (a b : List Step) (order : List Joint) : Type 0 where
+pub record GoesOn (va vb : Version) (w : State) (a b : List Step) (order : List Joint) : Type 0 where
   pub legal : IsLegal w (history_of order)
-  pub stands : StandsFor (after_all w (history_of order)) (a ++ of_a order) (b ++ of_b order)
+  pub stands : StandsFor va vb (after_all w (history_of order)) (a ++ of_a order) (b ++ of_b order)
 
-goes_on : (w : State) (a b : List Step) (order : List Joint) → w.capacity ≤ max_amount → StandsFor w a b → IsHistoryAfter (MayStep w.capacity) a (of_a order) → IsHistoryAfter (MayStep w.capacity) b (of_b order) → AreCausalAfter a b order → GoesOn w a b order
-goes_on w a b [] small s ha hb t = record {
+goes_on : (va vb : Version) (w : State) (a b : List Step) (order : List Joint) → w.capacity ≤ max_amount → StandsFor va vb w a b → IsHistoryAfter (MayStep w.capacity va) a (of_a order) → IsHistoryAfter (MayStep w.capacity vb) b (of_b order) → AreCausalAfter a b order → GoesOn va vb w a b order
+goes_on va vb w a b [] small s ha hb t = record {
   legal = tt;
-  stands = subst (λ (xs : List Step). StandsFor w xs (b ++ [])) (sym (append-nil a)) (subst (λ (ys : List Step). StandsFor w a ys) (sym (append-nil b)) s);
+  stands = subst (λ (xs : List Step). StandsFor va vb w xs (b ++ [])) (sym (append-nil a)) (subst (λ (ys : List Step). StandsFor va vb w a ys) (sym (append-nil b)) s);
 }
-goes_on w a b (at_a step ∷ later) small s ha hb t =
-    let d : Steps w.capacity w.a w.b a b step = steps w.capacity small w.a w.b a b (sound_to_a w s.sound) (λ c. (s.sound.sums B c).places) s.a_line s.b_line step ha.0 t.0 in
+goes_on va vb w a b (at_a step ∷ later) small s ha hb t =
+    let d : Steps va vb w.capacity w.a w.b a b step = steps va vb w.capacity small w.a w.b a b (sound_to_a w s.sound) (λ c. (s.sound.sums B c).places) s.a_line s.b_line step ha.0 t.0 in
     let next : State = state_after w A (act_of step) (answer_to step) in
-    let stands : StandsFor next (a ++ step ∷ []) b = record { a_line = d.mine_is; b_line = d.theirs_is; sound = sound_step w A (act_of step) (answer_to step) d.right s.sound } in
-    let rest : GoesOn next (a ++ step ∷ []) b later = goes_on next (a ++ step ∷ []) b later small stands ha.1 hb t.1 in
+    let stands : StandsFor va vb next (a ++ step ∷ []) b = record { a_line = d.mine_is; b_line = d.theirs_is; sound = sound_step w A (act_of step) (answer_to step) d.right s.sound } in
+    let rest : GoesOn va vb next (a ++ step ∷ []) b later = goes_on va vb next (a ++ step ∷ []) b later small stands ha.1 hb t.1 in
     record {
       legal = (d.right, rest.legal);
-      stands = subst (λ (xs : List Step). StandsFor (after_all next (history_of later)) xs (b ++ of_b later)) (append_assoc a (step ∷ []) (of_a later)) rest.stands;
+      stands = subst (λ (xs : List Step). StandsFor va vb (after_all next (history_of later)) xs (b ++ of_b later)) (append_assoc a (step ∷ []) (of_a later)) rest.stands;
     }
-goes_on w a b (at_b step ∷ later) small s ha hb t =
-    let d : Steps w.capacity w.b w.a b a step = steps w.capacity small w.b w.a b a (sound_to_b w s.sound) (λ c. (s.sound.sums A c).places) s.b_line s.a_line step hb.0 t.0 in
+goes_on va vb w a b (at_b step ∷ later) small s ha hb t =
+    let d : Steps vb va w.capacity w.b w.a b a step = steps vb va w.capacity small w.b w.a b a (sound_to_b w s.sound) (λ c. (s.sound.sums A c).places) s.b_line s.a_line step hb.0 t.0 in
     let next : State = state_after w B (act_of step) (answer_to step) in
-    let stands : StandsFor next a (b ++ step ∷ []) = record { a_line = d.theirs_is; b_line = d.mine_is; sound = sound_step w B (act_of step) (answer_to step) d.right s.sound } in
-    let rest : GoesOn next a (b ++ step ∷ []) later = goes_on next a (b ++ step ∷ []) later small stands ha hb.1 t.1 in
+    let stands : StandsFor va vb next a (b ++ step ∷ []) = record { a_line = d.theirs_is; b_line = d.mine_is; sound = sound_step w B (act_of step) (answer_to step) d.right s.sound } in
+    let rest : GoesOn va vb next a (b ++ step ∷ []) later = goes_on va vb next a (b ++ step ∷ []) later small stands ha hb.1 t.1 in
     record {
       legal = (d.right, rest.legal);
-      stands = subst (λ (ys : List Step). StandsFor (after_all next (history_of later)) (a ++ of_a later) ys) (append_assoc b (step ∷ []) (of_b later)) rest.stands;
+      stands = subst (λ (ys : List Step). StandsFor va vb (after_all next (history_of later)) (a ++ of_a later) ys) (append_assoc b (step ∷ []) (of_b later)) rest.stands;
     }
 
 -- so a whole order, each step of which may follow
-pub record MayStepAll (capacity : ℕ) (order : List Joint) : Type 0 where
-  pub a_may : IsHistoryAfter (MayStep capacity) [] (of_a order)
-  pub b_may : IsHistoryAfter (MayStep capacity) [] (of_b order)
+pub record MayStepAll (capacity : ℕ) (versions : Versions) (order : List Joint) : Type 0 where
+  pub a_may : IsHistoryAfter (MayStep capacity (versions A)) [] (of_a order)
+  pub b_may : IsHistoryAfter (MayStep capacity (versions B)) [] (of_b order)
   pub causal : IsHistoryAfter IsCausal [] order
 
-pub whole : (capacity : ℕ) (order : List Joint) → capacity ≤ max_amount → MayStepAll capacity order → GoesOn (opening capacity) [] [] order
-whole capacity order small may = goes_on (opening capacity) [] [] order small (opened capacity) may.a_may may.b_may (causal_after [] order [] [] refl refl may.causal)
+pub whole : (capacity : ℕ) (versions : Versions) (order : List Joint) → capacity ≤ max_amount → MayStepAll capacity versions order → GoesOn (versions A) (versions B) (opening capacity versions) [] [] order
+whole capacity versions order small may = goes_on (versions A) (versions B) (opening capacity versions) [] [] order small (opened capacity versions) may.a_may may.b_may (causal_after [] order [] [] refl refl may.causal)

@@ -2,6 +2,7 @@
 use Rattle.std.proofs.Common.{◌≡◌, ℕ, zero, suc, ◌+◌, ◌≤◌, List, [], ◌∷◌, ◌++◌, map, Option, Some, None, refl, sym, ap, subst, ◌∙◌, arith}
 use Rattle.std.specs.Prelude.{All, slice_get, slice_index_or, IsSomeAnd}
 use Rattle.lc_history.specs.History.{IsHistory}
+use Rattle.lc_frame.specs.declared.version.Version.{Version}
 use Rattle.lc_frame.specs.declared.channel.Channel.{Channel}
 use Rattle.lc_frame.specs.declared.channel.Channel.TheVariants.{ReconciliationChannel, DataChannel, OverlapChannel, CapabilityChannel, AreaOfInterestChannel, PayloadRequestChannel, StaticTokenChannel}
 use Rattle.lc_frame.specs.declared.frame.Frame.{Frame}
@@ -10,7 +11,7 @@ use Rattle.lc_frame.specs.Stream.{of_lane, cost, absolved, issued}
 use Rattle.lc_book.specs.Server.{Server}
 use Rattle.lc_book.specs.Sums.{SumsAreOfLanes}
 use Rattle.lc_book.proofs.Lanes.{every_sum_is_of_its_lane}
-use Rattle.lc_queue.specs.Parts.{End}
+use Rattle.lc_queue.specs.Parts.{QueueId, End}
 use Rattle.lc_credit.specs.declared.balance.Balance.{Balance}
 use Rattle.lc_credit.specs.declared.history.Entry as credit
 use Rattle.lc_credit.specs.Sides.{Incoming, Outgoing, IsSettled}
@@ -24,7 +25,7 @@ use Rattle.lc_inbox.specs.Sides.{Side}
 use Rattle.lc_inbox.specs.Inboxes.{AreFinished}
 use Rattle.lc_session.specs.Channels.{channels}
 use Rattle.lc_session.specs.Reading.{channel_of_side}
-use Rattle.lc_session.specs.Report.{SessionState, channel_of_outbox, credit_of_outbox, outgoing_of, GaveAll}
+use Rattle.lc_session.specs.Report.{SessionState, channel_of_outbox, credit_of_outbox, outgoing_of, PutsOn, GaveAll}
 use Rattle.lc_interleaving.specs.Finished.{Finished, IsFinished, credit_histories, inbox_histories, trace, FitsRings}
 use Rattle.lc_interleaving.proofs.Sides.{KeepsSending, KeepsReceiving, KeepsRules}
 
@@ -66,37 +67,37 @@ all_first : {X : Type 0} (P : X → Type 0) (x : X) (xs : List X) → All P (x �
 all_first P x xs h = h 0 x (omega arith)
 
 -- the sending ends, one after another: each kept the rules, and its balance is that of what it put
-pub record Sends (frames : List Frame) (c : Channel) (history : List credit.Entry) (b : Balance) : Type 0 where
-  pub sending : KeepsSending c history (of_lane (number_of c) frames)
+pub record Sends (version : Version) (frames : List Frame) (c : Channel) (history : List credit.Entry) (b : Balance) : Type 0 where
+  pub sending : KeepsSending version c history (of_lane (number_of c) frames)
   pub spent_is : b.spent ≡ cost c frames
   pub absolved_is : b.absolved ≡ absolved c frames
   pub adds_up : b.held + b.spent + b.absolved ≡ b.received
 
-sends_one : (frames : List Frame) (i : Incoming) (o : OutboxState) (b : Balance) (h : IsSettled i o.credit b) → IsOutbox o → GaveAll frames o → Sends frames o.channel h.history b
-sends_one frames i o b h is gave =
+sends_one : (queue : QueueId) (version : Version) (frames : List Frame) (i : Incoming) (o : OutboxState) (b : Balance) (h : IsSettled i o.credit b) → IsOutbox o → PutsOn queue version o → GaveAll frames o → Sends version frames o.channel h.history b
+sends_one queue version frames i o b h is puts gave =
     let p : SumsAreOfLanes o.channel frames = every_sum_is_of_its_lane o.channel frames in
     record {
       sending = record {
         legal = h.legal;
         pays = uses_same o.credit.seen h.history h.outgoing_knows ∙ (is.uses ∙ ap amounts (sym gave));
-        rules = subst (λ (fs : List Frame). IsHistory (MayPut o.channel) fs) (sym gave) is.rules;
+        rules = subst (λ (v : Version). IsHistory (MayPut v o.channel) (of_lane (number_of o.channel) frames)) puts.version_is (subst (λ (fs : List Frame). IsHistory (MayPut o.lane.version o.channel) fs) (sym gave) is.rules);
       };
       spent_is = h.spent_is ∙ (is.spent ∙ (ap (cost o.channel) (sym gave) ∙ p.cost_is));
       absolved_is = h.absolved_is ∙ (is.absolved ∙ (ap (absolved o.channel) (sym gave) ∙ p.absolved_is));
       adds_up = h.adds_up;
     }
 
-send_all : (frames : List Frame) (incoming : List Incoming) (ends : List OutboxState) (balances : List Balance) (h : AreSettled incoming (map credit_of_outbox ends) balances) → All IsOutbox ends → All (GaveAll frames) ends → EachKeeps (Sends frames) (map channel_of_outbox ends) (credit_histories incoming (map credit_of_outbox ends) balances h) balances
-send_all frames [] [] [] h is gave = tt
-send_all frames [] [] (b ∷ balances) h is gave = tt
-send_all frames (i ∷ incoming) [] [] h is gave = tt
-send_all frames (i ∷ incoming) [] (b ∷ balances) h is gave = tt
-send_all frames [] (o ∷ ends) [] h is gave = absurd h
-send_all frames [] (o ∷ ends) (b ∷ balances) h is gave = absurd h
-send_all frames (i ∷ incoming) (o ∷ ends) [] h is gave = absurd h
-send_all frames (i ∷ incoming) (o ∷ ends) (b ∷ balances) h is gave = (
-  sends_one frames i o b h.0 (all_first IsOutbox o ends is) (all_first (GaveAll frames) o ends gave),
-  send_all frames incoming ends balances h.1 (all_rest IsOutbox o ends is) (all_rest (GaveAll frames) o ends gave),
+send_all : (queue : QueueId) (version : Version) (frames : List Frame) (incoming : List Incoming) (ends : List OutboxState) (balances : List Balance) (h : AreSettled incoming (map credit_of_outbox ends) balances) → All IsOutbox ends → All (PutsOn queue version) ends → All (GaveAll frames) ends → EachKeeps (Sends version frames) (map channel_of_outbox ends) (credit_histories incoming (map credit_of_outbox ends) balances h) balances
+send_all queue version frames [] [] [] h is puts gave = tt
+send_all queue version frames [] [] (b ∷ balances) h is puts gave = tt
+send_all queue version frames (i ∷ incoming) [] [] h is puts gave = tt
+send_all queue version frames (i ∷ incoming) [] (b ∷ balances) h is puts gave = tt
+send_all queue version frames [] (o ∷ ends) [] h is puts gave = absurd h
+send_all queue version frames [] (o ∷ ends) (b ∷ balances) h is puts gave = absurd h
+send_all queue version frames (i ∷ incoming) (o ∷ ends) [] h is puts gave = absurd h
+send_all queue version frames (i ∷ incoming) (o ∷ ends) (b ∷ balances) h is puts gave = (
+  sends_one queue version frames i o b h.0 (all_first IsOutbox o ends is) (all_first (PutsOn queue version) o ends puts) (all_first (GaveAll frames) o ends gave),
+  send_all queue version frames incoming ends balances h.1 (all_rest IsOutbox o ends is) (all_rest (PutsOn queue version) o ends puts) (all_rest (GaveAll frames) o ends gave),
 )
 
 -- what a credit received is what its reading side did
@@ -175,6 +176,9 @@ module _ (capacity : ℕ) (r : Finished) (f : IsFinished r) (small : FitsRings c
   abbrev s : SessionState
   s = r.session
 
+  abbrev version : Version
+  version = s.writing.drain.version
+
   abbrev frames : List Frame
   frames = s.writing.drain.popped ++ f.report.last
 
@@ -184,9 +188,9 @@ module _ (capacity : ℕ) (r : Finished) (f : IsFinished r) (small : FitsRings c
   abbrev inbox_lists : List (List Entry)
   inbox_lists = inbox_histories s.reading.side.inboxes s.receiving r.servers f.report.lanes f.report.finished
 
-  pub sends_at : (c : Channel) → KeepsAt (Sends (trace r f).put) c ((trace r f).credit c) r.clients (number_of c)
-  sends_at c = keeps_at (Sends frames) (number_of c) c channels credits r.clients [] (channel_there c)
-      (subst (λ (cs : List Channel). EachKeeps (Sends frames) cs credits r.clients) f.one.senders (send_all frames s.reading.side.credits s.sending r.clients f.report.settled f.report.outboxes f.report.clients_gave))
+  pub sends_at : (c : Channel) → KeepsAt (Sends (trace r f).version (trace r f).put) c ((trace r f).credit c) r.clients (number_of c)
+  sends_at c = keeps_at (Sends version frames) (number_of c) c channels credits r.clients [] (channel_there c)
+      (subst (λ (cs : List Channel). EachKeeps (Sends version frames) cs credits r.clients) f.one.senders (send_all s.writing.drain.queue version frames s.reading.side.credits s.sending r.clients f.report.settled f.report.outboxes f.one.clients_put f.report.clients_gave))
 
   pub serves_at : (c : Channel) → KeepsAt (Serves capacity) c ((trace r f).inbox c) r.servers (number_of c)
   serves_at c = keeps_at (Serves capacity) (number_of c) c channels inbox_lists r.servers [] (channel_there c)

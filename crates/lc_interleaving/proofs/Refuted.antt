@@ -6,7 +6,8 @@ use Rattle.lc_frame.specs.declared.channel.Channel.{Channel}
 use Rattle.lc_frame.specs.declared.channel.Channel.TheVariants.{DataChannel}
 use Rattle.lc_frame.specs.declared.frame.Frame.TheVariants.{Send, Issue, Absolve, Plead, LimitSending, LimitReceiving}
 use Rattle.lc_inbox.specs.Sides.{Side}
-use Rattle.lc_world.specs.State.{opening}
+use Rattle.lc_frame.specs.declared.version.Version.TheVariants.{One}
+use Rattle.lc_world.specs.State.{Versions, opening}
 use Rattle.lc_world.specs.Histories.{IsLegal}
 use Rattle.lc_interleaving.specs.Steps.{Step, put, heard, entries, without_refusals}
 use Rattle.lc_interleaving.specs.Steps.Step.{puts, hears, takes}
@@ -35,10 +36,14 @@ record IsOrderBut (t : Trace) (steps : List Step) : Type 0 where
   heard_is : heard steps ≡ t.heard
   inboxes : (c : Channel) → entries c steps ≡ without_refusals (t.inbox c)
 
-not_legal : IsLegal (opening 6) (history_of too_early) → ⊥
+-- both write in version One
+abbrev each_one : Versions
+each_one s = One
+
+not_legal : IsLegal (opening 6 each_one) (history_of too_early) → ⊥
 not_legal h = elim h.1.1.1.1.0 [ inl e ↦ absurd (cc) | inr e ↦ absurd (let n = e.1 in cc) ]
 
-not_causal : IsLegal (opening 6) (history_of unheard_of) → ⊥
+not_causal : IsLegal (opening 6 each_one) (history_of unheard_of) → ⊥
 not_causal h = elim h.1.1.1.0 [ inl e ↦ absurd (cc) | inr e ↦ absurd (let n = e.1 in cc) ]
 
 module _ (id : TableId) (base : Side) where

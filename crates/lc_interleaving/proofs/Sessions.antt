@@ -44,7 +44,7 @@ book_of_trace k c t steps book s o =
 -- one channel direction of two sessions
 between : (k : ℕ) (c : Channel) (x y : Finished) (fx : IsFinished x) (fy : IsFinished y) → FitsRings k x → FitsRings k y → (steps : List Step) → IsOrderOf (trace y fy) steps → Keeps k c (trace x fx) (trace y fy) → KeepsBetween c x y (trace x fx) (trace y fy)
 between k c x y fx fy rx ry steps o keeps =
-    let sends : KeepsAt (Sends (trace x fx).put) c ((trace x fx).credit c) x.clients (number_of c) = sends_at k x fx rx c in
+    let sends : KeepsAt (Sends (trace x fx).version (trace x fx).put) c ((trace x fx).credit c) x.clients (number_of c) = sends_at k x fx rx c in
     let serves : KeepsAt (Serves k) c ((trace y fy).inbox c) y.servers (number_of c) = serves_at k y fy ry c in
     let b : Balance = sends.other in
     let book : Server = serves.other in
@@ -82,14 +82,14 @@ finished_sessions_keep_promises k a b fa fb order w =
     }
 
 pub next_frames_are_lawful : NextFramesAreLawful
-next_frames_are_lawful k a b fa fb order w earlier later is = lawful_after k order earlier later w.is_capacity.at_most is (may_all k w.is_capacity (trace a fa) (trace b fb) (keeps_rules k a fa w.a_rings) (keeps_rules k b fb w.b_rings) order w.interleaving)
+next_frames_are_lawful k a b fa fb order w earlier later is = lawful_after k (trace a fa) (trace b fb) order earlier later w.is_capacity.at_most is (may_all k w.is_capacity (trace a fa) (trace b fb) (keeps_rules k a fa w.a_rings) (keeps_rules k b fb w.b_rings) order w.interleaving)
 
 pub refused_frames_are_breaches : RefusedFramesAreBreaches
 refused_frames_are_breaches k a b fa fb order w earlier later is =
-    let next : IsLawfulAfter k earlier = next_frames_are_lawful k a b fa fb order w earlier later is in
+    let next : IsLawfulAfter k (trace a fa) (trace b fb) earlier = next_frames_are_lawful k a b fa fb order w earlier later is in
     record {
-      at_a = refused_is_not_next k (trace a fa) (of_a earlier) (of_b earlier) (keeps_rules k a fa w.a_rings).receiving next.at_a;
-      at_b = refused_is_not_next k (trace b fb) (of_b earlier) (of_a earlier) (keeps_rules k b fb w.b_rings).receiving next.at_b;
-      a_credits = refused_by_credit k (of_a earlier) (of_b earlier) next.at_a;
-      b_credits = refused_by_credit k (of_b earlier) (of_a earlier) next.at_b;
+      at_a = refused_is_not_next k (trace a fa).version (trace a fa) (of_a earlier) (of_b earlier) (keeps_rules k a fa w.a_rings).receiving next.at_a;
+      at_b = refused_is_not_next k (trace b fb).version (trace b fb) (of_b earlier) (of_a earlier) (keeps_rules k b fb w.b_rings).receiving next.at_b;
+      a_credits = refused_by_credit k (trace a fa).version (of_a earlier) (of_b earlier) next.at_a;
+      b_credits = refused_by_credit k (trace b fb).version (of_b earlier) (of_a earlier) next.at_b;
     }

@@ -13,7 +13,7 @@ use Rattle.lc_frame.specs.declared.frame.Frame.{Frame}
 use Rattle.lc_frame.specs.declared.frame.Frame.TheVariants.{Send, Issue, Absolve, Plead, LimitSending, LimitReceiving}
 use Rattle.lc_frame.specs.Channel.{number_of, is_same}
 use Rattle.lc_frame.specs.Frame.{channel_of, lane_of}
-use Rattle.lc_frame.specs.declared.version.Version.TheVariants.{One}
+use Rattle.lc_frame.specs.declared.version.Version.{Version}
 use Rattle.lc_frame.specs.Kind.{max_total, max_body}
 use Rattle.lc_frame.specs.Stream.{of_lane, messages, cost, absolved, send_left}
 use Rattle.lc_frame.proofs.Measures.{cost-append, absolved-append, cost-one, absolved-one}
@@ -43,10 +43,10 @@ use Rattle.lc_interleaving.proofs.Lines.{MayStep}
 use Rattle.lc_interleaving.proofs.Paid.{paid_at}
 
 -- a sending end: its credit's history is legal, its uses pay the frames of the lane, one by one, and each of these might follow those before it
-pub record KeepsSending (c : Channel) (history : List credit.Entry) (frames : List Frame) : Type 0 where
+pub record KeepsSending (version : Version) (c : Channel) (history : List credit.Entry) (frames : List Frame) : Type 0 where
   pub legal : credits.IsHistory history
   pub pays : uses history ≡ amounts frames
-  pub rules : IsHistory (MayPut c) frames
+  pub rules : IsHistory (MayPut version c) frames
 
 -- a receiving end: its inbox's history is legal, and its ring is no larger
 pub record KeepsReceiving (capacity : ℕ) (c : Channel) (history : List Entry) : Type 0 where
@@ -57,7 +57,7 @@ pub record KeepsReceiving (capacity : ℕ) (c : Channel) (history : List Entry) 
 
 -- each end of a session did
 pub record KeepsRules (capacity : ℕ) (t : Trace) : Type 0 where
-  pub sending : (c : Channel) → KeepsSending c (t.credit c) (of_lane (number_of c) t.put)
+  pub sending : (c : Channel) → KeepsSending t.version c (t.credit c) (of_lane (number_of c) t.put)
   pub receiving : (c : Channel) → KeepsReceiving capacity c (t.inbox c)
 
 -- an earlier reason for a refusal is the same, and the last does not hold where so much is held
@@ -68,10 +68,10 @@ next_passes false r x y h e = h e
 enough_passes : (held n : ℕ) (r : Refusal) → n ≤ held → (if nat_lt held n then Some r else None) ≡ None
 enough_passes held n r le = grind (arith, nat_tests, le)
 
-message_passes : (b : Client) (n : ℕ) → message_refusal b.send_left n ≡ None → n ≤ held b → spend_refusal b n ≡ None
+message_passes : (b : Client) (n : ℕ) → message_refusal b.version b.send_left n ≡ None → n ≤ held b → spend_refusal b n ≡ None
 message_passes b n e le =
     next_passes (n == 0) EmptyBody _ _
-    (next_passes (nat_lt (max_body One) n) BodyTooLong _ _
+    (next_passes (nat_lt (max_body b.version) n) BodyTooLong _ _
     (next_passes (is_past b.send_left n) (PastSendLimit (left_of b.send_left)) _ _
     (λ u. enough_passes (held b) n (NoGuarantee (held b)) le))) e
 
@@ -108,20 +108,20 @@ more_used c d f fs n same e =
     let here : cost c (f ∷ []) + absolved c (f ∷ []) ≡ n = subst (λ (x : Channel). cost x (f ∷ []) + absolved x (f ∷ []) ≡ n) same e in
     omega (arith, here, cost-append c (f ∷ []) fs, absolved-append c (f ∷ []) fs)
 
-sums_to : (c : Channel) (before fs : List Frame) → IsHistoryAfter (MayPut c) before fs → sum (amounts fs) ≡ cost c fs + absolved c fs
-sums_to c before [] h = refl
-sums_to c before (Send d body ∷ fs) h =
+sums_to : (version : Version) (c : Channel) (before fs : List Frame) → IsHistoryAfter (MayPut version c) before fs → sum (amounts fs) ≡ cost c fs + absolved c fs
+sums_to version c before [] h = refl
+sums_to version c before (Send d body ∷ fs) h =
     let f : Frame = Send d body in
-    omega (arith, sums_to c (before ++ f ∷ []) fs h.1, sum_by-cons (λ n. n) (length body) (amounts fs), more_used c d f fs (length body) h.0.0 (send_uses d body))
-sums_to c before (Absolve d n ∷ fs) h =
+    omega (arith, sums_to version c (before ++ f ∷ []) fs h.1, sum_by-cons (λ n. n) (length body) (amounts fs), more_used c d f fs (length body) h.0.0 (send_uses d body))
+sums_to version c before (Absolve d n ∷ fs) h =
     let f : Frame = Absolve d n in
-    omega (arith, sums_to c (before ++ f ∷ []) fs h.1, sum_by-cons (λ m. m) n (amounts fs), more_used c d f fs n h.0.0 (absolve_uses d n))
-sums_to c before (LimitSending d n ∷ fs) h =
+    omega (arith, sums_to version c (before ++ f ∷ []) fs h.1, sum_by-cons (λ m. m) n (amounts fs), more_used c d f fs n h.0.0 (absolve_uses d n))
+sums_to version c before (LimitSending d n ∷ fs) h =
     let f : Frame = LimitSending d n in
-    omega (arith, sums_to c (before ++ f ∷ []) fs h.1, more_used c d f fs 0 h.0.0 (limit_uses d n))
-sums_to c before (Issue d n ∷ fs) h = absurd h.0
-sums_to c before (Plead d n ∷ fs) h = absurd h.0
-sums_to c before (LimitReceiving d n ∷ fs) h = absurd h.0
+    omega (arith, sums_to version c (before ++ f ∷ []) fs h.1, more_used c d f fs 0 h.0.0 (limit_uses d n))
+sums_to version c before (Issue d n ∷ fs) h = absurd h.0
+sums_to version c before (Plead d n ∷ fs) h = absurd h.0
+sums_to version c before (LimitReceiving d n ∷ fs) h = absurd h.0
 
 -- a frame of a lane, among those of the lane
 equal_self : (n : ℕ) → (n == n) ≡ true
@@ -253,40 +253,40 @@ module _ (capacity : ℕ) (t : Trace) (k : KeepsRules capacity t) (steps : List 
   client_cut : (before : List Step) (f : Frame) (later : List Step) → lane_of f ≡ number_of (channel_of f) → steps ≡ before ++ puts f ∷ later → of_lane (number_of (channel_of f)) t.put ≡ of_lane (number_of (channel_of f)) (put before) ++ f ∷ of_lane (number_of (channel_of f)) (put later)
   client_cut before f later lane is = lane_cut (number_of (channel_of f)) t.put (put before) f (put later) lane (sym o.put ∙ cut_of put_of steps before (puts f) later f is refl)
 
-  client_may : (before : List Step) (f : Frame) (later : List Step) → lane_of f ≡ number_of (channel_of f) → steps ≡ before ++ puts f ∷ later → MayPut (channel_of f) (of_lane (number_of (channel_of f)) (put before)) f
+  client_may : (before : List Step) (f : Frame) (later : List Step) → lane_of f ≡ number_of (channel_of f) → steps ≡ before ++ puts f ∷ later → MayPut t.version (channel_of f) (of_lane (number_of (channel_of f)) (put before)) f
   client_may before f later lane is =
       let c : Channel = channel_of f in
-      follows_each (MayPut c) (of_lane (number_of c) t.put) (of_lane (number_of c) (put before)) f (of_lane (number_of c) (put later)) (k.sending c).rules (client_cut before f later lane is)
+      follows_each (MayPut t.version c) (of_lane (number_of c) t.put) (of_lane (number_of c) (put before)) f (of_lane (number_of c) (put later)) (k.sending c).rules (client_cut before f later lane is)
 
   left_is : (c : Channel) (before : List Step) → send_left c (of_lane (number_of c) (put before)) ≡ send_left c (put before)
   left_is c before = (every_sum_is_of_its_lane c (put before)).send_left_is
 
   -- what a client's frame uses is held
-  is_held : (before : List Step) (f : Frame) (n : ℕ) (later : List Step) → lane_of f ≡ number_of (channel_of f) → amount_of f ≡ Some n → IsFunded t before (channel_of f) → steps ≡ before ++ puts f ∷ later → n ≤ held (client_then (channel_of f) before)
+  is_held : (before : List Step) (f : Frame) (n : ℕ) (later : List Step) → lane_of f ≡ number_of (channel_of f) → amount_of f ≡ Some n → IsFunded t before (channel_of f) → steps ≡ before ++ puts f ∷ later → n ≤ held (client_then t.version (channel_of f) before)
   is_held before f n later lane uses_it funded is =
       let c : Channel = channel_of f in
-      let s : KeepsSending c (t.credit c) (of_lane (number_of c) t.put) = k.sending c in
+      let s : KeepsSending t.version c (t.credit c) (of_lane (number_of c) t.put) = k.sending c in
       let mine : List Frame = of_lane (number_of c) (put before) in
       let cut : of_lane (number_of c) t.put ≡ mine ++ f ∷ of_lane (number_of c) (put later) = client_cut before f later lane is in
       let used_is : uses (t.credit c) ≡ amounts mine ++ n ∷ amounts (of_lane (number_of c) (put later)) = s.pays ∙ cut_of amount_of (of_lane (number_of c) t.put) mine f (of_lane (number_of c) (put later)) n cut uses_it in
       let paid : sum (amounts mine) + n ≤ slice_index_or (before_uses (t.credit c)) (length (amounts mine)) 0 = paid_at (t.credit c) (amounts mine) n (amounts (of_lane (number_of c) (put later))) s.legal used_is in
-      let begun : IsHistory (MayPut c) mine = begins_after (MayPut c) [] mine (f ∷ of_lane (number_of c) (put later)) (subst (λ (fs : List Frame). IsHistory (MayPut c) fs) cut s.rules) in
+      let begun : IsHistory (MayPut t.version c) mine = begins_after (MayPut t.version c) [] mine (f ∷ of_lane (number_of c) (put later)) (subst (λ (fs : List Frame). IsHistory (MayPut t.version c) fs) cut s.rules) in
       let p : SumsAreOfLanes c (put before) = every_sum_is_of_its_lane c (put before) in
-      omega (arith, paid, funded, sums_to c [] mine begun, p.cost_is, p.absolved_is)
+      omega (arith, paid, funded, sums_to t.version c [] mine begun, p.cost_is, p.absolved_is)
 
-  may_step : (before : List Step) (step : Step) (later : List Step) → IsInTime t before step → steps ≡ before ++ step ∷ later → MayStep capacity before step
+  may_step : (before : List Step) (step : Step) (later : List Step) → IsInTime t before step → steps ≡ before ++ step ∷ later → MayStep capacity t.version before step
   may_step before (puts (Send d body)) later funded is =
       let f : Frame = Send d body in
-      let may : MayPut d (of_lane (number_of d) (put before)) f = client_may before f later refl is in
-      let left : message_refusal (send_left d (put before)) (length body) ≡ None = ap (λ (o : Option ℕ). message_refusal o (length body)) (sym (left_is d before)) ∙ may.1 in
-      message_passes (client_then d before) (length body) left (is_held before f (length body) later refl refl funded is)
+      let may : MayPut t.version d (of_lane (number_of d) (put before)) f = client_may before f later refl is in
+      let left : message_refusal t.version (send_left d (put before)) (length body) ≡ None = ap (λ (o : Option ℕ). message_refusal t.version o (length body)) (sym (left_is d before)) ∙ may.1 in
+      message_passes (client_then t.version d before) (length body) left (is_held before f (length body) later refl refl funded is)
   may_step before (puts (Absolve d n)) later funded is =
       let f : Frame = Absolve d n in
-      let may : MayPut d (of_lane (number_of d) (put before)) f = client_may before f later refl is in
-      absolve_passes (client_then d before) n may.1 (is_held before f n later refl refl funded is)
+      let may : MayPut t.version d (of_lane (number_of d) (put before)) f = client_may before f later refl is in
+      absolve_passes (client_then t.version d before) n may.1 (is_held before f n later refl refl funded is)
   may_step before (puts (LimitSending d n)) later funded is =
       let f : Frame = LimitSending d n in
-      let may : MayPut d (of_lane (number_of d) (put before)) f = client_may before f later refl is in
+      let may : MayPut t.version d (of_lane (number_of d) (put before)) f = client_may before f later refl is in
       ap (λ (o : Option ℕ). limit_refusal o n) (sym (left_is d before)) ∙ may.1
   may_step before (puts (Issue d n)) later funded is = larger_issues (k.receiving d).key.capacity capacity d before n (k.receiving d).small (server_may before (Issue d n) later refl is)
   may_step before (puts (Plead d n)) later funded is = server_may before (Plead d n) later refl is
@@ -303,5 +303,5 @@ module _ (capacity : ℕ) (t : Trace) (k : KeepsRules capacity t) (steps : List 
       ∙ (ap (λ (ts : List (List ℕ)). slice_get (drop (length ts) (messages r.key.channel (inboxes.heard (entries d before)))) 0) (sym (entries_took d before))
       ∙ may)
 
-  pub may_step_all : IsHistory (MayStep capacity) steps
-  may_step_all = history_by_cuts (MayStep capacity) steps (λ before step later is. may_step before step later (follows_each (IsInTime t) steps before step later o.in_time is) is)
+  pub may_step_all : IsHistory (MayStep capacity t.version) steps
+  may_step_all = history_by_cuts (MayStep capacity t.version) steps (λ before step later is. may_step before step later (follows_each (IsInTime t) steps before step later o.in_time is) is)

@@ -42,6 +42,7 @@ inbox_histories incoming outgoing books lanes h = []
 -- what a finished session did
 abbrev pub trace : (r : Finished) → IsFinished r → Trace
 trace r h = record {
+  version = r.session.writing.drain.version;
   put = r.session.writing.drain.popped ++ h.report.last;
   heard = r.arrived;
   credit = λ c. slice_index_or (credit_histories r.session.reading.side.credits (outgoing_of r.session) r.clients h.report.settled) (number_of c) [];

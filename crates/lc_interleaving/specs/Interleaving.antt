@@ -2,6 +2,7 @@
 use Rattle.std.specs.Prelude.{◌≡◌, ℕ, ◌+◌, ◌-◌, ◌≤◌, List, [], ◌∷◌, ◌++◌, length, take, slice_index_or, Option, Some, None, IfSome}
 use Rattle.std.specs.List.{fold, filter_map}
 use Rattle.lc_history.specs.History.{IsHistory}
+use Rattle.lc_frame.specs.declared.version.Version.{Version}
 use Rattle.lc_frame.specs.declared.channel.Channel.{Channel}
 use Rattle.lc_frame.specs.declared.frame.Frame.{Frame}
 use Rattle.lc_frame.specs.Channel.{number_of}
@@ -14,8 +15,9 @@ use Rattle.lc_inbox.specs.declared.history.Entry as inbox
 use Rattle.lc_interleaving.specs.Steps.{Step, put, heard, entries, without_refusals}
 use Rattle.lc_interleaving.specs.Steps.Step.{puts, hears}
 
--- what a session did: the frames that its queue gave and those that arrived, and of each channel the history of its credit and of its inbox
+-- what a session did: the version of the stream that it wrote, the frames that its queue gave and those that arrived, and of each channel the history of its credit and of its inbox
 pub record Trace : Type 0 where
+  pub version : Version
   pub put : List Frame
   pub heard : List Frame
   pub credit : Channel → List Entry

@@ -1,5 +1,6 @@
 -- In one order of two sessions no frame is refused. That a client that sends within its guarantees never has a message dropped is LCMUX's promise; which violations there are is this project's own.
 use Rattle.std.specs.Prelude.{◌≡◌, ℕ, ◌+◌, ◌≤◌, List, ◌∷◌, ◌++◌, None}
+use Rattle.lc_frame.specs.declared.version.Version.{Version}
 use Rattle.lc_frame.specs.declared.channel.Channel.{Channel}
 use Rattle.lc_frame.specs.declared.frame.Frame.{Frame}
 use Rattle.lc_frame.specs.declared.frame.Frame.TheVariants.{Issue, LimitReceiving}
@@ -15,13 +16,13 @@ use Rattle.lc_interleaving.specs.Steps.{Step, put, heard, entries, without_refus
 use Rattle.lc_interleaving.specs.Interleaving.{Trace, Joint, of_a, of_b, IsNext}
 
 -- the next frame that the first side would hear breaks no rule, by the side's own books
-abbrev pub NextIsLawful : ℕ → List Step → List Step → Type 0
-NextIsLawful capacity here there = (f : Frame) → IsNext there here f → violation (client_then (channel_of f) here) (server_then capacity (channel_of f) here) f ≡ None
+abbrev pub NextIsLawful : ℕ → Version → List Step → List Step → Type 0
+NextIsLawful capacity version here there = (f : Frame) → IsNext there here f → violation (client_then version (channel_of f) here) (server_then capacity (channel_of f) here) f ≡ None
 
 -- at each moment of the order, at both sides
-pub record IsLawfulAfter (capacity : ℕ) (earlier : List Joint) : Type 0 where
-  pub at_a : NextIsLawful capacity (of_a earlier) (of_b earlier)
-  pub at_b : NextIsLawful capacity (of_b earlier) (of_a earlier)
+pub record IsLawfulAfter (capacity : ℕ) (a b : Trace) (earlier : List Joint) : Type 0 where
+  pub at_a : NextIsLawful capacity a.version (of_a earlier) (of_b earlier)
+  pub at_b : NextIsLawful capacity b.version (of_b earlier) (of_a earlier)
 
 -- a frame that the inbox of a channel refused is not the next of the other side's stream at the moment of the refusal: the other side has not put it
 abbrev pub RefusedIsNotNext : Trace → List Step → List Step → Type 0

@@ -24,7 +24,7 @@ abbrev pub FinishedSessionsKeepPromises : Type 0
 FinishedSessionsKeepPromises = (capacity : ℕ) (a b : Finished) (fa : IsFinished a) (fb : IsFinished b) (order : List Joint) → WereOne capacity a b fa fb order → KeepPromises a b fa fb
 
 abbrev pub NextFramesAreLawful : Type 0
-NextFramesAreLawful = (capacity : ℕ) (a b : Finished) (fa : IsFinished a) (fb : IsFinished b) (order : List Joint) → WereOne capacity a b fa fb order → (earlier later : List Joint) → order ≡ earlier ++ later → IsLawfulAfter capacity earlier
+NextFramesAreLawful = (capacity : ℕ) (a b : Finished) (fa : IsFinished a) (fb : IsFinished b) (order : List Joint) → WereOne capacity a b fa fb order → (earlier later : List Joint) → order ≡ earlier ++ later → IsLawfulAfter capacity (trace a fa) (trace b fb) earlier
 
 abbrev pub RefusedFramesAreBreaches : Type 0
 RefusedFramesAreBreaches = (capacity : ℕ) (a b : Finished) (fa : IsFinished a) (fb : IsFinished b) (order : List Joint) → WereOne capacity a b fa fb order → (earlier later : List Joint) → order ≡ earlier ++ later → AreBreaches (trace a fa) (trace b fb) earlier

@@ -1,6 +1,7 @@
 -- What a side does, step by step, and what each step is to the inbox of a channel. That a side writes one stream and reads another is LCMUX's; the steps are this project's own.
 use Rattle.std.specs.Prelude.{ℕ, ◌+◌, ◌==◌, if◌then◌else◌, Bool, true, false, List, length, filter, sum_by, Option, Some, None}
 use Rattle.std.specs.List.{filter_map}
+use Rattle.lc_frame.specs.declared.version.Version.{Version}
 use Rattle.lc_frame.specs.declared.channel.Channel.{Channel}
 use Rattle.lc_frame.specs.declared.frame.Frame.{Frame}
 use Rattle.lc_frame.specs.Channel.{number_of, is_same}
@@ -60,9 +61,9 @@ changes e = true
 abbrev pub without_refusals : List Entry → List Entry
 without_refusals history = filter changes history
 
--- the books of a channel of a side, by what it did
-abbrev pub client_then : Channel → List Step → Client
-client_then c steps = client_of c (put steps) (heard steps) None
+-- the books of a channel of a side, by what it did, the client's by the version of its stream
+abbrev pub client_then : Version → Channel → List Step → Client
+client_then version c steps = client_of version c (put steps) (heard steps) None
 
 abbrev pub server_then : ℕ → Channel → List Step → Server
 server_then capacity c steps = server_of capacity c (put steps) (heard steps) (sum_by length (took c steps))

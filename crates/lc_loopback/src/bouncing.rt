@@ -9,6 +9,7 @@ use crate::pumping::{join_pumps, start_pumps};
 use crate::sending::send;
 use crate::taking::{issue, take};
 use crate::worker::{Outcome, Part, Worker, join, start};
+use lc_frame::Version;
 use lc_inbox::apart;
 use lc_session::{RecvEnd, SendEnd};
 use std::alloc::Global;
@@ -101,7 +102,7 @@ where
     R: Threads + Wait + Copy + Send + 'static,
 {
     let wires = connect_both(net)?;
-    match open(alloc) {
+    match open(alloc, [Version::One; 2]) {
         Ok(opened) => bounce(rt, opened, wires, Game { rounds, turns }),
         Err(fault) => Err(fault),
     }

@@ -21,4 +21,4 @@ mod worker;
 pub use bouncing::ping_pong;
 pub use fault::LoopFault;
 pub use report::LoopReport;
-pub use stage::loopback;
+pub use stage::{loopback, loopback_as};

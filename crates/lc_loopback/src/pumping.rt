@@ -1,7 +1,7 @@
 //! What the pumps do.
 ghost use Rattle.std.specs.Prelude.{◌≡◌};
-ghost use Rattle.lc_queue.specs.Parts.{IsSame};
 ghost use Rattle.lc_session.specs.Reading.{IsSameReading};
+ghost use Rattle.lc_session.specs.Pumping.{IsSamePump};
 
 use crate::connection::{Wire, Wires};
 use crate::fault::LoopFault;
@@ -18,7 +18,7 @@ impl Part for ReadPump {
 }
 
 impl Part for WritePump {
-    ghost same = { λ old new. IsSame new.drain.queue old.drain.queue };
+    ghost same = { IsSamePump };
 }
 
 // Reads until the stream ends. Its reader goes then, so that the other side's writes fail where it
@@ -94,7 +94,7 @@ where
 /// Waits for both pumps of a side.
 pub(crate) fn join_pumps<R: Threads>(rt: &R, pumping: Pumping) -> (Done<ReadPump>, Done<WritePump>)
     ensures reading { IsSameReading pumping.reading.side result.0.worker.side }
-    ensures writing { IsSame result.1.worker.drain.queue pumping.writing.drain.queue }
+    ensures writing { IsSamePump pumping.writing result.1.worker }
 {
     let writing = join(rt, pumping.writing);
     let reading = join(rt, pumping.reading);

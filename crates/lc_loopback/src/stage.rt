@@ -11,6 +11,7 @@ use crate::opening::{Opened, open};
 use crate::pumping::{join_pumps, start_pumps};
 use crate::report::{LoopReport, agree};
 use crate::worker::{Done, Outcome};
+use lc_frame::Version;
 use lc_interleaving::finish_both;
 use lc_session::{Parts, ReadPump, RecvEnd, SendEnd, Session, WritePump};
 use std::alloc::Global;
@@ -146,8 +147,25 @@ where
     R: Threads + Wait + Copy + Send + 'static,
     ensures balanced { IfOk result (λ report. IsTrue report.balanced) }
 {
+    loopback_as(net, rt, alloc, count, [Version::One; 2])
+}
+
+/// As [`loopback`], where A writes in the first of these versions and B in the second.
+pub fn loopback_as<N, R>(
+    net: &N,
+    rt: R,
+    alloc: Global,
+    count: u32,
+    versions: [Version; 2],
+) -> Result<LoopReport, LoopFault>
+where
+    N: Net,
+    N::Stream: Send + 'static,
+    R: Threads + Wait + Copy + Send + 'static,
+    ensures balanced { IfOk result (λ report. IsTrue report.balanced) }
+{
     let wires = connect_both(net)?;
-    match open(alloc) {
+    match open(alloc, versions) {
         Ok(opened) => {
             let Opened { a, b, hold } = opened;
             let (a, b) = play(rt, &hold, a, b, wires, count);

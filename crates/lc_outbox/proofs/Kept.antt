@@ -86,15 +86,15 @@ module _ (o : OutboxState) (is : IsOutbox o) where
 
   -- the book of what was put
   abbrev mine : Client
-  mine = record (client_of o.channel o.lane.put [] None) { spent = o.credit.spent; absolved = o.credit.absolved; send_left = o.send_left }
+  mine = record (client_of o.lane.version o.channel o.lane.put [] None) { spent = o.credit.spent; absolved = o.credit.absolved; send_left = o.send_left }
 
   -- a frame was put that might be, and what is counted and left is by its book's rule
-  kept_put : (f : Frame) (lane : End) (new : Outgoing) (left : Option ℕ) → MayPut o.channel o.lane.put f → lane ≡ record o.lane { put = o.lane.put ++ f ∷ [] } → o.channel ≡ channel_of f → IsIdle new → new.spent ≡ (client_after_put f mine).spent → new.absolved ≡ (client_after_put f mine).absolved
+  kept_put : (f : Frame) (lane : End) (new : Outgoing) (left : Option ℕ) → MayPut o.lane.version o.channel o.lane.put f → lane ≡ record o.lane { put = o.lane.put ++ f ∷ [] } → o.channel ≡ channel_of f → IsIdle new → new.spent ≡ (client_after_put f mine).spent → new.absolved ≡ (client_after_put f mine).absolved
       → uses new.seen ≡ uses o.credit.seen ++ amounts (f ∷ []) → left ≡ (client_after_put f mine).send_left → IsOutbox (record o { lane = lane; credit = new; send_left = left })
   kept_put f lane new left may same on idle spent absolved used left_is =
-      let sums : client_after_put f mine ≡ client_of o.channel (o.lane.put ++ f ∷ []) [] None =
-      ap (client_after_put f) (λ i. record (client_of o.channel o.lane.put [] None) { spent = is.spent i; absolved = is.absolved i; send_left = is.left i })
-      ∙ subst (λ (c : Channel). client_after_put f (client_of c o.lane.put [] None) ≡ client_of c (o.lane.put ++ f ∷ []) [] None) (sym on) (books_keep_sums 0 o.lane.put [] None 0 f).0.put_here in
+      let sums : client_after_put f mine ≡ client_of o.lane.version o.channel (o.lane.put ++ f ∷ []) [] None =
+      ap (client_after_put f) (λ i. record (client_of o.lane.version o.channel o.lane.put [] None) { spent = is.spent i; absolved = is.absolved i; send_left = is.left i })
+      ∙ subst (λ (c : Channel). client_after_put f (client_of o.lane.version c o.lane.put [] None) ≡ client_of o.lane.version c (o.lane.put ++ f ∷ []) [] None) (sym on) (books_keep_sums o.lane.version 0 o.lane.put [] None 0 f).0.put_here in
       subst (λ (l : End). IsOutbox (record o { lane = l; credit = new; send_left = left })) (sym same) (record {
         lane = is.lane;
         idle = idle;
@@ -102,13 +102,13 @@ module _ (o : OutboxState) (is : IsOutbox o) where
         absolved = absolved ∙ ap (λ (b : Client). b.absolved) sums;
         uses = used ∙ (ap (λ (xs : List ℕ). xs ++ amounts (f ∷ [])) is.uses ∙ sym (amounts-push o.lane.put f));
         left = left_is ∙ ap (λ (b : Client). b.send_left) sums;
-        rules = history-push (MayPut o.channel) o.lane.put f may is.rules;
+        rules = history-push (MayPut o.lane.version o.channel) o.lane.put f may is.rules;
       })
 
-  pub kept_sent : (n : ℕ) (body : List ℕ) (lane : End) (new : Outgoing) (left : Option ℕ) → n ≡ length body → message_refusal o.send_left n ≡ None → lane ≡ record o.lane { put = o.lane.put ++ Send o.channel body ∷ [] } → left ≡ less o.send_left n → IsCounted kinds.Spend n o.credit new
+  pub kept_sent : (n : ℕ) (body : List ℕ) (lane : End) (new : Outgoing) (left : Option ℕ) → n ≡ length body → message_refusal o.lane.version o.send_left n ≡ None → lane ≡ record o.lane { put = o.lane.put ++ Send o.channel body ∷ [] } → left ≡ less o.send_left n → IsCounted kinds.Spend n o.credit new
       → IsOutbox (record o { lane = lane; credit = new; send_left = left })
   kept_sent n body lane new left len allowed same left_is h =
-      kept_put (Send o.channel body) lane new left (refl, subst (λ (left : Option ℕ). message_refusal left (length body) ≡ None) is.left (subst (λ (m : ℕ). message_refusal o.send_left m ≡ None) len allowed)) same refl (ap (λ (c : Outgoing). c.pending) h.after)
+      kept_put (Send o.channel body) lane new left (refl, subst (λ (left : Option ℕ). message_refusal o.lane.version left (length body) ≡ None) is.left (subst (λ (m : ℕ). message_refusal o.lane.version o.send_left m ≡ None) len allowed)) same refl (ap (λ (c : Outgoing). c.pending) h.after)
       (ap (λ (c : Outgoing). c.spent) h.after ∙ (ap (λ m. m + n) (used_spent kinds.Spend n o.credit h.pending h.used) ∙ ap (λ m. o.credit.spent + m) len))
       (ap (λ (c : Outgoing). c.absolved) h.after ∙ used_absolved kinds.Spend n o.credit h.pending h.used)
       (counted_uses kinds.Spend n o.credit new h ∙ ap (λ m. uses o.credit.seen ++ m ∷ []) len)

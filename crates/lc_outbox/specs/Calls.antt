@@ -1,5 +1,6 @@
 -- What a message, an absolving and a limit do to an outbox, and why they are refused. That they need guarantees, and what a limit bounds, is LCMUX's; the order of the refusals, and that a copy may get no memory and a frame no slot, is this project's own.
 use Rattle.std.specs.Prelude.{◌≡◌, ◌⊎◌, ℕ, ◌<◌, List, length, Option, Some, None}
+use Rattle.lc_frame.specs.declared.version.Version.{Version}
 use Rattle.lc_frame.specs.declared.frame.Frame.TheVariants.{Send, Absolve, LimitSending}
 use Rattle.lc_book.specs.declared.fault.Refusal.{Refusal}
 use Rattle.lc_book.specs.declared.fault.Refusal.TheVariants.{NoGuarantee, ZeroAmount, NotHeld, QueueFull, OutOfMemory}
@@ -28,19 +29,19 @@ pub record IsGivenBack (kind : Use) (n : ℕ) (old new : Outgoing) : Type 0 wher
 
 -- a message was put: neither its length nor the limit forbade it, and its bytes were spent
 pub record IsSent (body : List ℕ) (old new : OutboxState) : Type 0 where
-  pub allowed : message_refusal old.send_left (length body) ≡ None
+  pub allowed : message_refusal old.lane.version old.send_left (length body) ≡ None
   pub spent : IsCounted kinds.Spend (length body) old.credit new.credit
   pub after : new ≡ put (Send old.channel body) (record old { credit = new.credit; send_left = less old.send_left (length body) })
 
 -- why a message of so many bytes was not put, and what that leaves of the credit: 1, 2 and 3 come before a look at it, 4 by the word as it was loaded, and 14 and 13 where it had enough
-abbrev pub IsSendReason : Refusal → Option ℕ → ℕ → Outgoing → Outgoing → Type 0
-IsSendReason (NoGuarantee held) left len old new = (message_refusal left len ≡ None) × IsNotSpent (NoGuarantee held) len old new
-IsSendReason OutOfMemory left len old new = (message_refusal left len ≡ None) × IsGivenBack kinds.Spend len old new
-IsSendReason QueueFull left len old new = (message_refusal left len ≡ None) × IsGivenBack kinds.Spend len old new
-IsSendReason e left len old new = (message_refusal left len ≡ Some e) × (new ≡ old)
+abbrev pub IsSendReason : Refusal → Version → Option ℕ → ℕ → Outgoing → Outgoing → Type 0
+IsSendReason (NoGuarantee held) version left len old new = (message_refusal version left len ≡ None) × IsNotSpent (NoGuarantee held) len old new
+IsSendReason OutOfMemory version left len old new = (message_refusal version left len ≡ None) × IsGivenBack kinds.Spend len old new
+IsSendReason QueueFull version left len old new = (message_refusal version left len ≡ None) × IsGivenBack kinds.Spend len old new
+IsSendReason e version left len old new = (message_refusal version left len ≡ Some e) × (new ≡ old)
 
 pub record IsNotSent (e : Refusal) (body : List ℕ) (old new : OutboxState) : Type 0 where
-  pub reason : IsSendReason e old.send_left (length body) old.credit new.credit
+  pub reason : IsSendReason e old.lane.version old.send_left (length body) old.credit new.credit
   pub after : new ≡ record old { credit = new.credit }
 
 -- an absolving was put

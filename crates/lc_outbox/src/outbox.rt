@@ -1,6 +1,5 @@
 //! The sending end of one channel.
 ghost use Rattle.std.specs.Prelude.{◌≡◌, ◌<◌, ◌≤◌, [], ◌∷◌, ◌++◌, IfOk, IfErr, OnOk, OnErr, IfSome, IfNone, IsSome, Some, None};
-ghost use Rattle.lc_frame.specs.declared.version.Version.TheVariants.{One};
 ghost use Rattle.lc_frame.specs.Channel.{number_of};
 ghost use Rattle.lc_frame.specs.Frame.{IsValid, lane_of};
 ghost use Rattle.lc_frame.specs.Kind.{max_amount, max_total};
@@ -78,7 +77,7 @@ fn put_used<R: Wait>(
     credit: &mut CreditOut,
     frame: Frame,
 ) -> Result<(), Refusal>
-    requires valid { IsValid One frame }
+    requires valid { IsValid lane.old.version frame }
     requires lane { lane_of frame ≡ lane.old.lane }
     requires pending { IsSome credit.old.pending }
     ensures put { OnOk result (lane.new ≡ record lane.old { put = lane.old.put ++ frame ∷ [] }) }
@@ -174,15 +173,16 @@ impl Outbox {
         self.credit.held()
     }
 
-    /// A message of 1 to 65,535 bytes is sent. Refused by 1, 2, 3 and 4, by 14 where the copy of
-    /// the message gets no memory, and by 13 where the queue gives its frame back, in this order.
+    /// A message is sent, of 1 to 65,535 bytes in version One and to 1,048,576 in version Two.
+    /// Refused by 1, 2, 3 and 4, by 14 where the copy of the message gets no memory, and by 13 where
+    /// the queue gives its frame back, in this order.
     pub fn send<R: Wait>(&mut self, rt: &R, body: &[u8]) -> Result<(), Refusal>
         ensures ok { OnOk result (IsSent body.now self.old self.new) }
         ensures err { IfErr result (λ e. IsNotSent e body.now self.old self.new) }
         ensures kept { IsOutbox self.new }
         ensures same { IsSameOutbox self.old self.new }
     {
-        let left = after_message(self.send_left, body.len())?;
+        let left = after_message(self.lane.version(), self.send_left, body.len())?;
         self.credit.spend(body.len() as u32)?;
         let Ok(bytes) = Vec::from_slice(self.alloc, body) else {
             self.credit.give_back();

@@ -150,8 +150,8 @@ arrive_keeps p f c capacity valid e h =
           let k : Keeps capacity (channel p (channel_of f)) = subst (λ (d : Channel). Keeps capacity (channel p d)) same h in
           let s = channel p (channel_of f) in
           let kept : Keeps capacity (channel_after_arrival f s) = (channel_keeps f s valid e k.0, same_capacity f s ∙ k.1) in
-          subst (λ (d : Channel). Keeps capacity (channel (arrive p f) d)) (sym same) (written (Keeps capacity) p.channels (number_of (channel_of f)) (channel_after_arrival f s) (new_channel 0) kept k)
-      | inr apart ↦ subst (Keeps capacity) (sym (get_or-set_other p.channels (number_of (channel_of f)) (number_of c) _ (new_channel 0) (grind (arith, nat_tests, apart)))) h
+          subst (λ (d : Channel). Keeps capacity (channel (arrive p f) d)) (sym same) (written (Keeps capacity) p.channels (number_of (channel_of f)) (channel_after_arrival f s) (new_channel p.version 0) kept k)
+      | inr apart ↦ subst (Keeps capacity) (sym (get_or-set_other p.channels (number_of (channel_of f)) (number_of c) _ (new_channel p.version 0) (grind (arith, nat_tests, apart)))) h
     ]
 
 pub cases_violation : (o : Option Violation) → (o ≡ None) ⊎ ((v : Violation) × (o ≡ Some v))

@@ -1,4 +1,5 @@
 pub mod Made
+pub mod Versions
 pub mod Feeds
 pub mod Sinks
 pub mod Deliveries

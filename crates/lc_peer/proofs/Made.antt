@@ -1,15 +1,16 @@
--- Lists that are made element by element.
-use Rattle.std.proofs.Common.{◌≡◌, ℕ, List, [], ◌∷◌, map, refl, Result, IfOk}
-use Rattle.std.specs.Array.{AllZipBelow}
-use Rattle.std.specs.List.{AllZip}
-use Rattle.std.proofs.lemmas.Result.{IfOk-weaker}
+-- Seven channels that are made one by one.
+use Rattle.std.proofs.Common.{◌≡◌, ℕ, List, [], ◌∷◌, length, get_or, map, suc, arith}
 
--- a list whose elements are those of another, each through f
-pub map_from_zip : {A B : Type 0} (R : A → B → Type 0) (f : A → B) → ((x : A) (y : B) → R x y → y ≡ f x) → (xs : List A) (ys : List B) → AllZip R xs ys → ys ≡ map f xs
-map_from_zip R f gives [] [] h = refl
-map_from_zip R f gives [] (y ∷ ys) h = absurd h
-map_from_zip R f gives (x ∷ xs) [] h = absurd h
-map_from_zip R f gives (x ∷ xs) (y ∷ ys) h = λ i. gives x y h.0 i ∷ map_from_zip R f gives xs ys h.1 i
-
-pub map_from_made : {A B E : Type 0} (R : A → B → Type 0) (f : A → B) (xs : List A) (n : ℕ) (made : Result (List B) E) → IfOk made (λ ys. AllZipBelow R xs ys n) → ((x : A) (y : B) → R x y → y ≡ f x) → IfOk made (λ ys. ys ≡ map f xs)
-map_from_made R f xs n made all gives = IfOk-weaker made (λ ys. AllZipBelow R xs ys n) (λ ys. ys ≡ map f xs) (λ ys zip. map_from_zip R f gives xs ys zip.whole) all
+-- what is made of each of seven values is made of their list
+pub seven_made : {A B : Type 0} (f : A → B) (none : A) (xs : List A) (y0 y1 y2 y3 y4 y5 y6 : B) → length xs ≡ 7
+    → y0 ≡ f (get_or xs 0 none) → y1 ≡ f (get_or xs 1 none) → y2 ≡ f (get_or xs 2 none) → y3 ≡ f (get_or xs 3 none) → y4 ≡ f (get_or xs 4 none) → y5 ≡ f (get_or xs 5 none) → y6 ≡ f (get_or xs 6 none)
+    → y0 ∷ y1 ∷ y2 ∷ y3 ∷ y4 ∷ y5 ∷ y6 ∷ [] ≡ map f xs
+seven_made f none (x0 ∷ x1 ∷ x2 ∷ x3 ∷ x4 ∷ x5 ∷ x6 ∷ []) y0 y1 y2 y3 y4 y5 y6 seven e0 e1 e2 e3 e4 e5 e6 = cc
+seven_made f none (x0 ∷ x1 ∷ x2 ∷ x3 ∷ x4 ∷ x5 ∷ x6 ∷ x7 ∷ xs) y0 y1 y2 y3 y4 y5 y6 seven e0 e1 e2 e3 e4 e5 e6 = absurd (omega (arith, seven))
+seven_made f none [] y0 y1 y2 y3 y4 y5 y6 seven e0 e1 e2 e3 e4 e5 e6 = absurd (omega (arith, seven))
+seven_made f none (x0 ∷ []) y0 y1 y2 y3 y4 y5 y6 seven e0 e1 e2 e3 e4 e5 e6 = absurd (omega (arith, seven))
+seven_made f none (x0 ∷ x1 ∷ []) y0 y1 y2 y3 y4 y5 y6 seven e0 e1 e2 e3 e4 e5 e6 = absurd (omega (arith, seven))
+seven_made f none (x0 ∷ x1 ∷ x2 ∷ []) y0 y1 y2 y3 y4 y5 y6 seven e0 e1 e2 e3 e4 e5 e6 = absurd (omega (arith, seven))
+seven_made f none (x0 ∷ x1 ∷ x2 ∷ x3 ∷ []) y0 y1 y2 y3 y4 y5 y6 seven e0 e1 e2 e3 e4 e5 e6 = absurd (omega (arith, seven))
+seven_made f none (x0 ∷ x1 ∷ x2 ∷ x3 ∷ x4 ∷ []) y0 y1 y2 y3 y4 y5 y6 seven e0 e1 e2 e3 e4 e5 e6 = absurd (omega (arith, seven))
+seven_made f none (x0 ∷ x1 ∷ x2 ∷ x3 ∷ x4 ∷ x5 ∷ []) y0 y1 y2 y3 y4 y5 y6 seven e0 e1 e2 e3 e4 e5 e6 = absurd (omega (arith, seven))

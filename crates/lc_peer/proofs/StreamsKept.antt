@@ -4,6 +4,7 @@ use Rattle.std.proofs.lemmas.Bool.Decides.{nat_tests}
 use Rattle.std.proofs.lemmas.List.{length-set, length-map, get_or-set_same, get_or-set_other}
 use Rattle.std.proofs.Math.ListN.{get_or-map}
 use Rattle.lc_frame.specs.declared.channel.Channel.{Channel}
+use Rattle.lc_frame.specs.declared.version.Version.{Version}
 use Rattle.lc_frame.specs.declared.frame.Frame.{Frame}
 use Rattle.lc_frame.specs.Channel.{is_same, number_of}
 use Rattle.lc_frame.specs.Frame.{channel_of}
@@ -24,15 +25,15 @@ at_elsewhere : {X : Type 0} (c d : Channel) (x : X) (f : Channel → X) → is_s
 at_elsewhere c d x f apart = ap (λ (b : Bool). if b then x else f d) apart
 
 abbrev Of : Streams → Channel → ChannelState → Type 0
-Of s c x = IsChannelOf (s.capacity c) c s.put s.arrived (s.taken c) (s.asked c) x
+Of s c x = IsChannelOf s.version (s.capacity c) c s.put s.arrived (s.taken c) (s.asked c) x
 
 -- one channel is in another state, and all are those of the streams one step further
 module _ (s t : Streams) (p : PeerState) (h : IsPeerOf s p) (d : Channel) (x : ChannelState) where
   pub channels_of : Of t d x → ((c : Channel) → is_same c d ≡ false → Of s c (channel p c) → Of t c (channel p c)) → (c : Channel) → Of t c (channel (set_channel p d x) c)
   channels_of here elsewhere c =
       elim (cases_same c d) [
-        | inl same ↦ subst (λ (e : Channel). Of t e (channel (set_channel p d x) e)) (sym same) (subst (Of t d) (sym (get_or-set_same p.channels (number_of d) x (new_channel 0) (omega (arith, h.places, number_below d)))) here)
-        | inr apart ↦ subst (Of t c) (sym (get_or-set_other p.channels (number_of d) (number_of c) x (new_channel 0) (grind (arith, nat_tests, apart)))) (elsewhere c apart (h.channels c))
+        | inl same ↦ subst (λ (e : Channel). Of t e (channel (set_channel p d x) e)) (sym same) (subst (Of t d) (sym (get_or-set_same p.channels (number_of d) x (new_channel p.version 0) (omega (arith, h.places, number_below d)))) here)
+        | inr apart ↦ subst (Of t c) (sym (get_or-set_other p.channels (number_of d) (number_of c) x (new_channel p.version 0) (grind (arith, nat_tests, apart)))) (elsewhere c apart (h.channels c))
       ]
 
   pub places_of : length (set_channel p d x).channels ≡ 7
@@ -53,8 +54,9 @@ module _ (s : Streams) (p : PeerState) (h : IsPeerOf s p) where
       let d = channel_of f in
       let x = channel_after_put f (channel p d) in
       record {
+        version = h.version;
         places = places_of s (then_put f s) p h d x;
-        channels = channels_of s (then_put f s) p h d x (put_here (s.capacity d) s.put s.arrived (s.taken d) (s.asked d) (channel p d) f (h.channels d)) (λ c apart. put_elsewhere (s.capacity c) s.put s.arrived (s.taken c) (s.asked c) (channel p c) f c apart);
+        channels = channels_of s (then_put f s) p h d x (put_here s.version (s.capacity d) s.put s.arrived (s.taken d) (s.asked d) (channel p d) f (h.channels d)) (λ c apart. put_elsewhere s.version (s.capacity c) s.put s.arrived (s.taken c) (s.asked c) (channel p c) f c apart);
         waiting = longer s.put p.waiting (f ∷ []) h.waiting;
       }
 
@@ -63,10 +65,11 @@ module _ (s : Streams) (p : PeerState) (h : IsPeerOf s p) where
       let t = then_honours d (due p d) s in
       let x = channel_after_honour (channel p d) in
       record {
+        version = h.version;
         places = places_of s t p h d x;
         channels = channels_of s t p h d x
-            (subst (λ (o : Option ℕ). IsChannelOf (s.capacity d) d t.put s.arrived (s.taken d) o x) (sym (at_here d None s.asked)) (honour_here (s.capacity d) s.put s.arrived (s.taken d) (s.asked d) (channel p d) d (due p d) refl (h.channels d)))
-            (λ c apart k. subst (λ (o : Option ℕ). IsChannelOf (s.capacity c) c t.put s.arrived (s.taken c) o (channel p c)) (sym (at_elsewhere d c None s.asked apart)) (honour_elsewhere (s.capacity c) s.put s.arrived (s.taken c) (s.asked c) (channel p c) d (due p d) c apart k));
+            (subst (λ (o : Option ℕ). IsChannelOf s.version (s.capacity d) d t.put s.arrived (s.taken d) o x) (sym (at_here d None s.asked)) (honour_here s.version (s.capacity d) s.put s.arrived (s.taken d) (s.asked d) (channel p d) d (due p d) refl (h.channels d)))
+            (λ c apart k. subst (λ (o : Option ℕ). IsChannelOf s.version (s.capacity c) c t.put s.arrived (s.taken c) o (channel p c)) (sym (at_elsewhere d c None s.asked apart)) (honour_elsewhere s.version (s.capacity c) s.put s.arrived (s.taken c) (s.asked c) (channel p c) d (due p d) c apart k));
         waiting = longer s.put p.waiting (absolvings d (due p d)) h.waiting;
       }
 
@@ -77,10 +80,11 @@ module _ (s : Streams) (p : PeerState) (h : IsPeerOf s p) where
       let x = channel_after_arrival f (channel p d) in
       let asked = asked_after f (s.asked d) in
       record {
+        version = h.version;
         places = places_of s t p h d x;
         channels = channels_of s t p h d x
-            (subst (λ (o : Option ℕ). IsChannelOf (s.capacity d) d s.put t.arrived (s.taken d) o x) (sym (at_here d asked s.asked)) (arrive_here (s.capacity d) s.put s.arrived (s.taken d) (s.asked d) (channel p d) f (h.channels d)))
-            (λ c apart k. subst (λ (o : Option ℕ). IsChannelOf (s.capacity c) c s.put t.arrived (s.taken c) o (channel p c)) (sym (at_elsewhere d c asked s.asked apart)) (arrive_elsewhere (s.capacity c) s.put s.arrived (s.taken c) (s.asked c) (channel p c) f c apart k));
+            (subst (λ (o : Option ℕ). IsChannelOf s.version (s.capacity d) d s.put t.arrived (s.taken d) o x) (sym (at_here d asked s.asked)) (arrive_here s.version (s.capacity d) s.put s.arrived (s.taken d) (s.asked d) (channel p d) f (h.channels d)))
+            (λ c apart k. subst (λ (o : Option ℕ). IsChannelOf s.version (s.capacity c) c s.put t.arrived (s.taken c) o (channel p c)) (sym (at_elsewhere d c asked s.asked apart)) (arrive_elsewhere s.version (s.capacity c) s.put s.arrived (s.taken c) (s.asked c) (channel p c) f c apart k));
         waiting = h.waiting;
       }
 
@@ -89,10 +93,11 @@ module _ (s : Streams) (p : PeerState) (h : IsPeerOf s p) where
       let t = then_takes d s in
       let x : ChannelState = record (channel p d) { inbox = take_first (inbox p d) } in
       record {
+        version = h.version;
         places = places_of s t p h d x;
         channels = channels_of s t p h d x
-            (subst (λ (n : ℕ). IsChannelOf (s.capacity d) d s.put s.arrived n (s.asked d) x) (sym (at_here d (s.taken d + 1) s.taken)) (take_here (s.capacity d) s.put s.arrived (s.taken d) (s.asked d) (channel p d) d some (h.channels d)))
-            (λ c apart k. subst (λ (n : ℕ). IsChannelOf (s.capacity c) c s.put s.arrived n (s.asked c) (channel p c)) (sym (at_elsewhere d c (s.taken d + 1) s.taken apart)) k);
+            (subst (λ (n : ℕ). IsChannelOf s.version (s.capacity d) d s.put s.arrived n (s.asked d) x) (sym (at_here d (s.taken d + 1) s.taken)) (take_here s.version (s.capacity d) s.put s.arrived (s.taken d) (s.asked d) (channel p d) d some (h.channels d)))
+            (λ c apart k. subst (λ (n : ℕ). IsChannelOf s.version (s.capacity c) c s.put s.arrived n (s.asked c) (channel p c)) (sym (at_elsewhere d c (s.taken d + 1) s.taken apart)) k);
         waiting = h.waiting;
       }
 
@@ -100,8 +105,9 @@ module _ (s : Streams) (p : PeerState) (h : IsPeerOf s p) where
   takes_none d none =
       let x : ChannelState = record (channel p d) { inbox = take_first (inbox p d) } in
       record {
+        version = h.version;
         places = places_of s s p h d x;
-        channels = channels_of s s p h d x (take_none (s.capacity d) s.put s.arrived (s.taken d) (s.asked d) (channel p d) d none (h.channels d)) (λ c apart k. k);
+        channels = channels_of s s p h d x (take_none s.version (s.capacity d) s.put s.arrived (s.taken d) (s.asked d) (channel p d) d none (h.channels d)) (λ c apart k. k);
         waiting = h.waiting;
       }
 
@@ -112,15 +118,16 @@ calls_keep_streams s p h = record {
   arrives = arrives s p h;
   takes = takes s p h;
   takes_none = takes_none s p h;
-  goes_out = record { places = h.places; channels = h.channels; waiting = shorter s.put p.waiting h.waiting };
+  goes_out = record { version = h.version; places = h.places; channels = h.channels; waiting = shorter s.put p.waiting h.waiting };
 }
 
-new_channel_of : (capacity : ℕ) (c : Channel) → IsChannelOf capacity c [] [] 0 None (new_channel capacity)
-new_channel_of capacity c = record { client = refl; server = refl; waiting = refl; room = refl; of_arrived = omega arith }
+new_channel_of : (version : Version) (capacity : ℕ) (c : Channel) → IsChannelOf version capacity c [] [] 0 None (new_channel version capacity)
+new_channel_of version capacity c = record { client = refl; server = refl; waiting = refl; room = refl; of_arrived = omega arith }
 
 pub new_peers_are_of_streams : NewPeersAreOfStreams
 new_peers_are_of_streams config places = record {
-  places = length-map config.capacities new_channel ∙ places;
-  channels = λ c. subst (Of (new_streams config) c) (sym (get_or-map new_channel config.capacities (number_of c) 0)) (new_channel_of (get_or config.capacities (number_of c) 0) c);
+  version = refl;
+  places = length-map config.capacities (new_channel config.version) ∙ places;
+  channels = λ c. subst (Of (new_streams config) c) (sym (get_or-map (new_channel config.version) config.capacities (number_of c) 0)) (new_channel_of config.version (get_or config.capacities (number_of c) 0) c);
   waiting = ([], refl);
 }

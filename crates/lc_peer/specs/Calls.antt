@@ -78,6 +78,7 @@ pub record TakesOn (c : Channel) (take : Take) (old new : PeerState) : Type 0 wh
   pub inbox : Takes take (inbox old c) (inbox new c)
   pub client : client new c ≡ client old c
   pub elsewhere : (d : Channel) → is_same d c ≡ false → channel new d ≡ channel old d
+  pub version : new.version ≡ old.version
   pub waiting : new.waiting ≡ old.waiting
   pub slots : new.slots ≡ old.slots
 

@@ -27,4 +27,4 @@ IsNewAnswer config answer = (answer ≡ config_fault config) ⊎ ((config_fault 
 
 -- nothing has happened on any channel, and no frame waits
 abbrev pub new_peer : Config → PeerState
-new_peer config = record { channels = map new_channel config.capacities; waiting = []; slots = config.slots }
+new_peer config = record { version = config.version; channels = map (new_channel config.version) config.capacities; waiting = []; slots = config.slots }

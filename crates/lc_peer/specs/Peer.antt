@@ -5,26 +5,27 @@ use Rattle.lc_frame.specs.Bounds.{IsSlots}
 use Rattle.lc_frame.specs.declared.channel.Channel.{Channel}
 use Rattle.lc_frame.specs.declared.frame.Frame.{Frame}
 use Rattle.lc_frame.specs.Channel.{number_of}
-use Rattle.lc_frame.specs.declared.version.Version.TheVariants.{One}
+use Rattle.lc_frame.specs.declared.version.Version.{Version}
 use Rattle.lc_frame.specs.Frame.{IsValid}
 use Rattle.lc_book.specs.Client.{Client, IsClient, new_client}
 use Rattle.lc_book.specs.Server.{Server}
 use Rattle.lc_peer.specs.declared.channel_state.ChannelState.{ChannelState}
 use Rattle.lc_peer.specs.Inbox.{InboxState, IsInbox, new_inbox}
 
--- the channels by their numbers, the frames that wait to go out, the first first, and how many there may be
+-- the version of the stream that the peer writes, the channels by their numbers, the frames that wait to go out, the first first, and how many there may be
 pub record PeerState : Type 0 where
+  pub version : Version
   pub channels : List ChannelState
   pub waiting : List Frame
   pub slots : ℕ
 
 -- a channel on which nothing has happened
-abbrev pub new_channel : ℕ → ChannelState
-new_channel capacity = record { client = new_client; inbox = new_inbox capacity }
+abbrev pub new_channel : Version → ℕ → ChannelState
+new_channel version capacity = record { client = new_client version; inbox = new_inbox capacity }
 
 -- the state of a channel, by its number. Every peer has all seven places; past the last one a channel without a ring would be read
 abbrev pub channel : PeerState → Channel → ChannelState
-channel p c = slice_index_or p.channels (number_of c) (new_channel 0)
+channel p c = slice_index_or p.channels (number_of c) (new_channel p.version 0)
 
 abbrev pub client : PeerState → Channel → Client
 client p c = (channel p c).client
@@ -45,7 +46,7 @@ pub record IsChannel (s : ChannelState) : Type 0 where
   pub inbox : IsInbox s.inbox
 
 -- what the waiting frames of every peer keep
-pub record AreWaiting (slots : ℕ) (frames : List Frame) : Type 0 where
+pub record AreWaiting (version : Version) (slots : ℕ) (frames : List Frame) : Type 0 where
   pub bound : IsSlots slots
   pub fit : length frames ≤ slots
-  pub each : AllByRecursion (IsValid One) frames
+  pub each : AllByRecursion (IsValid version) frames

@@ -4,12 +4,13 @@ use Rattle.std.specs.List.{AllByRecursion}
 use Rattle.circular_buffer.specs.Buffer.{Buffer}
 use Rattle.lc_frame.specs.Bounds.{IsSlots}
 use Rattle.lc_frame.specs.declared.frame.Frame.{Frame}
-use Rattle.lc_frame.specs.declared.version.Version.TheVariants.{One}
+use Rattle.lc_frame.specs.declared.version.Version.{Version}
 use Rattle.lc_frame.specs.Frame.{IsValid}
 use Rattle.lc_peer.specs.declared.channel_state.ChannelState.{ChannelState}
 
--- every channel has its place, as many frames may wait as a configuration allows, and those that wait are valid
-pub record ArePeerFields (channels : List ChannelState) (waiting : Buffer Frame) : Type 0 where
+-- every channel has its place and sends in the peer's version, as many frames may wait as a configuration allows, and those that wait are valid in that version
+pub record ArePeerFields (version : Version) (channels : List ChannelState) (waiting : Buffer Frame) : Type 0 where
   pub places : length channels ≡ 7
+  pub versions : AllByRecursion (λ s. s.client.version ≡ version) channels
   pub slots : IsSlots waiting.capacity
-  pub each : AllByRecursion (IsValid One) waiting.items
+  pub each : AllByRecursion (IsValid version) waiting.items

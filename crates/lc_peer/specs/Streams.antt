@@ -4,6 +4,7 @@ use Rattle.std.specs.List.{AllByRecursion}
 use Rattle.lc_frame.specs.declared.channel.Channel.{Channel}
 use Rattle.lc_frame.specs.declared.frame.Frame.{Frame}
 use Rattle.lc_frame.specs.Channel.{is_same, number_of}
+use Rattle.lc_frame.specs.declared.version.Version.{Version}
 use Rattle.lc_frame.specs.declared.version.Version.TheVariants.{Two}
 use Rattle.lc_frame.specs.Frame.{channel_of, IsValid}
 use Rattle.lc_frame.specs.Stream.{messages}
@@ -19,8 +20,8 @@ use Rattle.lc_peer.specs.Arrivals.{violation_at, arrive, Arrival, arrivals}
 use Rattle.lc_peer.specs.Config.{new_peer}
 
 -- a channel is that of two streams, where so many of its messages were taken, and this plead is kept
-pub record IsChannelOf (capacity : ℕ) (c : Channel) (put arrived : List Frame) (taken : ℕ) (asked : Option ℕ) (s : ChannelState) : Type 0 where
-  pub client : s.client ≡ client_of c put arrived asked
+pub record IsChannelOf (version : Version) (capacity : ℕ) (c : Channel) (put arrived : List Frame) (taken : ℕ) (asked : Option ℕ) (s : ChannelState) : Type 0 where
+  pub client : s.client ≡ client_of version c put arrived asked
   pub server : s.inbox.book ≡ server_of capacity c put arrived (taken_cost c arrived taken)
   pub waiting : s.inbox.ring.messages ≡ drop taken (messages c arrived)
   pub room : s.inbox.ring.capacity ≡ capacity
@@ -30,8 +31,9 @@ pub record IsChannelOf (capacity : ℕ) (c : Channel) (put arrived : List Frame)
 abbrev pub IsEndOf : List Frame → List Frame → Type 0
 IsEndOf frames end = (before : List Frame) × (frames ≡ before ++ end)
 
--- what was done with two streams: the frames that the peer put, those that arrived at it, and of each channel the capacity of its ring, how many messages were taken, and the plead that is kept
+-- what was done with two streams: the version of the one that the peer writes, the frames that the peer put, those that arrived at it, and of each channel the capacity of its ring, how many messages were taken, and the plead that is kept
 pub record Streams : Type 0 where
+  pub version : Version
   pub put : List Frame
   pub arrived : List Frame
   pub capacity : Channel → ℕ
@@ -40,8 +42,9 @@ pub record Streams : Type 0 where
 
 -- a peer is that of two streams: so is each of its channels, and the frames that wait are the last that it put
 pub record IsPeerOf (streams : Streams) (p : PeerState) : Type 0 where
+  pub version : p.version ≡ streams.version
   pub places : length p.channels ≡ 7
-  pub channels : (c : Channel) → IsChannelOf (streams.capacity c) c streams.put streams.arrived (streams.taken c) (streams.asked c) (channel p c)
+  pub channels : (c : Channel) → IsChannelOf streams.version (streams.capacity c) c streams.put streams.arrived (streams.taken c) (streams.asked c) (channel p c)
   pub waiting : IsEndOf streams.put p.waiting
 
 -- one channel has another number, every other the one it had
@@ -50,7 +53,7 @@ at c x f d = if is_same d c then x else f d
 
 -- the streams of a new peer, and one step further
 abbrev pub new_streams : Config → Streams
-new_streams config = record { put = []; arrived = []; capacity = λ c. slice_index config.capacities (number_of c); taken = λ c. 0; asked = λ c. None }
+new_streams config = record { version = config.version; put = []; arrived = []; capacity = λ c. slice_index config.capacities (number_of c); taken = λ c. 0; asked = λ c. None }
 
 abbrev pub then_put : Frame → Streams → Streams
 then_put f s = record s { put = s.put ++ f ∷ [] }

@@ -9,7 +9,7 @@ ghost use Rattle.lc_peer.specs.Arrivals.{violation, channel_after_arrival};
 
 use crate::inbox::Inbox;
 use lc_book::{ClientBook, Violation};
-use lc_frame::FrameRef;
+use lc_frame::{FrameRef, Version};
 use lc_ring::NewFault;
 use std::alloc::Global;
 
@@ -19,12 +19,12 @@ pub(crate) struct ChannelState {
     pub inbox: Inbox,
 }
 
-/// A channel on which nothing has happened.
-pub(crate) fn new_channel(alloc: Global, capacity: u32) -> Result<ChannelState, NewFault>
-    ensures { IfOk result (λ state. state ≡ new_channel capacity) }
+// A channel on which nothing has happened.
+fn new_channel(alloc: Global, version: Version, capacity: u32) -> Result<ChannelState, NewFault>
+    ensures { IfOk result (λ state. state ≡ new_channel version capacity) }
 {
     Ok(ChannelState {
-        client: ClientBook::new(),
+        client: ClientBook::new(version),
         inbox: Inbox::new(alloc, capacity)?,
     })
 }
@@ -54,14 +54,20 @@ impl ChannelState {
 /// Seven such channels.
 pub(crate) fn new_channels(
     alloc: Global,
+    version: Version,
     capacities: [u32; 7],
 ) -> Result<[ChannelState; 7], NewFault>
     requires { length capacities ≡ 7 }
-    ensures { IfOk result (λ states. states ≡ map new_channel capacities) }
+    ensures { IfOk result (λ states. states ≡ map (new_channel version) capacities) }
 {
-    capacities.try_map(
-        |capacity: u32| -> Result<ChannelState, NewFault>
-            ensures { IfOk result (λ state. state ≡ new_channel capacity) }
-        { new_channel(alloc, capacity) },
-    )
+    let [a, b, c, d, e, f, g] = capacities;
+    Ok([
+        new_channel(alloc, version, a)?,
+        new_channel(alloc, version, b)?,
+        new_channel(alloc, version, c)?,
+        new_channel(alloc, version, d)?,
+        new_channel(alloc, version, e)?,
+        new_channel(alloc, version, f)?,
+        new_channel(alloc, version, g)?,
+    ])
 }

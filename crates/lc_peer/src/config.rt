@@ -3,12 +3,14 @@ ghost use Rattle.std.specs.Prelude.{◌≡◌, ◌≤◌, ◌↔◌, IsTrue};
 ghost use Rattle.lc_peer.specs.Config.{first_bad, config_fault};
 ghost use Rattle.std.specs.Result.{result_err};
 
-use lc_frame::{Channel, is_capacity, is_slots};
+use lc_frame::{Channel, Version, is_capacity, is_slots};
 use thiserror::Error;
 
 /// The bounds of a peer.
 #[derive(Clone, Copy, Debug, PartialEq, Eq)]
 pub struct Config {
+    /// The version of the stream that the peer writes. What arrives may be of either.
+    pub version: Version,
     /// The bytes of each channel's receiving ring, 1 to 2^24, by the channel's number.
     pub capacities: [u32; 7],
     /// How many frames may wait to go out, 1 to 65,536.

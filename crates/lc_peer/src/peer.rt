@@ -7,7 +7,7 @@ ghost use Rattle.std.specs.Result.{result_err};
 ghost use Rattle.lc_frame.specs.Bounds.{max_slots};
 ghost use Rattle.lc_frame.specs.declared.frame.Frame.TheVariants.{Send, Issue, Absolve, Plead, LimitSending, LimitReceiving};
 ghost use Rattle.lc_frame.specs.FrameRef.{frame_of};
-ghost use Rattle.lc_frame.specs.declared.version.Version.TheVariants.{One, Two};
+ghost use Rattle.lc_frame.specs.declared.version.Version.TheVariants.{Two};
 ghost use Rattle.lc_frame.specs.Frame.{channel_of, IsValid};
 ghost use Rattle.lc_book.specs.Client.{IsClient};
 ghost use Rattle.lc_book.specs.Sums.{client_after_put, server_after_put};
@@ -23,7 +23,7 @@ use crate::config::{Config, PeerFault};
 use crate::inbox::Take;
 use circular_buffer::HeapCircularBuffer;
 use lc_book::{ClientBook, Refusal, ServerBook, Violation};
-use lc_frame::{Body, Channel, Frame, FrameRef};
+use lc_frame::{Body, Channel, Frame, FrameRef, Version};
 use std::alloc::Global;
 use std::marker::Model;
 
@@ -31,6 +31,7 @@ use std::marker::Model;
 #[derive(Debug)]
 pub struct Peer {
     alloc: Global,
+    version: Version,
     channels: [ChannelState; 7],
     waiting: HeapCircularBuffer<Frame>,
 }
@@ -40,6 +41,7 @@ impl Drop for Peer {
     fn drop(self) {
         let Peer {
             alloc: _,
+            version: _,
             channels: _,
             waiting: _,
         } = self;
@@ -53,9 +55,9 @@ impl Model for Peer {
 
     ghost Value = { PeerState };
 
-    ghost view = { λ peer. record { channels = peer.channels; waiting = peer.waiting.items; slots = peer.waiting.capacity } };
+    ghost view = { λ peer. record { version = peer.version; channels = peer.channels; waiting = peer.waiting.items; slots = peer.waiting.capacity } };
 
-    ghost invariant = { λ peer. ArePeerFields peer.channels peer.waiting };
+    ghost invariant = { λ peer. ArePeerFields peer.version peer.channels peer.waiting };
 }
 
 // Puts a frame last, where it may wait.
@@ -78,7 +80,7 @@ impl Peer {
         ensures value { IfOk result (λ peer. peer ≡ new_peer config) }
     {
         config.judge()?;
-        let Ok(channels) = new_channels(alloc, config.capacities) else {
+        let Ok(channels) = new_channels(alloc, config.version, config.capacities) else {
             return Err(PeerFault::OutOfMemory);
         };
         let Ok(waiting) = HeapCircularBuffer::with_capacity(alloc, config.slots as usize) else {
@@ -86,13 +88,23 @@ impl Peer {
         };
         Ok(Peer {
             alloc,
+            version: config.version,
             channels,
             waiting,
         })
     }
 
-    /// A message of 1 to 65,535 bytes is sent. Refused by 1, 2, 3 and 4, by 14 where the copy of the body
-    /// gets no memory, and by 13, in this order: the copy is made before a place is looked for.
+    /// The version of the stream that the peer writes.
+    #[inline]
+    pub fn version(&self) -> Version
+        ensures { result ≡ self.now.version }
+    {
+        self.version
+    }
+
+    /// A message is sent, of 1 to 65,535 bytes in version One and to 1,048,576 in version Two.
+    /// Refused by 1, 2, 3 and 4, by 14 where the copy of the body gets no memory, and by 13, in this
+    /// order: the copy is made before a place is looked for.
     pub fn send(&mut self, channel: Channel, body: &[u8]) -> Result<(), Refusal>
         ensures answer { IsSendAnswer self.old (Send channel body.now) (result_err result) }
         ensures after { self.new ≡ (if is_ok result then put self.old (Send channel body.now) else self.old) }
@@ -201,7 +213,7 @@ impl Peer {
         sending: ClientBook,
         receiving: ServerBook,
     ) -> Result<(), Refusal>
-        requires valid { IsValid One frame }
+        requires valid { IsValid self.old.version frame }
         requires client { sending ≡ client_after_put frame (client self.old (channel_of frame)) }
         requires server { receiving ≡ server_after_put frame (server self.old (channel_of frame)) }
         ensures answer { result_err result ≡ queue_refusal self.old }
@@ -266,7 +278,7 @@ impl Peer {
     pub fn next_out(&mut self) -> Option<Frame>
         ensures value { result ≡ next self.old }
         ensures after { self.new ≡ without_next self.old }
-        ensures valid { IfSome result (IsValid One) }
+        ensures valid { IfSome result (IsValid self.old.version) }
     {
         self.waiting.pop_front()
     }
@@ -277,7 +289,7 @@ impl Peer {
         ensures value { result ≡ length self.now.waiting }
         ensures slots { result ≤ self.now.slots }
         ensures small { result ≤ max_slots }
-        ensures kept { AreWaiting self.now.slots self.now.waiting }
+        ensures kept { AreWaiting self.now.version self.now.slots self.now.waiting }
     {
         self.waiting.len()
     }
@@ -287,7 +299,7 @@ impl Peer {
     pub fn waiting_frame(&self, place: usize) -> Option<FrameRef<'_>>
         ensures value { option_map frame_of result ≡ slice_get self.now.waiting place }
         ensures within { IsSome result ↔ (place < length self.now.waiting) }
-        ensures valid { IfSome result (λ frame. IsValid One (frame_of frame)) }
+        ensures valid { IfSome result (λ frame. IsValid self.now.version (frame_of frame)) }
     {
         match self.waiting.get(place) {
             Some(frame) => Some(frame.view()),
@@ -299,6 +311,7 @@ impl Peer {
     #[inline]
     pub fn client(&self, channel: Channel) -> ClientBook
         ensures value { result ≡ client self.now channel }
+        ensures version { result.version ≡ self.now.version }
         ensures kept { IsClient result }
     {
         let book = self.channels[channel.index()].client;

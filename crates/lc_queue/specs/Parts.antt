@@ -2,6 +2,7 @@
 use Rattle.std.specs.Prelude.{◌≡◌, ℕ, ◌<◌, List, [], ◌∷◌, ◌++◌, length, map}
 use Rattle.std.specs.List.{All}
 use Rattle.atomic_table.specs.Seated.{TableId}
+use Rattle.lc_frame.specs.declared.version.Version.{Version}
 use Rattle.lc_frame.specs.declared.frame.Frame.{Frame}
 use Rattle.lc_frame.specs.Stream.{of_lane}
 use Rattle.lc_queue.specs.declared.rule.JoinedLane.{JoinedLane}
@@ -14,15 +15,17 @@ QueueId = TableId
 abbrev pub slots_of : QueueId → ℕ
 slots_of queue = queue.slots
 
--- the end of a lane: its queue, the lane's number, and what was put there, in order
+-- the end of a lane: its queue, the version of the stream that the frames go out on, the lane's number, and what was put there, in order
 pub record End : Type 0 where
   pub queue : QueueId
+  pub version : Version
   pub lane : ℕ
   pub put : List Frame
 
--- the drain: its queue, what it popped, in order, and the lanes whose ends were joined to it, the last one first
+-- the drain: its queue, the version, what it popped, in order, and the lanes whose ends were joined to it, the last one first
 pub record Outlet : Type 0 where
   pub queue : QueueId
+  pub version : Version
   pub popped : List Frame
   pub joined : List JoinedLane
 
@@ -30,20 +33,20 @@ pub record Outlet : Type 0 where
 abbrev pub IsSame : QueueId → QueueId → Type 0
 IsSame a b = a ≡ b
 
--- it is still the end of the same lane of the same queue
+-- it is still the end of the same lane of the same queue, in the same version
 abbrev pub IsSameEnd : End → End → Type 0
-IsSameEnd old new = IsSame new.queue old.queue × (new.lane ≡ old.lane)
+IsSameEnd old new = IsSame new.queue old.queue × (new.lane ≡ old.lane) × (new.version ≡ old.version)
 
 -- the end of a lane at which nothing was put, and a drain that popped nothing
-abbrev pub new_end : QueueId → ℕ → End
-new_end queue lane = record { queue = queue; lane = lane; put = [] }
+abbrev pub new_end : QueueId → Version → ℕ → End
+new_end queue version lane = record { queue = queue; version = version; lane = lane; put = [] }
 
-abbrev pub new_outlet : QueueId → Outlet
-new_outlet queue = record { queue = queue; popped = []; joined = [] }
+abbrev pub new_outlet : QueueId → Version → Outlet
+new_outlet queue version = record { queue = queue; version = version; popped = []; joined = [] }
 
 -- the ends of the lanes 0 to 13, in order
-abbrev pub new_ends : QueueId → List End
-new_ends queue = map (new_end queue) (0 ∷ 1 ∷ 2 ∷ 3 ∷ 4 ∷ 5 ∷ 6 ∷ 7 ∷ 8 ∷ 9 ∷ 10 ∷ 11 ∷ 12 ∷ 13 ∷ [])
+abbrev pub new_ends : QueueId → Version → List End
+new_ends queue version = map (new_end queue version) (0 ∷ 1 ∷ 2 ∷ 3 ∷ 4 ∷ 5 ∷ 6 ∷ 7 ∷ 8 ∷ 9 ∷ 10 ∷ 11 ∷ 12 ∷ 13 ∷ [])
 
 -- the lane that an end leaves behind when it is joined
 abbrev pub lane_of_end : End → JoinedLane

@@ -6,60 +6,65 @@ use Rattle.lc_frame.specs.declared.frame.Frame.{Frame}
 use Rattle.lc_frame.specs.Frame.{IsValid}
 use Rattle.lc_frame.specs.Stream.{of_lane}
 use Rattle.lc_queue.specs.declared.rule.JoinedLane.{JoinedLane}
+use Rattle.lc_queue.specs.declared.rule.Terms.{Terms}
 use Rattle.lc_queue.specs.declared.rule.View.{View}
 use Rattle.lc_queue.specs.declared.rule.View.TheVariants.{Lane, Drain}
 use Rattle.lc_queue.specs.Parts.{IsBegun}
 
+-- what the passes of a new queue know of it
+abbrev pub no_terms : Terms
+no_terms = record { slots = 0; version = One }
+
 -- the parts of a view, each by the variants that have it
-abbrev pub slots_of_view : View → ℕ
-slots_of_view (Lane slots lane put) = slots
-slots_of_view (Drain slots next popped joined) = slots
-slots_of_view v = 0
+abbrev pub terms_of : View → Terms
+terms_of (Lane terms lane put) = terms
+terms_of (Drain terms next popped joined) = terms
+terms_of v = no_terms
 
 abbrev pub lane_of_view : View → ℕ
-lane_of_view (Lane slots lane put) = lane
+lane_of_view (Lane terms lane put) = lane
 lane_of_view v = 0
 
 abbrev pub put_of : View → List Frame
-put_of (Lane slots lane put) = put
+put_of (Lane terms lane put) = put
 put_of v = []
 
 abbrev pub next_of : View → ℕ
-next_of (Drain slots next popped joined) = next
+next_of (Drain terms next popped joined) = next
 next_of v = 0
 
 abbrev pub popped_of : View → List Frame
-popped_of (Drain slots next popped joined) = popped
+popped_of (Drain terms next popped joined) = popped
 popped_of v = []
 
 abbrev pub joined_of : View → List JoinedLane
-joined_of (Drain slots next popped joined) = joined
+joined_of (Drain terms next popped joined) = joined
 joined_of v = []
 
--- the pass of lane 0 is cut from that of a new queue, which is told its slots
+-- the pass of lane 0 is cut from that of a new queue, which is told its terms
 abbrev pub new_view : View
-new_view = Drain 0 0 [] []
+new_view = Drain no_terms 0 [] []
 
-abbrev pub first_drain_cut : ℕ → View → View
-first_drain_cut slots v = Drain slots 1 [] []
+abbrev pub first_drain_cut : Terms → View → View
+first_drain_cut terms v = Drain terms 1 [] []
 
-abbrev pub first_lane_cut : ℕ → View → View
-first_lane_cut slots v = Lane slots 0 []
+abbrev pub first_lane_cut : Terms → View → View
+first_lane_cut terms v = Lane terms 0 []
 
 -- the pass of the next lane is cut from the drain's
 abbrev pub drain_cut : View → View
-drain_cut v = Drain (slots_of_view v) (next_of v + 1) (popped_of v) (joined_of v)
+drain_cut v = Drain (terms_of v) (next_of v + 1) (popped_of v) (joined_of v)
 
 abbrev pub lane_cut : View → View
-lane_cut v = Lane (slots_of_view v) (next_of v) []
+lane_cut v = Lane (terms_of v) (next_of v) []
 
 -- the drain takes over what a lane's end knew
 abbrev pub drain_joined : View → View → View
-drain_joined v w = Drain (slots_of_view v) (next_of v) (popped_of v) (record { lane = lane_of_view w; put = put_of w } ∷ joined_of v)
+drain_joined v w = Drain (terms_of v) (next_of v) (popped_of v) (record { lane = lane_of_view w; put = put_of w } ∷ joined_of v)
 
 -- a push that succeeds
 abbrev pub Puts : View → Frame → View → Type 0
-Puts v frame w = w ≡ Lane (slots_of_view v) (lane_of_view v) (put_of v ++ frame ∷ [])
+Puts v frame w = w ≡ Lane (terms_of v) (lane_of_view v) (put_of v ++ frame ∷ [])
 
 -- a push that finds the queue full learns nothing of it: others put and pop what is queued
 abbrev pub FindsFull : View → List Frame → Type 0
@@ -68,7 +73,7 @@ FindsFull v queued = Unit {0}
 -- a pop that takes, and a pop that finds the queue empty
 abbrev pub Takes : View → Frame → View → Type 0
 Takes v frame w =
-    (w ≡ Drain (slots_of_view v) (next_of v) (popped_of v ++ frame ∷ []) (joined_of v)) × IsValid One frame × All (IsBegun (slots_of_view v) (popped_of v ++ frame ∷ [])) (joined_of v)
+    (w ≡ Drain (terms_of v) (next_of v) (popped_of v ++ frame ∷ []) (joined_of v)) × IsValid (terms_of v).version frame × All (IsBegun (terms_of v).slots (popped_of v ++ frame ∷ [])) (joined_of v)
 
 abbrev pub FindsEmpty : View → List Frame → Type 0
 FindsEmpty v queued = All (λ l. of_lane l.lane (popped_of v ++ queued) ≡ l.put) (joined_of v)

@@ -1,13 +1,12 @@
 //! Where the frames of all lanes are popped.
 ghost use Rattle.std.specs.Prelude.{◌≡◌, [], ◌∷◌, ◌++◌, MatchOption, IfSome, IfNone};
-ghost use Rattle.lc_frame.specs.declared.version.Version.TheVariants.{One};
 ghost use Rattle.lc_frame.specs.Frame.{IsValid};
 ghost use Rattle.lc_queue.specs.Parts.{IsSame, AllPopped, AreBegun, lane_of_end};
 
 use crate::lane_end::LaneEnd;
 use crate::rule::{EndOfLane, Pop, Queue, View};
 use crossbeam_queue::Pass;
-use lc_frame::Frame;
+use lc_frame::{Frame, Version};
 use std::alloc::Global;
 use std::fmt;
 use std::fmt::{Debug, Formatter};
@@ -20,6 +19,7 @@ use std::sync::{Arc, Wait};
 pub struct Drain {
     pub(crate) queue: Arc<Queue, Global>,
     pub(crate) pass: Pass<Frame, View>,
+    pub(crate) version: Version,
 }
 
 impl Model for Drain {
@@ -32,9 +32,9 @@ impl Model for Drain {
 
     ghost Value = { Outlet };
 
-    ghost view = { λ d. record { queue = d.pass.table_id; popped = popped_of (pass_view d.pass); joined = joined_of (pass_view d.pass) } };
+    ghost view = { λ d. record { queue = d.pass.table_id; version = d.version; popped = popped_of (pass_view d.pass); joined = joined_of (pass_view d.pass) } };
 
-    ghost invariant = { λ d. IsPassOf (arc_value d.queue) d.pass × (pass_view d.pass ≡ Drain d.pass.table_id.slots 14 (popped_of (pass_view d.pass)) (joined_of (pass_view d.pass))) };
+    ghost invariant = { λ d. IsPassOf (arc_value d.queue) d.pass × (pass_view d.pass ≡ Drain (record { slots = d.pass.table_id.slots; version = d.version }) 14 (popped_of (pass_view d.pass)) (joined_of (pass_view d.pass))) };
 }
 
 impl Debug for Drain {
@@ -44,14 +44,21 @@ impl Debug for Drain {
 }
 
 impl Drain {
-    /// Takes the frame that has been queued longest; it is valid. Of each lane that ended, what was
-    /// popped is then the beginning of what was put there. `None` comes only where the queue was
-    /// empty at a step of the call, so that all which was put in the lanes that ended was popped. It
-    /// does not try again.
+    /// The version of the stream that the frames go out on.
+    pub fn version(&self) -> Version
+        ensures { result ≡ self.now.version }
+    {
+        self.version
+    }
+
+    /// Takes the frame that has been queued longest; it is valid in the version. Of each lane that
+    /// ended, what was popped is then the beginning of what was put there. `None` comes only where the
+    /// queue was empty at a step of the call, so that all which was put in the lanes that ended was
+    /// popped. It does not try again.
     pub fn pop<R: Wait>(&mut self, rt: &R) -> Option<Frame>
         ensures same { IsSame self.new.queue self.old.queue }
         ensures after { MatchOption result (self.new ≡ self.old) (λ frame. self.new ≡ record self.old { popped = self.old.popped ++ frame ∷ [] }) }
-        ensures valid { IfSome result (λ frame. IsValid One frame) }
+        ensures valid { IfSome result (λ frame. IsValid self.old.version frame) }
         ensures begun { IfSome result (λ _. AreBegun self.new) }
         ensures empty { IfNone result (AllPopped self.old) }
     {
@@ -69,6 +76,7 @@ impl Drain {
         let LaneEnd {
             queue: _,
             pass,
+            version: _,
             lane: _,
         } = end;
         self.queue.absorb::<EndOfLane>(&mut self.pass, pass);

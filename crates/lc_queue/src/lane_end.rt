@@ -1,12 +1,11 @@
 //! Where the frames of one lane are put.
 ghost use Rattle.std.specs.Prelude.{◌≡◌, ◌<◌, [], ◌∷◌, ◌++◌, MatchResult};
-ghost use Rattle.lc_frame.specs.declared.version.Version.TheVariants.{One};
 ghost use Rattle.lc_frame.specs.Frame.{lane_of, IsValid};
 ghost use Rattle.lc_queue.specs.Parts.{IsSameEnd};
 
 use crate::rule::{Push, Queue, View};
 use crossbeam_queue::Pass;
-use lc_frame::Frame;
+use lc_frame::{Frame, Version};
 use std::alloc::Global;
 use std::fmt;
 use std::fmt::{Debug, Formatter};
@@ -19,6 +18,7 @@ use std::sync::{Arc, Wait};
 pub struct LaneEnd {
     pub(crate) queue: Arc<Queue, Global>,
     pub(crate) pass: Pass<Frame, View>,
+    pub(crate) version: Version,
     pub(crate) lane: u8,
 }
 
@@ -32,9 +32,9 @@ impl Model for LaneEnd {
 
     ghost Value = { End };
 
-    ghost view = { λ e. record { queue = e.pass.table_id; lane = e.lane; put = put_of (pass_view e.pass) } };
+    ghost view = { λ e. record { queue = e.pass.table_id; version = e.version; lane = e.lane; put = put_of (pass_view e.pass) } };
 
-    ghost invariant = { λ e. IsPassOf (arc_value e.queue) e.pass × (pass_view e.pass ≡ Lane e.pass.table_id.slots e.lane (put_of (pass_view e.pass))) × (e.lane < 14) };
+    ghost invariant = { λ e. IsPassOf (arc_value e.queue) e.pass × (pass_view e.pass ≡ Lane (record { slots = e.pass.table_id.slots; version = e.version }) e.lane (put_of (pass_view e.pass))) × (e.lane < 14) };
 }
 
 impl Debug for LaneEnd {
@@ -46,6 +46,13 @@ impl Debug for LaneEnd {
 }
 
 impl LaneEnd {
+    /// The version of the stream that the frames go out on.
+    pub fn version(&self) -> Version
+        ensures { result ≡ self.now.version }
+    {
+        self.version
+    }
+
     /// The lane's number, 0 to 13: the channel's for what a client puts, 7 more for what a server
     /// puts.
     pub fn lane(&self) -> u8
@@ -55,12 +62,12 @@ impl LaneEnd {
         self.lane
     }
 
-    /// Puts a valid frame of this lane behind all others, in a slot that was free, or gives it back,
-    /// and nothing changes. It comes back only where all slots were taken at a step of the call, which
-    /// no clause here can say, since an end knows nothing of what is queued. It does not try again.
-    /// After 2^62 pushes it does not return.
+    /// Puts a frame of this lane that is valid in the version behind all others, in a slot that was
+    /// free, or gives it back, and nothing changes. It comes back only where all slots were taken at a
+    /// step of the call, which no clause here can say, since an end knows nothing of what is queued.
+    /// It does not try again. After 2^62 pushes it does not return.
     pub fn push<R: Wait>(&mut self, rt: &R, frame: Frame) -> Result<(), Frame>
-        requires valid { IsValid One frame }
+        requires valid { IsValid self.old.version frame }
         requires lane { lane_of frame ≡ self.old.lane }
         ensures same { IsSameEnd self.old self.new }
         ensures after { MatchResult result (λ _. self.new ≡ record self.old { put = self.old.put ++ frame ∷ [] }) (λ back. (back ≡ frame) × (self.new ≡ self.old)) }

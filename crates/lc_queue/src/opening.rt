@@ -11,7 +11,7 @@ use crate::lane_end::LaneEnd;
 use crate::parts::Lanes;
 use crate::rule::{FirstLane, NextLane, Queue, Told, View};
 use crossbeam_queue::Pass;
-use lc_frame::{Frame, is_slots};
+use lc_frame::{Frame, Version, is_slots};
 use std::alloc::{AllocError, Global};
 use std::marker::{Brand, Model};
 use std::sync::Arc;
@@ -21,6 +21,7 @@ use std::sync::Arc;
 struct Opening {
     queue: Arc<Queue, Global>,
     pass: Pass<Frame, View>,
+    version: Version,
 }
 
 impl Model for Opening {
@@ -33,17 +34,21 @@ impl Model for Opening {
 
     ghost Value = { Opened };
 
-    ghost view = { λ o. record { queue = o.pass.table_id; next = next_of (pass_view o.pass) } };
+    ghost view = { λ o. record { queue = o.pass.table_id; version = o.version; next = next_of (pass_view o.pass) } };
 
-    ghost invariant = { λ o. IsPassOf (arc_value o.queue) o.pass × (pass_view o.pass ≡ Drain o.pass.table_id.slots (next_of (pass_view o.pass)) [] []) };
+    ghost invariant = { λ o. IsPassOf (arc_value o.queue) o.pass × (pass_view o.pass ≡ Drain (record { slots = o.pass.table_id.slots; version = o.version }) (next_of (pass_view o.pass)) [] []) };
 }
 
 impl Opening {
-    // A new queue and the end of lane 0. `N` names the slots in the types of the first cut.
-    fn new<N: Told>(alloc: Global, slots: usize) -> Result<(Opening, LaneEnd), AllocError>
+    // A new queue and the end of lane 0. `N` names the terms in the types of the first cut.
+    fn new<N: Told>(
+        alloc: Global,
+        slots: usize,
+        version: Version,
+    ) -> Result<(Opening, LaneEnd), AllocError>
         requires some { 0 < slots }
-        requires told { N.slots ≡ slots }
-        ensures { IfOk result (λ new. (slots_of new.0.queue ≡ slots) × (new.0.next ≡ 1) × (new.1 ≡ new_end new.0.queue 0)) }
+        requires told { N.terms ≡ record { slots = slots; version = version } }
+        ensures { IfOk result (λ new. (slots_of new.0.queue ≡ slots) × (new.0.version ≡ version) × (new.0.next ≡ 1) × (new.1 ≡ new_end new.0.queue version 0)) }
     {
         let (queue, mut pass) = Queue::ruled(alloc, slots)?;
         let first = queue.another::<FirstLane<N>>(&mut pass);
@@ -51,25 +56,38 @@ impl Opening {
         let end = LaneEnd {
             queue: Arc::try_clone(&queue)?,
             pass: first,
+            version,
             lane: 0,
         };
-        Ok((Opening { queue, pass }, end))
+        Ok((
+            Opening {
+                queue,
+                pass,
+                version,
+            },
+            end,
+        ))
     }
 
     // The end of the next lane.
     fn next_lane(&mut self, lane: u8) -> Result<LaneEnd, AllocError>
         requires { (self.old.next ≡ lane) × (lane < 14) }
-        ensures { IfOk result (λ end. (end ≡ new_end self.old.queue lane) × (self.new ≡ record self.old { next = lane + 1 })) }
+        ensures { IfOk result (λ end. (end ≡ new_end self.old.queue self.old.version lane) × (self.new ≡ record self.old { next = lane + 1 })) }
     {
         let queue = Arc::try_clone(&self.queue)?;
         let pass = self.queue.another::<NextLane>(&mut self.pass);
-        Ok(LaneEnd { queue, pass, lane })
+        Ok(LaneEnd {
+            queue,
+            pass,
+            version: self.version,
+            lane,
+        })
     }
 
     // The ends of the next four lanes.
     fn four_lanes(&mut self, lane: u8) -> Result<(LaneEnd, LaneEnd, LaneEnd, LaneEnd), AllocError>
         requires { (self.old.next ≡ lane) × (lane < 11) }
-        ensures ends { IfOk result (λ ends. (ends.0 ≡ new_end self.old.queue lane) × (ends.1 ≡ new_end self.old.queue (lane + 1)) × (ends.2 ≡ new_end self.old.queue (lane + 2)) × (ends.3 ≡ new_end self.old.queue (lane + 3))) }
+        ensures ends { IfOk result (λ ends. (ends.0 ≡ new_end self.old.queue self.old.version lane) × (ends.1 ≡ new_end self.old.queue self.old.version (lane + 1)) × (ends.2 ≡ new_end self.old.queue self.old.version (lane + 2)) × (ends.3 ≡ new_end self.old.queue self.old.version (lane + 3))) }
         ensures next { IfOk result (λ _. self.new ≡ record self.old { next = lane + 4 }) }
     {
         Ok((
@@ -82,8 +100,8 @@ impl Opening {
 
     // The ends of all lanes.
     fn ends(&mut self, first: LaneEnd) -> Result<[LaneEnd; 14], AllocError>
-        requires { (self.old.next ≡ 1) × (first ≡ new_end self.old.queue 0) }
-        ensures { IfOk result (λ ends. (ends ≡ new_ends self.old.queue) × (self.new ≡ record self.old { next = 14 })) }
+        requires { (self.old.next ≡ 1) × (first ≡ new_end self.old.queue self.old.version 0) }
+        ensures { IfOk result (λ ends. (ends ≡ new_ends self.old.queue self.old.version) × (self.new ≡ record self.old { next = 14 })) }
     {
         let (e1, e2, e3, e4) = self.four_lanes(1)?;
         let (e5, e6, e7, e8) = self.four_lanes(5)?;
@@ -97,26 +115,35 @@ impl Opening {
     // The drain of a queue whose lanes all have their ends.
     fn drain(self) -> Drain
         requires { self.next ≡ 14 }
-        ensures { result ≡ new_outlet self.queue }
+        ensures { result ≡ new_outlet self.queue self.version }
     {
-        let Opening { queue, pass } = self;
-        Drain { queue, pass }
+        let Opening {
+            queue,
+            pass,
+            version,
+        } = self;
+        Drain {
+            queue,
+            pass,
+            version,
+        }
     }
 }
 
 /// The fourteen lane ends and the drain of a new queue, which has room for `slots` frames, 1 to
-/// 65,536. It takes all the memory of the queue; no later call takes any.
-pub fn lanes(alloc: Global, slots: u32) -> Result<Lanes, LanesFault>
+/// 65,536, that are valid in the version. It takes all the memory of the queue; no later call takes
+/// any.
+pub fn lanes(alloc: Global, slots: u32, version: Version) -> Result<Lanes, LanesFault>
     ensures bad { (result ≡ Err BadSlots) ↔ ¬ IsSlots slots }
-    ensures drain { IfOk result (λ parts. parts.drain ≡ new_outlet parts.drain.queue) }
-    ensures ends { IfOk result (λ parts. parts.ends ≡ new_ends parts.drain.queue) }
+    ensures drain { IfOk result (λ parts. parts.drain ≡ new_outlet parts.drain.queue version) }
+    ensures ends { IfOk result (λ parts. parts.ends ≡ new_ends parts.drain.queue version) }
     ensures one { IfOk result (λ parts. All (λ end. IsSame parts.drain.queue end.queue) parts.ends) }
     ensures slots { IfOk result (λ parts. slots_of parts.drain.queue ≡ slots) }
 {
     if !is_slots(slots) {
         return Err(LanesFault::BadSlots);
     }
-    let (mut opening, first) = Opening::new::<Brand>(alloc, slots as usize)?;
+    let (mut opening, first) = Opening::new::<Brand>(alloc, slots as usize, version)?;
     let ends = opening.ends(first)?;
     let drain = opening.drain();
     Ok(Lanes { ends, drain })

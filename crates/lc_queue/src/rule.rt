@@ -1,7 +1,7 @@
 //! The rule of the queue, and what each step tells the pass that makes it.
 use crossbeam_queue::RuledArrayQueue;
 use crossbeam_queue::protocol::{Join, Lesson, Outcome, Protocol, Split};
-use lc_frame::Frame;
+use lc_frame::{Frame, Version};
 use std::alloc::Global;
 use std::collections::LinkedList;
 use std::marker::{Brand, PhantomData};
@@ -16,13 +16,20 @@ pub struct JoinedLane {
     pub put: LinkedList<Frame>,
 }
 
+/// What every pass is told of its queue: how many slots it has, and the version in which its frames
+/// are valid. No value of it is made.
+pub struct Terms {
+    pub slots: u64,
+    pub version: Version,
+}
+
 /// What a pass knows. No value of it is made.
 pub enum View {
-    /// A lane's end: the queue's slots, the lane, and what was put there.
-    Lane(u64, u64, LinkedList<Frame>),
-    /// The drain: the queue's slots, the first lane that has no end yet, what was popped, and the
-    /// lanes that ended. A new queue has not been told its slots, and has no lane.
-    Drain(u64, u64, LinkedList<Frame>, LinkedList<JoinedLane>),
+    /// A lane's end: the queue's terms, the lane, and what was put there.
+    Lane(Terms, u64, LinkedList<Frame>),
+    /// The drain: the queue's terms, the first lane that has no end yet, what was popped, and the
+    /// lanes that ended. A new queue has not been told its terms, and has no lane.
+    Drain(Terms, u64, LinkedList<Frame>, LinkedList<JoinedLane>),
     /// The end of a lane that was joined.
     Spent,
 }
@@ -40,18 +47,20 @@ impl Protocol<Frame, View> for LanesKept {
     ghost first = { new_view };
 }
 
-/// How many slots a queue has. All new queues begin with one view, which can't name its slots: it is
-/// at the first cut that the passes are told them, by a type, so that the rule can say that no more
-/// is queued.
+/// The terms of a queue. All new queues begin with one view, which can't name them: it is at the
+/// first cut that the passes are told them, by a type, so that the rule can say that no more is
+/// queued than there are slots, and only what is valid.
 pub trait Told {
-    ghost use Rattle.std.specs.Prelude.{ℕ};
+    ghost use Rattle.lc_queue.specs.declared.rule.Terms.{Terms};
 
-    ghost slots: { ℕ };
+    ghost terms: { Terms };
 }
 
-// A call that passes `Brand` picks the slots in its proof.
+// A call that passes `Brand` picks the terms in its proof.
 impl Told for Brand {
-    ghost slots = { 0 };
+    ghost use Rattle.lc_queue.specs.Passes.{no_terms};
+
+    ghost terms = { no_terms };
 }
 
 /// The pass of lane 0 is cut from that of a new queue.
@@ -62,9 +71,9 @@ pub struct FirstLane<N: Told> {
 impl<N: Told> Split<View> for FirstLane<N> {
     ghost use Rattle.lc_queue.specs.Passes.{first_drain_cut, first_lane_cut};
 
-    ghost left = { first_drain_cut N.slots };
+    ghost left = { first_drain_cut N.terms };
 
-    ghost right = { first_lane_cut N.slots };
+    ghost right = { first_lane_cut N.terms };
 }
 
 /// The pass of the next lane is cut from the drain's.

@@ -2,6 +2,7 @@
 use Rattle.std.proofs.Common.{◌≡◌, ℕ, ◌+◌, List, [], ◌∷◌, ◌++◌, length, map, sym, ap, subst, ◌∙◌, append_assoc, append-nil, arith, length-append}
 use Rattle.std.specs.List.{All, AllByRecursion}
 use Rattle.std.proofs.lemmas.List.Elements.{All-head, All-tail, All-from_recursion, recursion_from_All}
+use Rattle.lc_frame.specs.declared.version.Version.{Version}
 use Rattle.lc_frame.specs.declared.frame.Frame.{Frame}
 use Rattle.lc_frame.specs.Stream.{of_lane}
 use Rattle.lc_book.specs.Server.{Server}
@@ -37,24 +38,24 @@ pops_more start count old o new f h e = record {
 
 -- ---- the lanes that are joined
 
-pub put_on_listed : (q q' : QueueId) (xs ys : List OutboxState) → q ≡ q' → xs ≡ ys → All (PutsOn q) xs → AllByRecursion (PutsOn q') ys
-put_on_listed q q' xs ys e f all = subst (λ (r : QueueId). AllByRecursion (PutsOn r) ys) e (subst (AllByRecursion (PutsOn q)) f (recursion_from_All (PutsOn q) xs all))
+pub put_on_listed : (o o' : Outlet) (xs ys : List OutboxState) → o ≡ o' → xs ≡ ys → All (PutsOn o.queue o.version) xs → AllByRecursion (PutsOn o'.queue o'.version) ys
+put_on_listed o o' xs ys e f all = subst (λ (d : Outlet). AllByRecursion (PutsOn d.queue d.version) ys) e (subst (AllByRecursion (PutsOn o.queue o.version)) f (recursion_from_All (PutsOn o.queue o.version) xs all))
 
-served : (q : QueueId) (incoming outgoing : List Side) (books : List Server) (lanes : List End) → AreFinished incoming outgoing books lanes → AllByRecursion (ServesOn q) incoming → AllByRecursion (λ l. IsSame q l.queue) lanes
-served q [] [] [] [] h each = tt
-served q [] [] [] (l ∷ lanes) h each = absurd h
-served q [] [] (b ∷ books) lanes h each = absurd h
-served q [] (o ∷ outgoing) books lanes h each = absurd h
-served q (i ∷ incoming) [] books lanes h each = absurd h
-served q (i ∷ incoming) (o ∷ outgoing) [] lanes h each = absurd h
-served q (i ∷ incoming) (o ∷ outgoing) (b ∷ books) [] h each = absurd h
-served q (i ∷ incoming) (o ∷ outgoing) (b ∷ books) (l ∷ lanes) h each =
-    (each.0.queue_is ∙ sym (ap (λ (x : End). x.queue) h.0.lane_is), served q incoming outgoing books lanes h.1 each.1)
+served : (q : QueueId) (v : Version) (incoming outgoing : List Side) (books : List Server) (lanes : List End) → AreFinished incoming outgoing books lanes → AllByRecursion (ServesOn q v) incoming → AllByRecursion (λ l. IsSame q l.queue) lanes
+served q v [] [] [] [] h each = tt
+served q v [] [] [] (l ∷ lanes) h each = absurd h
+served q v [] [] (b ∷ books) lanes h each = absurd h
+served q v [] (o ∷ outgoing) books lanes h each = absurd h
+served q v (i ∷ incoming) [] books lanes h each = absurd h
+served q v (i ∷ incoming) (o ∷ outgoing) [] lanes h each = absurd h
+served q v (i ∷ incoming) (o ∷ outgoing) (b ∷ books) [] h each = absurd h
+served q v (i ∷ incoming) (o ∷ outgoing) (b ∷ books) (l ∷ lanes) h each =
+    (each.0.queue_is ∙ sym (ap (λ (x : End). x.queue) h.0.lane_is), served q v incoming outgoing books lanes h.1 each.1)
 
-pub served_listed : (q q' : QueueId) (known incoming outgoing : List Side) (books : List Server) (lanes all : List End) → q ≡ q' → known ≡ incoming → All (ServesOn q) known → AreFinished incoming outgoing books lanes → lanes ≡ all → AllByRecursion (λ l. IsSame q' l.queue) all
-served_listed q q' known incoming outgoing books lanes all e same serve h listed =
+pub served_listed : (q q' : QueueId) (v : Version) (known incoming outgoing : List Side) (books : List Server) (lanes all : List End) → q ≡ q' → known ≡ incoming → All (ServesOn q v) known → AreFinished incoming outgoing books lanes → lanes ≡ all → AllByRecursion (λ l. IsSame q' l.queue) all
+served_listed q q' v known incoming outgoing books lanes all e same serve h listed =
     subst (λ (r : QueueId). AllByRecursion (λ l. IsSame r l.queue) all) e
-    (subst (AllByRecursion (λ l. IsSame q l.queue)) listed (served q incoming outgoing books lanes h (subst (AllByRecursion (ServesOn q)) same (recursion_from_All (ServesOn q) known serve))))
+    (subst (AllByRecursion (λ l. IsSame q l.queue)) listed (served q v incoming outgoing books lanes h (subst (AllByRecursion (ServesOn q v)) same (recursion_from_All (ServesOn q v) known serve))))
 
 -- what is known of all that were joined is known of these lanes, and of those that were joined before
 pub record AreJoined (P : JoinedLane → Type 0) (lanes : List End) (joined : List JoinedLane) : Type 0 where

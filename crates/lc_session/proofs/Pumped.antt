@@ -4,12 +4,12 @@ use Rattle.std.specs.List.{flat_map}
 use Rattle.std.specs.Io.KnownBytes.{Appends, Keeps}
 use Rattle.std.proofs.lemmas.List.{take_at}
 use Rattle.std.proofs.lemmas.List.Concat.{flat_map-append}
-use Rattle.lc_frame.specs.declared.version.Version.TheVariants.{One}
+use Rattle.lc_frame.specs.declared.version.Version.{Version}
 use Rattle.lc_frame.specs.declared.frame.Frame.{Frame}
 use Rattle.lc_frame.specs.Encoding.{encoding}
-use Rattle.lc_queue.specs.Parts.{Outlet}
+use Rattle.lc_queue.specs.Parts.{Outlet, new_outlet}
 use Rattle.lc_driver.specs.Writing.{text}
-use Rattle.lc_session.specs.Batch.{BatchState, HasBegun, LetsGo}
+use Rattle.lc_session.specs.Batch.{BatchState, HasBegun, LetsGo, new_batch}
 use Rattle.lc_session.specs.Pumping.{Pumping, IsRest, IsPumping, Pops, Pumps, Writes, pumping_of}
 
 -- ---- what a writer's bytes grow by
@@ -56,16 +56,16 @@ pub pops_keep : (p q : Pumping) → IsPumping p → Pops p q → IsPumping q
 pops_keep p q k h = record {
   begun_frames = k.begun_frames;
   popped = ap (λ (o : Outlet). o.popped) h.drain ∙ ap (λ (fs : List Frame). fs ++ h.popped) k.popped ∙ append_assoc k.begun_frames p.waiting h.popped ∙ ap (λ (fs : List Frame). k.begun_frames ++ fs) (sym h.waiting);
-  rest = subst (λ (xs : List ℕ). IsRest k.begun_frames xs) (sym h.begun) k.rest;
+  rest = subst (λ (v : Version). IsRest v k.begun_frames q.begun) (sym (ap (λ (o : Outlet). o.version) h.drain)) (subst (λ (xs : List ℕ). IsRest p.drain.version k.begun_frames xs) (sym h.begun) k.rest);
 }
 
 -- ---- what was written
 
 -- the last of some frames, when all bytes were written
-last_of : (f : Frame) (fs : List Frame) → HasBegun (f ∷ fs) []
-last_of f [] = record { earlier = []; frame = f; last = refl; written = encoding One f; some = omega arith; whole = sym (append-nil (encoding One f)) }
-last_of f (g ∷ fs) =
-    let h = last_of g fs in
+last_of : (version : Version) (f : Frame) (fs : List Frame) → HasBegun version (f ∷ fs) []
+last_of version f [] = record { earlier = []; frame = f; last = refl; written = encoding version f; some = omega arith; whole = sym (append-nil (encoding version f)) }
+last_of version f (g ∷ fs) =
+    let h = last_of version g fs in
     record { earlier = f ∷ h.earlier; frame = h.frame; last = ap (λ (gs : List Frame). f ∷ gs) h.last; written = h.written; some = h.some; whole = h.whole }
 
 nil_right : (xs ys : List ℕ) → xs ++ ys ≡ [] → ys ≡ []
@@ -73,78 +73,94 @@ nil_right [] ys e = e
 nil_right (x ∷ xs) ys e = cc
 
 -- all that was pending
-all_begun : (fs : List Frame) → (fs ≡ []) ⊎ HasBegun fs []
-all_begun [] = inl refl
-all_begun (f ∷ fs) = inr (last_of f fs)
+all_begun : (version : Version) (fs : List Frame) → (fs ≡ []) ⊎ HasBegun version fs []
+all_begun version [] = inl refl
+all_begun version (f ∷ fs) = inr (last_of version f fs)
 
 -- where some bytes more are written of what was left
-rest_on : (frames : List Frame) (begun written rest : List ℕ) → IsRest frames begun → begun ≡ written ++ rest → IsRest frames rest
-rest_on frames begun written rest (inl none) e = inl (nil_right written rest (sym e ∙ none))
-rest_on frames begun written rest (inr h) e = inr (record {
+rest_on : (version : Version) (frames : List Frame) (begun written rest : List ℕ) → IsRest version frames begun → begun ≡ written ++ rest → IsRest version frames rest
+rest_on version frames begun written rest (inl none) e = inl (nil_right written rest (sym e ∙ none))
+rest_on version frames begun written rest (inr (inl h)) e = inr (inl (record {
   earlier = h.earlier;
   frame = h.frame;
   last = h.last;
   written = h.written ++ written;
   some = omega (arith, h.some, length-append h.written written);
   whole = h.whole ∙ ap (λ (xs : List ℕ). h.written ++ xs) e ∙ sym (append_assoc h.written written rest);
-})
+}))
+rest_on version frames begun written rest (inr (inr g)) e = inr (inr (record {
+  none = g.none;
+  written = g.written ++ written;
+  whole = g.whole ∙ ap (λ (xs : List ℕ). g.written ++ xs) e ∙ sym (append_assoc g.written written rest);
+}))
 
-rest_after : (frames gone : List Frame) (begun written rest : List ℕ) → IsRest frames begun → begun ++ flat_map (encoding One) gone ≡ written ++ rest → (gone ≡ []) ⊎ HasBegun gone rest → IsRest (frames ++ gone) rest
-rest_after frames gone begun written rest k e (inl none) =
-    subst (λ (fs : List Frame). IsRest fs rest) (sym (append-nil frames) ∙ ap (λ (fs : List Frame). frames ++ fs) (sym none))
-    (rest_on frames begun written rest k (sym (append-nil begun) ∙ ap (λ (fs : List Frame). begun ++ flat_map (encoding One) fs) (sym none) ∙ e))
-rest_after frames gone begun written rest k e (inr h) = inr (record {
+rest_after : (version : Version) (frames gone : List Frame) (begun written rest : List ℕ) → IsRest version frames begun → begun ++ flat_map (encoding version) gone ≡ written ++ rest → (gone ≡ []) ⊎ HasBegun version gone rest → IsRest version (frames ++ gone) rest
+rest_after version frames gone begun written rest k e (inl none) =
+    subst (λ (fs : List Frame). IsRest version fs rest) (sym (append-nil frames) ∙ ap (λ (fs : List Frame). frames ++ fs) (sym none))
+    (rest_on version frames begun written rest k (sym (append-nil begun) ∙ ap (λ (fs : List Frame). begun ++ flat_map (encoding version) fs) (sym none) ∙ e))
+rest_after version frames gone begun written rest k e (inr h) = inr (inl (record {
   earlier = frames ++ h.earlier;
   frame = h.frame;
   last = ap (λ (fs : List Frame). frames ++ fs) h.last ∙ sym (append_assoc frames h.earlier (h.frame ∷ []));
   written = h.written;
   some = h.some;
   whole = h.whole;
-})
+}))
 
 -- what a pump keeps, when some of what is pending is written
-pub goes_keep : (o : Outlet) (n : ℕ) (b b' : BatchState) → IsPumping (pumping_of o b) → LetsGo n b b' → IsPumping (pumping_of o b')
-goes_keep o n b b' k h = record {
+pub goes_keep : (o : Outlet) (n : ℕ) (b b' : BatchState) → IsPumping (pumping_of o b) → b.version ≡ o.version → LetsGo n b b' → IsPumping (pumping_of o b')
+goes_keep o n b b' k same h = record {
   begun_frames = k.begun_frames ++ h.gone;
   popped = k.popped ∙ ap (λ (fs : List Frame). k.begun_frames ++ fs) h.waiting ∙ sym (append_assoc k.begun_frames h.gone b'.waiting);
-  rest = rest_after k.begun_frames h.gone b.begun h.written b'.begun k.rest h.text_is h.rest;
+  rest = rest_after o.version k.begun_frames h.gone b.begun h.written b'.begun k.rest
+      (subst (λ (v : Version). b.begun ++ flat_map (encoding v) h.gone ≡ h.written ++ b'.begun) same h.text_is)
+      (subst (λ (v : Version). (h.gone ≡ []) ⊎ HasBegun v h.gone b'.begun) same h.rest);
+}
+
+-- and at the start
+pub new_keeps : (o : Outlet) (b : BatchState) → o ≡ new_outlet o.queue o.version → b ≡ new_batch o.version → IsPumping (pumping_of o b)
+new_keeps o b none new = record {
+  begun_frames = [];
+  popped = ap (λ (x : Outlet). x.popped) none ∙ sym (ap (λ (x : BatchState). x.waiting) new);
+  rest = inr (inr (record { none = refl; written = []; whole = sym (ap (λ (x : BatchState). x.begun) new) }));
 }
 
 -- all of it
-goes_all : (b b' : BatchState) → b'.begun ≡ [] → b'.waiting ≡ [] → LetsGo (length (text b.begun b.waiting)) b b'
-goes_all b b' begun waiting = record {
+goes_all : (b b' : BatchState) → b'.version ≡ b.version → b'.begun ≡ [] → b'.waiting ≡ [] → LetsGo (length (text b.version b.begun b.waiting)) b b'
+goes_all b b' version begun waiting = record {
+  version = version;
   gone = b.waiting;
-  written = text b.begun b.waiting;
+  written = text b.version b.begun b.waiting;
   count_is = refl;
   waiting = sym (append-nil b.waiting) ∙ ap (λ (fs : List Frame). b.waiting ++ fs) (sym waiting);
-  text_is = sym (append-nil (text b.begun b.waiting)) ∙ ap (λ (xs : List ℕ). text b.begun b.waiting ++ xs) (sym begun);
-  rest = subst (λ (xs : List ℕ). (b.waiting ≡ []) ⊎ HasBegun b.waiting xs) (sym begun) (all_begun b.waiting);
+  text_is = sym (append-nil (text b.version b.begun b.waiting)) ∙ ap (λ (xs : List ℕ). text b.version b.begun b.waiting ++ xs) (sym begun);
+  rest = subst (λ (xs : List ℕ). (b.waiting ≡ []) ⊎ HasBegun b.version b.waiting xs) (sym begun) (all_begun b.version b.waiting);
 }
 
 -- ---- the steps of a run
 
-more_text : (begun : List ℕ) (fs gs : List Frame) → text begun (fs ++ gs) ≡ text begun fs ++ flat_map (encoding One) gs
-more_text begun fs gs = ap (λ (xs : List ℕ). begun ++ xs) (flat_map-append (encoding One) fs gs) ∙ sym (append_assoc begun (flat_map (encoding One) fs) (flat_map (encoding One) gs))
+more_text : (version : Version) (begun : List ℕ) (fs gs : List Frame) → text version begun (fs ++ gs) ≡ text version begun fs ++ flat_map (encoding version) gs
+more_text version begun fs gs = ap (λ (xs : List ℕ). begun ++ xs) (flat_map-append (encoding version) fs gs) ∙ sym (append_assoc begun (flat_map (encoding version) fs) (flat_map (encoding version) gs))
 
-text_after : (n : ℕ) (b b' : BatchState) (h : LetsGo n b b') → text b.begun b.waiting ≡ h.written ++ text b'.begun b'.waiting
+text_after : (n : ℕ) (b b' : BatchState) (h : LetsGo n b b') → text b.version b.begun b.waiting ≡ h.written ++ text b.version b'.begun b'.waiting
 text_after n b b' h =
-    ap (λ (fs : List Frame). b.begun ++ flat_map (encoding One) fs) h.waiting
-    ∙ ap (λ (xs : List ℕ). b.begun ++ xs) (flat_map-append (encoding One) h.gone b'.waiting)
-    ∙ sym (append_assoc b.begun (flat_map (encoding One) h.gone) (flat_map (encoding One) b'.waiting))
-    ∙ ap (λ (xs : List ℕ). xs ++ flat_map (encoding One) b'.waiting) h.text_is
-    ∙ append_assoc h.written b'.begun (flat_map (encoding One) b'.waiting)
+    ap (λ (fs : List Frame). b.begun ++ flat_map (encoding b.version) fs) h.waiting
+    ∙ ap (λ (xs : List ℕ). b.begun ++ xs) (flat_map-append (encoding b.version) h.gone b'.waiting)
+    ∙ sym (append_assoc b.begun (flat_map (encoding b.version) h.gone) (flat_map (encoding b.version) b'.waiting))
+    ∙ ap (λ (xs : List ℕ). xs ++ flat_map (encoding b.version) b'.waiting) h.text_is
+    ∙ append_assoc h.written b'.begun (flat_map (encoding b.version) b'.waiting)
 
 -- a write of what was pending, of which the writer took so many bytes
-pub writes_some : (a b : Option (List ℕ)) (n : ℕ) (x y : BatchState) (given : List ℕ) → given ≡ text x.begun x.waiting → Appends a b (take n given) → LetsGo n x y → Writes a b x y
+pub writes_some : (a b : Option (List ℕ)) (n : ℕ) (x y : BatchState) (given : List ℕ) → given ≡ text x.version x.begun x.waiting → Appends a b (take n given) → LetsGo n x y → Writes a b x y
 writes_some a b n x y given e grown h = record {
   count = n;
   goes = h;
-  grown = subst (λ (xs : List ℕ). Appends a b xs) (ap (λ (xs : List ℕ). take n xs) (e ∙ text_after n x y h) ∙ take_at h.written (text y.begun y.waiting) n (sym h.count_is)) grown;
+  grown = subst (λ (xs : List ℕ). Appends a b xs) (ap (λ (xs : List ℕ). take n xs) (e ∙ text_after n x y h) ∙ take_at h.written (text x.version y.begun y.waiting) n (sym h.count_is)) grown;
 }
 
-pub writes_all : (a b : Option (List ℕ)) (n : ℕ) (x y : BatchState) (given : List ℕ) → given ≡ text x.begun x.waiting → n ≡ length given → Appends a b (take n given) → y.begun ≡ [] → y.waiting ≡ [] → Writes a b x y
-writes_all a b n x y given e all grown begun waiting =
-    writes_some a b (length (text x.begun x.waiting)) x y given e (subst (λ (k : ℕ). Appends a b (take k given)) (all ∙ ap length e) grown) (goes_all x y begun waiting)
+pub writes_all : (a b : Option (List ℕ)) (n : ℕ) (x y : BatchState) (given : List ℕ) → given ≡ text x.version x.begun x.waiting → n ≡ length given → Appends a b (take n given) → y.version ≡ x.version → y.begun ≡ [] → y.waiting ≡ [] → Writes a b x y
+writes_all a b n x y given e all grown version begun waiting =
+    writes_some a b (length (text x.version x.begun x.waiting)) x y given e (subst (λ (k : ℕ). Appends a b (take k given)) (all ∙ ap length e) grown) (goes_all x y version begun waiting)
 
 pub keeps_itself : (a : Option (List ℕ)) → Keeps a a
 keeps_itself None = tt
@@ -157,7 +173,7 @@ popped_only a b p q k h = record {
   popped = h.popped;
   grown = keeps_appends a b k;
   drain = h.drain;
-  text_is = ap (λ (fs : List Frame). text p.begun fs) (sym h.waiting) ∙ ap (λ (xs : List ℕ). text xs q.waiting) (sym h.begun);
+  text_is = ap (λ (fs : List Frame). text p.drain.version p.begun fs) (sym h.waiting) ∙ ap (λ (xs : List ℕ). text p.drain.version xs q.waiting) (sym h.begun);
 }
 
 -- the same, where the pump is known by another name
@@ -172,13 +188,16 @@ pub pumps_nothing : (a : Option (List ℕ)) (p : Pumping) → Pumps a a p p
 pumps_nothing a p = pumps_same a a p p refl (keeps_itself a)
 
 -- and some of what is pending then was written
-pub pumps_written : (a b : Option (List ℕ)) (p : Pumping) (o : Outlet) (x y : BatchState) → Pops p (pumping_of o x) → Writes a b x y → Pumps a b p (pumping_of o y)
-pumps_written a b p o x y h w = record {
+pub pumps_written : (a b : Option (List ℕ)) (p : Pumping) (o : Outlet) (x y : BatchState) → Pops p (pumping_of o x) → x.version ≡ o.version → Writes a b x y → Pumps a b p (pumping_of o y)
+pumps_written a b p o x y h same w = record {
   taken = w.goes.written;
   popped = h.popped;
   grown = w.grown;
   drain = h.drain;
-  text_is = ap (λ (fs : List Frame). text p.begun fs) (sym h.waiting) ∙ ap (λ (xs : List ℕ). text xs x.waiting) (sym h.begun) ∙ text_after w.count x y w.goes;
+  text_is =
+      ap (λ (fs : List Frame). text p.drain.version p.begun fs) (sym h.waiting)
+      ∙ ap (λ (xs : List ℕ). text p.drain.version xs x.waiting) (sym h.begun)
+      ∙ subst (λ (v : Version). text v x.begun x.waiting ≡ w.goes.written ++ text v y.begun y.waiting) (same ∙ ap (λ (o : Outlet). o.version) h.drain) (text_after w.count x y w.goes);
 }
 
 pub pumps_then : (a b c : Option (List ℕ)) (p q r : Pumping) → Pumps a b p q → Pumps b c q r → Pumps a c p r
@@ -188,12 +207,14 @@ pumps_then a b c p q r s t = record {
   grown = appends_then a b c s.taken t.taken s.grown t.grown;
   drain = t.drain ∙ ap (λ (o : Outlet). record o { popped = o.popped ++ t.popped }) s.drain ∙ outlet_then p.drain s.popped t.popped;
   text_is =
-      ap (λ (fs : List Frame). text p.begun fs) (sym (append_assoc p.waiting s.popped t.popped))
-      ∙ more_text p.begun (p.waiting ++ s.popped) t.popped
-      ∙ ap (λ (xs : List ℕ). xs ++ flat_map (encoding One) t.popped) s.text_is
-      ∙ append_assoc s.taken (text q.begun q.waiting) (flat_map (encoding One) t.popped)
-      ∙ ap (λ (xs : List ℕ). s.taken ++ xs) (sym (more_text q.begun q.waiting t.popped) ∙ t.text_is)
-      ∙ sym (append_assoc s.taken t.taken (text r.begun r.waiting));
+      ap (λ (fs : List Frame). text p.drain.version p.begun fs) (sym (append_assoc p.waiting s.popped t.popped))
+      ∙ more_text p.drain.version p.begun (p.waiting ++ s.popped) t.popped
+      ∙ ap (λ (xs : List ℕ). xs ++ flat_map (encoding p.drain.version) t.popped) s.text_is
+      ∙ append_assoc s.taken (text p.drain.version q.begun q.waiting) (flat_map (encoding p.drain.version) t.popped)
+      ∙ ap (λ (xs : List ℕ). s.taken ++ xs)
+      (sym (more_text p.drain.version q.begun q.waiting t.popped)
+      ∙ subst (λ (v : Version). text v q.begun (q.waiting ++ t.popped) ≡ t.taken ++ text v r.begun r.waiting) (ap (λ (o : Outlet). o.version) s.drain) t.text_is)
+      ∙ sym (append_assoc s.taken t.taken (text p.drain.version r.begun r.waiting));
 }
 
 -- frames were popped, and then the pump went on

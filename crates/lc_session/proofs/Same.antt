@@ -14,7 +14,7 @@ use Rattle.lc_book.specs.declared.fault.Violation.TheVariants.{NotGuaranteed, Se
 use Rattle.lc_peer.specs.declared.delivery.Stop.{Stop}
 use Rattle.lc_peer.specs.Deliveries.{violation_of}
 use Rattle.lc_peer.specs.Sinks.{AllArrive, IsNext}
-use Rattle.lc_queue.specs.Parts.{QueueId, Outlet, IsSame}
+use Rattle.lc_queue.specs.Parts.{Outlet}
 use Rattle.lc_credit.specs.Sides.{Incoming, IsAdded, IsNotAdded, IsLimited, IsPastLimit, IsAsked}
 use Rattle.lc_credit.specs.Channels.{credit_in, credit_out}
 use Rattle.lc_inbox.specs.declared.rule.Key.{Key}
@@ -25,7 +25,7 @@ use Rattle.lc_outbox.specs.Outbox.{OutboxState, IsSameOutbox}
 use Rattle.lc_driver.specs.declared.reading.ReadEnd.{ReadEnd}
 use Rattle.lc_driver.specs.Intake.{IntakeState}
 use Rattle.lc_driver.specs.Reading.{ReadsInto, stop_of, end_of}
-use Rattle.lc_session.specs.Pumping.{Pumping, Pumps}
+use Rattle.lc_session.specs.Pumping.{Pumping, Pumps, IsSamePump}
 use Rattle.lc_session.specs.Reading.{ReadingSide, channel_of_side, ToCredit, ToInbox, Hears, Refuses, Arrives, Violates, IsSameReading}
 use Rattle.lc_session.specs.Report.{SessionState, channel_of_outbox, credit_of_outbox, PutsOn, ServesOn, AreOfOneSession}
 use Rattle.lc_session.specs.Same.{SessionsStay}
@@ -34,10 +34,10 @@ use Rattle.lc_session.proofs.Places.{some_map, set_keeps}
 -- ---- one part, after nothing and after one call and another
 
 pub outbox_itself : (o : OutboxState) → IsSameOutbox o o
-outbox_itself o = record { channel = refl; lane = (refl, refl); credit = refl }
+outbox_itself o = record { channel = refl; lane = (refl, refl, refl); credit = refl }
 
 pub outbox_then : (a b c : OutboxState) → IsSameOutbox a b → IsSameOutbox b c → IsSameOutbox a c
-outbox_then a b c p q = record { channel = q.channel ∙ p.channel; lane = (q.lane.0 ∙ p.lane.0, q.lane.1 ∙ p.lane.1); credit = q.credit ∙ p.credit }
+outbox_then a b c p q = record { channel = q.channel ∙ p.channel; lane = (q.lane.0 ∙ p.lane.0, q.lane.1 ∙ p.lane.1, q.lane.2 ∙ p.lane.2); credit = q.credit ∙ p.credit }
 
 pub side_itself : (s : Side) → IsSameSide s s
 side_itself s = record { inbox = refl; key = refl }
@@ -50,6 +50,12 @@ reading_itself r = record { credits = refl; inboxes = refl }
 
 pub reading_then : (a b c : ReadingSide) → IsSameReading a b → IsSameReading b c → IsSameReading a c
 reading_then a b c p q = record { credits = q.credits ∙ p.credits; inboxes = q.inboxes ∙ p.inboxes }
+
+pub pump_itself : (p : Pumping) → IsSamePump p p
+pump_itself p = (refl, refl)
+
+pub pump_then : (a b c : Pumping) → IsSamePump a b → IsSamePump b c → IsSamePump a c
+pump_then a b c p q = (q.0 ∙ p.0, q.1 ∙ p.1)
 
 -- ---- the reading side, after one frame
 
@@ -119,8 +125,8 @@ pub run_same : {D : Type 0} (stop : Option Stop) (reader reader' : D) (before af
 run_same None reader reader' before after held old was intake new max_reads end given reads = read_same before after held old intake new max_reads end (reads refl)
 run_same (Some s) reader reader' before after held old was intake new max_reads end given reads = subst (IsSameReading old) (sym given.1) (reading_itself old)
 
-pub pumps_same_queue : (before after : Option (List ℕ)) (p q : Pumping) → Pumps before after p q → IsSame q.drain.queue p.drain.queue
-pumps_same_queue before after p q h = ap (λ (o : Outlet). o.queue) h.drain
+pub same_pump : (before after : Option (List ℕ)) (p q : Pumping) → Pumps before after p q → IsSamePump p q
+same_pump before after p q h = (ap (λ (o : Outlet). o.queue) h.drain, ap (λ (o : Outlet). o.version) h.drain)
 
 -- ---- all parts
 
@@ -154,25 +160,29 @@ credits_stay [] (o ∷ new) all = absurd all
 credits_stay (o ∷ old) [] all = absurd all
 credits_stay (o ∷ old) (n ∷ new) all = let here = all.0.credit in let later = credits_stay old new all.1 in (λ i. here i ∷ later i)
 
-still_puts : (q r : QueueId) → IsSame r q → (o n : OutboxState) → IsSameOutbox o n → PutsOn q o → PutsOn r n
-still_puts q r same o n one puts = same ∙ puts ∙ sym one.lane.0
+still_puts : (p q : Pumping) → IsSamePump p q → (o n : OutboxState) → IsSameOutbox o n → PutsOn p.drain.queue p.drain.version o → PutsOn q.drain.queue q.drain.version n
+still_puts p q same o n one puts = record {
+  queue_is = same.0 ∙ puts.queue_is ∙ sym one.lane.0;
+  version_is = one.lane.2 ∙ puts.version_is ∙ sym same.1;
+}
 
-still_serves : (q r : QueueId) → IsSame r q → (s t : Side) → IsSameSide s t → ServesOn q s → ServesOn r t
-still_serves q r same s t one serves = record {
-  queue_is = same ∙ serves.queue_is ∙ ap (λ (k : Key). k.lane.value.queue) (sym one.key);
+still_serves : (p q : Pumping) → IsSamePump p q → (s t : Side) → IsSameSide s t → ServesOn p.drain.queue p.drain.version s → ServesOn q.drain.queue q.drain.version t
+still_serves p q same s t one serves = record {
+  queue_is = same.0 ∙ serves.queue_is ∙ ap (λ (k : Key). k.lane.value.queue) (sym one.key);
+  version_is = ap (λ (k : Key). k.lane.value.version) one.key ∙ serves.version_is ∙ sym same.1;
   lane_is = ap (λ (k : Key). k.lane.value.lane) one.key ∙ serves.lane_is ∙ ap (λ (k : Key). 7 + number_of k.channel) (sym one.key);
 }
 
 pub session_stays : SessionsStay
 session_stays old new one same =
     let sides = sides_zip old.reading.side.inboxes new.reading.side.inboxes same.reading.inboxes in
-    let old_queue = old.writing.drain.queue in
-    let queue = new.writing.drain.queue in
+    let was : Outlet = old.writing.drain in
+    let is : Outlet = new.writing.drain in
     record {
       senders = zip_keeps channel_of_outbox IsSameOutbox old.sending new.sending (λ o n stays. stays.channel) same.sending ∙ one.senders;
       receivers = zip_keeps channel_of_side IsSameSide old.reading.side.inboxes new.reading.side.inboxes (λ s t stays. ap (λ (k : Key). k.channel) stays.key) sides ∙ one.receivers;
-      clients_put = zip_all (PutsOn old_queue) (PutsOn queue) IsSameOutbox old.sending new.sending (still_puts old_queue queue same.writing) same.sending one.clients_put;
-      servers_put = zip_all (ServesOn old_queue) (ServesOn queue) IsSameSide old.reading.side.inboxes new.reading.side.inboxes (still_serves old_queue queue same.writing) sides one.servers_put;
+      clients_put = zip_all (PutsOn was.queue was.version) (PutsOn is.queue is.version) IsSameOutbox old.sending new.sending (still_puts old.writing new.writing same.writing) same.sending one.clients_put;
+      servers_put = zip_all (ServesOn was.queue was.version) (ServesOn is.queue is.version) IsSameSide old.reading.side.inboxes new.reading.side.inboxes (still_serves old.writing new.writing same.writing) sides one.servers_put;
       credits_match = same.reading.credits ∙ one.credits_match ∙ sym (credits_stay old.sending new.sending same.sending);
       inboxes_match = matched_out new.reading.side.inboxes old.receiving new.receiving (zip_sides old.receiving new.receiving same.receiving)
           (matched_in old.reading.side.inboxes new.reading.side.inboxes old.receiving same.reading.inboxes one.inboxes_match);
@@ -180,7 +190,7 @@ session_stays old new one same =
 
 -- the same for a caller that took the ends apart: each end that comes back is that at its place
 pub gathered : (old new : SessionState) (ends : List OutboxState) (sides : List Side) → AreOfOneSession old → old.sending ≡ ends → old.receiving ≡ sides
-    → AllZip IsSameOutbox ends new.sending → AllZip IsSameSide sides new.receiving → IsSameReading old.reading.side new.reading.side → IsSame new.writing.drain.queue old.writing.drain.queue
+    → AllZip IsSameOutbox ends new.sending → AllZip IsSameSide sides new.receiving → IsSameReading old.reading.side new.reading.side → IsSamePump old.writing new.writing
     → AreOfOneSession new
 gathered old new ends sides one sending receiving outboxes inboxes reading writing = session_stays old new one (record {
   sending = subst (λ (xs : List OutboxState). AllZip IsSameOutbox xs new.sending) (sym sending) outboxes;

@@ -1,6 +1,7 @@
 -- A session's parts and what they leave in the end. What guarantees add up to is LCMUX's; the report is this project's own.
 use Rattle.std.specs.Prelude.{◌≡◌, ℕ, ◌+◌, List, ◌++◌, length, map}
 use Rattle.std.specs.List.{All}
+use Rattle.lc_frame.specs.declared.version.Version.{Version}
 use Rattle.lc_frame.specs.declared.channel.Channel.{Channel}
 use Rattle.lc_frame.specs.declared.frame.Frame.{Frame}
 use Rattle.lc_frame.specs.Channel.{number_of}
@@ -33,20 +34,22 @@ credit_of_outbox o = o.credit
 abbrev pub outgoing_of : SessionState → List Outgoing
 outgoing_of s = map credit_of_outbox s.sending
 
--- an outbox puts on this queue; and so does an inbox, on the lane of its channel's server
-abbrev pub PutsOn : QueueId → OutboxState → Type 0
-PutsOn queue o = IsSame queue o.lane.queue
+-- an outbox puts on this queue, in this version; and so does an inbox, on the lane of its channel's server
+pub record PutsOn (queue : QueueId) (version : Version) (o : OutboxState) : Type 0 where
+  pub queue_is : IsSame queue o.lane.queue
+  pub version_is : o.lane.version ≡ version
 
-pub record ServesOn (queue : QueueId) (side : Side) : Type 0 where
+pub record ServesOn (queue : QueueId) (version : Version) (side : Side) : Type 0 where
   pub queue_is : IsSame queue side.key.lane.value.queue
+  pub version_is : side.key.lane.value.version ≡ version
   pub lane_is : side.key.lane.value.lane ≡ 7 + number_of side.key.channel
 
--- all parts are of one session: both kinds of ends are there for each channel, in order; they put on the queue that the writing pump drains, and share their credits and inboxes with the reading pump
+-- all parts are of one session: both kinds of ends are there for each channel, in order; they put on the queue that the writing pump drains, in its version, and share their credits and inboxes with the reading pump
 pub record AreOfOneSession (s : SessionState) : Type 0 where
   pub senders : map channel_of_outbox s.sending ≡ channels
   pub receivers : map channel_of_side s.reading.side.inboxes ≡ channels
-  pub clients_put : All (PutsOn s.writing.drain.queue) s.sending
-  pub servers_put : All (ServesOn s.writing.drain.queue) s.reading.side.inboxes
+  pub clients_put : All (PutsOn s.writing.drain.queue s.writing.drain.version) s.sending
+  pub servers_put : All (ServesOn s.writing.drain.queue s.writing.drain.version) s.reading.side.inboxes
   pub credits_match : credits.AreMatched s.reading.side.credits (outgoing_of s)
   pub inboxes_match : inboxes.AreMatched s.reading.side.inboxes s.receiving
 
@@ -67,6 +70,6 @@ pub record IsReport (s : SessionState) (clients : List Balance) (servers : List 
   pub lanes : List End
   pub finished : inboxes.AreFinished s.reading.side.inboxes s.receiving servers lanes
   pub servers_gave : All (GaveAllOf (s.writing.drain.popped ++ last)) lanes
-  -- those that were popped and not begun count as left, and of the one that was begun the bytes
+  -- those that were popped and not begun count as left, and of the one that was begun, or of the greeting, which is no frame, the bytes
   pub left_is : left ≡ length s.writing.waiting + length last
   pub partly_is : partly ≡ length s.writing.begun

@@ -21,12 +21,12 @@ abbrev pub new_outboxes : List Channel → List End → List Outgoing → List O
 new_outboxes (c ∷ cs) (lane ∷ lanes) (credit ∷ credits) = new_outbox c lane credit ∷ new_outboxes cs lanes credits
 new_outboxes cs lanes credits = []
 
--- nothing has happened on any channel, and nothing was read or written
+-- nothing has happened on any channel, and nothing was read or written, not even the greeting of its version
 pub record IsNewSession (config : Config) (s : SessionState) : Type 0 where
   pub one : AreOfOneSession s
-  pub sending_new : s.sending ≡ new_outboxes channels (take 7 (new_ends s.writing.drain.queue)) (outgoing_of s)
+  pub sending_new : s.sending ≡ new_outboxes channels (take 7 (new_ends s.writing.drain.queue config.version)) (outgoing_of s)
   pub credits_new : credits.AreNew s.reading.side.credits (outgoing_of s)
-  pub inboxes_new : inboxes.AreNew config.capacities (drop 7 (new_ends s.writing.drain.queue)) s.reading.side.inboxes s.receiving
+  pub inboxes_new : inboxes.AreNew config.capacities (drop 7 (new_ends s.writing.drain.queue config.version)) s.reading.side.inboxes s.receiving
   pub reading_new : s.reading.intake ≡ record { held = nothing_held; stop = None }
-  pub writing_new : s.writing ≡ new_pumping (new_outlet s.writing.drain.queue)
+  pub writing_new : s.writing ≡ new_pumping (new_outlet s.writing.drain.queue config.version)
   pub slots_are : slots_of s.writing.drain.queue ≡ config.slots

@@ -1,23 +1,21 @@
 //! The frames that a writing pump has popped, on their way out.
 ghost use Rattle.std.specs.Prelude.{◌≡◌, ◌+◌, ◌-◌, ◌≤◌, ◌↔◌, [], ◌∷◌, ◌++◌, length, take, drop, IsTrue, IfOk, vec_len, vec_capacity};
-ghost use Rattle.lc_frame.specs.declared.version.Version.TheVariants.{One};
+ghost use Rattle.lc_frame.specs.declared.version.Version.TheVariants.{Two};
 ghost use Rattle.lc_frame.specs.Kind.{max_frame};
 ghost use Rattle.lc_frame.specs.Frame.{IsValid};
 ghost use Rattle.lc_frame.specs.Encoding.{encoding};
 ghost use Rattle.lc_driver.specs.Writing.{text};
-ghost use Rattle.lc_session.specs.Batch.{BatchState, max_batch, waiting_in, AreWhole, EndsAt, LetsGo};
+ghost use Rattle.lc_session.specs.Batch.{BatchState, max_batch, new_batch, waiting_in, AreWhole, EndsAt, LetsGo};
 
 use lc_frame::{Decoded, Frame, Version, decode};
 use std::alloc::{AllocError, Global};
 use std::marker::Model;
 
-/// Room for two of the longest frames: while one has room, another frame can be popped.
-const MAX_BATCH: usize = 2 * 65_538;
-
 /// The bytes of frames that were popped and are not written yet, and how many of them are left of
-/// the one that was begun.
+/// the one that was begun, or of the greeting of a new stream.
 #[derive(Debug, Drop)]
 pub(crate) struct Batch {
+    version: Version,
     buffer: Vec<u8>,
     start: usize,
     begun: usize,
@@ -29,22 +27,30 @@ impl Model for Batch {
 
     ghost Value = { BatchState };
 
-    ghost view = { λ batch. batch_of batch.begun (drop batch.start batch.buffer.items) (max_batch - vec_len batch.buffer) };
+    ghost view = { λ batch. batch_of batch.version batch.begun (drop batch.start batch.buffer.items) (max_batch batch.version - vec_len batch.buffer) };
 
-    ghost invariant = { λ batch. IsBatch (vec_len batch.buffer) (vec_capacity batch.buffer) batch.start batch.begun (drop batch.start batch.buffer.items) };
+    ghost invariant = { λ batch. IsBatch batch.version (vec_len batch.buffer) (vec_capacity batch.buffer) batch.start batch.begun (drop batch.start batch.buffer.items) };
+}
+
+// Room for two of the longest frames: while one has room, another frame can be popped.
+fn max_batch(version: Version) -> usize
+    ensures value { result ≡ max_batch version }
+    ensures most { result ≤ max_batch Two }
+{
+    2 * version.max_frame()
 }
 
 // Where the frame ends that is begun last, once so many of these bytes are written, and how many
 // frames are begun by that.
-fn frame_end(bytes: &[u8], begun: usize, written: usize) -> (usize, usize)
-    requires whole { AreWhole begun bytes.now }
+fn frame_end(version: Version, bytes: &[u8], begun: usize, written: usize) -> (usize, usize)
+    requires whole { AreWhole version begun bytes.now }
     requires within { written ≤ length bytes.now }
-    ensures { EndsAt begun bytes.now written result.0 result.1 }
+    ensures { EndsAt version begun bytes.now written result.0 result.1 }
 {
     let mut end = begun;
     let mut frames = 0;
     'frames: while end < written {
-        match decode(Version::One, bytes.split_at(end).1) {
+        match decode(version, bytes.split_at(end).1) {
             Decoded::Whole { frame: _, used } => end += used,
             Decoded::More => unreachable!(),
             Decoded::Fault(_) => unreachable!(),
@@ -55,43 +61,49 @@ fn frame_end(bytes: &[u8], begun: usize, written: usize) -> (usize, usize)
 }
 
 // Puts the bytes of a frame last in a buffer that has room for them.
-fn encode(frame: Frame, buffer: &mut Vec<u8>)
-    requires valid { IsValid One frame }
-    requires room { vec_len buffer.old + max_frame One ≤ vec_capacity buffer.old }
-    ensures items { buffer.new.items ≡ buffer.old.items ++ encoding One frame }
+fn encode(version: Version, frame: Frame, buffer: &mut Vec<u8>)
+    requires valid { IsValid version frame }
+    requires room { vec_len buffer.old + max_frame version ≤ vec_capacity buffer.old }
+    ensures items { buffer.new.items ≡ buffer.old.items ++ encoding version frame }
     ensures capacity { vec_capacity buffer.old ≤ vec_capacity buffer.new }
 {
-    if frame.encode_into(Version::One, buffer).is_err() {
+    if frame.encode_into(version, buffer).is_err() {
         unreachable!();
     }
 }
 
 impl Batch {
-    pub(crate) fn new(alloc: Global) -> Result<Batch, AllocError>
-        ensures { IfOk result (λ batch. (batch.begun ≡ []) × (batch.waiting ≡ [])) }
+    // The start of a stream: its greeting is pending, which is nothing in version One.
+    pub(crate) fn new(alloc: Global, version: Version) -> Result<Batch, AllocError>
+        ensures { IfOk result (λ batch. batch ≡ new_batch version) }
     {
+        let mut buffer = Vec::with_capacity(alloc, max_batch(version))?;
+        buffer.extend_from_slice(version.greeting())?;
+        let begun = buffer.len();
         Ok(Batch {
-            buffer: Vec::with_capacity(alloc, MAX_BATCH)?,
+            version,
+            buffer,
             start: 0,
-            begun: 0,
+            begun,
         })
     }
 
-    // All that is pending: what is left of the frame that was begun, and the frames that wait.
+    // All that is pending: what is left of the frame that was begun, or of the greeting, and the
+    // frames that wait.
     pub(crate) fn bytes(&self) -> &[u8]
-        ensures { result.now ≡ text self.now.begun self.now.waiting }
+        ensures { result.now ≡ text self.now.version self.now.begun self.now.waiting }
     {
         self.buffer.split_at(self.start).1
     }
 
     pub(crate) fn is_empty(&self) -> bool
         ensures empty { IsTrue result ↔ ((self.now.begun ≡ []) × (self.now.waiting ≡ [])) }
-        ensures bound { self.now.free ≤ max_batch }
+        ensures bound { self.now.free ≤ max_batch self.now.version }
     {
         self.start == self.buffer.len()
     }
 
-    // How many bytes are left of the frame that was begun.
+    // How many bytes are left of the frame that was begun, or of the greeting.
     pub(crate) fn begun(&self) -> usize
         ensures { result ≡ length self.now.begun }
     {
@@ -103,14 +115,15 @@ impl Batch {
         ensures { result ≡ length self.now.waiting }
     {
         let bytes = self.bytes();
-        frame_end(bytes, self.begun, bytes.len()).1
+        frame_end(self.version, bytes, self.begun, bytes.len()).1
     }
 
     // All that is pending was written.
     pub(crate) fn clear(&mut self)
+        ensures version { self.new.version ≡ self.old.version }
         ensures begun { self.new.begun ≡ [] }
         ensures waiting { self.new.waiting ≡ [] }
-        ensures free { self.new.free ≡ max_batch }
+        ensures free { self.new.free ≡ max_batch self.old.version }
     {
         self.buffer.clear();
         self.start = 0;
@@ -119,10 +132,11 @@ impl Batch {
 
     // Where nothing is pending, all room is free.
     pub(crate) fn restart(&mut self)
+        ensures version { self.new.version ≡ self.old.version }
         ensures begun { self.new.begun ≡ self.old.begun }
         ensures waiting { self.new.waiting ≡ self.old.waiting }
-        ensures room { self.new.begun ≡ [] → self.new.waiting ≡ [] → self.new.free ≡ max_batch }
-        ensures bound { self.new.free ≤ max_batch }
+        ensures room { self.new.begun ≡ [] → self.new.waiting ≡ [] → self.new.free ≡ max_batch self.old.version }
+        ensures bound { self.new.free ≤ max_batch self.old.version }
     {
         if self.is_empty() {
             self.clear();
@@ -131,29 +145,30 @@ impl Batch {
 
     // The first so many bytes were written.
     pub(crate) fn note_written(&mut self, count: usize)
-        requires { count ≤ length (text self.old.begun self.old.waiting) }
+        requires { count ≤ length (text self.old.version self.old.begun self.old.waiting) }
         ensures { LetsGo count self.old self.new }
     {
-        let (end, _) = frame_end(self.bytes(), self.begun, count);
+        let (end, _) = frame_end(self.version, self.bytes(), self.begun, count);
         self.start += count;
         self.begun = end - count;
     }
 
     // Whether any frame has room.
     pub(crate) fn has_room(&self) -> bool
-        ensures { IsTrue result ↔ (max_frame One ≤ self.now.free) }
+        ensures { IsTrue result ↔ (max_frame self.now.version ≤ self.now.free) }
     {
-        MAX_BATCH - self.buffer.len() >= Version::One.max_frame()
+        max_batch(self.version) - self.buffer.len() >= self.version.max_frame()
     }
 
     // A frame waits behind the others.
     pub(crate) fn append(&mut self, frame: Frame)
-        requires valid { IsValid One frame }
-        requires room { max_frame One ≤ self.old.free }
+        requires valid { IsValid self.old.version frame }
+        requires room { max_frame self.old.version ≤ self.old.free }
+        ensures version { self.new.version ≡ self.old.version }
         ensures begun { self.new.begun ≡ self.old.begun }
         ensures waiting { self.new.waiting ≡ self.old.waiting ++ frame ∷ [] }
-        ensures free { self.new.free ≡ self.old.free - length (encoding One frame) }
+        ensures free { self.new.free ≡ self.old.free - length (encoding self.old.version frame) }
     {
-        encode(frame, &mut self.buffer);
+        encode(self.version, frame, &mut self.buffer);
     }
 }

@@ -27,13 +27,13 @@ pub struct Report {
     pub servers: [ServerBook; 7],
     /// How many frames were put and not begun.
     pub left: u64,
-    /// How many bytes are left of the frame that was begun.
+    /// How many bytes are left of the frame that was begun, or of the greeting.
     pub partly: u64,
 }
 
 // Ends a sending end: its lane is joined to the drain, and its credit is left.
 fn end_sender(drain: &mut Drain, end: SendEnd) -> CreditOut
-    requires { PutsOn drain.old.queue end }
+    requires { PutsOn drain.old.queue drain.old.version end }
     ensures joins { Joins drain.old (lane_of_outbox end ∷ []) drain.new }
     ensures credit { result ≡ end.credit }
     ensures kept { IsOutbox end }
@@ -45,7 +45,7 @@ fn end_sender(drain: &mut Drain, end: SendEnd) -> CreditOut
 
 // Ends all sending ends.
 fn end_senders(drain: &mut Drain, ends: Seven<SendEnd>) -> [CreditOut; 7]
-    requires { AllByRecursion (PutsOn drain.old.queue) (listed ends) }
+    requires { AllByRecursion (PutsOn drain.old.queue drain.old.version) (listed ends) }
     ensures joins { Joins drain.old (map lane_of_outbox (listed ends)) drain.new }
     ensures credits { result ≡ map credit_of_outbox (listed ends) }
     ensures kept { AllByRecursion IsOutbox (listed ends) }

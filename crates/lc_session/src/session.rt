@@ -1,6 +1,7 @@
 //! How a session is made and stopped.
 ghost use Rattle.std.specs.Prelude.{◌≡◌, ◌<◌, ◌∷◌, [], take, map, IfOk};
 ghost use Rattle.std.specs.Result.{result_err};
+ghost use Rattle.lc_frame.specs.declared.version.Version.{Version};
 ghost use Rattle.lc_frame.specs.Channel.{number_of};
 ghost use Rattle.lc_peer.specs.Config.{IsNewAnswer};
 ghost use Rattle.lc_queue.specs.Parts.{QueueId, new_ends, new_outlet};
@@ -9,6 +10,7 @@ ghost use Rattle.lc_credit.specs.Channels.{credit_out};
 ghost use Rattle.lc_outbox.specs.Outbox.{new_outbox};
 ghost use Rattle.lc_session.specs.Channels.{channels};
 ghost use Rattle.lc_session.specs.Reading.{channel_of_side};
+ghost use Rattle.lc_session.specs.Batch.{new_batch};
 ghost use Rattle.lc_session.specs.Pumping.{new_pumping};
 ghost use Rattle.lc_session.specs.Session.{listed, new_outboxes, IsNewSession};
 ghost use Rattle.lc_session.specs.Parts.{state_of};
@@ -60,7 +62,7 @@ fn send_ends(
     credits: Seven<CreditOut>,
     waiters: Seven<Waiter>,
 ) -> [SendEnd; 7]
-    requires lanes { (queue : QueueId) × (listed lanes ≡ take 7 (new_ends queue)) }
+    requires lanes { (queue : QueueId) × (version : Version) × (listed lanes ≡ take 7 (new_ends queue version)) }
     requires credits { listed credits ≡ map new_outgoing (map credit_out (listed credits)) }
     ensures { result ≡ new_outboxes channels (listed lanes) (listed credits) }
 {
@@ -103,12 +105,12 @@ fn put_together(
     outgo: (Drain, Batch),
     wakers: Arc<Wakers, Global>,
 ) -> Parts
-    requires clients { (queue : QueueId) × (inboxes.clients ≡ take 7 (new_ends queue)) }
+    requires clients { (queue : QueueId) × (version : Version) × (inboxes.clients ≡ take 7 (new_ends queue version)) }
     requires credits { credits.outgoing ≡ map new_outgoing (map credit_out credits.outgoing) }
     requires incoming { map channel_of_side inboxes.incoming ≡ channels }
     requires outgoing { map channel_of_side inboxes.outgoing ≡ channels }
-    requires drain { outgo.0 ≡ new_outlet outgo.0.queue }
-    requires batch { (outgo.1.begun ≡ []) × (outgo.1.waiting ≡ []) }
+    requires drain { outgo.0 ≡ new_outlet outgo.0.queue outgo.0.version }
+    requires batch { outgo.1 ≡ new_batch outgo.0.version }
     ensures sending { result.send_ends ≡ new_outboxes channels inboxes.clients credits.outgoing }
     ensures receiving { result.recv_ends ≡ inboxes.outgoing }
     ensures reading { result.read_pump ≡ record { side = record { credits = credits.incoming; inboxes = inboxes.incoming }; intake = intake } }
@@ -137,7 +139,7 @@ fn put_together(
 fn make(alloc: Global, config: Config) -> Result<Parts, AllocError>
     ensures { IfOk result (λ parts. IsNewSession config (state_of parts)) }
 {
-    let Ok(lanes) = lanes(alloc, config.slots) else {
+    let Ok(lanes) = lanes(alloc, config.slots, config.version) else {
         return Err(AllocError);
     };
     let (capacities, ends) = (config.capacities, lanes.ends);
@@ -146,7 +148,7 @@ fn make(alloc: Global, config: Config) -> Result<Parts, AllocError>
     };
     let credits = credits(alloc)?;
     let intake = Intake::new(alloc)?;
-    let outgo = (lanes.drain, Batch::new(alloc)?);
+    let outgo = (lanes.drain, Batch::new(alloc, config.version)?);
     let waking = Waking::new(alloc)?;
     let wakers = Arc::try_clone(&waking.wakers)?;
     Ok(put_together(alloc, inboxes, credits, waking, intake, outgo, wakers))
@@ -154,9 +156,10 @@ fn make(alloc: Global, config: Config) -> Result<Parts, AllocError>
 
 impl Session {
     /// The parts of a new session: rings of the capacities, and room for `slots` frames that wait to
-    /// go out. Faults come in this order: the first channel whose ring would not have 1 to 2^24
-    /// bytes, slots that are not 1 to 65,536, want of memory. It takes all the memory of the session;
-    /// of all later calls only `SendEnd::send` takes some, for its copy of the message.
+    /// go out, in the version. What arrives may be of either. Faults come in this order: the first
+    /// channel whose ring would not have 1 to 2^24 bytes, slots that are not 1 to 65,536, want of
+    /// memory. It takes all the memory of the session; of all later calls only `SendEnd::send` takes
+    /// some, for its copy of the message.
     pub fn new(alloc: Global, config: Config) -> Result<Parts, PeerFault>
         ensures answer { IsNewAnswer config (result_err result) }
         ensures new { IfOk result (λ parts. IsNewSession config (state_of parts)) }

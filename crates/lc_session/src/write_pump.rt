@@ -1,7 +1,8 @@
 //! The pump that writes.
 ghost use Rattle.std.specs.Prelude.{◌≡◌, [], Some, IfSome, OnOk, OnErr, None};
-ghost use Rattle.lc_queue.specs.Parts.{IsSame, AllPopped, new_outlet};
-ghost use Rattle.lc_session.specs.Pumping.{Pops, Pumps, IsPumping, IsEnd, IsFault, CountsEnd, Writes, new_pumping, pumping_of};
+ghost use Rattle.lc_queue.specs.Parts.{AllPopped, new_outlet};
+ghost use Rattle.lc_session.specs.Batch.{new_batch};
+ghost use Rattle.lc_session.specs.Pumping.{IsSamePump, Pops, Pumps, IsPumping, IsEnd, IsFault, CountsEnd, Writes, new_pumping, pumping_of};
 
 use crate::batch::Batch;
 use lc_driver::{CountedWrite, WriteFault, write_all};
@@ -22,7 +23,8 @@ pub enum WriteEnd {
     Zero,
 }
 
-/// Writes the frames of all lanes, several in one write where several are queued. One thread has it.
+/// Writes the greeting, and then the frames of all lanes, several in one write where several are
+/// queued. One thread has it.
 #[derive(Drop)]
 pub struct WritePump {
     drain: Drain,
@@ -31,17 +33,20 @@ pub struct WritePump {
 }
 
 impl Model for WritePump {
+    ghost use Rattle.std.specs.Prelude.{◌≡◌};
     ghost use Rattle.lc_session.specs.Pumping.{Pumping, IsPumping, pumping_of};
 
     ghost Value = { Pumping };
 
     ghost view = { λ p. pumping_of p.drain p.batch };
 
-    ghost invariant = { λ p. IsPumping (pumping_of p.drain p.batch) };
+    ghost invariant = { λ p. IsPumping (pumping_of p.drain p.batch) × (p.batch.version ≡ p.drain.version) };
 }
 
 // Pops frames as long as any other one has room, and says how many.
 fn join_popped<R: Wait>(rt: &R, drain: &mut Drain, batch: &mut Batch) -> usize
+    requires { batch.old.version ≡ drain.old.version }
+    ensures version { batch.new.version ≡ drain.new.version }
     ensures pops { Pops (pumping_of drain.old batch.old) (pumping_of drain.new batch.new) }
     ensures none { batch.new.begun ≡ [] → batch.new.waiting ≡ [] → AllPopped drain.new }
 {
@@ -81,8 +86,8 @@ fn write_pending<W: CountedWrite>(writer: &mut W, batch: &mut Batch) -> Option<W
 
 impl WritePump {
     pub(crate) fn new(drain: Drain, batch: Batch, waiter: PumpWaiter) -> WritePump
-        requires drain { drain ≡ new_outlet drain.queue }
-        requires batch { (batch.begun ≡ []) × (batch.waiting ≡ []) }
+        requires drain { drain ≡ new_outlet drain.queue drain.version }
+        requires batch { batch ≡ new_batch drain.version }
         ensures { result ≡ new_pumping drain }
     {
         WritePump {
@@ -172,7 +177,7 @@ impl WritePump {
         ensures end { IsEnd result self.new }
         ensures counts { CountsEnd (Some result) (W.counts writer.old) (W.counts writer.new) }
         ensures kept { IsPumping self.new }
-        ensures same { IsSame self.new.drain.queue self.old.drain.queue }
+        ensures same { IsSamePump self.old self.new }
     {
         self.waiter.begin_run();
         let end = self.pump(rt, writer);

@@ -1,13 +1,12 @@
 -- Parts of a session of which some changed, and stay of it.
-use Rattle.std.proofs.Common.{◌≡◌, ℕ, zero, suc, ◌<◌, List, [], ◌∷◌, length, get_or, set, refl, arith}
+use Rattle.std.proofs.Common.{◌≡◌, ℕ, zero, suc, ◌<◌, List, [], ◌∷◌, length, get_or, set, arith}
 use Rattle.std.specs.List.{AllZip}
-use Rattle.lc_queue.specs.Parts.{IsSame}
 use Rattle.lc_inbox.specs.Sides.{Side, IsSameSide}
 use Rattle.lc_outbox.specs.Outbox.{OutboxState, IsSameOutbox}
-use Rattle.lc_session.specs.Pumping.{Pumping}
+use Rattle.lc_session.specs.Pumping.{Pumping, IsSamePump}
 use Rattle.lc_session.specs.Reading.{Reading, IsSameReading}
 use Rattle.lc_session.specs.Report.{SessionState, AreOfOneSession}
-use Rattle.lc_session.proofs.Same.{outbox_itself, side_itself, reading_itself, session_stays}
+use Rattle.lc_session.proofs.Same.{outbox_itself, side_itself, reading_itself, pump_itself, session_stays}
 
 zip_itself : {A : Type 0} (R : A → A → Type 0) → ((x : A) → R x x) → (xs : List A) → AllZip R xs xs
 zip_itself R same [] = tt
@@ -34,13 +33,13 @@ zip_each R (x ∷ xs) (y ∷ ys) len each = (each zero x (omega arith), zip_each
 
 -- one part changed
 pub senders_stay : (s : SessionState) (new : List OutboxState) → AllZip IsSameOutbox s.sending new → AreOfOneSession s → AreOfOneSession (record s { sending = new })
-senders_stay s new same one = session_stays s (record s { sending = new }) one (record { sending = same; receiving = zip_itself IsSameSide side_itself s.receiving; reading = reading_itself s.reading.side; writing = refl })
+senders_stay s new same one = session_stays s (record s { sending = new }) one (record { sending = same; receiving = zip_itself IsSameSide side_itself s.receiving; reading = reading_itself s.reading.side; writing = pump_itself s.writing })
 
 pub receivers_stay : (s : SessionState) (new : List Side) → AllZip IsSameSide s.receiving new → AreOfOneSession s → AreOfOneSession (record s { receiving = new })
-receivers_stay s new same one = session_stays s (record s { receiving = new }) one (record { sending = zip_itself IsSameOutbox outbox_itself s.sending; receiving = same; reading = reading_itself s.reading.side; writing = refl })
+receivers_stay s new same one = session_stays s (record s { receiving = new }) one (record { sending = zip_itself IsSameOutbox outbox_itself s.sending; receiving = same; reading = reading_itself s.reading.side; writing = pump_itself s.writing })
 
 pub reader_stays : (s : SessionState) (new : Reading) → IsSameReading s.reading.side new.side → AreOfOneSession s → AreOfOneSession (record s { reading = new })
-reader_stays s new same one = session_stays s (record s { reading = new }) one (record { sending = zip_itself IsSameOutbox outbox_itself s.sending; receiving = zip_itself IsSameSide side_itself s.receiving; reading = same; writing = refl })
+reader_stays s new same one = session_stays s (record s { reading = new }) one (record { sending = zip_itself IsSameOutbox outbox_itself s.sending; receiving = zip_itself IsSameSide side_itself s.receiving; reading = same; writing = pump_itself s.writing })
 
-pub writer_stays : (s : SessionState) (new : Pumping) → IsSame new.drain.queue s.writing.drain.queue → AreOfOneSession s → AreOfOneSession (record s { writing = new })
+pub writer_stays : (s : SessionState) (new : Pumping) → IsSamePump s.writing new → AreOfOneSession s → AreOfOneSession (record s { writing = new })
 writer_stays s new same one = session_stays s (record s { writing = new }) one (record { sending = zip_itself IsSameOutbox outbox_itself s.sending; receiving = zip_itself IsSameSide side_itself s.receiving; reading = reading_itself s.reading.side; writing = same })

@@ -1,13 +1,12 @@
 //! Frames that carry a number.
 ghost use Rattle.std.specs.Prelude.{◌≡◌, IfSome};
-ghost use Rattle.lc_frame.specs.declared.version.Version.TheVariants.{One};
 ghost use Rattle.lc_frame.specs.Frame.{lane_of, IsValid};
 
 use lc_frame::{Channel, Frame, Version};
 
-/// The frame of this number in a lane, by its amount; `None` where there is no such frame.
-pub fn numbered(lane: u8, number: u32) -> Option<Frame>
-    ensures { IfSome result (λ frame. IsValid One frame × (lane_of frame ≡ lane)) }
+/// The frame of this number in a lane, by its amount; `None` where a version has no such frame.
+pub fn numbered(version: Version, lane: u8, number: u32) -> Option<Frame>
+    ensures { IfSome result (λ frame. IsValid version frame × (lane_of frame ≡ lane)) }
 {
     let channel = Channel::from_number(lane % 7)?;
     let amount = number;
@@ -16,7 +15,7 @@ pub fn numbered(lane: u8, number: u32) -> Option<Frame>
     } else {
         Frame::Issue { channel, amount }
     };
-    if frame.is_valid(Version::One) && frame.lane() == lane {
+    if frame.is_valid(version) && frame.lane() == lane {
         Some(frame)
     } else {
         None

@@ -1,12 +1,11 @@
 //! Fourteen threads push and one drains.
 ghost use Rattle.std.specs.Prelude.{◌≡◌, [], ◌∷◌, ◌++◌, IfOk};
 ghost use Rattle.std.specs.List.{All};
-ghost use Rattle.lc_frame.specs.declared.version.Version.TheVariants.{One};
 ghost use Rattle.lc_frame.specs.Frame.{lane_of, IsValid};
 ghost use Rattle.lc_queue.specs.Parts.{IsSame, IsSameEnd};
 
 use crate::frames::{number_of, numbered};
-use lc_frame::Frame;
+use lc_frame::{Frame, Version};
 use lc_queue::{Drain, LaneEnd, LanesFault, lanes};
 use std::alloc::{AllocError, Global};
 use std::snapshot::Snapshot;
@@ -28,7 +27,7 @@ type Pushing = PromisedHandle<LaneEnd, SameEnd>;
 
 // Pushes a frame, and yields the processor as long as the queue is full.
 fn push<R: Wait>(rt: &R, end: &mut LaneEnd, frame: Frame)
-    requires valid { IsValid One frame }
+    requires valid { IsValid end.old.version frame }
     requires lane { lane_of frame ≡ end.old.lane }
     ensures { IsSameEnd end.old end.new }
 {
@@ -48,7 +47,7 @@ fn push_all<R: Wait>(rt: &R, mut end: LaneEnd, count: u32) -> LaneEnd
     ensures { IsSameEnd end result }
 {
     for number in 1..=count {
-        if let Some(frame) = numbered(end.lane(), number) {
+        if let Some(frame) = numbered(end.version(), end.lane(), number) {
             push(rt, &mut end, frame);
         }
     }
@@ -125,7 +124,7 @@ pub fn keeps_order<R>(rt: R, alloc: Global, slots: u32, count: u32) -> Result<bo
 where
     R: Threads + Wait + Copy + Send + 'static,
 {
-    let parts = lanes(alloc, slots)?;
+    let parts = lanes(alloc, slots, Version::One)?;
     let mut drain = parts.drain;
     let all = start_all(rt, alloc, &drain, parts.ends, count)?;
     let in_order = pop_all(&rt, &mut drain, 14 * u64::from(count));

@@ -154,7 +154,7 @@ pub fn new_pair(
 ) -> Result<(SharedInbox, Drain), AllocError>
     ensures { IfOk result (λ new. IsNewPair new.0.incoming new.0.outgoing) }
 {
-    let Ok(parts) = lanes(alloc, slots) else {
+    let Ok(parts) = lanes(alloc, slots, Version::One) else {
         return Err(AllocError);
     };
     let Ok(inbox) = Inbox::new(alloc, capacity) else {

@@ -8,8 +8,10 @@ pub const THREE_FRAMES: &str = "1100026869210000000560000000000000000a";
 pub struct Hostile {
     /// An own call before it, as a line of a script.
     pub own: &'static str,
-    /// Its bytes, in hexadecimal.
+    /// Its bytes in version One, in hexadecimal.
     pub bytes: &'static str,
+    /// The same in version Two: a greeting comes first, and a message's length has four bytes.
+    pub in_two: &'static str,
     /// How the reading ends.
     pub end: &'static str,
     /// The channel that is looked at then.
@@ -28,6 +30,7 @@ pub struct Hostile {
 const NOTHING: Hostile = Hostile {
     own: "",
     bytes: "",
+    in_two: "",
     end: "Clean",
     channel: 1,
     server: "outstanding 0 buffered 0 None",
@@ -41,6 +44,7 @@ pub const HOSTILE: [Hostile; 13] = [
     Hostile {
         own: "issue 1 1 => Ok(())\n",
         bytes: "1100026162",
+        in_two: "4c434d0211000000026162",
         end: "Violated(NotGuaranteed)",
         server: "outstanding 1 buffered 0 None",
         ..NOTHING
@@ -48,6 +52,7 @@ pub const HOSTILE: [Hostile; 13] = [
     Hostile {
         own: "issue 1 4 => Ok(())\n",
         bytes: "5100000000000000011100026162",
+        in_two: "4c434d0251000000000000000111000000026162",
         end: "Violated(SentPastLimit)",
         server: "outstanding 4 buffered 0 Some(1)",
         ..NOTHING
@@ -55,30 +60,35 @@ pub const HOSTILE: [Hostile; 13] = [
     Hostile {
         own: "issue 1 4 => Ok(())\n",
         bytes: "3100000005",
+        in_two: "4c434d023100000005",
         end: "Violated(AbsolvedTooMuch)",
         server: "outstanding 4 buffered 0 None",
         ..NOTHING
     },
     Hostile {
         bytes: "510000000000000001510000000000000002",
+        in_two: "4c434d02510000000000000001510000000000000002",
         end: "Violated(SendLimitRaised)",
         server: "outstanding 0 buffered 0 Some(1)",
         ..NOTHING
     },
     Hostile {
         bytes: "6100000000000000002100000001",
+        in_two: "4c434d026100000000000000002100000001",
         end: "Violated(IssuedPastLimit)",
         receive_left: Some(0),
         ..NOTHING
     },
     Hostile {
         bytes: "21010000002100000001",
+        in_two: "4c434d0221010000002100000001",
         end: "Violated(TooManyGuarantees)",
         held: 16_777_216,
         ..NOTHING
     },
     Hostile {
         bytes: "610000000000000005610000000000000006",
+        in_two: "4c434d02610000000000000005610000000000000006",
         end: "Violated(ReceiveLimitRaised)",
         receive_left: Some(5),
         ..NOTHING
@@ -87,23 +97,27 @@ pub const HOSTILE: [Hostile; 13] = [
     Hostile {
         own: "issue 1 1 => Ok(())\n",
         bytes: "5100000000000000011100026162",
+        in_two: "4c434d0251000000000000000111000000026162",
         end: "Violated(NotGuaranteed)",
         server: "outstanding 1 buffered 0 Some(1)",
         ..NOTHING
     },
     Hostile {
         bytes: "210000000577",
+        in_two: "4c434d02210000000577",
         end: "Fault(BadTag)",
         held: 5,
         ..NOTHING
     },
     Hostile {
         bytes: "110000",
+        in_two: "4c434d021100000000",
         end: "Fault(ZeroLength)",
         ..NOTHING
     },
     Hostile {
         bytes: "604000000000000001",
+        in_two: "4c434d02604000000000000001",
         end: "Fault(BadNumber)",
         channel: 0,
         ..NOTHING
@@ -111,6 +125,7 @@ pub const HOSTILE: [Hostile; 13] = [
     Hostile {
         own: "issue 1 8 => Ok(())\n",
         bytes: "11000261621100",
+        in_two: "4c434d02110000000261621100",
         end: "Truncated",
         server: "outstanding 6 buffered 2 None",
         taken: "6162",
@@ -118,6 +133,7 @@ pub const HOSTILE: [Hostile; 13] = [
     },
     Hostile {
         bytes: "604000000000000000",
+        in_two: "4c434d02604000000000000000",
         channel: 0,
         receive_left: Some(4_611_686_018_427_387_904),
         ..NOTHING

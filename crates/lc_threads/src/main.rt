@@ -14,6 +14,7 @@
 mod waking;
 
 use crate::waking::{Load, wakes_all, wakes_at_ends};
+use lc_frame::Version;
 use lc_inbox::{finish_all, share_all};
 use lc_queue::{LanesFault, lanes};
 use lc_sharing::{balances_agree, keeps_order, takes_what_arrives};
@@ -84,7 +85,7 @@ fn waked(answer: Option<bool>) -> &'static str {
 }
 
 fn make_inboxes(alloc: Global, slots: u32) -> &'static str {
-    let Ok(parts) = lanes(alloc, slots) else {
+    let Ok(parts) = lanes(alloc, slots, Version::One) else {
         return "out of memory";
     };
     let ends = parts.ends;
@@ -100,7 +101,7 @@ fn make_inboxes(alloc: Global, slots: u32) -> &'static str {
 }
 
 fn make_lanes(alloc: Global, slots: u32) -> &'static str {
-    match lanes(alloc, slots) {
+    match lanes(alloc, slots, Version::One) {
         Ok(_) => "made",
         Err(LanesFault::BadSlots) => "bad slots",
         Err(LanesFault::OutOfMemory) => "out of memory",

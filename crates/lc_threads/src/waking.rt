@@ -2,10 +2,10 @@
 //! to its own reading pump, so that its ends are at both sides of the stream.
 ghost use Rattle.std.specs.Prelude.{◌≡◌, ℕ, ◌<◌, length, slice_index_or};
 ghost use Rattle.std.specs.List.{AllZip};
-ghost use Rattle.lc_queue.specs.Parts.{IsSame};
 ghost use Rattle.lc_inbox.specs.Sides.{Side, IsSameSide};
 ghost use Rattle.lc_outbox.specs.Outbox.{OutboxState, IsSameOutbox};
 ghost use Rattle.lc_session.specs.Parts.{state_of};
+ghost use Rattle.lc_session.specs.Pumping.{IsSamePump};
 ghost use Rattle.lc_session.specs.Reading.{IsSameReading};
 ghost use Rattle.lc_session.specs.Report.{AreOfOneSession};
 
@@ -182,7 +182,7 @@ fn use_ends<R: Threads + Wait + Sync>(
 
 // Writes until the session is stopped. The writer goes then, which ends the stream.
 fn write_all_out<R: Wait>(rt: &R, mut pump: WritePump, writer: PipeWriter) -> WritePump
-    ensures { IsSame result.drain.queue pump.drain.queue }
+    ensures { IsSamePump pump result }
 {
     let _end = pump.run(rt, &mut Counted::new(writer));
     pump
@@ -205,7 +205,7 @@ fn use_pumps<R: Threads + Wait + Sync>(
     writer: PipeWriter,
 ) -> (ReadPump, WritePump)
     ensures reading { IsSameReading reading.side result.0.side }
-    ensures writing { IsSame result.1.drain.queue writing.drain.queue }
+    ensures writing { IsSamePump writing result.1 }
 {
     join(
         rt,
@@ -213,7 +213,7 @@ fn use_pumps<R: Threads + Wait + Sync>(
             ensures { IsSameReading reading.side result.side }
         { read_all(rt, reading, reader) },
         || -> WritePump
-            ensures { IsSame result.drain.queue writing.drain.queue }
+            ensures { IsSamePump writing result }
         { write_all_out(rt, writing, writer) },
     )
 }
@@ -239,7 +239,7 @@ fn use_all<R: Threads + Wait + Sync>(
     let (pumps, ends) = join(
         rt,
         || -> (ReadPump, WritePump)
-            ensures { IsSameReading read_pump.side result.0.side × IsSame result.1.drain.queue write_pump.drain.queue }
+            ensures { IsSameReading read_pump.side result.0.side × IsSamePump write_pump result.1 }
         { use_pumps(rt, read_pump, reader, write_pump, writer) },
         || -> ([SendEnd; 7], [RecvEnd; 7])
             ensures { AllZip IsSameOutbox send_ends result.0 × AllZip IsSameSide recv_ends result.1 }
@@ -274,8 +274,12 @@ pub fn wakes_all<R: Threads + Wait + Sync>(
         slots,
         ..
     } = load;
-    let capacities = [capacity; 7];
-    let parts = Session::new(alloc, Config { capacities, slots }).ok()?;
+    let config = Config {
+        version: Version::One,
+        capacities: [capacity; 7],
+        slots,
+    };
+    let parts = Session::new(alloc, config).ok()?;
     let (reader, writer) = pipe(files).ok()?;
     let parts = use_all(rt, parts, reader, writer, load);
     Some(is_whole(&finish(rt, parts), load))
@@ -319,8 +323,12 @@ pub fn wakes_at_ends<R: Threads + Wait + Sync>(
     alloc: Global,
     rounds: u32,
 ) -> Option<bool> {
-    let (capacities, slots) = ([1; 7], 1);
-    let parts = Session::new(alloc, Config { capacities, slots }).ok()?;
+    let config = Config {
+        version: Version::One,
+        capacities: [1; 7],
+        slots: 1,
+    };
+    let parts = Session::new(alloc, config).ok()?;
     let (reader, writer) = pipe(files).ok()?;
     let Parts {
         mut send_ends,

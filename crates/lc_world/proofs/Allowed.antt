@@ -2,7 +2,6 @@
 use Rattle.std.proofs.Common.{◌≡◌, ℕ, ◌+◌, ◌≤◌, Bool, true, false, length, Option, Some, None, refl, inl, inr, arith}
 use Rattle.std.specs.Prelude.{◌⊎◌, ◌-◌, ◌==◌, nat_lt, if◌then◌else◌}
 use Rattle.std.specs.Option.{option_and_then}
-use Rattle.lc_frame.specs.declared.version.Version.TheVariants.{One}
 use Rattle.lc_frame.specs.declared.frame.Frame.{Frame}
 use Rattle.lc_frame.specs.declared.frame.Frame.TheVariants as frame
 use Rattle.lc_frame.specs.Frame.{channel_of}
@@ -58,7 +57,7 @@ first_passed false r rest e = (refl, e)
 spend_allowed : (b : Client) (n : ℕ) → spend_refusal b n ≡ None → (n ≤ held b) × (is_past b.send_left n ≡ false)
 spend_allowed b n e =
     let one = first_passed (n == 0) _ _ e in
-    let two = first_passed (nat_lt (max_body One) n) _ _ one.1 in
+    let two = first_passed (nat_lt (max_body b.version) n) _ _ one.1 in
     let three = first_passed (is_past b.send_left n) _ _ two.1 in
     let four = first_passed (nat_lt (held b) n) _ _ three.1 in
     (not_above (held b) n four.0, three.0)

@@ -1,17 +1,10 @@
 -- What bytes in flight bring to the end where they are delivered.
-use Rattle.lc_world.proofs.Fed.{fed_is, fed_told, one_frames, one_fault_free}
 use Rattle.lc_frame.specs.declared.version.Version.{Version}
-use Rattle.lc_frame.specs.Version.{version_of}
-use Rattle.lc_frame.specs.Held.{Held, held_in, fed, FaultIn}
-use Rattle.std.proofs.Common.{◌≡◌, ℕ, zero, suc, ◌+◌, ◌<◌, ◌≤◌, List, [], ◌∷◌, ◌++◌, length, get_or, take, drop, Option, Some, None, refl, sym, ap, ap₂, ◌∙◌, subst, inl, inr, arith}
-use Rattle.std.specs.Prelude.{◌-◌, All, ◌⊎◌}
+use Rattle.lc_frame.specs.Held.{Held, fed, HasFault}
+use Rattle.std.proofs.Common.{◌≡◌, ℕ, ◌+◌, ◌<◌, ◌≤◌, List, [], ◌∷◌, ◌++◌, length, get_or, take, drop, Option, Some, None, refl, sym, ap, ap₂, ◌∙◌, subst, inl, inr, arith}
+use Rattle.std.specs.Prelude.{◌-◌, All}
 use Rattle.std.specs.List.{AllByRecursion}
-use Rattle.std.proofs.lemmas.List.{append-nil, append_assoc, length-append, take-append-drop, nil_from_length}
-use Rattle.std.proofs.lemmas.List.Elements.{All-take, All-drop}
-use Rattle.std.proofs.lemmas.List.Concat.{flat_map-cons}
-use Rattle.std.proofs.lemmas.Grind.{flat_map-append}
-use Rattle.std.proofs.Math.Seq.{take-append-add, drop-append-add}
-use Rattle.lc_frame.specs.declared.version.Version.TheVariants.{One}
+use Rattle.std.proofs.lemmas.List.{append-nil, append_assoc, length-append}
 use Rattle.lc_frame.specs.declared.channel.Channel.{Channel}
 use Rattle.lc_frame.specs.declared.frame.Frame.{Frame}
 use Rattle.lc_frame.specs.declared.frame.Frame.TheVariants as frame
@@ -19,10 +12,8 @@ use Rattle.lc_frame.specs.declared.frame_fault.FrameFault.{FrameFault}
 use Rattle.lc_frame.specs.Channel.{number_of}
 use Rattle.lc_frame.specs.Kind.{max_amount}
 use Rattle.lc_frame.specs.Frame.{channel_of, IsValid}
-use Rattle.lc_frame.specs.Encoding.{encoding}
-use Rattle.lc_frame.specs.Splits.{Splits, frames_of, rest_of}
+use Rattle.lc_frame.specs.Splits.{frames_of, rest_of}
 use Rattle.lc_frame.proofs.Channels.{number_below}
-use Rattle.lc_frame.proofs.SplitLaws.{front_law}
 use Rattle.lc_book.specs.declared.fault.Violation.{Violation}
 use Rattle.lc_book.specs.Client.{Client}
 use Rattle.lc_book.specs.Server.{Server}
@@ -40,15 +31,16 @@ use Rattle.lc_world.specs.declared.event.Side.TheVariants.{A, B}
 use Rattle.lc_world.specs.declared.endpoint.Endpoint.{Endpoint}
 use Rattle.lc_world.specs.State.{Line, line, other, stream, keep_pleads, size, arrive_first, deliver_over, deliver_on}
 use Rattle.lc_world.specs.Sound.{AllFit, Sound, IsSound}
-use Rattle.lc_world.specs.Delivery.{bytes_of, delivered}
+use Rattle.lc_world.specs.Delivery.{text_of, delivered}
 use Rattle.lc_world.specs.Endpoint.{line_of, capacity_of, streams_of, of_lines, IsLine, AreEnds, AreInStep, Brings, held_of}
 use Rattle.lc_world.proofs.Delivers.{deliver_keeps}
-use Rattle.lc_world.proofs.Streams.{stream-deliver}
+use Rattle.lc_world.proofs.Streams.{stream-deliver, version-deliver}
 use Rattle.lc_world.proofs.Sound.{sound_delivers, sound_delivers_theirs}
 use Rattle.lc_world.proofs.Lawful.{SoundTo, arrives_soundly, no_violation, sound_to_a}
 use Rattle.lc_world.proofs.Pleads.{places_come, places_deliver}
-use Rattle.lc_world.proofs.Bytes.{below_or_not, within_first, behind_first, begun_over, begun_within, deliveries_add}
-use Rattle.lc_world.proofs.Parts.{each_first, each_behind, part_splits, frames_are}
+use Rattle.lc_world.proofs.Bytes.{below_or_not, within_first, behind_first, order_delivers, deliveries_add}
+use Rattle.lc_world.proofs.Fed.{frames_come, rest_held, no_fault_held}
+use Rattle.lc_world.proofs.Deliveries.{left_is}
 use Rattle.lc_world.proofs.Calls.{peer_same, at_set, at_own}
 
 -- the plead that is kept after an arrival, by channel
@@ -61,22 +53,11 @@ record Comes (k : ℕ) (mine l new : Line) (n : ℕ) (p : PeerState) : Type 0 wh
   came : List Frame
   parts : l.in_flight ≡ came ++ new.in_flight
   arrived : new.arrived ≡ l.arrived ++ came
-  bytes : take n (bytes_of l.in_flight) ≡ bytes_of came ++ take new.begun (bytes_of new.in_flight)
   lawful : (arrivals p came).violation ≡ None
   count : (arrivals p came).count ≡ length came
   sums : IsPeerOf (streams_of k mine new) (arrivals p came).peer
   slots : (arrivals p came).peer.slots ≡ p.slots
   waiting : (arrivals p came).peer.waiting ≡ p.waiting
-
-none_of_none : (n : ℕ) → take {A = ℕ} n [] ≡ []
-none_of_none zero = refl
-none_of_none (suc n) = refl
-
--- the bytes of the first frame, and more
-take_first : (f : Frame) (rest : List Frame) (n : ℕ) → size f ≤ n → take n (bytes_of (f ∷ rest)) ≡ encoding One f ++ take (n - size f) (bytes_of rest)
-take_first f rest n le =
-    ap₂ (λ (m : ℕ) (x : List ℕ). take m x) (let e : n ≡ size f + (n - size f) = omega (arith, le) in e) (flat_map-cons (encoding One) f rest)
-    ∙ take-append-add (encoding One f) (bytes_of rest) (n - size f)
 
 module _ (k : ℕ) (small : k ≤ max_amount) (mine : Line) where
   -- the first frame in flight arrives lawfully
@@ -98,7 +79,6 @@ module _ (k : ℕ) (small : k ≤ max_amount) (mine : Line) where
         came = [];
         parts = refl;
         arrived = sym (append-nil l.arrived);
-        bytes = ap (λ (fs : List Frame). take n (bytes_of fs)) e ∙ (none_of_none n ∙ sym (ap (λ (fs : List Frame). take l.begun (bytes_of fs)) e ∙ none_of_none l.begun));
         lawful = refl;
         count = refl;
         sums = h;
@@ -106,13 +86,12 @@ module _ (k : ℕ) (small : k ≤ max_amount) (mine : Line) where
         waiting = refl;
       }
   comes (f ∷ rest) n l p e places s h =
-      elim (below_or_not n (size f)) [
+      elim (below_or_not n (size l.version f)) [
         | inl lt ↦
             subst (λ (x : Line). Comes k mine l x n p) (sym (within_first f rest n l lt)) (record {
               came = [];
               parts = refl;
               arrived = sym (append-nil l.arrived);
-              bytes = refl;
               lawful = refl;
               count = refl;
               sums = h;
@@ -121,20 +100,14 @@ module _ (k : ℕ) (small : k ≤ max_amount) (mine : Line) where
             })
         | inr le ↦
             let next : Line = arrive_first l (f ∷ rest) in
-            let last : Line = deliver_over rest (n - size f) next in
+            let last : Line = deliver_over rest (n - size l.version f) next in
             let sound : SoundTo k mine next = subst (λ (fs : List Frame). SoundTo k mine (arrive_first l fs)) e (arrives_soundly k mine l s) in
-            let later : Comes k mine next last (n - size f) (arrive p f) = comes rest (n - size f) next (arrive p f) refl (places_come f l.asked ∙ places) sound (one_comes l p f rest places h) in
+            let later : Comes k mine next last (n - size l.version f) (arrive p f) = comes rest (n - size l.version f) next (arrive p f) refl (places_come f l.asked ∙ places) sound (one_comes l p f rest places h) in
             let first : arrivals p (f ∷ later.came) ≡ record (arrivals (arrive p f) later.came) { count = (arrivals (arrive p f) later.came).count + 1 } = after_first p f later.came (passes l p f rest e s h) in
             subst (λ (x : Line). Comes k mine l x n p) (sym (behind_first f rest n l le)) (record {
               came = f ∷ later.came;
               parts = e ∙ ap (λ (fs : List Frame). f ∷ fs) later.parts;
               arrived = later.arrived ∙ append_assoc l.arrived (f ∷ []) later.came;
-              bytes =
-                  ap (λ (fs : List Frame). take n (bytes_of fs)) e
-                  ∙ (take_first f rest n le
-                  ∙ (ap (λ (x : List ℕ). encoding One f ++ x) later.bytes
-                  ∙ (sym (append_assoc (encoding One f) (bytes_of later.came) (take last.begun (bytes_of last.in_flight)))
-                  ∙ ap (λ (x : List ℕ). x ++ take last.begun (bytes_of last.in_flight)) (sym (flat_map-cons (encoding One) f later.came)))));
               lawful = ap (λ (a : Arrival). a.violation) first ∙ later.lawful;
               count = ap (λ (a : Arrival). a.count) first ∙ (ap (λ (m : ℕ). m + 1) later.count ∙ omega arith);
               sums = subst (λ (a : Arrival). IsPeerOf (streams_of k mine last) a.peer) (sym first) later.sums;
@@ -151,9 +124,9 @@ taken_arrives (f ∷ rest) l = refl
 line_delivered : (count : ℕ) (l : Line) → IsLine l → IsLine (deliver_on count l)
 line_delivered count l h =
     record {
-      valid = subst (λ (fs : List Frame). AllByRecursion (IsValid One) fs) (sym (stream-deliver count l)) h.valid;
-      begun = begun_over l.in_flight (l.begun + count) l refl h.begun;
-      taken_places = deliver_keeps (λ (x : Line). length x.taken ≡ 7) (record { begins = λ x n e. e; arrives = λ x e. taken_arrives x.in_flight x ∙ e }) count l h.taken_places;
+      valid = subst (λ (v : Version). AllByRecursion (IsValid v) (stream (deliver_on count l))) (sym (version-deliver count l)) (subst (λ (fs : List Frame). AllByRecursion (IsValid l.version) fs) (sym (stream-deliver count l)) h.valid);
+      order = order_delivers count l h.order;
+      taken_places = deliver_keeps (λ (x : Line). length x.taken ≡ 7) (record { begins = λ x m n e. e; arrives = λ x e. taken_arrives x.in_flight x ∙ e }) count l h.taken_places;
       asked_places = places_deliver count l ∙ h.asked_places;
     }
 
@@ -165,79 +138,51 @@ limits_delivered : (k : ℕ) (mine theirs : Line) (count : ℕ) → IsSound (of_
 limits_delivered k mine theirs count h A = h.limits A
 limits_delivered k mine theirs count h B = subst (λ (fs : List Frame). AllFit [] fs) (sym (stream-deliver count theirs)) (h.limits B)
 
+-- the greeting that is in flight changes nothing of what is sound
+sound_ahead : (k : ℕ) (mine l : Line) (left : ℕ) → SoundTo k mine l → SoundTo k mine (record l { greeting_left = left })
+sound_ahead k mine l left s = record {
+  as_client = λ c. let h = s.as_client c in record { solvent = h.solvent; roomy = h.roomy; total = h.total; taken_of_arrived = h.taken_of_arrived; places = h.places };
+  as_server = λ c. let h = s.as_server c in record { solvent = h.solvent; roomy = h.roomy; total = h.total; taken_of_arrived = h.taken_of_arrived; places = h.places };
+  fits = s.fits;
+}
+
 -- bytes in flight are delivered at the first of two ends
 module _ (k : ℕ) (mine theirs : Line) (me peer : Endpoint) (h : AreEnds k mine theirs me peer) (count : ℕ) (within : peer.delivered + count ≤ length peer.stream.items) (piece : List ℕ) (piece_is : piece ≡ take count (drop peer.delivered peer.stream.items)) where
-  abbrev text : List ℕ
-  text = bytes_of theirs.in_flight
-
   abbrev new : Line
   new = deliver_on count theirs
 
-  brought : Comes k mine theirs new (theirs.begun + count) me.peer
-  brought = comes k h.small mine theirs.in_flight (theirs.begun + count) theirs me.peer refl h.their_line.asked_places (sound_to_a (of_lines k mine theirs) h.sound) h.my_end.peer.sums
+  abbrev ahead : Line
+  ahead = record theirs { greeting_left = theirs.greeting_left - count }
 
-  joined : peer.stream.items ≡ bytes_of theirs.arrived ++ text
-  joined = h.their_end.bytes ∙ flat_map-append (encoding One) theirs.arrived theirs.in_flight
+  brought : Comes k mine ahead new (theirs.begun + (count - theirs.greeting_left)) me.peer
+  brought = comes k h.small mine theirs.in_flight (theirs.begun + (count - theirs.greeting_left)) ahead me.peer refl h.their_line.asked_places (sound_ahead k mine theirs (theirs.greeting_left - count) (sound_to_a (of_lines k mine theirs) h.sound)) h.my_end.peer.sums
 
-  left : drop peer.delivered peer.stream.items ≡ drop theirs.begun text
-  left = ap₂ (λ (n : ℕ) (x : List ℕ). drop n x) h.their_end.count joined ∙ drop-append-add (bytes_of theirs.arrived) text theirs.begun
+  new_line : IsLine new
+  new_line = line_delivered count theirs h.their_line
 
-  piece_of_text : piece ≡ take count (drop theirs.begun text)
-  piece_of_text = piece_is ∙ ap (take count) left
+  piece_of_text : piece ≡ take count (drop (delivered theirs) (text_of theirs.version (stream theirs)))
+  piece_of_text = piece_is ∙ ap₂ (λ (n : ℕ) (x : List ℕ). take count (drop n x)) h.their_end.count h.their_end.bytes
 
-  -- what was held and what comes are the next bytes of the frames in flight
-  front_is : (n : ℕ) → take (length (bytes_of theirs.arrived) + n) (bytes_of (stream theirs)) ≡ bytes_of theirs.arrived ++ take n text
-  front_is n = ap (take (length (bytes_of theirs.arrived) + n)) (flat_map-append (encoding One) theirs.arrived theirs.in_flight) ∙ take-append-add (bytes_of theirs.arrived) text n
+  all : All (λ b. b < 256) (text_of theirs.version (stream theirs))
+  all = subst (λ (x : List ℕ). All (λ b. b < 256) x) h.their_end.bytes h.their_end.are_bytes
 
-  later_front : take (delivered theirs + count) (bytes_of (stream theirs)) ≡ bytes_of theirs.arrived ++ take (theirs.begun + count) text
-  later_front = ap (λ (n : ℕ). take n (bytes_of (stream theirs))) (omega arith) ∙ front_is (theirs.begun + count)
-
-  abbrev now : Held
-  now = record { version = version_of (take (delivered theirs + count) (bytes_of (stream theirs))); bytes = take (theirs.begun + count) text }
-
-  fed_now : fed me.decoder piece ≡ now
-  fed_now =
-      ap₂ fed h.my_end.held piece_of_text
-      ∙ fed_is (stream theirs) (bytes_of theirs.arrived) text (flat_map-append (encoding One) theirs.arrived theirs.in_flight) theirs.begun count (delivered theirs) (front_is theirs.begun) later_front
-
-  now_told : (now.bytes ≡ []) ⊎ (now.version ≡ Some One)
-  now_told = fed_told (stream theirs) (bytes_of theirs.arrived) text (flat_map-append (encoding One) theirs.arrived theirs.in_flight) theirs.begun count (delivered theirs) (front_is theirs.begun) later_front
-
-  are_bytes : All (λ b. b < 256) (take (theirs.begun + count) text)
-  are_bytes =
-      let all : All (λ b. b < 256) (bytes_of theirs.arrived ++ text) = subst (λ (x : List ℕ). All (λ b. b < 256) x) joined h.their_end.are_bytes in
-      All-take (λ b. b < 256) (theirs.begun + count) text (subst (λ (x : List ℕ). All (λ b. b < 256) x) behind (All-drop (λ b. b < 256) (length (bytes_of theirs.arrived) + 0) (bytes_of theirs.arrived ++ text) all))
-    where
-      behind : drop (length (bytes_of theirs.arrived) + 0) (bytes_of theirs.arrived ++ text) ≡ text
-      behind = drop-append-add (bytes_of theirs.arrived) text 0
-
-  valid : AllByRecursion (IsValid One) (brought.came ++ new.in_flight)
-  valid = subst (λ (fs : List Frame). AllByRecursion (IsValid One) fs) brought.parts (each_behind theirs.arrived theirs.in_flight h.their_line.valid)
-
-  split : Splits (Some One) (take (theirs.begun + count) text) brought.came (take new.begun (bytes_of new.in_flight))
-  split = subst (λ (x : List ℕ). Splits (Some One) x brought.came (take new.begun (bytes_of new.in_flight))) (sym brought.bytes) (part_splits brought.came new.in_flight new.begun (each_first brought.came new.in_flight valid) (each_behind brought.came new.in_flight valid) (line_delivered count theirs h.their_line).begun)
-
-  one_frames_are : (frames_of (held_in One (take (theirs.begun + count) text)) ≡ brought.came) × ((rest_of (held_in One (take (theirs.begun + count) text))).bytes ≡ take new.begun (bytes_of new.in_flight))
-  one_frames_are = frames_are (take (theirs.begun + count) text) brought.came (take new.begun (bytes_of new.in_flight)) are_bytes split
-
-  frames_is : frames_of (fed me.decoder piece) ≡ brought.came
-  frames_is = ap frames_of fed_now ∙ (one_frames now.version now.bytes now_told).0 ∙ one_frames_are.0
-
-  rest_bytes : (rest_of (fed me.decoder piece)).bytes ≡ take new.begun (bytes_of new.in_flight)
-  rest_bytes = ap (λ (x : Held). (rest_of x).bytes) fed_now ∙ (one_frames now.version now.bytes now_told).1 ∙ one_frames_are.1
+  same_text : text_of new.version (stream new) ≡ text_of theirs.version (stream theirs)
+  same_text = ap₂ text_of (version-deliver count theirs) (stream-deliver count theirs)
 
   -- as many bytes of the stream were delivered
-  counted : delivered theirs + count ≡ delivered new
+  counted : delivered new ≡ delivered theirs + count
   counted =
-      let whole : length peer.stream.items ≡ length (bytes_of theirs.arrived) + length text = ap length joined ∙ length-append (bytes_of theirs.arrived) text in
-      omega (arith, whole, within, h.their_end.count, begun_within theirs.in_flight theirs.begun h.their_line.begun) ∙ sym ((deliveries_add theirs h.their_line.begun).counts count)
+      let left = left_is k mine theirs me peer h in
+      (deliveries_add theirs h.their_line.order).counts count ∙ omega (arith, left, within)
+
+  fed_is : fed me.decoder piece ≡ fed (held_of theirs) (take count (drop (delivered theirs) (text_of theirs.version (stream theirs))))
+  fed_is = ap₂ fed h.my_end.held piece_of_text
+
+  frames_is : frames_of (fed me.decoder piece) ≡ brought.came
+  frames_is = ap frames_of fed_is ∙ frames_come theirs new h.their_line new_line (version-deliver count theirs) (stream-deliver count theirs) count counted all brought.came brought.arrived
 
   rest_is : rest_of (fed me.decoder piece) ≡ held_of new
-  rest_is =
-      let version : (rest_of (fed me.decoder piece)).version ≡ version_of (take (delivered new) (bytes_of (stream new))) =
-      ap (λ (x : Held). x.version) fed_now
-      ∙ ap₂ (λ (n : ℕ) (fs : List Frame). version_of (take n (bytes_of fs))) counted (sym (stream-deliver count theirs)) in
-      ap₂ (λ (o : Option Version) (x : List ℕ). record { version = o; bytes = x }) version rest_bytes
+  rest_is = ap rest_of fed_is ∙ rest_held theirs new h.their_line new_line (version-deliver count theirs) (stream-deliver count theirs) count counted all
 
   abbrev Arrived : Arrival
   Arrived = arrivals me.peer (frames_of (fed me.decoder piece))
@@ -250,11 +195,7 @@ module _ (k : ℕ) (mine theirs : Line) (me peer : Endpoint) (h : AreEnds k mine
   no_violation_stops v held met = let none : None ≡ Some v = sym brought.lawful ∙ (sym (ap (λ (a : Arrival). a.violation) arrived_is) ∙ met.violates) in cc
 
   pub no_fault_stops : (e : FrameFault) (held : Held) (taken : ℕ) → MetFault e Arrived (fed me.decoder piece) held taken → ⊥
-  no_fault_stops e held taken met =
-      let free = (front_law (Some One) theirs.in_flight brought.came (take (theirs.begun + count) text) (drop (theirs.begun + count) text) (take new.begun (bytes_of new.in_flight)) (each_behind theirs.arrived theirs.in_flight h.their_line.valid) (sym (take-append-drop (theirs.begun + count) text)) split).no_fault in
-      let short : now.bytes ≡ [] → take new.begun (bytes_of new.in_flight) ≡ [] = λ none. nil_from_length (take new.begun (bytes_of new.in_flight)) (omega (arith, ap length none, ap length split.whole, length-append (bytes_of brought.came) (take new.begun (bytes_of new.in_flight)))) in
-      let stands : FaultIn now.version e (take new.begun (bytes_of new.in_flight)) = subst (FaultIn now.version e) rest_bytes (subst (λ (x : Held). FaultIn x.version e (rest_of (fed me.decoder piece)).bytes) fed_now met.stands) in
-      one_fault_free now.version now.bytes (take new.begun (bytes_of new.in_flight)) now_told short free e stands
+  no_fault_stops e held taken met = no_fault_held new new_line (subst (λ (x : List ℕ). All (λ b. b < 256) x) (sym same_text) all) e (subst (HasFault e) rest_is met.stands)
 
   -- and it leaves the ends of the lines after it
   module _ (me' peer' : Endpoint) (frames : ℕ) (ep : me'.peer ≡ Arrived.peer) (ef : frames ≡ Arrived.count) (eh : me'.decoder ≡ rest_of (fed me.decoder piece)) (es : me'.stream.items ≡ me.stream.items) (ed : me'.delivered ≡ me.delivered) (ep' : peer'.peer ≡ peer.peer) (es' : peer'.stream.items ≡ peer.stream.items) (ed' : peer'.delivered ≡ peer.delivered + count) (ec' : peer'.decoder ≡ peer.decoder) where
@@ -262,7 +203,7 @@ module _ (k : ℕ) (mine theirs : Line) (me peer : Endpoint) (h : AreEnds k mine
     peer_is = ep ∙ ap (λ (a : Arrival). a.peer) arrived_is
 
     all_counted : peer'.delivered ≡ delivered new
-    all_counted = ed' ∙ ap (λ (n : ℕ). n + count) h.their_end.count ∙ counted
+    all_counted = ed' ∙ ap (λ (n : ℕ). n + count) h.their_end.count ∙ sym counted
 
     pub ends_brought : AreEnds k mine new me' peer'
     ends_brought =
@@ -281,11 +222,11 @@ module _ (k : ℕ) (mine theirs : Line) (me peer : Endpoint) (h : AreEnds k mine
           };
           their_end = record {
             peer = record {
-              sums = subst (λ (q : PeerState). IsPeerOf (streams_of k new mine) q) (sym ep') (subst (λ (fs : List Frame). IsPeerOf (record (streams_of k theirs mine) { put = fs }) peer.peer) (sym (stream-deliver count theirs)) h.their_end.peer.sums);
+              sums = subst (λ (q : PeerState). IsPeerOf (streams_of k new mine) q) (sym ep') (subst (λ (v : Version). IsPeerOf (record (streams_of k theirs mine) { version = v; put = stream new }) peer.peer) (sym (version-deliver count theirs)) (subst (λ (fs : List Frame). IsPeerOf (record (streams_of k theirs mine) { put = fs }) peer.peer) (sym (stream-deliver count theirs)) h.their_end.peer.sums));
               one_slot = ap (λ (q : PeerState). q.slots) ep' ∙ h.their_end.peer.one_slot;
               none_waits = ap (λ (q : PeerState). q.waiting) ep' ∙ h.their_end.peer.none_waits;
             };
-            bytes = es' ∙ (h.their_end.bytes ∙ ap bytes_of (sym (stream-deliver count theirs)));
+            bytes = es' ∙ (h.their_end.bytes ∙ sym same_text);
             are_bytes = subst (λ (x : List ℕ). All (λ b. b < 256) x) (sym es') h.their_end.are_bytes;
             count = all_counted;
             held = ec' ∙ h.their_end.held;

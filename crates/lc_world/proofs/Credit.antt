@@ -29,8 +29,8 @@ whole_of w g q A c dry = whole w.capacity c w.a w.b (g.sums A c) (q.in_flight A)
 whole_of w g q B c dry = whole w.capacity c w.b w.a (g.sums B c) (q.in_flight B) (q.in_flight A) dry
 
 pub credit_never_leaks : CreditNeverLeaks
-credit_never_leaks capacity history h q s c dry =
-    whole_of (state_of capacity history) (sound_of capacity history h) q s c dry ∙ capacity_stays (opening capacity) history
+credit_never_leaks capacity versions history h q s c dry =
+    whole_of (state_of capacity versions history) (sound_of capacity versions history h) q s c dry ∙ capacity_stays (opening capacity versions) history
 
 conserved : (capacity : ℕ) (c : Channel) (mine theirs : Line) → Sound capacity c mine theirs → held (client_book c mine theirs) + issued c theirs.in_flight + cost c mine.in_flight + absolved c mine.in_flight + buffered (server_book capacity c theirs mine) + room (server_book capacity c theirs mine) ≡ capacity
 conserved capacity c mine theirs s = omega (arith, s.solvent, s.roomy, taken_cost c mine, cost-cut c mine, absolved-cut c mine, issued-cut c theirs)
@@ -40,5 +40,5 @@ conserved_of w g A c = conserved w.capacity c w.a w.b (g.sums A c)
 conserved_of w g B c = conserved w.capacity c w.b w.a (g.sums B c)
 
 pub credit_is_conserved : CreditIsConserved
-credit_is_conserved capacity history h s c =
-    conserved_of (state_of capacity history) (sound_of capacity history h) s c ∙ capacity_stays (opening capacity) history
+credit_is_conserved capacity versions history h s c =
+    conserved_of (state_of capacity versions history) (sound_of capacity versions history h) s c ∙ capacity_stays (opening capacity versions) history

@@ -155,21 +155,21 @@ accepted_same c s [] later h = accepted_none c s later h
 accepted_same c s (p ∷ history) later h = ap (λ (ms : List (List ℕ)). cons_option (at_side (sent_body c) s p) ms) (accepted_same c s history later h)
 
 pub nothing_wedges : NothingWedges
-nothing_wedges capacity history h =
-    let w : State = state_of capacity history in
-    let g : Good w = record { sound = sound_of capacity history h; small = omega (arith, h.is_capacity.at_most, capacity_stays (opening capacity) history) } in
+nothing_wedges capacity versions history h =
+    let w : State = state_of capacity versions history in
+    let g : Good w = record { sound = sound_of capacity versions history h; small = omega (arith, h.is_capacity.at_most, capacity_stays (opening capacity versions) history) } in
     let way : Way (Dry every_place) w = drained w g in
     let later : History = way.later in
     let joined : History = history ++ later in
-    let legal : IsHistory capacity joined = record { is_capacity = h.is_capacity; legal = legal_append (opening capacity) history later h.legal way.legal } in
-    let end : Dry every_place (state_of capacity joined) = subst (λ (v : State). Dry every_place v) (sym (after_append (opening capacity) history later)) way.there in (
+    let legal : IsHistory capacity versions joined = record { is_capacity = h.is_capacity; legal = legal_append (opening capacity versions) history later h.legal way.legal } in
+    let end : Dry every_place (state_of capacity versions joined) = subst (λ (v : State). Dry every_place v) (sym (after_append (opening capacity versions) history later)) way.there in (
       later,
       record {
         only = way.only;
         legal = legal;
-        all_taken = λ s c. taken_is_taken capacity joined legal s c ∙ (taken_put c (line (state_of capacity joined) s) (still_at (state_of capacity joined) end.still s) (at_place (state_of capacity joined) end.dry s c) ∙ sym (accepted_messages capacity joined s c));
-        quiet = record { in_flight = still_at (state_of capacity joined) end.still };
-        dry = at_place (state_of capacity joined) end.dry;
+        all_taken = λ s c. taken_is_taken capacity versions joined legal s c ∙ (taken_put c (line (state_of capacity versions joined) s) (still_at (state_of capacity versions joined) end.still s) (at_place (state_of capacity versions joined) end.dry s c) ∙ sym (accepted_messages capacity versions joined s c));
+        quiet = record { in_flight = still_at (state_of capacity versions joined) end.still };
+        dry = at_place (state_of capacity versions joined) end.dry;
         none_added = λ s c. accepted_same c s history later way.only;
       },
     )

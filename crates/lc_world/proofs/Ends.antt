@@ -1,17 +1,16 @@
 -- Two ends stand for the lines that they are the ends of.
 use Rattle.std.proofs.Common.{◌≡◌, ℕ, ◌<◌, List, [], ◌∷◌, length, map, get_or, take, drop, Option, None, refl, sym, ap, ap₂, ◌∙◌, subst, arith, Some}
 use Rattle.std.specs.Prelude.{◌-◌, All}
-use Rattle.std.proofs.lemmas.List.{append-nil, length-drop, length-take}
-use Rattle.std.proofs.lemmas.List.Elements.{All-take}
+use Rattle.std.proofs.lemmas.List.{length-drop, length-take}
 use Rattle.std.proofs.Math.Seq.{drop-append_seam}
-use Rattle.lc_frame.specs.Held.{held_in}
-use Rattle.lc_frame.specs.declared.version.Version.TheVariants.{One}
+use Rattle.lc_frame.specs.Held.{opened_as}
+use Rattle.lc_frame.specs.declared.version.Version.{Version}
 use Rattle.lc_frame.specs.declared.channel.Channel.{Channel}
 use Rattle.lc_frame.specs.declared.channel.Channel.TheVariants.{ReconciliationChannel}
 use Rattle.lc_frame.specs.declared.frame.Frame.{Frame}
 use Rattle.lc_frame.specs.Channel.{number_of}
 use Rattle.lc_frame.specs.Stream.{messages}
-use Rattle.lc_frame.specs.Splits.{Splits, frames_of, rest_of}
+use Rattle.lc_frame.specs.Splits.{frames_of}
 use Rattle.lc_book.specs.Client.{Client}
 use Rattle.lc_book.specs.Server.{Server}
 use Rattle.lc_peer.specs.Peer.{PeerState, client, inbox, server}
@@ -23,10 +22,10 @@ use Rattle.lc_world.specs.declared.endpoint.Endpoint.{Endpoint}
 use Rattle.lc_world.specs.State.{Line, line, other, stream, taken_count, kept_plead, client_book, server_book}
 use Rattle.lc_world.specs.Answers.{IsAnswerOf, IsAnswer, mine_after, theirs_after, state_after}
 use Rattle.lc_world.specs.Sound.{AllFit, Sound, IsSound}
-use Rattle.lc_world.specs.Delivery.{bytes_of, delivered}
+use Rattle.lc_world.specs.Delivery.{bytes_of, text_of, delivered}
 use Rattle.lc_world.specs.Endpoint.{every_channel, taken_by, pleads_of, line_in, line_of, capacity_of, state_between, of_lines, IsPeerBetween, IsEnd, IsLine, AreEnds, AreInStep, Acts}
-use Rattle.lc_world.proofs.Bytes.{is_cut, begun_within}
-use Rattle.lc_world.proofs.Parts.{each_first, each_behind, part_splits, frames_are}
+use Rattle.lc_world.proofs.Bytes.{begun_within, left_is}
+use Rattle.lc_world.proofs.Parts.{Reads, reads}
 
 -- seven by their channels
 listed : {X : Type 0} (xs : List X) (d : X) → length xs ≡ 7 → map (λ c. get_or xs (number_of c) d) every_channel ≡ xs
@@ -63,47 +62,28 @@ module _ (k : ℕ) (mine theirs : Line) (p : PeerState) (h : IsPeerBetween k min
   asked_read : length theirs.asked ≡ 7 → pleads_of p ≡ theirs.asked
   asked_read len = map_same (λ c. (client p c).asked) (λ c. kept_plead c theirs) every_channel (λ c. ap (λ (b : Client). b.asked) (client_is c)) ∙ listed theirs.asked None len
 
--- the frames of the bytes of a line
-record Reads (bytes : List ℕ) (count : ℕ) (l : Line) : Type 0 where
-  all : frames_of (held_in One bytes) ≡ stream l
-  came : frames_of (held_in One (take count bytes)) ≡ l.arrived
-  rest : (rest_of (held_in One (take count bytes))).bytes ≡ take l.begun (bytes_of l.in_flight)
+same_line : (v v' : Version) (g g' : ℕ) (a a' i i' : List Frame) (b b' : ℕ) (t t' : List ℕ) (q q' : List (Option ℕ)) → v ≡ v' → g ≡ g' → a ≡ a' → i ≡ i' → b ≡ b' → t ≡ t' → q ≡ q' → (let l : Line = record { version = v; greeting_left = g; arrived = a; in_flight = i; begun = b; taken = t; asked = q } in let m : Line = record { version = v'; greeting_left = g'; arrived = a'; in_flight = i'; begun = b'; taken = t'; asked = q' } in l ≡ m)
+same_line v v' g g' a a' i i' b b' t t' q q' ev eg ea ei eb et eq =
+    λ k. let l : Line = record { version = ev k; greeting_left = eg k; arrived = ea k; in_flight = ei k; begun = eb k; taken = et k; asked = eq k } in l
 
-reads : (l : Line) → IsLine l → All (λ b. b < 256) (bytes_of (stream l)) → Reads (bytes_of (stream l)) (delivered l) l
-reads l h all =
-    let text : List ℕ = bytes_of (stream l) in
-    let came = each_first l.arrived l.in_flight h.valid in
-    let rest = each_behind l.arrived l.in_flight h.valid in
-    let cut : Splits (Some One) (take (delivered l) text) l.arrived (take l.begun (bytes_of l.in_flight)) =
-    subst (λ (x : List ℕ). Splits (Some One) x l.arrived (take l.begun (bytes_of l.in_flight))) (is_cut l h.begun).front (part_splits l.arrived l.in_flight l.begun came rest h.begun) in
-    let whole : Splits (Some One) text (stream l) [] =
-    subst (λ (x : List ℕ). Splits (Some One) x (stream l) []) (append-nil text) (part_splits (stream l) [] 0 h.valid tt refl) in
-    let part = frames_are (take (delivered l) text) l.arrived (take l.begun (bytes_of l.in_flight)) (All-take (λ b. b < 256) (delivered l) text all) cut in
-    record { all = (frames_are text (stream l) [] all whole).0; came = part.0; rest = part.1 }
-
-same_line : (a a' i i' : List Frame) (b b' : ℕ) (t t' : List ℕ) (q q' : List (Option ℕ)) → a ≡ a' → i ≡ i' → b ≡ b' → t ≡ t' → q ≡ q' → (let l : Line = record { arrived = a; in_flight = i; begun = b; taken = t; asked = q } in let m : Line = record { arrived = a'; in_flight = i'; begun = b'; taken = t'; asked = q' } in l ≡ m)
-same_line a a' i i' b b' t t' q q' ea ei eb et eq =
-    ap (λ (x : List Frame). let l : Line = record { arrived = x; in_flight = i; begun = b; taken = t; asked = q } in l) ea
-    ∙ (ap (λ (x : List Frame). let l : Line = record { arrived = a'; in_flight = x; begun = b; taken = t; asked = q } in l) ei
-    ∙ (ap (λ (x : ℕ). let l : Line = record { arrived = a'; in_flight = i'; begun = x; taken = t; asked = q } in l) eb
-    ∙ (ap (λ (x : List ℕ). let l : Line = record { arrived = a'; in_flight = i'; begun = b'; taken = x; asked = q } in l) et
-    ∙ ap (λ (x : List (Option ℕ)). let l : Line = record { arrived = a'; in_flight = i'; begun = b'; taken = t'; asked = x } in l) eq)))
-
--- the line that is read off the bytes and the peer that they came to
-line_in_is : (bytes : List ℕ) (count : ℕ) (p : PeerState) (l : Line) → IsLine l → Reads bytes count l → ((frames : List Frame) → frames ≡ l.arrived → taken_by p frames ≡ l.taken) → pleads_of p ≡ l.asked → line_in bytes count p ≡ l
-line_in_is bytes count p l h r taken asked =
-    same_line _ l.arrived _ l.in_flight _ l.begun _ l.taken _ l.asked
+-- the line that is read off the text and the peer that it came to
+line_in_is : (p : PeerState) (l : Line) → IsLine l → Reads l → ((frames : List Frame) → frames ≡ l.arrived → taken_by p frames ≡ l.taken) → pleads_of p ≡ l.asked → line_in l.version (text_of l.version (stream l)) (delivered l) p ≡ l
+line_in_is p l h r taken asked =
+    same_line _ l.version _ l.greeting_left _ l.arrived _ l.in_flight _ l.begun _ l.taken _ l.asked
+    refl
+    (left_is l h.order)
     r.came
     (ap₂ (λ (xs fs : List Frame). drop (length xs) fs) r.came r.all ∙ drop-append_seam l.arrived l.in_flight)
-    (ap length r.rest ∙ omega (arith, length-take l.begun (bytes_of l.in_flight), begun_within l.in_flight l.begun h.begun))
-    (taken (frames_of (held_in One (take count bytes))) r.came)
+    (ap length r.rest ∙ omega (arith, length-take l.begun (bytes_of l.version l.in_flight), begun_within l.version l.in_flight l.begun h.order.begun))
+    (taken (frames_of (opened_as (Some l.version) (take (delivered l) (text_of l.version (stream l))))) r.came)
     asked
 
 line_is : (k : ℕ) (mine theirs : Line) (writer reader : Endpoint) → IsLine mine → IsEnd k mine theirs writer → IsEnd k theirs mine reader → line_of writer reader ≡ mine
 line_is k mine theirs writer reader l w r =
     let all = subst (λ (x : List ℕ). All (λ b. b < 256) x) w.bytes w.are_bytes in
-    ap₂ (λ (bytes : List ℕ) (count : ℕ). line_in bytes count reader.peer) w.bytes w.count
-    ∙ line_in_is (bytes_of (stream mine)) (delivered mine) reader.peer mine l (reads mine l all)
+    ap (λ (v : Version). line_in v writer.stream.items writer.delivered reader.peer) w.peer.sums.version
+    ∙ ap₂ (λ (bytes : List ℕ) (count : ℕ). line_in mine.version bytes count reader.peer) w.bytes w.count
+    ∙ line_in_is reader.peer mine l (reads mine l all)
     (λ frames e. ap (taken_by reader.peer) e ∙ taken_read k theirs mine reader.peer r.peer l.taken_places)
     (asked_read k theirs mine reader.peer r.peer l.asked_places)
 

@@ -1,28 +1,35 @@
--- What the reader of a line holds when more bytes of its stream come, of version One.
-use Rattle.std.proofs.Common.{◌≡◌, ℕ, zero, suc, ◌+◌, false, List, [], ◌∷◌, ◌++◌, length, take, drop, Option, Some, None, refl, sym, ap, subst, ◌∙◌, inl, inr, arith}
-use Rattle.std.specs.Prelude.{◌⊎◌, ◌==◌}
+-- What the reader of a line holds, and what more bytes of its stream bring.
+use Rattle.std.proofs.Common.{◌≡◌, ℕ, zero, suc, ◌+◌, ◌<◌, ◌≤◌, false, List, [], ◌∷◌, ◌++◌, length, take, drop, Some, None, refl, sym, ap, ap₂, subst, ◌∙◌, inl, inr, arith}
+use Rattle.std.specs.Prelude.{◌⊎◌, ◌==◌, All}
+use Rattle.std.specs.List.{flat_map}
+use Rattle.std.specs.Int.{to_be_bytes}
 use Rattle.std.proofs.lemmas.Bool.Decides.{nat_tests}
-use Rattle.std.proofs.lemmas.List.{length-append, nil_from_length}
+use Rattle.std.proofs.lemmas.List.{length-drop, nil_from_length, append_cancel_left, take-append-drop}
+use Rattle.std.proofs.lemmas.List.Elements.{All-take}
 use Rattle.std.proofs.lemmas.List.Concat.{flat_map-cons}
 use Rattle.std.proofs.Math.Seq.{take-add}
 use Rattle.lc_frame.specs.declared.version.Version.{Version}
-use Rattle.lc_frame.specs.declared.version.Version.TheVariants.{One}
+use Rattle.lc_frame.specs.declared.version.Version.TheVariants.{One, Two}
 use Rattle.lc_frame.specs.declared.frame.Frame.{Frame}
-use Rattle.lc_frame.specs.declared.frame_fault.FrameFault.{FrameFault}
 use Rattle.lc_frame.specs.declared.frame.Frame.TheVariants.{Send, Issue, Absolve, Plead, LimitSending, LimitReceiving}
-use Rattle.std.specs.Int.{to_be_bytes}
-use Rattle.std.specs.List.{flat_map}
+use Rattle.lc_frame.specs.declared.frame_fault.FrameFault.{FrameFault}
 use Rattle.lc_frame.specs.Kind.{width_of}
 use Rattle.lc_frame.specs.Frame.{kind_of, channel_of, field_of, body_of}
-use Rattle.lc_frame.specs.Version.{version_of}
-use Rattle.lc_frame.specs.Encoding.{tag_of, encoding}
-use Rattle.lc_frame.specs.Held.{held_in, opened, fed, FaultIn}
-use Rattle.lc_frame.specs.Splits.{frames_of, rest_of}
+use Rattle.lc_frame.specs.Version.{greeting, version_of, IsGreetingPart}
+use Rattle.lc_frame.specs.Encoding.{tag_of, encoding, FaultStands}
+use Rattle.lc_frame.specs.Held.{Held, nothing_held, held_in, opened_as, opened, fed, before, HasFault}
+use Rattle.lc_frame.specs.Splits.{Splits, frames_of, rest_of}
+use Rattle.lc_frame.proofs.Bytes.{IsBytes}
 use Rattle.lc_frame.proofs.Channels.{number_below}
-use Rattle.lc_frame.proofs.Fronts.{nothing_yet}
-use Rattle.lc_frame.proofs.Held.{opened_is}
+use Rattle.lc_frame.proofs.Fronts.{bytes_from}
+use Rattle.lc_frame.proofs.Held.{opened_is, fed_fed, before_fed, each_fed, fed_fits}
 use Rattle.lc_frame.proofs.Openings.{nothing_is_part}
-use Rattle.lc_world.specs.Delivery.{bytes_of}
+use Rattle.lc_frame.proofs.Frames.{computed_split, joined_law}
+use Rattle.lc_frame.proofs.SplitLaws.{front_law}
+use Rattle.lc_world.specs.State.{Line, stream}
+use Rattle.lc_world.specs.Delivery.{bytes_of, text_of, delivered}
+use Rattle.lc_world.specs.Endpoint.{IsLine, held_of}
+use Rattle.lc_world.proofs.Parts.{each_behind, part_splits, reads}
 
 -- a frame's first byte begins no greeting
 no_mark : (f : Frame) → (tag_of (kind_of f) (channel_of f) == 76) ≡ false
@@ -36,77 +43,112 @@ no_mark (LimitReceiving c n) = let small = number_below c in grind (arith, nat_t
 tag_told : (f : Frame) (more : List ℕ) → version_of (tag_of (kind_of f) (channel_of f) ∷ more) ≡ Some One
 tag_told f more = let none = no_mark f in rw none refl
 
--- a front of the bytes of frames is empty, or tells version One
-pub front_told : (frames : List Frame) (n : ℕ) → (take n (bytes_of frames) ≡ []) ⊎ (version_of (take n (bytes_of frames)) ≡ Some One)
-front_told frames zero = inl refl
-front_told [] (suc n) = inl refl
-front_told (f ∷ frames) (suc n) = inr (ap (λ (x : List ℕ). version_of (take (suc n) x)) (flat_map-cons (encoding One) f frames) ∙ tag_told f (take n (to_be_bytes (width_of One (kind_of f)) (field_of f) ++ body_of f ++ flat_map (encoding One) frames)))
+-- bytes that tell no version yet: they are part of the greeting
+record IsUntold (v : Version) (x : List ℕ) : Type 0 where
+  none : version_of x ≡ None
+  part : IsGreetingPart x
+  short : length x ≤ length (greeting v)
 
-none_some : None ≡ Some One → ⊥
-none_some e = cc
+nothing_untold : (v : Version) → IsUntold v []
+nothing_untold v = record { none = refl; part = nothing_is_part; short = omega arith }
 
--- bytes that are empty, or told as version One
-one_opened : (x : List ℕ) → (x ≡ []) ⊎ (version_of x ≡ Some One) → opened x ≡ record { version = version_of x; bytes = x }
-one_opened x (inl none) = subst (λ (y : List ℕ). opened y ≡ record { version = version_of y; bytes = y }) (sym none) refl
-one_opened x (inr one) = opened_is (Some One) x one ∙ ap (λ (o : Option Version). record { version = o; bytes = x }) (sym one)
+-- a front of a stream's text tells its version, or is part of its greeting
+front_told : (v : Version) (frames : List Frame) (n : ℕ) → (version_of (take n (text_of v frames)) ≡ Some v) ⊎ IsUntold v (take n (text_of v frames))
+front_told One frames zero = inr (nothing_untold One)
+front_told One [] (suc n) = inr (nothing_untold One)
+front_told One (f ∷ frames) (suc n) = inl (ap (λ (x : List ℕ). version_of (take (suc n) x)) (flat_map-cons (encoding One) f frames) ∙ tag_told f (take n (to_be_bytes (width_of One (kind_of f)) (field_of f) ++ body_of f ++ flat_map (encoding One) frames)))
+front_told Two frames zero = inr (nothing_untold Two)
+front_told Two frames (suc zero) = inr (record { none = refl; part = record { rest = 67 ∷ 77 ∷ 2 ∷ []; some = omega arith; is = refl }; short = omega arith })
+front_told Two frames (suc (suc zero)) = inr (record { none = refl; part = record { rest = 77 ∷ 2 ∷ []; some = omega arith; is = refl }; short = omega arith })
+front_told Two frames (suc (suc (suc zero))) = inr (record { none = refl; part = record { rest = 2 ∷ []; some = omega arith; is = refl }; short = omega arith })
+front_told Two frames (suc (suc (suc (suc n)))) = inl refl
 
--- more bytes of a stream, of which the first so many of some text are held
-module _ (frames : List Frame) (before text : List ℕ) (whole : bytes_of frames ≡ before ++ text) (begun count : ℕ) (at : ℕ) (at_is : take at (bytes_of frames) ≡ before ++ take begun text)
-    (later_is : take (at + count) (bytes_of frames) ≡ before ++ take (begun + count) text) where
+-- in both cases its frames are those behind the greeting
+frames_told : (v : Version) (x : List ℕ) → (version_of x ≡ Some v) ⊎ IsUntold v x → frames_of (opened x) ≡ frames_of (opened_as (Some v) x)
+frames_told v x (inl told) = ap frames_of (opened_is (Some v) x told)
+frames_told v x (inr untold) =
+    let none : drop (length (greeting v)) x ≡ [] = nil_from_length (drop (length (greeting v)) x) (omega (arith, length-drop (length (greeting v)) x, untold.short)) in
+    ap frames_of (opened_is None x untold.none) ∙ sym (ap (λ (y : List ℕ). frames_of (held_in v y)) none)
+
+-- more bytes behind the frames of what was held, and behind what is left of it
+module _ (h : Held) (fits : IsBytes h.bytes) (more : List ℕ) where
+  split : Splits h.version h.bytes (frames_of h) (rest_of h).bytes
+  split = computed_split h fits
+
+  in_front : fed h more ≡ before (frames_of h) (fed (rest_of h) more)
+  in_front =
+      ap (λ (x : List ℕ). fed (record { version = h.version; bytes = x }) more) split.whole
+      ∙ before_fed (frames_of h) (rest_of h) more split.each
+
+  joined : (frames_of (before (frames_of h) (fed (rest_of h) more)) ≡ frames_of h ++ frames_of (fed (rest_of h) more)) × (rest_of (before (frames_of h) (fed (rest_of h) more)) ≡ rest_of (fed (rest_of h) more))
+  joined = joined_law (frames_of h) (fed (rest_of h) more) (each_fed (frames_of h) (rest_of h) more split.each)
+
+  pub frames_behind : frames_of (fed h more) ≡ frames_of h ++ frames_of (fed (rest_of h) more)
+  frames_behind = ap frames_of in_front ∙ joined.0
+
+  pub rest_behind : rest_of (fed h more) ≡ rest_of (fed (rest_of h) more)
+  rest_behind = ap rest_of in_front ∙ joined.1
+
+-- of a line's text so many bytes more come to its reader
+module _ (l new : Line) (h : IsLine l) (h' : IsLine new) (version : new.version ≡ l.version) (same : stream new ≡ stream l) (count : ℕ) (counted : delivered new ≡ delivered l + count) (all : All (λ b. b < 256) (text_of l.version (stream l))) where
+  abbrev text : List ℕ
+  text = text_of l.version (stream l)
+
   abbrev piece : List ℕ
-  piece = take count (drop begun text)
+  piece = take count (drop (delivered l) text)
 
-  joined : take begun text ++ piece ≡ take (begun + count) text
-  joined = sym (take-add begun count text)
+  new_text : text_of new.version (stream new) ≡ text
+  new_text = ap₂ text_of version same
 
-  from_one : version_of (take at (bytes_of frames)) ≡ Some One → fed (record { version = version_of (take at (bytes_of frames)); bytes = take begun text }) piece ≡ record { version = version_of (take (at + count) (bytes_of frames)); bytes = take (begun + count) text }
-  from_one one =
-      let further : take (at + count) (bytes_of frames) ≡ take at (bytes_of frames) ++ take count (drop at (bytes_of frames)) = take-add at count (bytes_of frames) in
-      let still : version_of (take (at + count) (bytes_of frames)) ≡ Some One = elim (front_told frames (at + count)) [
-        | inl none ↦
-            let before_none : take at (bytes_of frames) ≡ [] = nil_from_length (take at (bytes_of frames)) (omega (arith, ap length (sym further ∙ none), length-append (take at (bytes_of frames)) (take count (drop at (bytes_of frames))))) in
-            absurd (none_some (ap version_of (sym before_none) ∙ one))
-        | inr told ↦ told
-      ] in
-      ap (λ (o : Option Version). fed (record { version = o; bytes = take begun text }) piece) one
-      ∙ ap (held_in One) joined
-      ∙ ap (λ (o : Option Version). record { version = o; bytes = take (begun + count) text }) (sym still)
+  fed_now : fed (opened (take (delivered l) text)) piece ≡ opened (take (delivered new) (text_of new.version (stream new)))
+  fed_now =
+      fed_fed nothing_held (take (delivered l) text) piece
+      ∙ ap opened (sym (take-add (delivered l) count text) ∙ ap₂ (λ (n : ℕ) (x : List ℕ). take n x) (sym counted) (sym new_text))
 
-  from_nothing : take at (bytes_of frames) ≡ [] → fed (record { version = version_of (take at (bytes_of frames)); bytes = take begun text }) piece ≡ record { version = version_of (take (at + count) (bytes_of frames)); bytes = take (begun + count) text }
-  from_nothing none =
-      let empty : before ++ take begun text ≡ [] = sym at_is ∙ none in
-      let first : before ≡ [] = nil_from_length before (omega (arith, ap length empty, length-append before (take begun text))) in
-      let same : take (at + count) (bytes_of frames) ≡ take (begun + count) text = later_is ∙ ap (λ (x : List ℕ). x ++ take (begun + count) text) first in
-      let told_as : (take (begun + count) text ≡ []) ⊎ (version_of (take (begun + count) text) ≡ Some One) = subst (λ (x : List ℕ). (x ≡ []) ⊎ (version_of x ≡ Some One)) same (front_told frames (at + count)) in
-      ap (λ (o : List ℕ). fed (record { version = version_of o; bytes = take begun text }) piece) none
-      ∙ ap opened joined
-      ∙ one_opened (take (begun + count) text) told_as
-      ∙ ap (λ (x : List ℕ). record { version = version_of x; bytes = take (begun + count) text }) (sym same)
+  held_fits : IsBytes (opened (take (delivered l) text)).bytes
+  held_fits = fed_fits nothing_held (take (delivered l) text) (bytes_from (take (delivered l) text) (All-take (λ b. b < 256) (delivered l) text all))
 
-  pub fed_is : fed (record { version = version_of (take at (bytes_of frames)); bytes = take begun text }) piece ≡ record { version = version_of (take (at + count) (bytes_of frames)); bytes = take (begun + count) text }
-  fed_is = elim (front_told frames at) [ inl none ↦ from_nothing none | inr one ↦ from_one one ]
+  arrived_is : (m : Line) → IsLine m → All (λ b. b < 256) (text_of m.version (stream m)) → frames_of (opened (take (delivered m) (text_of m.version (stream m)))) ≡ m.arrived
+  arrived_is m k fits = frames_told m.version _ (front_told m.version (stream m) (delivered m)) ∙ (reads m k fits).came
 
-  -- they are none, or of version One
-  pub fed_told : (take (begun + count) text ≡ []) ⊎ (version_of (take (at + count) (bytes_of frames)) ≡ Some One)
-  fed_told = elim (front_told frames (at + count)) [
-    | inl none ↦ inl (nil_from_length (take (begun + count) text) (omega (arith, ap length (sym later_is ∙ none), length-append before (take (begun + count) text))))
-    | inr one ↦ inr one
-  ]
+  -- its frames are those that arrive
+  pub frames_come : (came : List Frame) → new.arrived ≡ l.arrived ++ came → frames_of (fed (held_of l) piece) ≡ came
+  frames_come came e =
+      append_cancel_left l.arrived (frames_of (fed (held_of l) piece)) came
+      (ap (λ (fs : List Frame). fs ++ frames_of (fed (held_of l) piece)) (sym (arrived_is l h all))
+      ∙ (sym (frames_behind (opened (take (delivered l) text)) held_fits piece)
+      ∙ (ap frames_of fed_now
+      ∙ (arrived_is new h' (subst (All (λ b. b < 256)) (sym new_text) all) ∙ e))))
 
--- the frames of such bytes are those of version One
-nothing_of : (o : Option Version) → (frames_of (record { version = o; bytes = [] }) ≡ []) × ((rest_of (record { version = o; bytes = [] })).bytes ≡ [])
-nothing_of None = (refl, refl)
-nothing_of (Some v) = (refl, refl)
+  -- and what is left of it is held
+  pub rest_held : rest_of (fed (held_of l) piece) ≡ held_of new
+  rest_held = sym (rest_behind (opened (take (delivered l) text)) held_fits piece) ∙ ap rest_of fed_now
 
-pub one_frames : (o : Option Version) (x : List ℕ) → (x ≡ []) ⊎ (o ≡ Some One) → (frames_of (record { version = o; bytes = x }) ≡ frames_of (held_in One x)) × ((rest_of (record { version = o; bytes = x })).bytes ≡ (rest_of (held_in One x)).bytes)
-one_frames o x (inl none) = subst (λ (y : List ℕ). (frames_of (record { version = o; bytes = y }) ≡ frames_of (held_in One y)) × ((rest_of (record { version = o; bytes = y })).bytes ≡ (rest_of (held_in One y)).bytes)) (sym none) (nothing_of o)
-one_frames o x (inr one) = subst (λ (p : Option Version). (frames_of (record { version = p; bytes = x }) ≡ frames_of (held_in One x)) × ((rest_of (record { version = p; bytes = x })).bytes ≡ (rest_of (held_in One x)).bytes)) (sym one) (refl, refl)
+-- no fault stands in what the reader of a line holds
+module _ (l : Line) (h : IsLine l) (all : All (λ b. b < 256) (text_of l.version (stream l))) where
+  abbrev came : List ℕ
+  came = take (delivered l) (text_of l.version (stream l))
 
--- no fault stands in nothing
-no_fault_in_nothing : (o : Option Version) (e : FrameFault) → FaultIn o e [] → ⊥
-no_fault_in_nothing None e s = s.1.no_part nothing_is_part
-no_fault_in_nothing (Some v) e s = (nothing_yet v).now_open.no_fault e s
+  abbrev coming : List ℕ
+  coming = bytes_of l.version l.in_flight
 
-pub one_fault_free : (o : Option Version) (x rest : List ℕ) → (x ≡ []) ⊎ (o ≡ Some One) → (x ≡ [] → rest ≡ []) → ((e : FrameFault) → ¬ FaultIn (Some One) e rest) → (e : FrameFault) → ¬ FaultIn o e rest
-one_fault_free o x rest (inl none) short free e s = no_fault_in_nothing o e (subst (FaultIn o e) (short none) s)
-one_fault_free o x rest (inr one) short free e s = free e (subst (λ (p : Option Version). FaultIn p e rest) one s)
+  begun_is_no_fault : (e : FrameFault) → FaultStands l.version e (take l.begun coming) → ⊥
+  begun_is_no_fault e s =
+      let valid = each_behind l.version l.arrived l.in_flight h.valid in
+      (front_law (Some l.version) l.in_flight [] (take l.begun coming) (drop l.begun coming) (take l.begun coming) valid (sym (take-append-drop l.begun coming)) (part_splits l.version [] l.in_flight l.begun tt valid h.order.begun)).no_fault e s
+
+  no_fault_as : (version_of came ≡ Some l.version) ⊎ IsUntold l.version came → (e : FrameFault) → HasFault e (held_of l) → ⊥
+  no_fault_as (inl told) e s =
+      begun_is_no_fault e (subst (FaultStands l.version e) (reads l h all).rest (subst (λ (x : Held). HasFault e (rest_of x)) (opened_is (Some l.version) came told) s))
+  no_fault_as (inr untold) e s = (subst (λ (x : Held). HasFault e (rest_of x)) (opened_is None came untold.none) s).1.no_part untold.part
+
+  pub no_fault_held : (e : FrameFault) → HasFault e (held_of l) → ⊥
+  no_fault_held e s = no_fault_as (front_told l.version (stream l) (delivered l)) e s
+
+  -- how much of what was delivered stands behind the greeting and the frames that arrived
+  held_as : (version_of came ≡ Some l.version) ⊎ IsUntold l.version came → (length (held_of l).bytes ≡ length (take l.begun coming)) ⊎ ((length (held_of l).bytes ≡ length came) × (length came ≤ length (greeting l.version)))
+  held_as (inl told) = inl (ap (λ (x : Held). length (rest_of x).bytes) (opened_is (Some l.version) came told) ∙ ap length (reads l h all).rest)
+  held_as (inr untold) = inr (ap (λ (x : Held). length (rest_of x).bytes) (opened_is None came untold.none), untold.short)
+
+  pub held_length : (length (held_of l).bytes ≡ length (take l.begun coming)) ⊎ ((length (held_of l).bytes ≡ length came) × (length came ≤ length (greeting l.version)))
+  held_length = held_as (front_told l.version (stream l) (delivered l))

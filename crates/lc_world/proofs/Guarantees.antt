@@ -6,7 +6,7 @@ use Rattle.lc_book.specs.Client.{held}
 use Rattle.lc_book.specs.Server.{outstanding}
 use Rattle.lc_world.specs.declared.event.Side.{Side}
 use Rattle.lc_world.specs.declared.event.Side.TheVariants.{A, B}
-use Rattle.lc_world.specs.State.{State, opening, Line, stream, client, server, client_book, server_book}
+use Rattle.lc_world.specs.State.{State, Versions, opening, Line, stream, client, server, client_book, server_book}
 use Rattle.lc_world.specs.Answers.{after}
 use Rattle.lc_world.specs.Histories.{History, IsLegal, IsHistory}
 use Rattle.lc_world.specs.Guarantee.{state_at, FitsBuffer, AddsUp, IsSomewhere, IsBalanced, EveryHistoryKeepsGuarantees}
@@ -53,20 +53,20 @@ legal_take w zero history h = tt
 legal_take w (suc n) [] h = tt
 legal_take w (suc n) (p ∷ history) h = (h.0, legal_take (after w p.0 p.1) n history h.1)
 
-balanced_at : (capacity : ℕ) (history : History) → IsHistory capacity history → (n : ℕ) → IsBalanced capacity (state_at capacity history n)
-balanced_at capacity history h n =
-    let w : State = state_at capacity history n in
-    let g : IsSound w = sound_all (opening capacity) (take n history) (legal_take (opening capacity) n history h.legal) (sound_opened capacity) in
-    subst (λ (k : ℕ). IsBalanced k w) (capacity_stays (opening capacity) (take n history)) (is_balanced w g)
+balanced_at : (capacity : ℕ) (versions : Versions) (history : History) → IsHistory capacity versions history → (n : ℕ) → IsBalanced capacity (state_at capacity versions history n)
+balanced_at capacity versions history h n =
+    let w : State = state_at capacity versions history n in
+    let g : IsSound w = sound_all (opening capacity versions) (take n history) (legal_take (opening capacity versions) n history h.legal) (sound_opened capacity versions) in
+    subst (λ (k : ℕ). IsBalanced k w) (capacity_stays (opening capacity versions) (take n history)) (is_balanced w g)
 
 pub keeps_guarantees : EveryHistoryKeepsGuarantees
-keeps_guarantees capacity history h = record {
-  in_order = takes_in_order capacity history h;
-  no_violation = lawful_history capacity history h;
-  balanced = balanced_at capacity history h;
-  send_limits_hold = send_limit_holds capacity history h;
-  receive_limits_hold = receive_limit_holds capacity history h;
-  accepted_is = accepted_messages capacity history;
-  taken_is = taken_is_taken capacity history h;
-  plead_is = keeps_last_plead capacity history;
+keeps_guarantees capacity versions history h = record {
+  in_order = takes_in_order capacity versions history h;
+  no_violation = lawful_history capacity versions history h;
+  balanced = balanced_at capacity versions history h;
+  send_limits_hold = send_limit_holds capacity versions history h;
+  receive_limits_hold = receive_limit_holds capacity versions history h;
+  accepted_is = accepted_messages capacity versions history;
+  taken_is = taken_is_taken capacity versions history h;
+  plead_is = keeps_last_plead capacity versions history;
 }

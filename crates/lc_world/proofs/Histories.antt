@@ -1,6 +1,6 @@
 -- Histories joined, and what every one of them leaves.
 use Rattle.std.proofs.Common.{◌≡◌, ℕ, [], ◌∷◌, ◌++◌, refl, ◌∙◌}
-use Rattle.lc_world.specs.State.{State, opening}
+use Rattle.lc_world.specs.State.{State, Versions, opening}
 use Rattle.lc_world.specs.Answers.{after}
 use Rattle.lc_world.specs.Histories.{History, after_all, IsLegal, IsHistory}
 use Rattle.lc_world.specs.Guarantee.{state_of}
@@ -20,5 +20,5 @@ pub capacity_stays : (w : State) (history : History) → (after_all w history).c
 capacity_stays w [] = refl
 capacity_stays w (p ∷ history) = capacity_stays (after w p.0 p.1) history ∙ same_capacity w p.0.side p.0.act p.1
 
-pub sound_of : (capacity : ℕ) (history : History) → IsHistory capacity history → IsSound (state_of capacity history)
-sound_of capacity history h = sound_all (opening capacity) history h.legal (sound_opened capacity)
+pub sound_of : (capacity : ℕ) (versions : Versions) (history : History) → IsHistory capacity versions history → IsSound (state_of capacity versions history)
+sound_of capacity versions history h = sound_all (opening capacity versions) history h.legal (sound_opened capacity versions)

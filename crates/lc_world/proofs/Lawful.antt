@@ -24,8 +24,8 @@ use Rattle.lc_world.specs.declared.event.Act.{Act}
 use Rattle.lc_world.specs.declared.event.Act.TheVariants.{Send, Issue, Plead, Absolve, Honour, LimitSending, LimitReceiving, Arrive, Deliver, Take}
 use Rattle.lc_world.specs.declared.event.Answer.{Answer}
 use Rattle.lc_world.specs.declared.event.Answer.TheVariants.{Refused}
-use Rattle.lc_world.specs.State.{State, opening, Line, stream, client_book, server_book, size, arrive_first, arrive_on}
-use Rattle.lc_world.specs.Answers.{judged, honoured, arrival, arrive_answer, delivery_violation, delivery, deliver_answer, empty_or_ended, take_answer, waiting, answer_of, IsAnswer, after, refusal}
+use Rattle.lc_world.specs.State.{State, Versions, opening, Line, stream, client_book, server_book, size, arrive_first, arrive_on}
+use Rattle.lc_world.specs.Answers.{judged, honoured, arrival, arrive_answer, bytes_in_flight, delivery_violation, delivery, deliver_answer, empty_or_ended, take_answer, waiting, answer_of, IsAnswer, after, refusal}
 use Rattle.lc_world.specs.Histories.{History, IsLegal, IsHistory}
 use Rattle.lc_world.specs.Guarantee.{IsLawful}
 use Rattle.lc_world.specs.Sound.{FitsAfter, AllFit, Sound, IsSound}
@@ -139,9 +139,9 @@ module _ (capacity : ℕ) (small : capacity ≤ max_amount) (mine : Line) where
   all_pass (f ∷ rest) n theirs e s =
       let next : Line = arrive_first theirs (f ∷ rest) in
       let sound : SoundTo capacity mine next = subst (λ (fs : List Frame). SoundTo capacity mine (arrive_first theirs fs)) e (arrives_soundly capacity mine theirs s) in
-      elim (nat_lt n (size f)) as (λ b. (if b then None else option_or (violation (client_book (channel_of f) mine theirs) (server_book capacity (channel_of f) mine theirs) f) (delivery_violation capacity mine rest (n - size f) next)) ≡ None) [
+      elim (nat_lt n (size theirs.version f)) as (λ b. (if b then None else option_or (violation (client_book (channel_of f) mine theirs) (server_book capacity (channel_of f) mine theirs) f) (delivery_violation capacity mine rest (n - size theirs.version f) next)) ≡ None) [
         | true ↦ refl
-        | false ↦ neither _ _ (no_violation capacity small mine theirs s f rest e) (all_pass rest (n - size f) next refl sound)
+        | false ↦ neither _ _ (no_violation capacity small mine theirs s f rest e) (all_pass rest (n - size theirs.version f) next refl sound)
       ]
 
 module _ (capacity : ℕ) (small : capacity ≤ max_amount) (mine theirs : Line) (s : SoundTo capacity mine theirs) where
@@ -149,9 +149,9 @@ module _ (capacity : ℕ) (small : capacity ≤ max_amount) (mine theirs : Line)
   arrives_lawfully [] e = tt
   arrives_lawfully (f ∷ rest) e = subst (λ (v : Option Violation). IsLawful (arrival v)) (sym (no_violation capacity small mine theirs s f rest e)) tt
 
-  delivers_lawfully : (count : ℕ) (in_flight : List Frame) → theirs.in_flight ≡ in_flight → IsLawful (deliver_answer capacity mine theirs count in_flight)
-  delivers_lawfully count [] e = tt
-  delivers_lawfully count (f ∷ rest) e = lawful_delivery _ _ _ (all_pass capacity small mine (f ∷ rest) (theirs.begun + count) theirs e s)
+  delivers_lawfully : (count bytes : ℕ) → IsLawful (deliver_answer capacity mine theirs count bytes)
+  delivers_lawfully count zero = tt
+  delivers_lawfully count (suc n) = lawful_delivery _ _ _ (all_pass capacity small mine theirs.in_flight (theirs.begun + (count - theirs.greeting_left)) theirs refl s)
 
   -- the right answer is lawful
   lawful_answer : (act : Act) → IsLawful (answer_of capacity mine theirs act)
@@ -163,7 +163,7 @@ module _ (capacity : ℕ) (small : capacity ≤ max_amount) (mine theirs : Line)
   lawful_answer (LimitSending c n) = lawful_judged (refusal (client_book c mine theirs) (server_book capacity c mine theirs) (LimitSending c n))
   lawful_answer (LimitReceiving c n) = lawful_judged (refusal (client_book c mine theirs) (server_book capacity c mine theirs) (LimitReceiving c n))
   lawful_answer Arrive = arrives_lawfully theirs.in_flight refl
-  lawful_answer (Deliver count) = delivers_lawfully count theirs.in_flight refl
+  lawful_answer (Deliver count) = delivers_lawfully count (bytes_in_flight theirs)
   lawful_answer (Take c) = lawful_take _ (waiting c theirs)
 
 -- and want of memory too
@@ -191,5 +191,5 @@ lawful_all w (p ∷ history) small g h = (
   lawful_all (after w p.0 p.1) history (omega (arith, small, same_capacity w p.0.side p.0.act p.1)) (sound_step w p.0.side p.0.act p.1 h.0 g) h.1,
 )
 
-pub lawful_history : (capacity : ℕ) (history : History) → IsHistory capacity history → AllByRecursion (λ p. IsLawful p.1) history
-lawful_history capacity history h = lawful_all (opening capacity) history h.is_capacity.at_most (sound_opened capacity) h.legal
+pub lawful_history : (capacity : ℕ) (versions : Versions) (history : History) → IsHistory capacity versions history → AllByRecursion (λ p. IsLawful p.1) history
+lawful_history capacity versions history h = lawful_all (opening capacity versions) history h.is_capacity.at_most (sound_opened capacity versions) h.legal

@@ -3,6 +3,7 @@ use Rattle.std.proofs.Common.{◌≡◌, ℕ, zero, suc, ◌<◌, ◌≤◌, Boo
 use Rattle.std.specs.Prelude.{if◌then◌else◌}
 use Rattle.std.specs.List.{cons_option}
 use Rattle.std.proofs.lemmas.List.{append_assoc, append-nil, take-append-drop}
+use Rattle.lc_frame.specs.declared.version.Version.{Version}
 use Rattle.lc_frame.specs.declared.channel.Channel.{Channel}
 use Rattle.lc_frame.specs.declared.frame.Frame.{Frame}
 use Rattle.lc_frame.specs.Channel.{number_of, is_same}
@@ -15,7 +16,7 @@ use Rattle.lc_world.specs.declared.event.Act.{Act}
 use Rattle.lc_world.specs.declared.event.Act.TheVariants.{Honour, Arrive, Deliver, Take}
 use Rattle.lc_world.specs.declared.event.Answer.{Answer}
 use Rattle.lc_world.specs.declared.event.Answer.TheVariants.{Absolved, NothingToAbsolve, Arrived, Delivered, Took}
-use Rattle.lc_world.specs.State.{State, opening, Line, line, other, stream, taken_count, taken_messages, arrive_on, deliver_on, take_on}
+use Rattle.lc_world.specs.State.{State, Versions, opening, Line, line, other, stream, taken_count, taken_messages, arrive_on, deliver_on, take_on}
 use Rattle.lc_world.specs.Answers.{put_any, frame_put, take_answer, waiting, IsAnswerOf, IsAnswer, theirs_after, state_after, after}
 use Rattle.lc_world.specs.Histories.{History, after_all, IsLegal, IsHistory, at_side, taken_body, accepted, taken}
 use Rattle.lc_world.specs.Guarantee.{state_of, IsPrefix}
@@ -28,24 +29,24 @@ use Rattle.lc_world.proofs.Sound.{taken-push, count-here, count-elsewhere, sound
 use Rattle.lc_world.proofs.Steps.{took_waiting, sound_step, sound_opened}
 
 -- the stream of one side after a history is what the history put there
-pub stream-history : (capacity : ℕ) (history : History) (s : Side) → stream (line (state_of capacity history) s) ≡ puts s history
-stream-history capacity history A = stream-all (opening capacity) history A
-stream-history capacity history B = stream-all (opening capacity) history B
+pub stream-history : (capacity : ℕ) (versions : Versions) (history : History) (s : Side) → stream (line (state_of capacity versions history) s) ≡ puts s history
+stream-history capacity versions history A = stream-all (opening capacity versions) history A
+stream-history capacity versions history B = stream-all (opening capacity versions) history B
 
-pub accepted_messages : (capacity : ℕ) (history : History) (s : Side) (c : Channel) → accepted c s history ≡ messages c (stream (line (state_of capacity history) s))
-accepted_messages capacity history s c = accepted_are c s history ∙ ap (messages c) (sym (stream-history capacity history s))
+pub accepted_messages : (capacity : ℕ) (versions : Versions) (history : History) (s : Side) (c : Channel) → accepted c s history ≡ messages c (stream (line (state_of capacity versions history) s))
+accepted_messages capacity versions history s c = accepted_are c s history ∙ ap (messages c) (sym (stream-history capacity versions history s))
 
 -- a frame that is put leaves what was taken, and one that arrives too
 taken-put : (c : Channel) (l : Line) (o : Option Frame) → taken_messages c (put_any l o) ≡ taken_messages c l
 taken-put c l None = refl
 taken-put c l (Some f) = refl
 
-taken-comes : (c : Channel) (arrived in_flight : List Frame) (begun : ℕ) (taken : List ℕ) (asked : List (Option ℕ)) → get_or taken (number_of c) 0 ≤ length (messages c arrived) → taken_messages c (arrive_on (record { arrived = arrived; in_flight = in_flight; begun = begun; taken = taken; asked = asked })) ≡ take (get_or taken (number_of c) 0) (messages c arrived)
-taken-comes c arrived [] begun taken asked le = refl
-taken-comes c arrived (f ∷ rest) begun taken asked le = taken-push c arrived f (get_or taken (number_of c) 0) le
+taken-comes : (c : Channel) (version : Version) (left : ℕ) (arrived in_flight : List Frame) (begun : ℕ) (taken : List ℕ) (asked : List (Option ℕ)) → get_or taken (number_of c) 0 ≤ length (messages c arrived) → taken_messages c (arrive_on (record { version = version; greeting_left = left; arrived = arrived; in_flight = in_flight; begun = begun; taken = taken; asked = asked })) ≡ take (get_or taken (number_of c) 0) (messages c arrived)
+taken-comes c version left arrived [] begun taken asked le = refl
+taken-comes c version left arrived (f ∷ rest) begun taken asked le = taken-push c arrived f (get_or taken (number_of c) 0) le
 
 taken-arrive : (c : Channel) (l : Line) → taken_count c l ≤ length (messages c l.arrived) → taken_messages c (arrive_on l) ≡ taken_messages c l
-taken-arrive c l le = taken-comes c l.arrived l.in_flight l.begun l.taken l.asked le
+taken-arrive c l le = taken-comes c l.version l.greeting_left l.arrived l.in_flight l.begun l.taken l.asked le
 
 -- and so do all that a delivery brings
 record LeavesTaken (capacity : ℕ) (c : Channel) (mine l new : Line) : Type 0 where
@@ -55,7 +56,7 @@ record LeavesTaken (capacity : ℕ) (c : Channel) (mine l new : Line) : Type 0 w
 taken-deliver : (capacity : ℕ) (c : Channel) (count : ℕ) (mine l : Line) → Sound capacity c l mine → taken_messages c (deliver_on count l) ≡ taken_messages c l
 taken-deliver capacity c count mine l s =
     (deliver_keeps (LeavesTaken capacity c mine l) (record {
-      begins = λ x n h. record { sound = record { solvent = h.sound.solvent; roomy = h.sound.roomy; total = h.sound.total; taken_of_arrived = h.sound.taken_of_arrived; places = h.sound.places }; same = h.same };
+      begins = λ x m n h. record { sound = record { solvent = h.sound.solvent; roomy = h.sound.roomy; total = h.sound.total; taken_of_arrived = h.sound.taken_of_arrived; places = h.sound.places }; same = h.same };
       arrives = λ x h. record { sound = sound_comes capacity c x mine h.sound; same = taken-arrive c x h.sound.taken_of_arrived ∙ h.same };
     }) count l (record { sound = s; same = refl })).same
 
@@ -109,13 +110,13 @@ take-nil : (n : ℕ) → take {A = List ℕ} n [] ≡ []
 take-nil zero = refl
 take-nil (suc n) = refl
 
-opening_taken : (capacity : ℕ) (s : Side) (c : Channel) → taken_messages c (line (opening capacity) s) ≡ []
-opening_taken capacity A c = take-nil _
-opening_taken capacity B c = take-nil _
+opening_taken : (capacity : ℕ) (versions : Versions) (s : Side) (c : Channel) → taken_messages c (line (opening capacity versions) s) ≡ []
+opening_taken capacity versions A c = take-nil _
+opening_taken capacity versions B c = take-nil _
 
-pub taken_is_taken : (capacity : ℕ) (history : History) → IsHistory capacity history → (s : Side) (c : Channel) → taken c (other s) history ≡ taken_messages c (line (state_of capacity history) s)
-taken_is_taken capacity history h s c =
-    sym (taken_all (opening capacity) history s c h.legal (sound_opened capacity) ∙ ap (λ (ms : List (List ℕ)). ms ++ taken c (other s) history) (opening_taken capacity s c))
+pub taken_is_taken : (capacity : ℕ) (versions : Versions) (history : History) → IsHistory capacity versions history → (s : Side) (c : Channel) → taken c (other s) history ≡ taken_messages c (line (state_of capacity versions history) s)
+taken_is_taken capacity versions history h s c =
+    sym (taken_all (opening capacity versions) history s c h.legal (sound_opened capacity versions) ∙ ap (λ (ms : List (List ℕ)). ms ++ taken c (other s) history) (opening_taken capacity versions s c))
 
 -- what was taken is the front of what was put
 taken_front : (c : Channel) (l : Line) → taken_messages c l ++ (waiting c l ++ messages c l.in_flight) ≡ messages c (stream l)
@@ -123,8 +124,8 @@ taken_front c l =
     sym (append_assoc (taken_messages c l) (waiting c l) (messages c l.in_flight))
     ∙ (ap (λ (ms : List (List ℕ)). ms ++ messages c l.in_flight) (take-append-drop (taken_count c l) (messages c l.arrived)) ∙ sym (messages-append c l.arrived l.in_flight))
 
-pub takes_in_order : (capacity : ℕ) (history : History) → IsHistory capacity history → (s : Side) (c : Channel) → IsPrefix (taken c (other s) history) (accepted c s history)
-takes_in_order capacity history h s c =
-    let end : Line = line (state_of capacity history) s in
+pub takes_in_order : (capacity : ℕ) (versions : Versions) (history : History) → IsHistory capacity versions history → (s : Side) (c : Channel) → IsPrefix (taken c (other s) history) (accepted c s history)
+takes_in_order capacity versions history h s c =
+    let end : Line = line (state_of capacity versions history) s in
     let rest : List (List ℕ) = waiting c end ++ messages c end.in_flight in
-    (rest, ap (λ (ms : List (List ℕ)). ms ++ rest) (taken_is_taken capacity history h s c) ∙ (taken_front c end ∙ sym (accepted_messages capacity history s c)))
+    (rest, ap (λ (ms : List (List ℕ)). ms ++ rest) (taken_is_taken capacity versions history h s c) ∙ (taken_front c end ∙ sym (accepted_messages capacity versions history s c)))

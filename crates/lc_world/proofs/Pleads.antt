@@ -5,6 +5,7 @@ use Rattle.std.specs.List.{filter_map, cons_option, last_or}
 use Rattle.std.proofs.lemmas.Bool.Decides.{nat_tests}
 use Rattle.std.proofs.lemmas.List.{append_assoc, append-nil, length-set, get_or-set_same, get_or-set_other}
 use Rattle.std.proofs.Math.Seq.{drop-append_seam}
+use Rattle.lc_frame.specs.declared.version.Version.{Version}
 use Rattle.lc_frame.specs.declared.channel.Channel.{Channel}
 use Rattle.lc_frame.specs.declared.channel.Channel.TheVariants.{ReconciliationChannel, DataChannel, OverlapChannel, CapabilityChannel, AreaOfInterestChannel, PayloadRequestChannel, StaticTokenChannel}
 use Rattle.lc_frame.specs.declared.frame.Frame.{Frame}
@@ -19,7 +20,7 @@ use Rattle.lc_world.specs.declared.event.Act.{Act}
 use Rattle.lc_world.specs.declared.event.Act.TheVariants.{Honour, Arrive, Deliver, Take}
 use Rattle.lc_world.specs.declared.event.Answer.{Answer}
 use Rattle.lc_world.specs.declared.event.Answer.TheVariants.{Absolved, NothingToAbsolve, Arrived, Delivered, Took}
-use Rattle.lc_world.specs.State.{State, opening, Line, new_line, line, other, kept_plead, keep_pleads, arrive_on, deliver_on, forget_on}
+use Rattle.lc_world.specs.State.{State, Versions, opening, Line, new_line, line, other, kept_plead, keep_pleads, arrive_on, deliver_on, forget_on}
 use Rattle.lc_world.specs.Answers.{put_any, frame_put, theirs_after, state_after, after}
 use Rattle.lc_world.proofs.Delivers.{deliver_keeps}
 use Rattle.lc_world.proofs.Histories.{after_append}
@@ -76,37 +77,37 @@ kept_one c (frame.Absolve d n) asked places = not_kept c _ (is_same c d) (frame.
 kept_one c (frame.LimitSending d n) asked places = not_kept c _ (is_same c d) (frame.LimitSending d n) refl
 kept_one c (frame.LimitReceiving d n) asked places = not_kept c _ (is_same c d) (frame.LimitReceiving d n) refl
 
-comes : (c : Channel) (arrived in_flight : List Frame) (begun : ℕ) (taken : List ℕ) (asked : List (Option ℕ)) → number_of c < length asked → Hears c (record { arrived = arrived; in_flight = in_flight; begun = begun; taken = taken; asked = asked }) (arrive_on (record { arrived = arrived; in_flight = in_flight; begun = begun; taken = taken; asked = asked }))
-comes c arrived [] begun taken asked places = hears_none c _ _ refl refl
-comes c arrived (f ∷ rest) begun taken asked places = record { came = f ∷ []; arrived = refl; kept = kept_one c f asked places }
+comes : (c : Channel) (version : Version) (left : ℕ) (arrived in_flight : List Frame) (begun : ℕ) (taken : List ℕ) (asked : List (Option ℕ)) → number_of c < length asked → Hears c (record { version = version; greeting_left = left; arrived = arrived; in_flight = in_flight; begun = begun; taken = taken; asked = asked }) (arrive_on (record { version = version; greeting_left = left; arrived = arrived; in_flight = in_flight; begun = begun; taken = taken; asked = asked }))
+comes c version left arrived [] begun taken asked places = hears_none c _ _ refl refl
+comes c version left arrived (f ∷ rest) begun taken asked places = record { came = f ∷ []; arrived = refl; kept = kept_one c f asked places }
 
 -- there is a place for each channel
 pub places_come : (f : Frame) (asked : List (Option ℕ)) → length (keep_pleads f asked) ≡ length asked
 places_come (frame.Plead d target) asked = length-set asked (number_of d) (Some target)
 places_come f asked = refl
 
-places_arrive : (arrived in_flight : List Frame) (begun : ℕ) (taken : List ℕ) (asked : List (Option ℕ)) → length (arrive_on (record { arrived = arrived; in_flight = in_flight; begun = begun; taken = taken; asked = asked })).asked ≡ length asked
-places_arrive arrived [] begun taken asked = refl
-places_arrive arrived (f ∷ rest) begun taken asked = places_come f asked
+places_arrive : (version : Version) (left : ℕ) (arrived in_flight : List Frame) (begun : ℕ) (taken : List ℕ) (asked : List (Option ℕ)) → length (arrive_on (record { version = version; greeting_left = left; arrived = arrived; in_flight = in_flight; begun = begun; taken = taken; asked = asked })).asked ≡ length asked
+places_arrive version left arrived [] begun taken asked = refl
+places_arrive version left arrived (f ∷ rest) begun taken asked = places_come f asked
 
 pub places_deliver : (count : ℕ) (l : Line) → length (deliver_on count l).asked ≡ length l.asked
-places_deliver count l = deliver_keeps (λ (x : Line). length x.asked ≡ length l.asked) (record { begins = λ x n e. e; arrives = λ x e. places_arrive x.arrived x.in_flight x.begun x.taken x.asked ∙ e }) count l refl
+places_deliver count l = deliver_keeps (λ (x : Line). length x.asked ≡ length l.asked) (record { begins = λ x m n e. e; arrives = λ x e. places_arrive x.version x.greeting_left x.arrived x.in_flight x.begun x.taken x.asked ∙ e }) count l refl
 
 -- a delivery
 record HearsInPlace (c : Channel) (l new : Line) : Type 0 where
   places : number_of c < length new.asked
   hears : Hears c l new
 
-begins_to : (c : Channel) (l x : Line) (n : ℕ) → Hears c l x → Hears c l (record x { begun = n })
-begins_to c l x n h = record { came = h.came; arrived = h.arrived; kept = h.kept }
+begins_to : (c : Channel) (l x : Line) (m n : ℕ) → Hears c l x → Hears c l (record x { greeting_left = m; begun = n })
+begins_to c l x m n h = record { came = h.came; arrived = h.arrived; kept = h.kept }
 
 delivers : (c : Channel) (count : ℕ) (l : Line) → number_of c < length l.asked → Hears c l (deliver_on count l)
 delivers c count l places =
     (deliver_keeps (HearsInPlace c l) (record {
-      begins = λ x n h. record { places = h.places; hears = begins_to c l x n h.hears };
+      begins = λ x m n h. record { places = h.places; hears = begins_to c l x m n h.hears };
       arrives = λ x h. record {
-        places = omega (arith, h.places, places_arrive x.arrived x.in_flight x.begun x.taken x.asked);
-        hears = hears_both c l x (arrive_on x) h.hears (comes c x.arrived x.in_flight x.begun x.taken x.asked h.places);
+        places = omega (arith, h.places, places_arrive x.version x.greeting_left x.arrived x.in_flight x.begun x.taken x.asked);
+        hears = hears_both c l x (arrive_on x) h.hears (comes c x.version x.greeting_left x.arrived x.in_flight x.begun x.taken x.asked h.places);
       };
     }) count l (record { places = places; hears = hears_none c l l refl refl })).hears
 
@@ -120,7 +121,7 @@ forgets_elsewhere c d l apart = hears_none c l (forget_on d l) refl (get_or-set_
 
 -- an event at the side that reads the line, and one at the side that writes it
 reader_hears : (mine l : Line) (act : Act) (a : Answer) (c : Channel) → honoured_amount c act a ≡ None → number_of c < length l.asked → Hears c l (theirs_after mine l act a)
-reader_hears mine l Arrive Arrived c none places = comes c l.arrived l.in_flight l.begun l.taken l.asked places
+reader_hears mine l Arrive Arrived c none places = comes c l.version l.greeting_left l.arrived l.in_flight l.begun l.taken l.asked places
 reader_hears mine l (Deliver count) (Delivered bytes frames) c none places = delivers c count l places
 reader_hears mine l (Take d) (Took body) c none places = hears_none c _ _ refl refl
 reader_hears mine l (Honour d) (Absolved n) c none places = forgets_elsewhere c d l (apart_from (is_same c d) n none)
@@ -139,7 +140,7 @@ hears_step w B act a B c none places = reader_hears w.b w.a act a c none places
 
 -- every event leaves a place for each channel
 places_theirs : (mine l : Line) (act : Act) (a : Answer) → length (theirs_after mine l act a).asked ≡ length l.asked
-places_theirs mine l Arrive Arrived = places_arrive l.arrived l.in_flight l.begun l.taken l.asked
+places_theirs mine l Arrive Arrived = places_arrive l.version l.greeting_left l.arrived l.in_flight l.begun l.taken l.asked
 places_theirs mine l (Deliver count) (Delivered bytes frames) = places_deliver count l
 places_theirs mine l (Take d) (Took body) = refl
 places_theirs mine l (Honour d) (Absolved n) = length-set l.asked (number_of d) None
@@ -174,29 +175,29 @@ hears_all w (p ∷ history) s c none places =
     hears_both c (line w (other s)) (line next (other s)) (line (after_all next history) (other s)) (hears_step w p.0.side p.0.act p.1 s c nones.0 places) (hears_all next history s c nones.1 (omega (arith, same, places)))
 
 -- at the opening no plead is kept
-opening_places : (capacity : ℕ) (s : Side) → length (line (opening capacity) s).asked ≡ 7
-opening_places capacity A = refl
-opening_places capacity B = refl
+opening_places : (capacity : ℕ) (versions : Versions) (s : Side) → length (line (opening capacity versions) s).asked ≡ 7
+opening_places capacity versions A = refl
+opening_places capacity versions B = refl
 
-none_kept : (c : Channel) → kept_plead c new_line ≡ None
-none_kept ReconciliationChannel = refl
-none_kept DataChannel = refl
-none_kept OverlapChannel = refl
-none_kept CapabilityChannel = refl
-none_kept AreaOfInterestChannel = refl
-none_kept PayloadRequestChannel = refl
-none_kept StaticTokenChannel = refl
+pub none_kept : (v : Version) (c : Channel) → kept_plead c (new_line v) ≡ None
+none_kept v ReconciliationChannel = refl
+none_kept v DataChannel = refl
+none_kept v OverlapChannel = refl
+none_kept v CapabilityChannel = refl
+none_kept v AreaOfInterestChannel = refl
+none_kept v PayloadRequestChannel = refl
+none_kept v StaticTokenChannel = refl
 
-opening_kept : (capacity : ℕ) (s : Side) (c : Channel) → plead_kept s c (opening capacity) ≡ None
-opening_kept capacity A c = none_kept c
-opening_kept capacity B c = none_kept c
+opening_kept : (capacity : ℕ) (versions : Versions) (s : Side) (c : Channel) → plead_kept s c (opening capacity versions) ≡ None
+opening_kept capacity versions A c = none_kept (versions B) c
+opening_kept capacity versions B c = none_kept (versions A) c
 
-opening_heard : (capacity : ℕ) (s : Side) → heard s (opening capacity) ≡ []
-opening_heard capacity A = refl
-opening_heard capacity B = refl
+opening_heard : (capacity : ℕ) (versions : Versions) (s : Side) → heard s (opening capacity versions) ≡ []
+opening_heard capacity versions A = refl
+opening_heard capacity versions B = refl
 
-places_of : (capacity : ℕ) (history : History) (s : Side) (c : Channel) → number_of c < length (line (state_of capacity history) (other s)).asked
-places_of capacity history s c = omega (arith, places_all (opening capacity) history (other s), opening_places capacity (other s), number_below c)
+places_of : (capacity : ℕ) (versions : Versions) (history : History) (s : Side) (c : Channel) → number_of c < length (line (state_of capacity versions history) (other s)).asked
+places_of capacity versions history s c = omega (arith, places_all (opening capacity versions) history (other s), opening_places capacity versions (other s), number_below c)
 
 -- where no plead was kept, the one that is kept is the last of those that came
 kept_last : (c : Channel) (l new : Line) → kept_plead c l ≡ None → Hears c l new → kept_plead c new ≡ last_plead c (drop (length l.arrived) new.arrived)
@@ -221,33 +222,33 @@ honour_forgets : (w : State) (s : Side) (c : Channel) (a : Answer) → IsHonoure
 honour_forgets w A c a h places = line_forgets w.a w.b c a h places
 honour_forgets w B c a h places = line_forgets w.b w.a c a h places
 
-never : (capacity : ℕ) (history : History) (s : Side) (c : Channel) → honours c s history ≡ [] → plead_kept s c (state_of capacity history) ≡ last_plead c (heard s (state_of capacity history))
-never capacity history s c none =
-    let h : Hears c (line (opening capacity) (other s)) (line (state_of capacity history) (other s)) = hears_all (opening capacity) history s c none (places_of capacity [] s c) in
-    kept_last c (line (opening capacity) (other s)) (line (state_of capacity history) (other s)) (opening_kept capacity s c) h
-    ∙ ap (λ (fs : List Frame). last_plead c (drop (length fs) (heard s (state_of capacity history)))) (opening_heard capacity s)
+never : (capacity : ℕ) (versions : Versions) (history : History) (s : Side) (c : Channel) → honours c s history ≡ [] → plead_kept s c (state_of capacity versions history) ≡ last_plead c (heard s (state_of capacity versions history))
+never capacity versions history s c none =
+    let h : Hears c (line (opening capacity versions) (other s)) (line (state_of capacity versions history) (other s)) = hears_all (opening capacity versions) history s c none (places_of capacity versions [] s c) in
+    kept_last c (line (opening capacity versions) (other s)) (line (state_of capacity versions history) (other s)) (opening_kept capacity versions s c) h
+    ∙ ap (λ (fs : List Frame). last_plead c (drop (length fs) (heard s (state_of capacity versions history)))) (opening_heard capacity versions s)
 
-abbrev SinceHonour : ℕ → Side → Channel → History → State → Type 0
-SinceHonour capacity s c earlier end = plead_kept s c end ≡ last_plead c (drop (length (heard s (state_of capacity earlier))) (heard s end))
+abbrev SinceHonour : ℕ → Versions → Side → Channel → History → State → Type 0
+SinceHonour capacity versions s c earlier end = plead_kept s c end ≡ last_plead c (drop (length (heard s (state_of capacity versions earlier))) (heard s end))
 
-since : (capacity : ℕ) (s : Side) (c : Channel) (earlier later : History) (a : Answer) → IsHonoured a → honours c s later ≡ [] → SinceHonour capacity s c earlier (after_all (state_after (state_of capacity earlier) s (Honour c) a) later)
-since capacity s c earlier later a honoured none =
-    let w : State = state_of capacity earlier in
+since : (capacity : ℕ) (versions : Versions) (s : Side) (c : Channel) (earlier later : History) (a : Answer) → IsHonoured a → honours c s later ≡ [] → SinceHonour capacity versions s c earlier (after_all (state_after (state_of capacity versions earlier) s (Honour c) a) later)
+since capacity versions s c earlier later a honoured none =
+    let w : State = state_of capacity versions earlier in
     let next : State = state_after w s (Honour c) a in
     let end : State = after_all next later in
-    let places = places_of capacity earlier s c in
+    let places = places_of capacity versions earlier s c in
     let f = honour_forgets w s c a honoured places in
     let same : length (line next (other s)).asked ≡ length (line w (other s)).asked = places_step w s (Honour c) a (other s) in
     let h : Hears c (line next (other s)) (line end (other s)) = hears_all next later s c none (omega (arith, same, places)) in
     kept_last c (line next (other s)) (line end (other s)) f.0 h
     ∙ ap (λ (fs : List Frame). last_plead c (drop (length fs) (heard s end))) f.1
 
-cut : (capacity : ℕ) (history : History) (s : Side) (c : Channel) (earlier later : History) (a : Answer) → history ≡ earlier ++ (record { side = s; act = Honour c }, a) ∷ later → state_of capacity history ≡ after_all (state_after (state_of capacity earlier) s (Honour c) a) later
-cut capacity history s c earlier later a e = ap (λ (h : History). state_of capacity h) e ∙ after_append (opening capacity) earlier _
+cut : (capacity : ℕ) (versions : Versions) (history : History) (s : Side) (c : Channel) (earlier later : History) (a : Answer) → history ≡ earlier ++ (record { side = s; act = Honour c }, a) ∷ later → state_of capacity versions history ≡ after_all (state_after (state_of capacity versions earlier) s (Honour c) a) later
+cut capacity versions history s c earlier later a e = ap (λ (h : History). state_of capacity versions h) e ∙ after_append (opening capacity versions) earlier _
 
-pub keeps_last_plead : (capacity : ℕ) (history : History) (s : Side) (c : Channel) → KeepsLastPlead capacity history s c
-keeps_last_plead capacity history s c =
+pub keeps_last_plead : (capacity : ℕ) (versions : Versions) (history : History) (s : Side) (c : Channel) → KeepsLastPlead capacity versions history s c
+keeps_last_plead capacity versions history s c =
     record {
-      never_honoured = never capacity history s c;
-      since_honour = λ earlier later at none. subst (λ (w : State). SinceHonour capacity s c earlier w) (sym (cut capacity history s c earlier later at.0 at.2)) (since capacity s c earlier later at.0 at.1 none);
+      never_honoured = never capacity versions history s c;
+      since_honour = λ earlier later at none. subst (λ (w : State). SinceHonour capacity versions s c earlier w) (sym (cut capacity versions history s c earlier later at.0 at.2)) (since capacity versions s c earlier later at.0 at.1 none);
     }

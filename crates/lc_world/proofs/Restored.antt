@@ -2,7 +2,6 @@
 use Rattle.std.proofs.Common.{◌≡◌, ℕ, ◌+◌, ◌≤◌, Bool, false, List, [], ◌∷◌, ◌++◌, Option, Some, None, refl, sym, ap, ◌∙◌, inl, arith}
 use Rattle.std.specs.Prelude.{◌==◌, nat_lt, if◌then◌else◌}
 use Rattle.std.proofs.lemmas.Bool.Decides.{nat_tests}
-use Rattle.lc_frame.specs.declared.version.Version.TheVariants.{One}
 use Rattle.lc_frame.specs.declared.channel.Channel.{Channel}
 use Rattle.lc_frame.specs.declared.frame.Frame.{Frame}
 use Rattle.lc_frame.specs.declared.frame.Frame.TheVariants as frame
@@ -27,6 +26,7 @@ use Rattle.lc_world.proofs.Lawful.{sound_to_a, sound_to_b}
 use Rattle.lc_world.specs.Credit.{IsQuiet, reissue, CreditComesBack}
 use Rattle.lc_world.proofs.Histories.{legal_append, after_append, capacity_stays, sound_of}
 use Rattle.lc_world.proofs.Credit.{whole_of}
+use Rattle.lc_world.proofs.Streams.{version_kept}
 use Rattle.lc_world.proofs.Ways.{Good, good_step, arrives}
 
 not_this : (b : Bool) (r : Refusal) (rest : Option Refusal) → b ≡ false → rest ≡ None → (if b then Some r else rest) ≡ None
@@ -42,9 +42,9 @@ may_issue : (b : Server) (n : ℕ) → 1 ≤ n → is_past b.receive_left n ≡ 
 may_issue b n some free fits total =
     not_this (n == 0) _ _ (not_zero n some) (not_this (is_past b.receive_left n) _ _ free (not_this (nat_lt (room b) n) _ _ (not_below (room b) n fits) (not_this (nat_lt max_total (b.issued + n)) _ _ (not_below max_total (b.issued + n) total) refl)))
 
-may_send : (b : Client) (n : ℕ) → 1 ≤ n → n ≤ (max_body One) → is_past b.send_left n ≡ false → n ≤ held b → spend_refusal b n ≡ None
+may_send : (b : Client) (n : ℕ) → 1 ≤ n → n ≤ max_body b.version → is_past b.send_left n ≡ false → n ≤ held b → spend_refusal b n ≡ None
 may_send b n some small free fits =
-    not_this (n == 0) _ _ (not_zero n some) (not_this (nat_lt (max_body One) n) _ _ (not_below (max_body One) n small) (not_this (is_past b.send_left n) _ _ free (not_this (nat_lt (held b) n) _ _ (not_below (held b) n fits) refl)))
+    not_this (n == 0) _ _ (not_zero n some) (not_this (nat_lt (max_body b.version) n) _ _ (not_below (max_body b.version) n small) (not_this (is_past b.send_left n) _ _ free (not_this (nat_lt (held b) n) _ _ (not_below (held b) n fits) refl)))
 
 -- the frame that was put is the only one in flight, and it arrives
 only_one : (l : Line) (f : Frame) → l.in_flight ≡ [] → (put_on l f).in_flight ≡ f ∷ []
@@ -83,18 +83,18 @@ goes w B c n g q free =
     record { legal = (right1, (right2, tt)); held_is = more_held w.capacity c w.b w.a n (g.sound.sums B c) (q.in_flight A) }
 
 pub credit_comes_back : CreditComesBack
-credit_comes_back capacity history h q s c dry some free total =
-    let w : State = state_of capacity history in
+credit_comes_back capacity versions history h q s c dry some free total =
+    let w : State = state_of capacity versions history in
     let n : ℕ = room (server w (other s) c) in
-    let kept : w.capacity ≡ capacity = capacity_stays (opening capacity) history in
-    let g : Good w = record { sound = sound_of capacity history h; small = omega (arith, h.is_capacity.at_most, kept) } in
+    let kept : w.capacity ≡ capacity = capacity_stays (opening capacity versions) history in
+    let g : Good w = record { sound = sound_of capacity versions history h; small = omega (arith, h.is_capacity.at_most, kept) } in
     let both : Goes w s c n = goes w s c n g q (may_issue (server w (other s) c) n some free (omega arith) total) in
     let joined : History = history ++ reissue s c n in
-    let v : State = state_of capacity joined in
-    let is : held (client v s c) ≡ held (client w s c) + n = ap (λ (x : State). held (client x s c)) (after_append (opening capacity) history (reissue s c n)) ∙ both.held_is in
+    let v : State = state_of capacity versions joined in
+    let is : held (client v s c) ≡ held (client w s c) + n = ap (λ (x : State). held (client x s c)) (after_append (opening capacity versions) history (reissue s c n)) ∙ both.held_is in
     let full : held (client v s c) ≡ capacity = is ∙ (whole_of w g.sound q s c dry ∙ kept) in
     record {
-      legal = record { is_capacity = h.is_capacity; legal = legal_append (opening capacity) history (reissue s c n) h.legal both.legal };
+      legal = record { is_capacity = h.is_capacity; legal = legal_append (opening capacity versions) history (reissue s c n) h.legal both.legal };
       full = full;
-      sends = λ len one most unlimited. may_send (client v s c) len one (omega (arith, most)) unlimited (omega (arith, most, full));
+      sends = λ len one most unlimited. may_send (client v s c) len one (omega (arith, most, ap max_body (version_kept capacity versions joined s))) unlimited (omega (arith, most, full));
     }

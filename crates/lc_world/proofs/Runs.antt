@@ -4,7 +4,10 @@ use Rattle.std.specs.List.{zip}
 use Rattle.std.proofs.lemmas.List.{take_all, take_more, length-take-le}
 use Rattle.lc_world.specs.declared.event.Event.{Event}
 use Rattle.lc_world.specs.declared.event.Answer.{Answer}
-use Rattle.lc_world.specs.State.{State}
+use Rattle.lc_frame.specs.declared.version.Version.TheVariants.{One}
+use Rattle.lc_world.specs.declared.event.Side.{Side}
+use Rattle.lc_world.specs.declared.event.Side.TheVariants.{A, B}
+use Rattle.lc_world.specs.State.{State, Versions, by_side}
 use Rattle.lc_world.specs.Answers.{IsAnswer, after}
 use Rattle.lc_world.specs.Histories.{History, IsLegal, after_all}
 use Rattle.lc_world.proofs.Histories.{legal_append, after_append}
@@ -29,3 +32,11 @@ zip_more events answers i d a lt e =
 -- at the end of the loop all events have answers
 pub legal_whole : (w : State) (i : ℕ) (events : List Event) (answers : List Answer) → length events ≤ i → IsLegal w (zip (take i events) answers) → IsLegal w (zip events answers)
 legal_whole w i events answers le h = subst (λ es. IsLegal w (zip es answers)) (take_all i events le) h
+
+-- version One on both sides
+one_each : (s : Side) → by_side (One ∷ One ∷ []) s ≡ One
+one_each A = refl
+one_each B = refl
+
+pub one_twice : (let ones : Versions = λ s. One in by_side (One ∷ One ∷ []) ≡ ones)
+one_twice = λ i s. one_each s i

@@ -5,6 +5,7 @@ use Rattle.std.specs.List.{filter_map}
 use Rattle.std.proofs.lemmas.Bool.Decides.{nat_tests}
 use Rattle.std.proofs.lemmas.List.{append_assoc, take-append-le, length-append, length-drop, length-set, get_or-set_same, get_or-set_other}
 use Rattle.std.proofs.lemmas.List.Sums.{sum_by-take-le, sum_by_more}
+use Rattle.lc_frame.specs.declared.version.Version.{Version}
 use Rattle.lc_frame.specs.declared.channel.Channel.{Channel}
 use Rattle.lc_frame.specs.declared.channel.Channel.TheVariants.{ReconciliationChannel, DataChannel, OverlapChannel, CapabilityChannel, AreaOfInterestChannel, PayloadRequestChannel, StaticTokenChannel}
 use Rattle.lc_frame.specs.declared.frame.Frame.{Frame}
@@ -135,9 +136,9 @@ sound_server_puts capacity c mine theirs (Some f) may s =
 pub taken-push : (c : Channel) (arrived : List Frame) (f : Frame) (t : ℕ) → t ≤ length (messages c arrived) → take t (messages c (arrived ++ f ∷ [])) ≡ take t (messages c arrived)
 taken-push c arrived f t le = ap (take t) (messages-append c arrived (f ∷ [])) ∙ take-append-le t (messages c arrived) (messages c (f ∷ [])) le
 
-comes : (capacity : ℕ) (c : Channel) (arrived in_flight : List Frame) (begun : ℕ) (taken : List ℕ) (asked : List (Option ℕ)) (theirs : Line) → Sound capacity c (record { arrived = arrived; in_flight = in_flight; begun = begun; taken = taken; asked = asked }) theirs → Sound capacity c (arrive_on (record { arrived = arrived; in_flight = in_flight; begun = begun; taken = taken; asked = asked })) theirs
-comes capacity c arrived [] begun taken asked theirs s = s
-comes capacity c arrived (f ∷ rest) begun taken asked theirs s =
+comes : (capacity : ℕ) (c : Channel) (version : Version) (left : ℕ) (arrived in_flight : List Frame) (begun : ℕ) (taken : List ℕ) (asked : List (Option ℕ)) (theirs : Line) → Sound capacity c (record { version = version; greeting_left = left; arrived = arrived; in_flight = in_flight; begun = begun; taken = taken; asked = asked }) theirs → Sound capacity c (arrive_on (record { version = version; greeting_left = left; arrived = arrived; in_flight = in_flight; begun = begun; taken = taken; asked = asked })) theirs
+comes capacity c version left arrived [] begun taken asked theirs s = s
+comes capacity c version left arrived (f ∷ rest) begun taken asked theirs s =
     let same : (arrived ++ f ∷ []) ++ rest ≡ arrived ++ f ∷ rest = append_assoc arrived (f ∷ []) rest in
     record {
       solvent = subst (λ (fs : List Frame). cost c fs + absolved c fs ≤ issued c theirs.arrived) (sym same) s.solvent;
@@ -148,12 +149,12 @@ comes capacity c arrived (f ∷ rest) begun taken asked theirs s =
     }
 
 pub sound_comes : (capacity : ℕ) (c : Channel) (mine theirs : Line) → Sound capacity c mine theirs → Sound capacity c (arrive_on mine) theirs
-sound_comes capacity c mine theirs s = comes capacity c mine.arrived mine.in_flight mine.begun mine.taken mine.asked theirs s
+sound_comes capacity c mine theirs s = comes capacity c mine.version mine.greeting_left mine.arrived mine.in_flight mine.begun mine.taken mine.asked theirs s
 
 -- an arrival at the client
-gets : (capacity : ℕ) (c : Channel) (mine : Line) (arrived in_flight : List Frame) (begun : ℕ) (taken : List ℕ) (asked : List (Option ℕ)) → Sound capacity c mine (record { arrived = arrived; in_flight = in_flight; begun = begun; taken = taken; asked = asked }) → Sound capacity c mine (arrive_on (record { arrived = arrived; in_flight = in_flight; begun = begun; taken = taken; asked = asked }))
-gets capacity c mine arrived [] begun taken asked s = s
-gets capacity c mine arrived (f ∷ rest) begun taken asked s =
+gets : (capacity : ℕ) (c : Channel) (mine : Line) (version : Version) (left : ℕ) (arrived in_flight : List Frame) (begun : ℕ) (taken : List ℕ) (asked : List (Option ℕ)) → Sound capacity c mine (record { version = version; greeting_left = left; arrived = arrived; in_flight = in_flight; begun = begun; taken = taken; asked = asked }) → Sound capacity c mine (arrive_on (record { version = version; greeting_left = left; arrived = arrived; in_flight = in_flight; begun = begun; taken = taken; asked = asked }))
+gets capacity c mine version left arrived [] begun taken asked s = s
+gets capacity c mine version left arrived (f ∷ rest) begun taken asked s =
     let same : issued c ((arrived ++ f ∷ []) ++ rest) ≡ issued c (arrived ++ f ∷ rest) = ap (issued c) (append_assoc arrived (f ∷ []) rest) in
     record {
       solvent = omega (arith, s.solvent, issued-append c arrived (f ∷ []));
@@ -164,20 +165,20 @@ gets capacity c mine arrived (f ∷ rest) begun taken asked s =
     }
 
 pub sound_gets : (capacity : ℕ) (c : Channel) (mine theirs : Line) → Sound capacity c mine theirs → Sound capacity c mine (arrive_on theirs)
-sound_gets capacity c mine theirs s = gets capacity c mine theirs.arrived theirs.in_flight theirs.begun theirs.taken theirs.asked s
+sound_gets capacity c mine theirs s = gets capacity c mine theirs.version theirs.greeting_left theirs.arrived theirs.in_flight theirs.begun theirs.taken theirs.asked s
 
 -- bytes that have begun to come change nothing, so what an arrival keeps a delivery keeps
 pub sound_delivers : (capacity : ℕ) (c : Channel) (count : ℕ) (mine theirs : Line) → Sound capacity c mine theirs → Sound capacity c (deliver_on count mine) theirs
 sound_delivers capacity c count mine theirs s =
     deliver_keeps (λ (l : Line). Sound capacity c l theirs) (record {
-      begins = λ l n h. record { solvent = h.solvent; roomy = h.roomy; total = h.total; taken_of_arrived = h.taken_of_arrived; places = h.places };
+      begins = λ l m n h. record { solvent = h.solvent; roomy = h.roomy; total = h.total; taken_of_arrived = h.taken_of_arrived; places = h.places };
       arrives = λ l h. sound_comes capacity c l theirs h;
     }) count mine s
 
 pub sound_delivers_theirs : (capacity : ℕ) (c : Channel) (count : ℕ) (mine theirs : Line) → Sound capacity c mine theirs → Sound capacity c mine (deliver_on count theirs)
 sound_delivers_theirs capacity c count mine theirs s =
     deliver_keeps (λ (l : Line). Sound capacity c mine l) (record {
-      begins = λ l n h. record { solvent = h.solvent; roomy = h.roomy; total = h.total; taken_of_arrived = h.taken_of_arrived; places = h.places };
+      begins = λ l m n h. record { solvent = h.solvent; roomy = h.roomy; total = h.total; taken_of_arrived = h.taken_of_arrived; places = h.places };
       arrives = λ l h. sound_gets capacity c mine l h;
     }) count theirs s
 
@@ -236,14 +237,14 @@ pub sound_forgets : (capacity : ℕ) (c d : Channel) (mine theirs : Line) → So
 sound_forgets capacity c d mine theirs s = record { solvent = s.solvent; roomy = s.roomy; total = s.total; taken_of_arrived = s.taken_of_arrived; places = s.places }
 
 -- nothing has happened
-none_taken : (c : Channel) → taken_count c new_line ≡ 0
-none_taken ReconciliationChannel = refl
-none_taken DataChannel = refl
-none_taken OverlapChannel = refl
-none_taken CapabilityChannel = refl
-none_taken AreaOfInterestChannel = refl
-none_taken PayloadRequestChannel = refl
-none_taken StaticTokenChannel = refl
+pub none_taken : (v : Version) (c : Channel) → taken_count c (new_line v) ≡ 0
+none_taken v ReconciliationChannel = refl
+none_taken v DataChannel = refl
+none_taken v OverlapChannel = refl
+none_taken v CapabilityChannel = refl
+none_taken v AreaOfInterestChannel = refl
+none_taken v PayloadRequestChannel = refl
+none_taken v StaticTokenChannel = refl
 
-pub sound_opening : (capacity : ℕ) (c : Channel) → Sound capacity c new_line new_line
-sound_opening capacity c = record { solvent = omega arith; roomy = omega arith; total = omega arith; taken_of_arrived = omega (arith, none_taken c); places = number_below c }
+pub sound_opening : (capacity : ℕ) (v w : Version) (c : Channel) → Sound capacity c (new_line v) (new_line w)
+sound_opening capacity v w c = record { solvent = omega arith; roomy = omega arith; total = omega arith; taken_of_arrived = omega (arith, none_taken v c); places = number_below c }

@@ -9,7 +9,7 @@ use Rattle.lc_world.specs.declared.event.Act.{Act}
 use Rattle.lc_world.specs.declared.event.Act.TheVariants.{Honour, Arrive, Deliver, Take}
 use Rattle.lc_world.specs.declared.event.Answer.{Answer}
 use Rattle.lc_world.specs.declared.event.Answer.TheVariants.{Absolved, NothingToAbsolve, Arrived, Delivered, Took}
-use Rattle.lc_world.specs.State.{State, opening, Line, line, other, stream, taken_count}
+use Rattle.lc_world.specs.State.{State, Versions, opening, Line, line, other, stream, taken_count}
 use Rattle.lc_world.specs.Answers.{frame_put, put_any, empty_or_ended, take_answer, waiting, IsAnswerOf, IsAnswer, mine_after, theirs_after, state_after, after}
 use Rattle.lc_world.specs.Histories.{History, after_all, IsLegal}
 use Rattle.lc_world.specs.Sound.{AllFit, Sound, IsSound}
@@ -88,16 +88,16 @@ pub sound_all : (w : State) (history : History) → IsLegal w history → IsSoun
 sound_all w [] h g = g
 sound_all w (p ∷ history) h g = sound_all (after w p.0 p.1) history h.1 (sound_step w p.0.side p.0.act p.1 h.0 g)
 
-sums_opening : (capacity : ℕ) (s : Side) (c : Channel) → Sound capacity c (line (opening capacity) s) (line (opening capacity) (other s))
-sums_opening capacity A c = sound_opening capacity c
-sums_opening capacity B c = sound_opening capacity c
+sums_opening : (capacity : ℕ) (versions : Versions) (s : Side) (c : Channel) → Sound capacity c (line (opening capacity versions) s) (line (opening capacity versions) (other s))
+sums_opening capacity versions A c = sound_opening capacity (versions A) (versions B) c
+sums_opening capacity versions B c = sound_opening capacity (versions B) (versions A) c
 
-limits_opening : (capacity : ℕ) (s : Side) → AllFit [] (stream (line (opening capacity) s))
-limits_opening capacity A = tt
-limits_opening capacity B = tt
+limits_opening : (capacity : ℕ) (versions : Versions) (s : Side) → AllFit [] (stream (line (opening capacity versions) s))
+limits_opening capacity versions A = tt
+limits_opening capacity versions B = tt
 
-pub sound_opened : (capacity : ℕ) → IsSound (opening capacity)
-sound_opened capacity = record { sums = sums_opening capacity; limits = limits_opening capacity }
+pub sound_opened : (capacity : ℕ) (versions : Versions) → IsSound (opening capacity versions)
+sound_opened capacity versions = record { sums = sums_opening capacity versions; limits = limits_opening capacity versions }
 
 -- no event changes the capacity
 pub same_capacity : (w : State) (side : Side) (act : Act) (a : Answer) → (state_after w side act a).capacity ≡ w.capacity

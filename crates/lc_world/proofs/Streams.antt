@@ -3,6 +3,7 @@ use Rattle.std.proofs.Common.{◌≡◌, ℕ, Bool, true, false, List, [], ◌�
 use Rattle.std.specs.Prelude.{if◌then◌else◌}
 use Rattle.std.specs.List.{filter_map, cons_option}
 use Rattle.std.proofs.lemmas.List.{append-nil, append_assoc}
+use Rattle.lc_frame.specs.declared.version.Version.{Version}
 use Rattle.lc_frame.specs.declared.channel.Channel.{Channel}
 use Rattle.lc_frame.specs.declared.frame.Frame.{Frame}
 use Rattle.lc_frame.specs.declared.frame.Frame.TheVariants as frame
@@ -14,8 +15,9 @@ use Rattle.lc_world.specs.declared.event.Act.{Act}
 use Rattle.lc_world.specs.declared.event.Act.TheVariants.{Send, Issue, Plead, Absolve, Honour, LimitSending, LimitReceiving, Arrive, Deliver, Take}
 use Rattle.lc_world.specs.declared.event.Answer.{Answer}
 use Rattle.lc_world.specs.declared.event.Answer.TheVariants.{Accepted, Absolved, NothingToAbsolve, Arrived, Delivered, Took}
-use Rattle.lc_world.specs.State.{State, Line, line, stream, put_on, arrive_on, deliver_on}
+use Rattle.lc_world.specs.State.{State, Versions, opening, Line, line, stream, put_on, arrive_first, arrive_on, deliver_on}
 use Rattle.lc_world.specs.Answers.{frame_put, put_any, theirs_after, state_after, after}
+use Rattle.lc_world.specs.Guarantee.{state_of}
 use Rattle.lc_world.proofs.Delivers.{deliver_keeps}
 use Rattle.lc_world.specs.Histories.{History, after_all, is_side, at_side, sent_body, issued_amount, accepted, amounts}
 
@@ -28,15 +30,49 @@ stream-put_any l None = sym (append-nil (stream l))
 stream-put_any l (Some f) = stream-put l f
 
 -- an arrival moves the cut of a stream
-stream-arrive_first : (arrived in_flight : List Frame) (begun : ℕ) (taken : List ℕ) (asked : List (Option ℕ)) → stream (arrive_on (record { arrived = arrived; in_flight = in_flight; begun = begun; taken = taken; asked = asked })) ≡ arrived ++ in_flight
-stream-arrive_first arrived [] begun taken asked = refl
-stream-arrive_first arrived (f ∷ rest) begun taken asked = append_assoc arrived (f ∷ []) rest
+stream-arrive_first : (version : Version) (left : ℕ) (arrived in_flight : List Frame) (begun : ℕ) (taken : List ℕ) (asked : List (Option ℕ)) → stream (arrive_on (record { version = version; greeting_left = left; arrived = arrived; in_flight = in_flight; begun = begun; taken = taken; asked = asked })) ≡ arrived ++ in_flight
+stream-arrive_first version left arrived [] begun taken asked = refl
+stream-arrive_first version left arrived (f ∷ rest) begun taken asked = append_assoc arrived (f ∷ []) rest
 
 pub stream-arrive : (l : Line) → stream (arrive_on l) ≡ stream l
-stream-arrive l = stream-arrive_first l.arrived l.in_flight l.begun l.taken l.asked
+stream-arrive l = stream-arrive_first l.version l.greeting_left l.arrived l.in_flight l.begun l.taken l.asked
 
 pub stream-deliver : (count : ℕ) (l : Line) → stream (deliver_on count l) ≡ stream l
-stream-deliver count l = deliver_keeps (λ (x : Line). stream x ≡ stream l) (record { begins = λ x n e. e; arrives = λ x e. stream-arrive x ∙ e }) count l refl
+stream-deliver count l = deliver_keeps (λ (x : Line). stream x ≡ stream l) (record { begins = λ x m n e. e; arrives = λ x e. stream-arrive x ∙ e }) count l refl
+
+-- no stream changes its version
+version-first : (frames : List Frame) (l : Line) → (arrive_first l frames).version ≡ l.version
+version-first [] l = refl
+version-first (f ∷ rest) l = refl
+
+pub version-deliver : (count : ℕ) (l : Line) → (deliver_on count l).version ≡ l.version
+version-deliver count l = deliver_keeps (λ (x : Line). x.version ≡ l.version) (record { begins = λ x m n e. e; arrives = λ x e. version-first x.in_flight x ∙ e }) count l refl
+
+version-mine : (l : Line) (o : Option Frame) → (put_any l o).version ≡ l.version
+version-mine l None = refl
+version-mine l (Some f) = refl
+
+version-theirs : (mine theirs : Line) (act : Act) (a : Answer) → (theirs_after mine theirs act a).version ≡ theirs.version
+version-theirs mine theirs Arrive Arrived = version-first theirs.in_flight theirs
+version-theirs mine theirs (Deliver count) (Delivered bytes frames) = version-deliver count theirs
+version-theirs mine theirs (Take c) (Took body) = refl
+version-theirs mine theirs (Honour c) (Absolved amount) = refl
+version-theirs mine theirs (Honour c) NothingToAbsolve = refl
+version-theirs mine theirs act a = refl
+
+version-step : (w : State) (side : Side) (act : Act) (a : Answer) (s : Side) → (line (state_after w side act a) s).version ≡ (line w s).version
+version-step w A act a A = version-mine w.a (frame_put act a)
+version-step w A act a B = version-theirs w.a w.b act a
+version-step w B act a A = version-theirs w.b w.a act a
+version-step w B act a B = version-mine w.b (frame_put act a)
+
+version-all : (w : State) (history : History) (s : Side) → (line (after_all w history) s).version ≡ (line w s).version
+version-all w [] s = refl
+version-all w (p ∷ history) s = version-all (after w p.0 p.1) history s ∙ version-step w p.0.side p.0.act p.1 s
+
+pub version_kept : (capacity : ℕ) (versions : Versions) (history : History) (s : Side) → (line (state_of capacity versions history) s).version ≡ versions s
+version_kept capacity versions history A = version-all (opening capacity versions) history A
+version_kept capacity versions history B = version-all (opening capacity versions) history B
 
 -- an event leaves the other side's stream as it was
 pub stream-theirs : (mine theirs : Line) (act : Act) (a : Answer) → stream (theirs_after mine theirs act a) ≡ stream theirs

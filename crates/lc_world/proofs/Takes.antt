@@ -99,7 +99,7 @@ module _ (k : ℕ) (mine theirs : Line) (me peer : Endpoint) (h : AreEnds k mine
           held = h.their_end.held;
         };
         my_line = h.my_line;
-        their_line = record { valid = h.their_line.valid; begun = h.their_line.begun; taken_places = length-set theirs.taken (number_of c) (taken_count c theirs + 1) ∙ h.their_line.taken_places; asked_places = h.their_line.asked_places };
+        their_line = record { valid = h.their_line.valid; order = record { begun = h.their_line.order.begun; part = h.their_line.order.part; first = h.their_line.order.first }; taken_places = length-set theirs.taken (number_of c) (taken_count c theirs + 1) ∙ h.their_line.taken_places; asked_places = h.their_line.asked_places };
         sound = sound_step (of_lines k mine theirs) A (Take c) (Took body) right h.sound;
       }
 

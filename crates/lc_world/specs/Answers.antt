@@ -1,8 +1,7 @@
 -- Which answer to an event is right, and what the event leaves. Who may send, issue and absolve what is LCMUX's; the order of refusals, the answers and their names are this project's own.
-use Rattle.std.specs.Prelude.{◌≡◌, ℕ, zero, ◌+◌, ◌-◌, min, nat_lt, if◌then◌else◌, ◌⊎◌, List, [], ◌∷◌, length, drop, Option, Some, None}
+use Rattle.std.specs.Prelude.{◌≡◌, ℕ, zero, suc, ◌+◌, ◌-◌, min, nat_lt, if◌then◌else◌, ◌⊎◌, List, [], ◌∷◌, length, drop, Option, Some, None}
 use Rattle.std.specs.List.{flat_map}
 use Rattle.std.specs.Option.{option_or, option_and_then}
-use Rattle.lc_frame.specs.declared.version.Version.TheVariants.{One}
 use Rattle.lc_frame.specs.declared.channel.Channel.{Channel}
 use Rattle.lc_frame.specs.declared.frame.Frame.{Frame}
 use Rattle.lc_frame.specs.declared.frame.Frame.TheVariants as frame
@@ -66,25 +65,25 @@ abbrev pub arrive_answer : ℕ → Line → Line → List Frame → Answer
 arrive_answer capacity mine theirs [] = NothingInFlight
 arrive_answer capacity mine theirs (f ∷ rest) = arrival (violation (client_book (channel_of f) mine theirs) (server_book capacity (channel_of f) mine theirs) f)
 
--- the bytes in flight
+-- how many bytes are in flight, those of the greeting too
 abbrev pub bytes_in_flight : Line → ℕ
-bytes_in_flight l = length (flat_map (encoding One) l.in_flight) - l.begun
+bytes_in_flight l = l.greeting_left + (length (flat_map (encoding l.version) l.in_flight) - l.begun)
 
 -- so many bytes of the frames in flight have been delivered: the violation of the first whole one that has any, by the books after those before it
 abbrev pub delivery_violation : ℕ → Line → List Frame → ℕ → Line → Option Violation
 delivery_violation capacity mine [] n theirs = None
 delivery_violation capacity mine (f ∷ rest) n theirs =
-    if nat_lt n (size f) then None
-    else option_or (violation (client_book (channel_of f) mine theirs) (server_book capacity (channel_of f) mine theirs) f) (delivery_violation capacity mine rest (n - size f) (arrive_first theirs (f ∷ rest)))
+    if nat_lt n (size theirs.version f) then None
+    else option_or (violation (client_book (channel_of f) mine theirs) (server_book capacity (channel_of f) mine theirs) f) (delivery_violation capacity mine rest (n - size theirs.version f) (arrive_first theirs (f ∷ rest)))
 
 abbrev pub delivery : Option Violation → ℕ → ℕ → Answer
 delivery None bytes frames = Delivered bytes frames
 delivery (Some v) bytes frames = Violated v
 
--- the delivery of so many of the bytes in flight, at the side whose line is the first: how many they were, and how many frames arrived
-abbrev pub deliver_answer : ℕ → Line → Line → ℕ → List Frame → Answer
-deliver_answer capacity mine theirs count [] = NothingInFlight
-deliver_answer capacity mine theirs count (f ∷ rest) = delivery (delivery_violation capacity mine (f ∷ rest) (theirs.begun + count) theirs) (min count (bytes_in_flight theirs)) (length (deliver_on count theirs).arrived - length theirs.arrived)
+-- the delivery of so many of the bytes in flight, of which the last number says how many there are, at the side whose line is the first: how many they were, and how many frames arrived
+abbrev pub deliver_answer : ℕ → Line → Line → ℕ → ℕ → Answer
+deliver_answer capacity mine theirs count zero = NothingInFlight
+deliver_answer capacity mine theirs count (suc n) = delivery (delivery_violation capacity mine theirs.in_flight (theirs.begun + (count - theirs.greeting_left)) theirs) (min count (suc n)) (length (deliver_on count theirs).arrived - length theirs.arrived)
 
 -- the messages that arrived and were not taken
 abbrev pub waiting : Channel → Line → List (List ℕ)
@@ -109,7 +108,7 @@ answer_of capacity mine theirs (Honour c) = honoured (amount_to_absolve (client_
 answer_of capacity mine theirs (LimitSending c bound) = judged (refusal (client_book c mine theirs) (server_book capacity c mine theirs) (LimitSending c bound))
 answer_of capacity mine theirs (LimitReceiving c bound) = judged (refusal (client_book c mine theirs) (server_book capacity c mine theirs) (LimitReceiving c bound))
 answer_of capacity mine theirs Arrive = arrive_answer capacity mine theirs theirs.in_flight
-answer_of capacity mine theirs (Deliver count) = deliver_answer capacity mine theirs count theirs.in_flight
+answer_of capacity mine theirs (Deliver count) = deliver_answer capacity mine theirs count (bytes_in_flight theirs)
 answer_of capacity mine theirs (Take c) = take_answer (server_book capacity c mine theirs).send_left (waiting c theirs)
 
 -- what may want memory: an event that can put a frame, and a take of a waiting message

@@ -1,9 +1,10 @@
 -- What an own event is to the peer of its side, for src/endpoint.rt and src/act.rt.
-use Rattle.std.specs.Prelude.{◌≡◌, ℕ, List, [], ◌++◌, replicate, Option, Some, None, IfSome, Result, Ok, Err}
+use Rattle.std.specs.Prelude.{◌≡◌, ℕ, List, ◌++◌, replicate, Option, Some, None, IfSome, Result, Ok, Err}
 use Rattle.lc_frame.specs.Held.{nothing_held}
-use Rattle.lc_frame.specs.declared.version.Version.TheVariants.{One}
+use Rattle.lc_frame.specs.declared.version.Version.{Version}
 use Rattle.lc_frame.specs.declared.channel.Channel.{Channel}
 use Rattle.lc_frame.specs.declared.frame.Frame.{Frame}
+use Rattle.lc_frame.specs.Version.{greeting}
 use Rattle.lc_frame.specs.Encoding.{encoding}
 use Rattle.lc_book.specs.declared.fault.Refusal.{Refusal}
 use Rattle.lc_peer.specs.Peer.{PeerState}
@@ -17,16 +18,16 @@ use Rattle.lc_world.specs.declared.event.Answer.TheVariants.{Absolved, NothingTo
 use Rattle.lc_world.specs.Answers.{own_frame, judged, honoured, frame_put, IsUnlessMemory}
 
 -- an end at which nothing has happened
-pub record IsNewEnd (capacity : ℕ) (e : Endpoint) : Type 0 where
-  pub peer : e.peer ≡ new_peer (record { capacities = replicate 7 capacity; slots = 1 })
-  pub stream : e.stream.items ≡ []
+pub record IsNewEnd (version : Version) (capacity : ℕ) (e : Endpoint) : Type 0 where
+  pub peer : e.peer ≡ new_peer (record { version = version; capacities = replicate 7 capacity; slots = 1 })
+  pub stream : e.stream.items ≡ greeting version
   pub delivered : e.delivered ≡ 0
   pub decoder : e.decoder ≡ nothing_held
 
 -- a stream of bytes with a frame, if there is one, put last
-abbrev pub with_next : Option Frame → List ℕ → List ℕ
-with_next None bytes = bytes
-with_next (Some f) bytes = bytes ++ encoding One f
+abbrev pub with_next : Version → Option Frame → List ℕ → List ℕ
+with_next v None bytes = bytes
+with_next v (Some f) bytes = bytes ++ encoding v f
 
 -- the channel of an own event
 abbrev pub own_channel : Act → Option Channel

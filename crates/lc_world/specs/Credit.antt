@@ -1,6 +1,5 @@
 -- Where the bytes of a ring are. That guarantees are neither lost nor made up is LCMUX's; that each byte is always in one place, and comes back, is this project's own way to say it.
 use Rattle.std.specs.Prelude.{◌≡◌, ℕ, ◌+◌, ◌≤◌, min, false, [], ◌∷◌, ◌++◌, None}
-use Rattle.lc_frame.specs.declared.version.Version.TheVariants.{One}
 use Rattle.lc_frame.specs.declared.channel.Channel.{Channel}
 use Rattle.lc_frame.specs.Kind.{max_body, max_total}
 use Rattle.lc_frame.specs.Stream.{cost, issued, absolved}
@@ -10,7 +9,7 @@ use Rattle.lc_book.specs.Server.{room, buffered}
 use Rattle.lc_world.specs.declared.event.Side.{Side}
 use Rattle.lc_world.specs.declared.event.Act.TheVariants.{Issue, Arrive}
 use Rattle.lc_world.specs.declared.event.Answer.TheVariants.{Accepted, Arrived}
-use Rattle.lc_world.specs.State.{State, line, other, client, server}
+use Rattle.lc_world.specs.State.{State, Versions, line, other, client, server}
 use Rattle.lc_world.specs.Answers.{waiting}
 use Rattle.lc_world.specs.Histories.{History, IsHistory}
 use Rattle.lc_world.specs.Guarantee.{state_of}
@@ -23,16 +22,16 @@ IsConserved capacity w s c =
     held (client w s c) + issued c (line w (other s)).in_flight + cost c sent + absolved c sent + buffered book + room book ≡ capacity
 
 abbrev pub CreditIsConserved : Type 0
-CreditIsConserved = (capacity : ℕ) (history : History) → IsHistory capacity history → (s : Side) (c : Channel) → IsConserved capacity (state_of capacity history) s c
+CreditIsConserved = (capacity : ℕ) (versions : Versions) (history : History) → IsHistory capacity versions history → (s : Side) (c : Channel) → IsConserved capacity (state_of capacity versions history) s c
 
--- nothing is in flight on either stream
+-- no frame is in flight on either stream
 pub record IsQuiet (w : State) : Type 0 where
   pub in_flight : (s : Side) → (line w s).in_flight ≡ []
 
 -- where no message waits on the channel either, all of the ring is held by the client or may be issued
 abbrev pub CreditNeverLeaks : Type 0
-CreditNeverLeaks = (capacity : ℕ) (history : History) → IsHistory capacity history →
-    let w = state_of capacity history in
+CreditNeverLeaks = (capacity : ℕ) (versions : Versions) (history : History) → IsHistory capacity versions history →
+    let w = state_of capacity versions history in
     IsQuiet w → (s : Side) (c : Channel) → waiting c (line w s) ≡ [] → held (client w s c) + room (server w (other s) c) ≡ capacity
 
 -- the server of the side's channel issues so much, and that arrives
@@ -40,16 +39,16 @@ abbrev pub reissue : Side → Channel → ℕ → History
 reissue s c n = (record { side = other s; act = Issue c n }, Accepted) ∷ (record { side = s; act = Arrive }, Arrived) ∷ []
 
 -- the client holds the whole ring, and its book refuses no message that fits both the ring and a frame, unless its own limit does
-pub record IsRestored (capacity : ℕ) (history : History) (s : Side) (c : Channel) : Type 0 where
-  pub legal : IsHistory capacity history
-  pub full : held (client (state_of capacity history) s c) ≡ capacity
-  pub sends : (len : ℕ) → 1 ≤ len → len ≤ min capacity (max_body One) → is_past (client (state_of capacity history) s c).send_left len ≡ false → spend_refusal (client (state_of capacity history) s c) len ≡ None
+pub record IsRestored (capacity : ℕ) (versions : Versions) (history : History) (s : Side) (c : Channel) : Type 0 where
+  pub legal : IsHistory capacity versions history
+  pub full : held (client (state_of capacity versions history) s c) ≡ capacity
+  pub sends : (len : ℕ) → 1 ≤ len → len ≤ min capacity (max_body (versions s)) → is_past (client (state_of capacity versions history) s c).send_left len ≡ false → spend_refusal (client (state_of capacity versions history) s c) len ≡ None
 
 -- so it is once there was room, neither a limit nor the greatest total forbade to issue it, and it has arrived
 abbrev pub CreditComesBack : Type 0
-CreditComesBack = (capacity : ℕ) (history : History) → IsHistory capacity history →
-    let w = state_of capacity history in
+CreditComesBack = (capacity : ℕ) (versions : Versions) (history : History) → IsHistory capacity versions history →
+    let w = state_of capacity versions history in
     IsQuiet w → (s : Side) (c : Channel) → waiting c (line w s) ≡ [] →
     let book = server w (other s) c in
     1 ≤ room book → is_past book.receive_left (room book) ≡ false → book.issued + room book ≤ max_total →
-    IsRestored capacity (history ++ reissue s c (room book)) s c
+    IsRestored capacity versions (history ++ reissue s c (room book)) s c

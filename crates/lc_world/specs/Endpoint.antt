@@ -1,9 +1,9 @@
 -- One end of a world as it is kept, the lines that two of them stand for, and what they keep. A device of the proofs: a world is seen as the lines alone.
-use Rattle.std.specs.Prelude.{◌≡◌, ℕ, ◌+◌, ◌-◌, ◌<◌, ◌≤◌, List, [], ◌∷◌, length, map, take, drop, All, Option}
+use Rattle.std.specs.Prelude.{◌≡◌, ℕ, ◌+◌, ◌-◌, ◌<◌, ◌≤◌, List, [], ◌∷◌, length, map, take, drop, All, Option, Some}
 use Rattle.std.specs.List.{AllByRecursion}
-use Rattle.lc_frame.specs.Held.{Held, held_in}
-use Rattle.lc_frame.specs.Version.{version_of}
-use Rattle.lc_frame.specs.declared.version.Version.TheVariants.{One}
+use Rattle.lc_frame.specs.Held.{Held, opened_as, opened}
+use Rattle.lc_frame.specs.declared.version.Version.{Version}
+use Rattle.lc_frame.specs.Version.{greeting}
 use Rattle.lc_frame.specs.declared.channel.Channel.{Channel}
 use Rattle.lc_frame.specs.declared.channel.Channel.TheVariants.{ReconciliationChannel, DataChannel, OverlapChannel, CapabilityChannel, AreaOfInterestChannel, PayloadRequestChannel, StaticTokenChannel}
 use Rattle.lc_frame.specs.declared.frame.Frame.{Frame}
@@ -19,7 +19,7 @@ use Rattle.lc_frame.specs.Splits.{frames_of, rest_of}
 use Rattle.lc_world.specs.State.{Line, State, stream, taken_count, kept_plead, deliver_on}
 use Rattle.lc_world.specs.Answers.{IsAnswerOf, mine_after, theirs_after}
 use Rattle.lc_world.specs.Sound.{IsSound}
-use Rattle.lc_world.specs.Delivery.{bytes_of, delivered, HasBegun}
+use Rattle.lc_world.specs.Delivery.{text_of, delivered, IsInOrder}
 
 -- the channels by their numbers
 abbrev pub every_channel : List Channel
@@ -32,19 +32,21 @@ taken_by reader arrived = map (λ c. length (messages c arrived) - length (inbox
 abbrev pub pleads_of : PeerState → List (Option ℕ)
 pleads_of reader = map (λ c. (client reader c).asked) every_channel
 
--- the line of a stream of bytes, of which so many were delivered to its reader
-abbrev pub line_in : List ℕ → ℕ → PeerState → Line
-line_in bytes count reader = record {
-  arrived = frames_of (held_in One (take count bytes));
-  in_flight = drop (length (frames_of (held_in One (take count bytes)))) (frames_of (held_in One bytes));
-  begun = length (rest_of (held_in One (take count bytes))).bytes;
-  taken = taken_by reader (frames_of (held_in One (take count bytes)));
+-- the line of a stream of bytes of a version, of which so many were delivered to its reader
+abbrev pub line_in : Version → List ℕ → ℕ → PeerState → Line
+line_in v bytes count reader = record {
+  version = v;
+  greeting_left = length (greeting v) - count;
+  arrived = frames_of (opened_as (Some v) (take count bytes));
+  in_flight = drop (length (frames_of (opened_as (Some v) (take count bytes)))) (frames_of (opened_as (Some v) bytes));
+  begun = length (rest_of (opened_as (Some v) (take count bytes))).bytes;
+  taken = taken_by reader (frames_of (opened_as (Some v) (take count bytes)));
   asked = pleads_of reader;
 }
 
 -- the line of the stream that one end writes and the other reads
 abbrev pub line_of : Endpoint → Endpoint → Line
-line_of writer reader = line_in writer.stream.items writer.delivered reader.peer
+line_of writer reader = line_in writer.peer.version writer.stream.items writer.delivered reader.peer
 
 -- all rings have one capacity
 abbrev pub capacity_of : Endpoint → ℕ
@@ -55,7 +57,7 @@ state_between a b = record { capacity = capacity_of a; a = line_of a b; b = line
 
 -- two lines as the peer sees them that writes the first and reads the second
 abbrev pub streams_of : ℕ → Line → Line → Streams
-streams_of capacity mine theirs = record { put = stream mine; arrived = theirs.arrived; capacity = λ c. capacity; taken = λ c. taken_count c theirs; asked = λ c. kept_plead c theirs }
+streams_of capacity mine theirs = record { version = mine.version; put = stream mine; arrived = theirs.arrived; capacity = λ c. capacity; taken = λ c. taken_count c theirs; asked = λ c. kept_plead c theirs }
 
 -- the peer of two lines, with one slot, all of whose frames went out
 pub record IsPeerBetween (capacity : ℕ) (mine theirs : Line) (p : PeerState) : Type 0 where
@@ -63,22 +65,22 @@ pub record IsPeerBetween (capacity : ℕ) (mine theirs : Line) (p : PeerState) :
   pub one_slot : p.slots ≡ 1
   pub none_waits : p.waiting ≡ []
 
--- what the reader of a line holds: what was delivered of its first frame in flight, and from the first byte of the stream on the version
+-- what the reader of a line holds: of what was delivered the rest behind the frames
 abbrev pub held_of : Line → Held
-held_of l = record { version = version_of (take (delivered l) (bytes_of (stream l))); bytes = take l.begun (bytes_of l.in_flight) }
+held_of l = rest_of (opened (take (delivered l) (text_of l.version (stream l))))
 
--- the end of two lines: its peer is theirs, its stream is the bytes of the first, and its decoder holds what was delivered of a frame of the second
+-- the end of two lines: its peer is theirs, its stream is the text of the first, and its decoder holds what the reader of the second does
 pub record IsEnd (capacity : ℕ) (mine theirs : Line) (e : Endpoint) : Type 0 where
   pub peer : IsPeerBetween capacity mine theirs e.peer
-  pub bytes : e.stream.items ≡ bytes_of (stream mine)
+  pub bytes : e.stream.items ≡ text_of mine.version (stream mine)
   pub are_bytes : All (λ b. b < 256) e.stream.items
   pub count : e.delivered ≡ delivered mine
   pub held : e.decoder ≡ held_of theirs
 
 -- what every line keeps
 pub record IsLine (l : Line) : Type 0 where
-  pub valid : AllByRecursion (IsValid One) (stream l)
-  pub begun : HasBegun l.in_flight l.begun
+  pub valid : AllByRecursion (IsValid l.version) (stream l)
+  pub order : IsInOrder l
   pub taken_places : length l.taken ≡ 7
   pub asked_places : length l.asked ≡ 7
 

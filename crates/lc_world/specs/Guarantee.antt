@@ -11,15 +11,15 @@ use Rattle.lc_world.specs.declared.event.Act.{Act}
 use Rattle.lc_world.specs.declared.event.Act.TheVariants.{Honour, LimitSending, LimitReceiving}
 use Rattle.lc_world.specs.declared.event.Answer.{Answer}
 use Rattle.lc_world.specs.declared.event.Answer.TheVariants.{Accepted, Absolved, NothingToAbsolve, Violated}
-use Rattle.lc_world.specs.State.{State, opening, line, other, client, server, stream, kept_plead, taken_messages}
+use Rattle.lc_world.specs.State.{State, Versions, opening, line, other, client, server, stream, kept_plead, taken_messages}
 use Rattle.lc_world.specs.Histories.{History, after_all, IsHistory, accepted, amounts, taken, honours}
 
 -- the state after a whole history, and after its first n events
-abbrev pub state_of : ℕ → History → State
-state_of capacity history = after_all (opening capacity) history
+abbrev pub state_of : ℕ → Versions → History → State
+state_of capacity versions history = after_all (opening capacity versions) history
 
-abbrev pub state_at : ℕ → History → ℕ → State
-state_at capacity history n = state_of capacity (take n history)
+abbrev pub state_at : ℕ → Versions → History → ℕ → State
+state_at capacity versions history n = state_of capacity versions (take n history)
 
 abbrev pub IsPrefix : List (List ℕ) → List (List ℕ) → Type 0
 IsPrefix xs ys = (rest : List (List ℕ)) × (xs ++ rest ≡ ys)
@@ -79,25 +79,25 @@ abbrev pub IsCutAtHonour : History → Side → Channel → History → History 
 IsCutAtHonour history s c earlier later = (answer : Answer) × IsHonoured answer × (history ≡ earlier ++ (record { side = s; act = Honour c }, answer) ∷ later)
 
 -- the plead that is kept is the last that arrived since the last honour that was answered, or since the beginning where there was none
-pub record KeepsLastPlead (capacity : ℕ) (history : History) (s : Side) (c : Channel) : Type 0 where
-  pub never_honoured : honours c s history ≡ [] → plead_kept s c (state_of capacity history) ≡ last_plead c (heard s (state_of capacity history))
-  pub since_honour : (earlier later : History) → IsCutAtHonour history s c earlier later → honours c s later ≡ [] → plead_kept s c (state_of capacity history) ≡ last_plead c (drop (length (heard s (state_of capacity earlier))) (heard s (state_of capacity history)))
+pub record KeepsLastPlead (capacity : ℕ) (versions : Versions) (history : History) (s : Side) (c : Channel) : Type 0 where
+  pub never_honoured : honours c s history ≡ [] → plead_kept s c (state_of capacity versions history) ≡ last_plead c (heard s (state_of capacity versions history))
+  pub since_honour : (earlier later : History) → IsCutAtHonour history s c earlier later → honours c s later ≡ [] → plead_kept s c (state_of capacity versions history) ≡ last_plead c (drop (length (heard s (state_of capacity versions earlier))) (heard s (state_of capacity versions history)))
 
-pub record KeepsGuarantees (capacity : ℕ) (history : History) : Type 0 where
+pub record KeepsGuarantees (capacity : ℕ) (versions : Versions) (history : History) : Type 0 where
   -- on every channel the messages taken are a prefix of those that its client had accepted
   pub in_order : (s : Side) (c : Channel) → IsPrefix (taken c (other s) history) (accepted c s history)
   -- no frame that arrives is refused
   pub no_violation : AllByRecursion (λ p. IsLawful p.1) history
   -- after every event all balances hold
-  pub balanced : (n : ℕ) → IsBalanced capacity (state_at capacity history n)
+  pub balanced : (n : ℕ) → IsBalanced capacity (state_at capacity versions history n)
   -- after an accepted limit, what is sent or issued later on the channel adds up to at most its bound
   pub send_limits_hold : (s : Side) (c : Channel) (bound : ℕ) (later : History) → IsCut history s (LimitSending c bound) later → sum_by length (accepted c s later) ≤ bound
   pub receive_limits_hold : (s : Side) (c : Channel) (bound : ℕ) (later : History) → IsCut history s (LimitReceiving c bound) later → sum (amounts c s later) ≤ bound
   -- the messages accepted in the history are those of the client's stream, and the messages taken are those that its server took
-  pub accepted_is : (s : Side) (c : Channel) → accepted c s history ≡ messages c (stream (line (state_of capacity history) s))
-  pub taken_is : (s : Side) (c : Channel) → taken c (other s) history ≡ taken_messages c (line (state_of capacity history) s)
+  pub accepted_is : (s : Side) (c : Channel) → accepted c s history ≡ messages c (stream (line (state_of capacity versions history) s))
+  pub taken_is : (s : Side) (c : Channel) → taken c (other s) history ≡ taken_messages c (line (state_of capacity versions history) s)
   -- the plead that is kept is the last that arrived since the last honour that was answered
-  pub plead_is : (s : Side) (c : Channel) → KeepsLastPlead capacity history s c
+  pub plead_is : (s : Side) (c : Channel) → KeepsLastPlead capacity versions history s c
 
 abbrev pub EveryHistoryKeepsGuarantees : Type 0
-EveryHistoryKeepsGuarantees = (capacity : ℕ) (history : History) → IsHistory capacity history → KeepsGuarantees capacity history
+EveryHistoryKeepsGuarantees = (capacity : ℕ) (versions : Versions) (history : History) → IsHistory capacity versions history → KeepsGuarantees capacity versions history

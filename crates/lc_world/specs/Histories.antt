@@ -11,7 +11,7 @@ use Rattle.lc_world.specs.declared.event.Act.TheVariants.{Send, Issue, Plead, Ab
 use Rattle.lc_world.specs.declared.event.Event.{Event}
 use Rattle.lc_world.specs.declared.event.Answer.{Answer}
 use Rattle.lc_world.specs.declared.event.Answer.TheVariants.{Accepted, Absolved, NothingToAbsolve, Took}
-use Rattle.lc_world.specs.State.{State, opening}
+use Rattle.lc_world.specs.State.{State, Versions, opening}
 use Rattle.lc_world.specs.Answers.{IsAnswer, after}
 
 abbrev pub History : Type 0
@@ -27,10 +27,10 @@ abbrev pub IsLegal : State → History → Type 0
 IsLegal w [] = Unit {0}
 IsLegal w (p ∷ history) = IsAnswer w p.0 p.1 × IsLegal (after w p.0 p.1) history
 
--- a history of two new peers
-pub record IsHistory (capacity : ℕ) (history : History) : Type 0 where
+-- a history of two new peers, whose streams are of these versions
+pub record IsHistory (capacity : ℕ) (versions : Versions) (history : History) : Type 0 where
   pub is_capacity : IsCapacity capacity
-  pub legal : IsLegal (opening capacity) history
+  pub legal : IsLegal (opening capacity versions) history
 
 abbrev pub is_side : Side → Side → Bool
 is_side A A = true

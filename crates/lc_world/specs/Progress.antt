@@ -5,7 +5,7 @@ use Rattle.lc_frame.specs.declared.channel.Channel.{Channel}
 use Rattle.lc_world.specs.declared.event.Side.{Side}
 use Rattle.lc_world.specs.declared.event.Act.{Act}
 use Rattle.lc_world.specs.declared.event.Act.TheVariants.{Arrive, Take}
-use Rattle.lc_world.specs.State.{line, other}
+use Rattle.lc_world.specs.State.{Versions, line, other}
 use Rattle.lc_world.specs.Answers.{waiting}
 use Rattle.lc_world.specs.Guarantee.{state_of}
 use Rattle.lc_world.specs.Credit.{IsQuiet}
@@ -18,13 +18,13 @@ ComesOrTakes (Take c) = Unit {0}
 ComesOrTakes act = ⊥
 
 -- arrivals and takes go on from the history, and leave every message that it accepted taken, on every channel and both ways
-pub record IsDrained (capacity : ℕ) (history later : History) : Type 0 where
+pub record IsDrained (capacity : ℕ) (versions : Versions) (history later : History) : Type 0 where
   pub only : AllByRecursion (λ p. ComesOrTakes p.0.act) later
-  pub legal : IsHistory capacity (history ++ later)
+  pub legal : IsHistory capacity versions (history ++ later)
   pub all_taken : (s : Side) (c : Channel) → taken c (other s) (history ++ later) ≡ accepted c s (history ++ later)
   pub none_added : (s : Side) (c : Channel) → accepted c s (history ++ later) ≡ accepted c s history
-  pub quiet : IsQuiet (state_of capacity (history ++ later))
-  pub dry : (s : Side) (c : Channel) → waiting c (line (state_of capacity (history ++ later)) s) ≡ []
+  pub quiet : IsQuiet (state_of capacity versions (history ++ later))
+  pub dry : (s : Side) (c : Channel) → waiting c (line (state_of capacity versions (history ++ later)) s) ≡ []
 
 abbrev pub NothingWedges : Type 0
-NothingWedges = (capacity : ℕ) (history : History) → IsHistory capacity history → (later : History) × IsDrained capacity history later
+NothingWedges = (capacity : ℕ) (versions : Versions) (history : History) → IsHistory capacity versions history → (later : History) × IsDrained capacity versions history later

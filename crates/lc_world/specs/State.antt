@@ -1,9 +1,11 @@
--- The state of two peers: what each put on its stream, what of it has arrived, what of its messages was taken, and which pleads are kept. Streams that keep order, guarantees and their balances are LCMUX's; that one plead is kept for each channel is this project's own.
+-- The state of two peers: the version of each stream, what each put on it, what of it has arrived, what of its messages was taken, and which pleads are kept. Streams that keep order, guarantees and their balances are LCMUX's; that one plead is kept for each channel is this project's own.
 use Rattle.std.specs.Prelude.{ℕ, ◌+◌, ◌-◌, nat_lt, if◌then◌else◌, List, [], ◌∷◌, ◌++◌, length, take, replicate, slice_index, slice_index_or, slice_set, sum_by, Option, Some, None}
+use Rattle.lc_frame.specs.declared.version.Version.{Version}
 use Rattle.lc_frame.specs.declared.version.Version.TheVariants.{One}
 use Rattle.lc_frame.specs.declared.channel.Channel.{Channel}
 use Rattle.lc_frame.specs.declared.frame.Frame.{Frame}
 use Rattle.lc_frame.specs.declared.frame.Frame.TheVariants.{Plead}
+use Rattle.lc_frame.specs.Version.{greeting}
 use Rattle.lc_frame.specs.Channel.{number_of}
 use Rattle.lc_frame.specs.Encoding.{encoding}
 use Rattle.lc_frame.specs.Stream.{messages}
@@ -13,8 +15,10 @@ use Rattle.lc_book.specs.Sums.{client_of, server_of}
 use Rattle.lc_world.specs.declared.event.Side.{Side}
 use Rattle.lc_world.specs.declared.event.Side.TheVariants.{A, B}
 
--- the stream that one side writes, and what the other side has done with it: the frames that arrived, those in flight behind them, how many bytes of the first of these were delivered, and by channel number how many messages it took, and the target of the plead that it keeps
+-- the stream that one side writes, and what the other side has done with it: the stream's version, how many bytes of its greeting are in flight, the frames that arrived, those in flight behind them, how many bytes of the first of these were delivered, and by channel number how many messages it took, and the target of the plead that it keeps
 pub record Line : Type 0 where
+  pub version : Version
+  pub greeting_left : ℕ
   pub arrived : List Frame
   pub in_flight : List Frame
   pub begun : ℕ
@@ -37,7 +41,7 @@ taken_messages c l = take (taken_count c l) (messages c l.arrived)
 
 -- the client's book of a channel, where the first line is the client's and the second the server's
 abbrev pub client_book : Channel → Line → Line → Client
-client_book c mine theirs = client_of c (stream mine) theirs.arrived (kept_plead c theirs)
+client_book c mine theirs = client_of mine.version c (stream mine) theirs.arrived (kept_plead c theirs)
 
 -- the server's book, where the first line is the server's and the second the client's
 abbrev pub server_book : ℕ → Channel → Line → Line → Server
@@ -65,12 +69,20 @@ client w s c = client_book c (line w s) (line w (other s))
 abbrev pub server : State → Side → Channel → Server
 server w s c = server_book w.capacity c (line w s) (line w (other s))
 
-abbrev pub new_line : Line
-new_line = record { arrived = []; in_flight = []; begun = 0; taken = replicate 7 0; asked = replicate 7 None }
+abbrev pub new_line : Version → Line
+new_line v = record { version = v; greeting_left = length (greeting v); arrived = []; in_flight = []; begun = 0; taken = replicate 7 0; asked = replicate 7 None }
 
--- nothing has happened
-abbrev pub opening : ℕ → State
-opening capacity = record { capacity = capacity; a = new_line; b = new_line }
+-- the versions of two streams, by the sides that write them, and those of a list, the first as that of side A
+abbrev pub Versions : Type 0
+Versions = Side → Version
+
+abbrev pub by_side : List Version → Versions
+by_side versions A = slice_index_or versions 0 One
+by_side versions B = slice_index_or versions 1 One
+
+-- nothing has happened, and the greetings are in flight
+abbrev pub opening : ℕ → Versions → State
+opening capacity versions = record { capacity = capacity; a = new_line (versions A); b = new_line (versions B) }
 
 -- a frame is put last
 abbrev pub put_on : Line → Frame → Line
@@ -81,26 +93,26 @@ abbrev pub keep_pleads : Frame → List (Option ℕ) → List (Option ℕ)
 keep_pleads (Plead c target) asked = slice_set asked (number_of c) (Some target)
 keep_pleads f asked = asked
 
--- the first frame in flight arrives
+-- the first frame in flight arrives, and before it all of the greeting
 abbrev pub arrive_first : Line → List Frame → Line
 arrive_first l [] = l
-arrive_first l (frame ∷ rest) = record l { arrived = l.arrived ++ frame ∷ []; in_flight = rest; begun = 0; asked = keep_pleads frame l.asked }
+arrive_first l (frame ∷ rest) = record l { greeting_left = 0; arrived = l.arrived ++ frame ∷ []; in_flight = rest; begun = 0; asked = keep_pleads frame l.asked }
 
 abbrev pub arrive_on : Line → Line
 arrive_on l = arrive_first l l.in_flight
 
--- how many bytes a frame has
-abbrev pub size : Frame → ℕ
-size f = length (encoding One f)
+-- how many bytes a frame has in a version
+abbrev pub size : Version → Frame → ℕ
+size v f = length (encoding v f)
 
 -- so many bytes of the frames in flight have been delivered: each frame whose last byte is among them arrives, and the rest of them are of the next
 abbrev pub deliver_over : List Frame → ℕ → Line → Line
 deliver_over [] n l = l
-deliver_over (f ∷ rest) n l = if nat_lt n (size f) then record l { begun = n } else deliver_over rest (n - size f) (arrive_first l (f ∷ rest))
+deliver_over (f ∷ rest) n l = if nat_lt n (size l.version f) then record l { begun = n } else deliver_over rest (n - size l.version f) (arrive_first l (f ∷ rest))
 
--- so many bytes more are delivered, or as many as are in flight
+-- so many bytes more are delivered, or as many as are in flight: those of the greeting, and then those of the frames
 abbrev pub deliver_on : ℕ → Line → Line
-deliver_on count l = deliver_over l.in_flight (l.begun + count) l
+deliver_on count l = deliver_over l.in_flight (l.begun + (count - l.greeting_left)) (record l { greeting_left = l.greeting_left - count })
 
 -- one more message of the channel is taken
 abbrev pub take_on : Channel → Line → Line

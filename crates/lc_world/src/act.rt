@@ -2,7 +2,6 @@
 ghost use Rattle.std.specs.Prelude.{◌≡◌, ◌+◌, ◌≤◌, ◌<◌, length, IfOk, IsSome, IfSome, OnErr, OnOk, Some, None};
 ghost use Rattle.std.specs.Option.{option_map};
 ghost use Rattle.std.specs.Result.{result_err};
-ghost use Rattle.lc_frame.specs.declared.version.Version.TheVariants.{One};
 ghost use Rattle.lc_frame.specs.Frame.{IsValid};
 ghost use Rattle.lc_frame.specs.FrameRef.{frame_of};
 ghost use Rattle.lc_ring.specs.Ring.{front};
@@ -13,7 +12,8 @@ ghost use Rattle.lc_world.specs.declared.event.Act.TheVariants as acts;
 ghost use Rattle.lc_world.specs.State.{size};
 ghost use Rattle.lc_world.specs.Answers.{own_frame, judged, frame_put};
 ghost use Rattle.lc_world.specs.Calls.{own_channel, honour_answer, Called};
-ghost use Rattle.lc_world.specs.Endpoint.{AreInStep, Acts, Brings};
+ghost use Rattle.lc_world.specs.Delivery.{text_of};
+ghost use Rattle.lc_world.specs.Endpoint.{line_of, AreInStep, Acts, Brings};
 
 use crate::endpoint::{Endpoint, go_out};
 use crate::event::{Act, Answer};
@@ -42,14 +42,12 @@ fn own_frame(act: &Act) -> Option<FrameRef<'_>>
 
 // How many bytes the frame of an own event has at most; an honour's is an absolving, all of which
 // have one length.
-fn room(channel: Channel, act: &Act) -> usize
-    ensures { (answer : Answer) → IfSome (frame_put act.now answer) (λ f. IsValid One f → size f ≤ result) }
+fn room(version: Version, channel: Channel, act: &Act) -> usize
+    ensures { (answer : Answer) → IfSome (frame_put act.now answer) (λ f. IsValid version f → size version f ≤ result) }
 {
     let amount = MAX_AMOUNT;
     let frame = own_frame(act).unwrap_or(FrameRef::Absolve { channel, amount });
-    frame
-        .encoded_len(Version::One)
-        .min(Version::One.max_frame())
+    frame.encoded_len(version).min(version.max_frame())
 }
 
 fn judged(judgement: Result<(), Refusal>) -> Answer
@@ -95,7 +93,8 @@ fn own_event(me: &mut Endpoint, peer: &Endpoint, channel: Channel, act: &Act) ->
     requires in_step { AreInStep me.old peer.now }
     ensures { Acts me.old peer.now me.new peer.now act.now result }
 {
-    if me.stream.reserve(room(channel, act)).is_err() {
+    let version = me.peer.version();
+    if me.stream.reserve(room(version, channel, act)).is_err() {
         return Answer::Refused(Refusal::OutOfMemory);
     }
     let answer = call(&mut me.peer, channel, act);
@@ -137,18 +136,33 @@ fn deliver(me: &mut Endpoint, peer: &mut Endpoint, count: u32) -> Answer
     }
 }
 
-// The bytes that are missing of the first frame in flight.
+// Where on the other end's stream the first frame in flight begins: behind the greeting, and behind
+// the frames that arrived.
+fn first_place(me: &Endpoint, peer: &Endpoint) -> usize
+    requires { AreInStep me.now peer.now }
+    ensures { result ≡ length (text_of (line_of peer.now me.now).version (line_of peer.now me.now).arrived) }
+{
+    let greeting = peer.peer.version().greeting().len();
+    let held = me.decoder.held();
+    if peer.delivered - held < greeting {
+        greeting
+    } else {
+        peer.delivered - held
+    }
+}
+
+// The bytes that are missing of the first frame in flight, and of the greeting before it.
 fn arrive(me: &mut Endpoint, peer: &mut Endpoint) -> Answer
     requires { AreInStep me.old peer.old }
     ensures { Acts me.old peer.old me.new peer.new acts.Arrive result }
 {
-    if peer.delivered >= peer.stream.len() {
+    let first = first_place(me, peer);
+    if first >= peer.stream.len() {
         return Answer::NothingInFlight;
     }
-    let held = me.decoder.held();
-    match decode(Version::One, &peer.stream[peer.delivered - held..]) {
+    match decode(peer.peer.version(), &peer.stream[first..]) {
         Decoded::Whole { used, .. } => {
-            bring(me, peer, used - held);
+            bring(me, peer, first + used - peer.delivered);
             Answer::Arrived
         }
         Decoded::More => unreachable!(),

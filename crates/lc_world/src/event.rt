@@ -26,10 +26,11 @@ pub enum Act {
     LimitSending { channel: Channel, bound: u64 },
     /// The server bounds what it issues from here on.
     LimitReceiving { channel: Channel, bound: u64 },
-    /// The first frame of the other side's stream that has not arrived arrives.
+    /// The first frame of the other side's stream that has not arrived arrives, and what is in flight
+    /// of the greeting with it.
     Arrive,
-    /// So many bytes more of the other side's stream are delivered, or as many as are in flight,
-    /// and each frame whose last byte is among them arrives.
+    /// So many bytes more of the other side's stream, its greeting among them, are delivered, or as
+    /// many as are in flight, and each frame whose last byte is among them arrives.
     Deliver { count: u32 },
     /// The server takes the first message that waits.
     Take { channel: Channel },
@@ -55,7 +56,7 @@ pub enum Answer {
     Arrived,
     /// So many bytes were delivered, and so many frames arrived.
     Delivered { bytes: u64, frames: u64 },
-    /// Nothing is in flight.
+    /// No frame is in flight, or, at a delivery, no byte.
     NothingInFlight,
     /// A frame breaks the rules; nothing arrived.
     Violated(Violation),

@@ -10,15 +10,15 @@ pub fn every_history_keeps_guarantees()
     ensures { EveryHistoryKeepsGuarantees }
 {}
 
-/// Every stream is cut by bytes: those delivered are the first so many of the joined bytes of its
-/// frames, a frame has arrived exactly where its last byte was delivered, and less of the next has
-/// begun than it has.
+/// Every stream is cut by bytes: those delivered are the first so many of its greeting and the joined
+/// bytes of its frames, a frame has arrived exactly where its last byte was delivered, and less of
+/// the next has begun than it has.
 pub fn every_stream_is_cut_by_bytes()
     ensures { EveryStreamIsCutByBytes }
 {}
 
 /// A delivery brings the bytes that it counts, two bring what one of as many bytes brings, and the
-/// arrival of a frame is the delivery of the bytes that are missing of it.
+/// arrival of a frame is the delivery of the bytes that are missing of it and of the greeting.
 pub fn deliveries_add_up()
     ensures { DeliveriesAddUp }
 {}
@@ -30,7 +30,7 @@ pub fn credit_is_conserved()
     ensures { CreditIsConserved }
 {}
 
-/// Credit never leaks: where nothing is in flight and no message waits on a channel, what the
+/// Credit never leaks: where no frame is in flight and no message waits on a channel, what the
 /// client holds and what may still be issued are the whole ring.
 pub fn credit_never_leaks()
     ensures { CreditNeverLeaks }
@@ -43,7 +43,7 @@ pub fn credit_comes_back()
 {}
 
 /// Nothing wedges: every history can be gone on with, by arrivals and takes alone, to one in which
-/// every message that was accepted is taken and nothing is in flight. It says what can be done, not
+/// every message that was accepted is taken and no frame is in flight. It says what can be done, not
 /// that a thread does it.
 pub fn nothing_wedges()
     ensures { NothingWedges }

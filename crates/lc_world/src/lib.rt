@@ -11,4 +11,4 @@ mod world;
 pub use event::{Act, Answer, Event, Side};
 pub use lc_book::{Refusal, Violation};
 pub use lc_ring::NewFault;
-pub use world::{World, run};
+pub use world::{World, run, run_as};

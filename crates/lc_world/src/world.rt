@@ -1,8 +1,9 @@
 //! Two peers whose streams keep order.
 ghost use Rattle.std.specs.Prelude.{◌≡◌, ◌↔◌, IfOk, IsOk, IsSome, IfSome, length, [], replicate, Err};
 ghost use Rattle.std.specs.List.{zip};
+ghost use Rattle.lc_frame.specs.declared.version.Version.TheVariants.{One};
 ghost use Rattle.lc_frame.specs.Bounds.{IsCapacity};
-ghost use Rattle.lc_world.specs.State.{opening, client, server};
+ghost use Rattle.lc_world.specs.State.{by_side, opening, client, server};
 ghost use Rattle.lc_world.specs.Answers.{IsAnswer, after};
 ghost use Rattle.lc_world.specs.Histories.{IsHistory};
 ghost use Rattle.lc_world.specs.Guarantee.{KeepsGuarantees};
@@ -11,7 +12,7 @@ use crate::act::act;
 use crate::endpoint::Endpoint;
 use crate::event::{Answer, Event, Side};
 use lc_book::{ClientBook, ServerBook};
-use lc_frame::Channel;
+use lc_frame::{Channel, Version};
 use lc_ring::NewFault;
 use std::alloc::Global;
 use std::marker::Model;
@@ -48,16 +49,25 @@ impl Model for World {
 }
 
 impl World {
-    /// Two new peers. `BadCapacity` exactly where the capacity is not 1 to 2^24, which is found
-    /// before any memory is taken. The memory of the rings and of what comes in pieces is taken
-    /// here.
+    /// Two new peers whose streams are of version One.
     pub fn new(alloc: Global, capacity: u32) -> Result<World, NewFault>
         ensures capacity { (result ≡ Err NewFault.BadCapacity) ↔ ¬ IsCapacity capacity }
         ensures made { IsOk result → IsCapacity capacity }
-        ensures value { IfOk result (λ w. w ≡ opening capacity) }
+        ensures value { IfOk result (λ w. w ≡ opening capacity (λ s. One)) }
     {
-        let a = Endpoint::new(alloc, capacity)?;
-        let b = Endpoint::new(alloc, capacity)?;
+        World::new_as(alloc, capacity, [Version::One; 2])
+    }
+
+    /// Two new peers, the first version that of side A's stream. `BadCapacity` exactly where the
+    /// capacity is not 1 to 2^24, which is found before any memory is taken. The memory of the rings,
+    /// of what comes in pieces and of the greetings, which are in flight then, is taken here.
+    pub fn new_as(alloc: Global, capacity: u32, versions: [Version; 2]) -> Result<World, NewFault>
+        ensures capacity { (result ≡ Err NewFault.BadCapacity) ↔ ¬ IsCapacity capacity }
+        ensures made { IsOk result → IsCapacity capacity }
+        ensures value { IfOk result (λ w. w ≡ opening capacity (by_side versions)) }
+    {
+        let a = Endpoint::new(alloc, versions[0], capacity)?;
+        let b = Endpoint::new(alloc, versions[1], capacity)?;
         Ok(World { alloc, a, b })
     }
 
@@ -94,16 +104,32 @@ impl World {
     }
 }
 
-/// Answers events in order, from a new world of two peers with receiving rings of `capacity` bytes.
-/// `BadCapacity` exactly where that is not 1 to 2^24, `OutOfMemory` only where the memory of the
-/// world or the places of the answers, which are reserved before the first event, are refused.
+/// Answers events as `run_as` does, where both streams are of version One.
 pub fn run(alloc: Global, capacity: u32, events: &[Event]) -> Result<Vec<Answer>, NewFault>
     ensures capacity { (result ≡ Err NewFault.BadCapacity) ↔ ¬ IsCapacity capacity }
     ensures count { IfOk result (λ answers. length answers.items ≡ length events.now) }
-    ensures legal { IfOk result (λ answers. IsHistory capacity (zip events.now answers.items)) }
-    ensures keeps { IfOk result (λ answers. KeepsGuarantees capacity (zip events.now answers.items)) }
+    ensures legal { IfOk result (λ answers. IsHistory capacity (λ s. One) (zip events.now answers.items)) }
+    ensures keeps { IfOk result (λ answers. KeepsGuarantees capacity (λ s. One) (zip events.now answers.items)) }
 {
-    let mut world = World::new(alloc, capacity)?;
+    run_as(alloc, capacity, [Version::One; 2], events)
+}
+
+/// Answers events in order, from a new world of two peers with receiving rings of `capacity` bytes,
+/// the first version that of side A's stream. `BadCapacity` exactly where the capacity is not 1 to
+/// 2^24, `OutOfMemory` only where the memory of the world or the places of the answers, which are
+/// reserved before the first event, are refused.
+pub fn run_as(
+    alloc: Global,
+    capacity: u32,
+    versions: [Version; 2],
+    events: &[Event],
+) -> Result<Vec<Answer>, NewFault>
+    ensures capacity { (result ≡ Err NewFault.BadCapacity) ↔ ¬ IsCapacity capacity }
+    ensures count { IfOk result (λ answers. length answers.items ≡ length events.now) }
+    ensures legal { IfOk result (λ answers. IsHistory capacity (by_side versions) (zip events.now answers.items)) }
+    ensures keeps { IfOk result (λ answers. KeepsGuarantees capacity (by_side versions) (zip events.now answers.items)) }
+{
+    let mut world = World::new_as(alloc, capacity, versions)?;
     let Ok(mut answers) = Vec::with_capacity(alloc, events.len()) else {
         return Err(NewFault::OutOfMemory);
     };

@@ -2,6 +2,7 @@
 use crate::fault::{Fault, both};
 use crate::tasks::{RING, ask, collect, offer, serve};
 use lc_driver::{Counted, ReadEnd};
+use lc_frame::Version;
 use lc_inbox::apart;
 use lc_peer::Config;
 use lc_session::{Parts, ReadPump, RecvEnd, SendEnd, Session, WriteEnd, WritePump};
@@ -146,8 +147,12 @@ where
     socket.set_read_timeout(patience)?;
     socket.set_write_timeout(patience)?;
     let (reader, writer) = (socket.try_clone()?, socket.try_clone()?);
-    let (capacities, slots) = ([RING; 7], SLOTS);
-    let Ok(parts) = Session::new(alloc, Config { capacities, slots }) else {
+    let config = Config {
+        version: Version::One,
+        capacities: [RING; 7],
+        slots: SLOTS,
+    };
+    let Ok(parts) = Session::new(alloc, config) else {
         return Err(Fault::OutOfMemory);
     };
     let Parts {

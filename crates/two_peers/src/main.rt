@@ -2,9 +2,12 @@
 #![tactic(auto)]
 
 // README: begin
+ghost use Rattle.std.specs.Prelude.{◌≡◌};
+
 use anyhow::{Error, ensure};
 use lc_driver::{Counted, Intake, Outgo, ReadEnd, read_in, write_out};
 use lc_frame::Channel::{self, CapabilityChannel, DataChannel, OverlapChannel};
+use lc_frame::Version;
 use lc_peer::{Config, Peer, Take};
 
 /// One side of a session, with what it keeps of its two streams.
@@ -13,13 +16,19 @@ struct Side {
     peer: Peer,
     outgo: Outgo,
     intake: Intake,
+    // What goes out is written in the peer's version.
+    ghost one_version: { outgo.version ≡ peer.version },
 }
 
 fn new_side(rt: &HostRuntime) -> Result<Side, Error> {
-    let (capacities, slots) = ([1024; 7], 16);
+    let config = Config {
+        version: Version::One,
+        capacities: [1024; 7],
+        slots: 16,
+    };
     Ok(Side {
-        peer: Peer::new(rt.alloc(), Config { capacities, slots })?,
-        outgo: Outgo::new(rt.alloc())?,
+        peer: Peer::new(rt.alloc(), config)?,
+        outgo: Outgo::new(rt.alloc(), config.version)?,
         intake: Intake::new(rt.alloc())?,
     })
 }

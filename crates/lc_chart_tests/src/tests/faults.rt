@@ -4,7 +4,7 @@ use std::alloc::Global;
 use std::process::Abort;
 use std::test::Fail;
 
-const USAGE: &str = "lcmux_chart: usage: lcmux_chart CAPACITY, lcmux_chart frames\n= 2\n";
+const USAGE: &str = "lcmux_chart: usage: lcmux_chart CAPACITY [2], lcmux_chart frames\n= 2\n";
 
 const NO_COMMANDS: &str = "lcmux_chart
 lcmux_chart 0
@@ -12,7 +12,13 @@ lcmux_chart 08
 lcmux_chart 16777217
 lcmux_chart 4294967304
 lcmux_chart eight
-lcmux_chart 8 2
+lcmux_chart 8 1
+lcmux_chart 8 02
+lcmux_chart 8 two
+lcmux_chart 8 2 2
+lcmux_chart 2 8
+lcmux_chart 0 2
+lcmux_chart frames 2
 lcmux_chart frames 8
 lcmux_chart Frames";
 
@@ -80,6 +86,24 @@ fn a_picture_has_a_most_of_events(rt: HostRuntime) -> Result<(), Fail> {
             more,
             "lcmux_chart: more than 2000 events\n= 2\n",
         );
+    }
+    Ok(())
+}
+
+// Of a script the first delivery brings what is in flight before any frame: in version Two a greeting.
+const OPENINGS: [(&str, &str); 2] = [
+    ("lcmux_chart 8", "1. A: deliver 4 bytes: nothing in flight."),
+    (
+        "lcmux_chart 8 2",
+        "1. A: deliver 4 bytes: 4 bytes came, whole frames: 0.",
+    ),
+];
+
+#[test]
+fn a_session_has_its_version(rt: HostRuntime) -> Result<(), Fail> {
+    for &(command, line) in &OPENINGS {
+        let picture = shown(rt.alloc(), command, b"A deliver 4\n").ok_or("no picture")?;
+        has_lines(&rt, picture.as_str(), line);
     }
     Ok(())
 }

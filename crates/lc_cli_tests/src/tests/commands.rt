@@ -7,7 +7,8 @@ use std::io;
 use std::io::ErrorKind;
 use std::test::Fail;
 
-const USAGE: &str = "! lcmux: usage: lcmux replay CAPACITY, lcmux frames, lcmux loopback N\n= 2\n";
+const USAGE: &str =
+    "! lcmux: usage: lcmux replay CAPACITY [2], lcmux frames, lcmux loopback N\n= 2\n";
 
 // Capacities at their ends.
 const COMMANDS: &str = "$ lcmux replay 1
@@ -23,6 +24,14 @@ $ lcmux replay 16777216
 $ lcmux replay 65537
 < B issue 0 65538
 > refused 10 room 65537
+= 0
+$ lcmux replay 1 2
+< B issue 0 2
+> refused 10 room 1
+= 0
+$ lcmux replay 16777216 2
+< A deliver 9
+> delivered 4 bytes 0 frames
 = 0
 $ another-name frames
 x 21 00 00 00 05
@@ -55,8 +64,19 @@ lcmux replay 18446744073709551615
 lcmux replay 18446744073709551616
 lcmux replay 18446744073709551624
 lcmux replay 99999999999999999999999999
-lcmux replay 8 2
 lcmux replay 8 ''
+lcmux replay 8 0
+lcmux replay 8 1
+lcmux replay 8 3
+lcmux replay 8 02
+lcmux replay 8 +2
+lcmux replay 8 22
+lcmux replay 8 two
+lcmux replay 8 2 2
+lcmux replay 8 2 ''
+lcmux replay 0 2
+lcmux replay 16777217 2
+lcmux replay 2 8
 lcmux Replay 8
 lcmux REPLAY 8
 lcmux repla 8

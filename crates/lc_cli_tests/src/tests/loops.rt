@@ -4,9 +4,11 @@ use super::nets::{Trouble, Troubled};
 use super::same;
 use super::transcript::shown_of;
 use lc_cli::print_loopback;
-use lc_loopback::{LoopFault, LoopReport, loopback, ping_pong};
+use lc_frame::Version;
+use lc_loopback::{LoopFault, LoopReport, loopback, loopback_as, ping_pong};
 use std::alloc::Global;
 use std::net::{Net, TcpListener, TcpStream};
+use std::process::Abort;
 use std::sync::Wait;
 use std::thread::Threads;
 
@@ -24,6 +26,24 @@ const ONE: &str = "> A 0 messages 1 bytes 4
 > B 4 messages 1 bytes 4
 > B 5 messages 1 bytes 4
 > B 6 messages 1 bytes 4
+> balanced
+= 0
+";
+
+const TEN: &str = "> A 0 messages 10 bytes 85
+> A 1 messages 10 bytes 85
+> A 2 messages 10 bytes 85
+> A 3 messages 10 bytes 85
+> A 4 messages 10 bytes 85
+> A 5 messages 10 bytes 85
+> A 6 messages 10 bytes 85
+> B 0 messages 10 bytes 85
+> B 1 messages 10 bytes 85
+> B 2 messages 10 bytes 85
+> B 3 messages 10 bytes 85
+> B 4 messages 10 bytes 85
+> B 5 messages 10 bytes 85
+> B 6 messages 10 bytes 85
 > balanced
 = 0
 ";
@@ -71,10 +91,28 @@ B 6 messages 14 bytes 36
 
 #[test]
 fn two_sessions_exchange_messages(rt: HostRuntime) {
-    for (command, wanted) in [("lcmux loopback 1", ONE), ("lcmux loopback 1000", THOUSAND)] {
+    for (command, wanted) in [
+        ("lcmux loopback 1", ONE),
+        ("lcmux loopback 10", TEN),
+        ("lcmux loopback 1000", THOUSAND),
+    ] {
         let exchange = |count| loopback(&rt, rt, rt.alloc(), count);
         let found = shown_of(rt.alloc(), command, exchange);
         same(&rt, command, found, wanted);
+    }
+}
+
+// What they exchange is the same, whatever version either writes in.
+#[test]
+fn sessions_of_either_version_exchange_messages(rt: HostRuntime) {
+    for versions in [
+        [Version::One, Version::Two],
+        [Version::Two, Version::One],
+        [Version::Two, Version::Two],
+    ] {
+        let exchange = |count| loopback_as(&rt, rt, rt.alloc(), count, versions);
+        let found = shown_of(rt.alloc(), "lcmux loopback 10", exchange);
+        same(&rt, "lcmux loopback 10", found, TEN);
     }
 }
 
@@ -152,7 +190,7 @@ fn a_report_that_cannot_be_written_is_a_failed_write(rt: HostRuntime) {
     same(&rt, "the first write", found, "lcmux: write failed\n= 1\n");
 }
 
-// What two sessions come to over a network in trouble.
+// What two sessions of version One come to over a network in trouble.
 fn troubled<R>(rt: R, alloc: Global, trouble: Trouble, at: u64) -> Option<String>
 where
     R: Net<Listener = TcpListener, Stream = TcpStream>
@@ -163,8 +201,28 @@ where
         + Drop
         + 'static,
 {
+    troubled_as(rt, alloc, [Version::One; 2], trouble, at)
+}
+
+// And those that write in these versions.
+fn troubled_as<R>(
+    rt: R,
+    alloc: Global,
+    versions: [Version; 2],
+    trouble: Trouble,
+    at: u64,
+) -> Option<String>
+where
+    R: Net<Listener = TcpListener, Stream = TcpStream>
+        + Threads
+        + Wait
+        + Copy
+        + Send
+        + Drop
+        + 'static,
+{
     let net = Troubled::new(alloc, rt, trouble, at).ok()?;
-    let answer = loopback(&net, rt, alloc, 100).map(|report| report.balanced);
+    let answer = loopback_as(&net, rt, alloc, 100, versions).map(|report| report.balanced);
     format!(in alloc; "{answer:?}").ok()
 }
 
@@ -204,14 +262,44 @@ fn a_socket_that_fails_ends_both_sessions(rt: HostRuntime) {
     }
 }
 
+// Which fault it is depends on who finds it first: who reads, or who writes to a side that is gone.
+fn is_fault(rt: &impl Abort, what: &str, found: Option<String>) {
+    let found = found.as_deref().unwrap_or("nothing");
+    let is_fault = found == "Err(Over)" || found == "Err(Device)" || found == "Err(BadMessage)";
+    assert!(rt; is_fault, "{what}: {found}");
+}
+
 #[test]
 fn a_stream_that_ends_too_early_ends_both_sessions(rt: HostRuntime) {
     for at in [1, 2] {
         let found = troubled(rt, rt.alloc(), Trouble::Ends, at);
-        let found = found.as_deref().unwrap_or("nothing");
-        // It depends on who finds it first: who reads, or who writes to a side that is gone.
-        let is_fault = found == "Err(Over)" || found == "Err(Device)" || found == "Err(BadMessage)";
-        assert!(rt; is_fault, "an end: {found}");
+        is_fault(&rt, "an end", found);
+    }
+}
+
+// How many streams of sessions in these versions begin with a greeting.
+const GREETINGS: [([Version; 2], u64); 4] = [
+    ([Version::One, Version::One], 0),
+    ([Version::One, Version::Two], 1),
+    ([Version::Two, Version::One], 1),
+    ([Version::Two, Version::Two], 2),
+];
+
+#[test]
+fn another_greeting_ends_both_sessions(rt: HostRuntime) {
+    for &(versions, greetings) in &GREETINGS {
+        for at in 1..=greetings {
+            let found = troubled_as(rt, rt.alloc(), versions, Trouble::Misgreets, at);
+            is_fault(&rt, "a greeting", found);
+        }
+        let found = troubled_as(
+            rt,
+            rt.alloc(),
+            versions,
+            Trouble::Misgreets,
+            greetings.saturating_add(1),
+        );
+        same(&rt, "no greeting", found, "Ok(true)");
     }
 }
 

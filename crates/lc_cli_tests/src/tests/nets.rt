@@ -20,6 +20,8 @@ pub enum Trouble {
     Ends,
     /// A write that begins with a message changes its first byte.
     Changes,
+    /// A write that begins with a greeting changes its last byte.
+    Misgreets,
 }
 
 // The calls that may be in trouble.
@@ -152,20 +154,28 @@ impl Read for Stream {
     }
 }
 
+// How a write of these bytes may change its fourth.
+fn trouble_of(bytes: &[u8]) -> Option<Trouble> {
+    match bytes {
+        [0x10..=0x16, _, _, _, ..] => Some(Trouble::Changes),
+        [0x4c, 0x43, 0x4d, _, ..] => Some(Trouble::Misgreets),
+        _ => None,
+    }
+}
+
 impl Write for Stream {
     fn write(&mut self, buf: &[u8]) -> io::Result<usize> {
         if self.calls.meets(Trouble::FailsToWrite) {
             return Err(io::Error::from(ErrorKind::Other));
         }
-        // The tag of a message, its length, and its first byte.
+        // Of a message it is the byte behind its tag and its length, of a greeting the last.
+        let is_met = trouble_of(buf).is_some_and(|trouble| self.calls.meets(trouble));
         match buf {
-            [tag @ 0x10..=0x16, high, low, first, rest @ ..] => {
-                if self.calls.meets(Trouble::Changes) {
-                    self.stream.write_all(&[*tag, *high, *low, !*first])?;
-                    self.stream.write_all(rest)?;
-                    return Ok(buf.len());
-                }
-                self.stream.write(buf)
+            [first, second, third, fourth, rest @ ..] if is_met => {
+                let changed = [*first, *second, *third, !*fourth];
+                self.stream.write_all(&changed)?;
+                self.stream.write_all(rest)?;
+                Ok(buf.len())
             }
             _ => self.stream.write(buf),
         }

@@ -221,6 +221,53 @@ $ lcmux replay 8
 = 0
 ";
 
+// Streams of version Two begin with a greeting, whose bytes are counted and which is no frame.
+const VERSION_TWO: &str = "$ lcmux replay 8 2
+< A arrive
+< A deliver 9
+< A deliver 1
+> nothing in flight
+> delivered 4 bytes 0 frames
+> nothing in flight
+= 0
+$ lcmux replay 8 2
+< A issue 1 5
+< B arrive
+< B deliver 1
+< B send 1 6869
+< A arrive
+< A take 1
+> ok
+> arrived
+> nothing in flight
+> ok
+> arrived
+> took 6869
+= 0
+$ lcmux replay 8 2
+< B deliver 3
+< B arrive
+< B deliver 3
+< B deliver 3
+< A issue 1 5
+< B deliver 9
+< B send 1 6869
+< A deliver 9
+< A deliver 9
+< A take 1
+> delivered 3 bytes 0 frames
+> nothing in flight
+> delivered 1 bytes 0 frames
+> nothing in flight
+> ok
+> delivered 5 bytes 1 frames
+> ok
+> delivered 9 bytes 0 frames
+> delivered 2 bytes 1 frames
+> took 6869
+= 0
+";
+
 // What is skipped, what need not end with a line feed, and bodies in either case.
 const LINES: &str = "$ lcmux replay 8
 = 0
@@ -567,7 +614,15 @@ $ lcmux replay 16777216
 
 #[test]
 fn answers_events(rt: HostRuntime) -> Result<(), Fail> {
-    for cases in &[WORKED, LINES, CHANNELS, AMOUNTS, DELIVERIES, BOUNDS] {
+    for cases in &[
+        WORKED,
+        VERSION_TWO,
+        LINES,
+        CHANNELS,
+        AMOUNTS,
+        DELIVERIES,
+        BOUNDS,
+    ] {
         run_as_shown(&rt, rt.alloc(), cases)?;
     }
     Ok(())

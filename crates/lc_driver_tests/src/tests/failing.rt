@@ -1,7 +1,7 @@
 //! A session whose devices fail, stop short or move nothing at each of their calls in turn.
 use crate::tests::side::Side;
 use lc_driver::{ReadEnd, WriteFault};
-use lc_frame::Channel;
+use lc_frame::{Channel, Version};
 use lc_peer::{Peer, Take};
 use lc_testing::{Odd, Pipe, Plan};
 use std::alloc::Global;
@@ -108,9 +108,15 @@ fn messages_go(rt: &impl Abort, client: &mut Side, server: &mut Side, mut link: 
     link
 }
 
-fn session(rt: &impl Abort, alloc: Global, writing: Plan, reading: Plan) -> Result<Link, Fail> {
-    let mut client = Side::new(alloc, 32, 32)?;
-    let mut server = Side::new(alloc, 32, 32)?;
+fn session(
+    rt: &impl Abort,
+    alloc: Global,
+    version: Version,
+    writing: Plan,
+    reading: Plan,
+) -> Result<Link, Fail> {
+    let mut client = Side::new(alloc, version, 32, 32)?;
+    let mut server = Side::new(alloc, version, 32, 32)?;
     let link = Link {
         writing,
         reading,
@@ -158,13 +164,14 @@ fn was_odd(rt: &impl Abort, link: &Link, device: &str, at: u64, wanted: (u32, u3
 fn each_is_odd(
     rt: &impl Abort,
     alloc: Global,
+    version: Version,
     device: &str,
     odd: Odd,
     wanted: (u32, u32),
 ) -> Result<(), Fail> {
     for at in 1..100 {
         let (writing, reading) = plans(device, Plan::odd(odd, at));
-        let link = session(rt, alloc, writing, reading)?;
+        let link = session(rt, alloc, version, writing, reading)?;
         if !was_odd(rt, &link, device, at, wanted) {
             break;
         }
@@ -175,7 +182,16 @@ fn each_is_odd(
 #[test]
 fn each_call_fails_in_turn(rt: HostRuntime) -> Result<(), Fail> {
     for &(device, odd, wanted) in &ODD_CALLS {
-        each_is_odd(&rt, rt.alloc(), device, odd, wanted)?;
+        each_is_odd(&rt, rt.alloc(), Version::One, device, odd, wanted)?;
+    }
+    Ok(())
+}
+
+// The first calls move the greeting.
+#[test]
+fn each_call_fails_in_turn_in_version_two(rt: HostRuntime) -> Result<(), Fail> {
+    for &(device, odd, wanted) in &ODD_CALLS {
+        each_is_odd(&rt, rt.alloc(), Version::Two, device, odd, wanted)?;
     }
     Ok(())
 }

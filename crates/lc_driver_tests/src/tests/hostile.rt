@@ -1,10 +1,10 @@
 //! Streams of a hostile peer, whole and cut in two after each byte.
 use crate::tests::script::run;
 use crate::tests::side::Side;
-use lc_frame::Channel;
+use lc_frame::{Channel, Version};
 use lc_peer::{Peer, Take};
 use lc_testing::{HOSTILE, Hostile, Pipe, Plan};
-use std::alloc::Global;
+use std::alloc::{AllocError, Global};
 use std::process::Abort;
 use std::test::Fail;
 
@@ -45,6 +45,15 @@ fn cut_anywhere(rt: &impl Abort, alloc: Global, stream: &Hostile) -> Result<(), 
 fn streams_cut_anywhere(rt: HostRuntime) -> Result<(), Fail> {
     for stream in &HOSTILE {
         cut_anywhere(&rt, rt.alloc(), stream)?;
+    }
+    Ok(())
+}
+
+#[test]
+fn streams_of_version_two_cut_anywhere(rt: HostRuntime) -> Result<(), Fail> {
+    for stream in &HOSTILE {
+        let bytes = stream.in_two;
+        cut_anywhere(&rt, rt.alloc(), &Hostile { bytes, ..*stream })?;
     }
     Ok(())
 }
@@ -90,23 +99,33 @@ fn all_are_bounded(rt: &impl Abort, peer: &mut Peer) {
     }
 }
 
-fn any_bytes(state: &mut u64) -> [u8; 64] {
-    let mut bytes = [0; 64];
-    for byte in &mut bytes {
-        *byte = next_byte(state);
+// The next 64 bytes, behind a greeting where the version has one.
+fn any_stream(alloc: Global, version: Version, state: &mut u64) -> Result<Vec<u8>, AllocError> {
+    let mut bytes = Vec::from_slice(alloc, version.greeting())?;
+    for _ in 0..64 {
+        bytes.push(next_byte(state))?;
     }
-    bytes
+    Ok(bytes)
+}
+
+fn any_streams(rt: &impl Abort, alloc: Global, version: Version) -> Result<(), Fail> {
+    let mut state = 1;
+    for _ in 0..10_000 {
+        let pipe = Pipe::of(any_stream(alloc, version, &mut state)?);
+        let mut side = Side::new(alloc, version, 8, 7)?;
+        issue_all(rt, &mut side.peer);
+        let _ = side.read(Plan::whole(), pipe, 10);
+        all_are_bounded(rt, &mut side.peer);
+    }
+    Ok(())
 }
 
 #[test]
 fn streams_of_any_bytes(rt: HostRuntime) -> Result<(), Fail> {
-    let mut state = 1;
-    for _ in 0..10_000 {
-        let pipe = Pipe::holding(rt.alloc(), &any_bytes(&mut state))?;
-        let mut side = Side::new(rt.alloc(), 8, 7)?;
-        issue_all(&rt, &mut side.peer);
-        let _ = side.read(Plan::whole(), pipe, 10);
-        all_are_bounded(&rt, &mut side.peer);
-    }
-    Ok(())
+    any_streams(&rt, rt.alloc(), Version::One)
+}
+
+#[test]
+fn streams_of_any_bytes_behind_a_greeting(rt: HostRuntime) -> Result<(), Fail> {
+    any_streams(&rt, rt.alloc(), Version::Two)
 }

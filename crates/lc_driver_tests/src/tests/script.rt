@@ -1,7 +1,7 @@
 //! Scripts of calls on one side of a session: a call a line, and after `=>` what it answers.
 use crate::tests::side::Side;
 use lc_driver::ReadEnd;
-use lc_frame::Channel;
+use lc_frame::{Channel, Version};
 use lc_peer::{Peer, Take};
 use lc_testing::{Pipe, Plan, channel, number, plan_of, text};
 use std::alloc::Global;
@@ -118,7 +118,15 @@ fn answers(rt: &impl Abort, alloc: Global, side: &mut Side, input: &mut Pipe, sc
 /// A new side, whose input are the bytes of these digits, answers each line of a script as it says.
 pub fn run(rt: &impl Abort, alloc: Global, digits: &str, script: &str) -> Result<(), Fail> {
     let mut input = Pipe::of(hex::decode(alloc, digits)?);
-    let mut side = Side::new(alloc, 8, 4)?;
+    let mut side = Side::new(alloc, Version::One, 8, 4)?;
+    answers(rt, alloc, &mut side, &mut input, script);
+    Ok(())
+}
+
+/// The same of a side that writes version Two, to which nothing comes.
+pub fn run_in_two(rt: &impl Abort, alloc: Global, script: &str) -> Result<(), Fail> {
+    let mut input = Pipe::of(Vec::new(alloc));
+    let mut side = Side::new(alloc, Version::Two, 8, 4)?;
     answers(rt, alloc, &mut side, &mut input, script);
     Ok(())
 }

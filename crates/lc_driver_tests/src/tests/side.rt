@@ -1,5 +1,6 @@
 //! One side of a session with its pipes.
 use lc_driver::{Counted, Intake, Outgo, ReadEnd, WriteFault, read_in, write_out};
+use lc_frame::Version;
 use lc_peer::{Config, Peer};
 use lc_testing::{Odd, Pipe, PipeReader, PipeWriter, Plan};
 use std::alloc::Global;
@@ -24,13 +25,14 @@ impl Drop for Side {
 }
 
 impl Side {
-    /// A side on which nothing has happened.
-    pub fn new(alloc: Global, capacity: u32, slots: u32) -> Result<Side, Fail> {
+    /// A side on which nothing has happened, which writes this version.
+    pub fn new(alloc: Global, version: Version, capacity: u32, slots: u32) -> Result<Side, Fail> {
         let config = Config {
+            version,
             capacities: [capacity; 7],
             slots,
         };
-        let outgo = Outgo::new(alloc)?;
+        let outgo = Outgo::new(alloc, version)?;
         let intake = Intake::new(alloc)?;
         let peer = Peer::new(alloc, config)?;
         Ok(Side {
@@ -43,7 +45,12 @@ impl Side {
     /// Writes what waits into the pipe.
     pub fn write(&mut self, plan: Plan, pipe: Pipe) -> (Result<u64, WriteFault>, PipeWriter) {
         let mut writer = Counted::new(unflushed(plan, pipe));
-        let answer = write_out(&mut self.peer, &mut self.outgo, &mut writer);
+        // Both have the version that the side was made with.
+        let answer = if self.outgo.version() == self.peer.version() {
+            write_out(&mut self.peer, &mut self.outgo, &mut writer)
+        } else {
+            Err(WriteFault::Zero { written: u64::MAX })
+        };
         (answer, writer.into_inner())
     }
 

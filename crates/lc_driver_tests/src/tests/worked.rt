@@ -1,8 +1,8 @@
 //! Worked examples of writing and reading, and the counts of a device.
-use crate::tests::script::run;
+use crate::tests::script::{run, run_in_two};
 use crate::tests::side::{Side, unflushed};
 use lc_driver::{Counted, CountedRead, CountedWrite, Failures, ReadEnd};
-use lc_frame::Channel;
+use lc_frame::{Channel, Version};
 use lc_testing::{FAILED_WRITES, Odd, Pipe, PipeReader, Plan, THREE_FRAMES};
 use std::alloc::Global;
 use std::io::{Read, Write};
@@ -77,6 +77,65 @@ const WORKED: [(&str, &str); 8] = [
 fn worked_calls(rt: HostRuntime) -> Result<(), Fail> {
     for &(input, script) in &WORKED {
         run(&rt, rt.alloc(), input, script)?;
+    }
+    Ok(())
+}
+
+/// Calls of a peer that writes version Two, with what they answer.
+const IN_TWO: [&str; 2] = [
+    // The greeting goes out with the first frame, and once.
+    "issue 1 5 => Ok(())
+    write all => Ok(9) 4c434d022100000005 calls 1 pending 0 waiting 0
+    write all => Ok(0)  calls 0 pending 0 waiting 0",
+    // It goes out alone where no frame waits.
+    "write all => Ok(4) 4c434d02 calls 1 pending 0 waiting 0
+    write all => Ok(0)  calls 0 pending 0 waiting 0
+    issue 1 5 => Ok(())
+    write all => Ok(5) 2100000005 calls 1 pending 0 waiting 0",
+];
+
+#[test]
+fn a_greeting_goes_out_first_and_once(rt: HostRuntime) -> Result<(), Fail> {
+    for script in &IN_TWO {
+        run_in_two(&rt, rt.alloc(), script)?;
+    }
+    Ok(())
+}
+
+/// Of a write that stops in a greeting or behind it: the bytes that it wrote, those that the next call
+/// writes, and how many are pending and how many frames wait between them.
+const STOPPED: [(&str, &str, u64, u64); 6] = [
+    ("", "4c434d022100000005", 4, 1),
+    ("4c", "434d022100000005", 3, 1),
+    ("4c43", "4d022100000005", 2, 1),
+    ("4c434d", "022100000005", 1, 1),
+    ("4c434d02", "2100000005", 0, 1),
+    ("4c434d0221", "00000005", 4, 0),
+];
+
+// The script of a write whose device does this at the call after so many bytes, and of the next one.
+fn stopping(
+    alloc: Global,
+    (odd, fault): (&str, &str),
+    (written, rest, pending, waiting): (&str, &str, u64, u64),
+) -> Result<String, Fail> {
+    let (before, after) = (written.len() / 2, rest.len() / 2);
+    let call = before + 1;
+    Ok(format!(in alloc;
+        "issue 1 5 => Ok(())
+        write 1 {odd} {call} => Err({fault} {{ written: {before} }}) {written} calls {call} pending {pending} waiting {waiting}
+        write 1 => Ok({after}) {rest} calls {after} pending 0 waiting 0
+        write all => Ok(0)  calls 0 pending 0 waiting 0"
+    )?)
+}
+
+#[test]
+fn a_greeting_is_cut_at_each_byte(rt: HostRuntime) -> Result<(), Fail> {
+    for odd in [("fails", "Failed"), ("0", "Zero")] {
+        for &stopped in &STOPPED {
+            let script = stopping(rt.alloc(), odd, stopped)?;
+            run_in_two(&rt, rt.alloc(), script.as_str())?;
+        }
     }
     Ok(())
 }
@@ -200,7 +259,7 @@ fn moves(rt: &impl Abort, side: &mut Side, empty: Pipe, full: Pipe) {
 fn memory_is_asked_for_where_they_are_made(rt: HostRuntime) -> Result<(), Fail> {
     let empty = Pipe::of(Vec::with_capacity(rt.alloc(), 32)?);
     let full = Pipe::holding(rt.alloc(), &[0x21, 0, 0, 0, 5])?;
-    let mut side = Side::new(rt.alloc(), 8, 2)?;
+    let mut side = Side::new(rt.alloc(), Version::One, 8, 2)?;
     moves(&rt, &mut side, empty, full);
     let _: Vec<u8> = Vec::with_capacity(rt.alloc(), 1)?;
     Ok(())

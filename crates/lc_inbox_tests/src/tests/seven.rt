@@ -4,6 +4,7 @@ ghost use Rattle.lc_inbox.specs.Inboxes.{AreSameSides};
 
 use crate::tests::pair::text;
 use crate::tests::same;
+use lc_frame::Version;
 use lc_inbox::{FinishedInboxes, InboxOut, finish_all, share_all};
 use lc_peer::PeerFault;
 use lc_queue::lanes;
@@ -63,7 +64,7 @@ fn shared<R: Wait>(
     alloc: Global,
     capacities: [u32; 7],
 ) -> Option<Result<([u8; 7], [u64; 7]), PeerFault>> {
-    let parts = lanes(alloc, 7).ok()?;
+    let parts = lanes(alloc, 7, Version::One).ok()?;
     let ends = parts.ends;
     match share_all(alloc, capacities, ends) {
         Ok(inboxes) => {

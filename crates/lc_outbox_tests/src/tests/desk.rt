@@ -3,7 +3,7 @@
 //! outbox of channel 2 over the same queue, and `pop` is the drain's, which writes a frame as its
 //! bytes. `long` sends so many bytes, and `popped` says whether the next frame is that message.
 ghost use Rattle.std.specs.Prelude.{◌≡◌, IfSome, slice_set};
-ghost use Rattle.lc_queue.specs.Parts.{QueueId, new_end, new_ends};
+ghost use Rattle.lc_queue.specs.Parts.{new_end, new_ends};
 ghost use Rattle.lc_credit.specs.Sides.{new_outgoing};
 ghost use Rattle.lc_credit.specs.Channels.{AreMatched, SameCredit, SameCredits};
 
@@ -34,16 +34,17 @@ pub fn text<T: Debug>(alloc: Global, value: &T) -> Option<String> {
     format!(in alloc; "{value:?}").ok()
 }
 
-// The ends of the lanes 1 and 2.
-fn two_ends(alloc: Global, ends: [LaneEnd; 14]) -> Option<(LaneEnd, LaneEnd)>
-    requires { (queue : QueueId) × (ends ≡ new_ends queue) }
-    ensures own { IfSome result (λ two. two.0 ≡ new_end two.0.queue 1) }
-    ensures other { IfSome result (λ two. two.1 ≡ new_end two.1.queue 2) }
+// The ends of the lanes 1 and 2, and the drain.
+fn two_ends(alloc: Global, lanes: Lanes) -> Option<(LaneEnd, LaneEnd, Drain)>
+    requires { lanes.ends ≡ new_ends lanes.drain.queue lanes.drain.version }
+    ensures own { IfSome result (λ parts. parts.0 ≡ new_end parts.0.queue parts.0.version 1) }
+    ensures other { IfSome result (λ parts. parts.1 ≡ new_end parts.1.queue parts.1.version 2) }
 {
+    let Lanes { ends, drain } = lanes;
     let mut ends = Vec::from_array(alloc, ends).ok()?;
     let other = ends.swap_remove(2);
     let own = ends.swap_remove(1);
-    Some((own, other))
+    Some((own, other, drain))
 }
 
 // The end of a credit that nothing else is done with.
@@ -56,11 +57,10 @@ fn spare_end(alloc: Global) -> Option<CreditOut>
 
 /// A new desk over a queue of so many slots, and the ends of all credits, with another at the place
 /// of the outbox's.
-pub fn new_desk(alloc: Global, slots: u32) -> Option<(Desk, [CreditOut; 7])>
+pub fn new_desk(alloc: Global, version: Version, slots: u32) -> Option<(Desk, [CreditOut; 7])>
     ensures { IfSome result (λ new. AreMatched new.0.incoming (slice_set new.1 1 new.0.outbox.credit)) }
 {
-    let Lanes { ends, drain } = lanes(alloc, slots).ok()?;
-    let (lane, other_lane) = two_ends(alloc, ends)?;
+    let (lane, other_lane, drain) = two_ends(alloc, lanes(alloc, slots, version).ok()?)?;
     let other = Outbox::new(alloc, other_lane, spare_end(alloc)?);
     let spare = spare_end(alloc)?;
     let CreditParts {
@@ -122,7 +122,7 @@ fn send<R: Wait>(rt: &R, alloc: Global, outbox: &mut Outbox, digits: &str) -> Op
 fn pop<R: Wait>(rt: &R, alloc: Global, drain: &mut Drain) -> Option<String> {
     let frame = drain.pop(rt)?;
     let mut bytes = Vec::new(alloc);
-    frame.encode_into(Version::One, &mut bytes).ok()?;
+    frame.encode_into(drain.version(), &mut bytes).ok()?;
     hex::encode(alloc, &bytes).ok()
 }
 
@@ -189,8 +189,14 @@ fn settled(alloc: Global, desk: Desk, rest: [CreditOut; 7]) -> Option<String>
 
 /// Each call of a script, in turn, answers what stands after it. Then the credits are settled: what
 /// was received on the channel, and is held, spent and absolved.
-pub fn works<R: Wait + Abort>(rt: &R, alloc: Global, slots: u32, script: &str) -> Option<String> {
-    let (mut desk, rest) = new_desk(alloc, slots)?;
+pub fn works<R: Wait + Abort>(
+    rt: &R,
+    alloc: Global,
+    version: Version,
+    slots: u32,
+    script: &str,
+) -> Option<String> {
+    let (mut desk, rest) = new_desk(alloc, version, slots)?;
     for line in script.lines() {
         let line = line.trim();
         let (call, wanted) = line.split_once(" => ").unwrap_or((line, "an answer"));

@@ -1,7 +1,7 @@
 //! Want of memory.
 use crate::tests::desk::{Desk, new_desk};
 use lc_book::Refusal;
-use lc_frame::Channel;
+use lc_frame::{Channel, Version};
 use std::process::Abort;
 use std::sync::Wait;
 use std::test::Fail;
@@ -40,7 +40,7 @@ fn calls(rt: &(impl Wait + Abort), desk: &mut Desk) {
 // Requests for memory can be refused here in turn; the last is the test's own.
 #[test]
 fn a_send_alone_asks_for_memory(rt: HostRuntime) -> Result<(), Fail> {
-    let (mut desk, _rest) = new_desk(rt.alloc(), 8).ok_or("there is no desk")?;
+    let (mut desk, _rest) = new_desk(rt.alloc(), Version::One, 8).ok_or("there is no desk")?;
     let added = desk.incoming.add(Channel::DataChannel, 5);
     desk.incoming.ask(Channel::DataChannel, 1);
     assert!(rt; added.is_ok());

@@ -1,6 +1,7 @@
 //! Worked sequences of calls on one outbox.
 use crate::tests::desk::works;
 use crate::tests::same;
+use lc_frame::Version;
 
 /// Of each example: the slots, the calls with what they answer, and what was received, held, spent
 /// and absolved at the end.
@@ -126,6 +127,22 @@ const WORKED: [(u32, &str, &str); 9] = [
 #[test]
 fn worked_examples(rt: HostRuntime) {
     for &(slots, script, wanted) in &WORKED {
-        same(&rt, "settle", works(&rt, rt.alloc(), slots, script), wanted);
+        let found = works(&rt, rt.alloc(), Version::One, slots, script);
+        same(&rt, "settle", found, wanted);
     }
+}
+
+/// The longest message of version Two, and one whose length has four bytes.
+const LONGER: &str = "add 1048577 => Ok(())
+    long 1048577 => Err(BodyTooLong)
+    long 1048576 => Ok(())
+    send 68 => Ok(())
+    popped 1048576 => true
+    pop => 110000000168
+    pop => nothing";
+
+#[test]
+fn messages_are_longer_in_version_two(rt: HostRuntime) {
+    let found = works(&rt, rt.alloc(), Version::Two, 4, LONGER);
+    same(&rt, "settle", found, "(1048577, 0, 1048577, 0)");
 }

@@ -1,7 +1,7 @@
 //! Bounds of peers, and the calls that take memory.
 use crate::tests::inbox::inbox;
 use crate::tests::same;
-use crate::tests::script::{peer, text};
+use crate::tests::script::{peer, peer_of, text};
 use lc_frame::{Channel, FrameRef, Version};
 use lc_peer::{Config, Inbox, NewFault, Peer, PeerFault, Refusal, Take, Violation};
 use std::alloc::Global;
@@ -26,7 +26,13 @@ const FAULTS: [([u32; 7], u32, &str); 4] = [
 
 // Why there is no peer.
 fn fault(alloc: Global, capacities: [u32; 7], slots: u32) -> Option<PeerFault> {
-    Peer::new(alloc, Config { capacities, slots }).err()
+    let version = Version::One;
+    let config = Config {
+        version,
+        capacities,
+        slots,
+    };
+    Peer::new(alloc, config).err()
 }
 
 fn fault_text(alloc: Global, capacities: [u32; 7], slots: u32) -> Option<String> {
@@ -62,6 +68,28 @@ fn the_widest_peer(rt: HostRuntime) -> Result<(), Fail> {
 }
 
 const CHANNEL: Channel = Channel::DataChannel;
+
+// What a peer of a version that holds nothing answers to a message of so many bytes.
+fn long_message(alloc: Global, version: Version, len: usize) -> Result<Option<String>, Fail> {
+    let long = vec![in alloc; 7_u8; len]?;
+    let mut peer = peer_of(alloc, version, [8; 7], 4)?;
+    Ok(text(alloc, &peer.send(CHANNEL, &long)))
+}
+
+#[test]
+fn the_longest_message_of_each_version(rt: HostRuntime) -> Result<(), Fail> {
+    let allowed = "Err(NoGuarantee { held: 0 })";
+    for (version, len, want) in [
+        (Version::One, 65_535, allowed),
+        (Version::One, 65_536, "Err(BodyTooLong)"),
+        (Version::Two, 65_536, allowed),
+        (Version::Two, 1_048_576, allowed),
+        (Version::Two, 1_048_577, "Err(BodyTooLong)"),
+    ] {
+        same(&rt, "send", long_message(rt.alloc(), version, len)?, want);
+    }
+    Ok(())
+}
 
 // Bad bounds are named before memory is asked for.
 fn are_bad(rt: &impl Abort, alloc: Global) {

@@ -169,8 +169,67 @@ const HOSTILE: [&str; 13] = [
     client 0 => (1, None, None, Some(4611686018427387903))",
 ];
 
+/// The same in version Two, where a greeting comes first and a length has four bytes: a message that is
+/// not guaranteed, also where a limit is passed, each fault, and a stream that is cut.
+const HOSTILE_IN_TWO: [&str; 6] = [
+    "issue 1 1 => Ok(())
+    stream 4c434d0211000000026162 => taken 11 frames 0 Some(Violated(NotGuaranteed)) held 7
+    server 1 => (1, 0, 7, None, None)
+    pop 1 => Empty
+    deliver - => taken 0 frames 0 Some(Violated(NotGuaranteed)) held 7
+    deliver 2100000005 => taken 0 frames 0 Some(Violated(NotGuaranteed)) held 7
+    server 1 => (1, 0, 7, None, None)
+    pop 1 => Empty
+    issue 1 1 => Ok(())
+    deliver - => taken 0 frames 1 None held 0
+    server 1 => (0, 2, 6, None, None)
+    take 1 3 => (Ok(Took(2)), [97, 98, 238])",
+    "issue 1 1 => Ok(())
+    stream 4c434d0251000000000000000111000000026162 => taken 20 frames 1 Some(Violated(NotGuaranteed)) held 7
+    server 1 => (1, 0, 7, Some(1), None)
+    deliver - => taken 0 frames 0 Some(Violated(NotGuaranteed)) held 7
+    deliver 2100000005 => taken 0 frames 0 Some(Violated(NotGuaranteed)) held 7
+    server 1 => (1, 0, 7, Some(1), None)
+    issue 1 1 => Ok(())
+    deliver - => taken 0 frames 0 Some(Violated(SentPastLimit)) held 7
+    server 1 => (2, 0, 6, Some(1), None)
+    pop 1 => Empty",
+    "stream 4c434d02210000000577 => taken 10 frames 1 Some(Fault(BadTag)) held 1
+    client 1 => (5, None, None, None)
+    deliver - => taken 0 frames 0 Some(Fault(BadTag)) held 1
+    deliver 2100000005 => taken 0 frames 0 Some(Fault(BadTag)) held 1
+    client 1 => (5, None, None, None)",
+    "stream 4c434d021100000000 => taken 9 frames 0 Some(Fault(ZeroLength)) held 5
+    each client => (0, None, None, None)
+    each server => (0, 0, 8, None, None)
+    each pop => Empty
+    deliver - => taken 0 frames 0 Some(Fault(ZeroLength)) held 5
+    deliver 2100000005 => taken 0 frames 0 Some(Fault(ZeroLength)) held 5
+    each client => (0, None, None, None)
+    each server => (0, 0, 8, None, None)
+    each pop => Empty",
+    "stream 4c434d02604000000000000001 => taken 13 frames 0 Some(Fault(BadNumber)) held 9
+    each client => (0, None, None, None)
+    each server => (0, 0, 8, None, None)
+    each pop => Empty
+    deliver - => taken 0 frames 0 Some(Fault(BadNumber)) held 9
+    deliver 2100000005 => taken 0 frames 0 Some(Fault(BadNumber)) held 9
+    each client => (0, None, None, None)
+    each server => (0, 0, 8, None, None)
+    each pop => Empty",
+    "issue 1 8 => Ok(())
+    stream 4c434d02110000000261621100 => taken 13 frames 1 None held 2
+    server 1 => (6, 2, 0, None, None)
+    deliver - => taken 0 frames 0 None held 2
+    take 1 3 => (Ok(Took(2)), [97, 98, 238])
+    pop 1 => Empty
+    server 1 => (6, 0, 2, None, None)
+    deliver 00000163 => taken 4 frames 1 None held 0
+    take 1 1 => (Ok(Took(1)), [99])",
+];
+
 /// The longest of the streams has so many bytes.
-const LONGEST: usize = 18;
+const LONGEST: usize = 20;
 
 // A stream comes to new peers whole, cut in two behind each of its bytes, and byte by byte.
 fn cut_anywhere(rt: &impl Abort, alloc: Global, script: &str) -> Result<(), Fail> {
@@ -182,7 +241,7 @@ fn cut_anywhere(rt: &impl Abort, alloc: Global, script: &str) -> Result<(), Fail
 
 #[test]
 fn hostile_streams(rt: HostRuntime) -> Result<(), Fail> {
-    for script in &HOSTILE {
+    for script in HOSTILE.iter().chain(&HOSTILE_IN_TWO) {
         cut_anywhere(&rt, rt.alloc(), script)?;
     }
     Ok(())

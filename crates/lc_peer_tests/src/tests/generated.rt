@@ -6,6 +6,7 @@ use lc_frame::{Channel, FrameRef, Version};
 use lc_peer::{Peer, Take};
 use rand_core::utils::NextWord;
 use rand_pcg::Pcg32;
+use std::alloc::Global;
 use std::process::Abort;
 use std::test::Fail;
 
@@ -230,26 +231,42 @@ fn any_bytes(rng: &mut Pcg32) -> [u8; 64] {
     bytes
 }
 
+// What stands before the two bytes of a message, on the first channel.
+fn head(version: Version) -> &'static [u8] {
+    match version {
+        Version::One => &[0x10, 0, 2],
+        Version::Two => &[0x10, 0, 0, 0, 2],
+    }
+}
+
 // Messages of two bytes each, on any channels, with one byte changed.
-fn changed_messages(rng: &mut Pcg32) -> [u8; 64] {
+fn changed_messages(rng: &mut Pcg32, version: Version) -> [u8; 64] {
+    let head = head(version);
     let mut bytes = [0; 64];
     for (place, byte) in bytes.iter_mut().enumerate() {
-        *byte = match place % 5 {
-            0 => 0x10 + next_byte(rng) % 7,
-            1 => 0,
-            2 => 2,
-            _ => next_byte(rng),
+        *byte = match head.get(place % head.len().saturating_add(2)) {
+            Some(&0x10) => 0x10 + next_byte(rng) % 7,
+            Some(&byte) => byte,
+            None => next_byte(rng),
         };
     }
     bytes[usize::from(next_byte(rng) % 64)] = next_byte(rng);
     bytes
 }
 
-// How many bytes of messages a new peer lets through that issued all that it may.
-fn let_through(rt: &impl Abort, side: &mut Side, first: &[u8], rest: &[u8]) -> u64 {
+// How many bytes of messages a new peer lets through that issued all that it may. The version's
+// greeting comes first, where it has one.
+fn let_through(
+    rt: &impl Abort,
+    side: &mut Side,
+    version: Version,
+    first: &[u8],
+    rest: &[u8],
+) -> u64 {
     for &channel in &Channel::ALL {
         assert!(rt; side.peer.issue(channel, 8).is_ok());
     }
+    let _greeting = side.peer.deliver(&mut side.decoder, version.greeting());
     let _first = side.peer.deliver(&mut side.decoder, first);
     let _rest = side.peer.deliver(&mut side.decoder, rest);
     let mut came = 0u64;
@@ -259,29 +276,52 @@ fn let_through(rt: &impl Abort, side: &mut Side, first: &[u8], rest: &[u8]) -> u
     came
 }
 
-#[test]
-fn streams_of_any_bytes(rt: HostRuntime) -> Result<(), Fail> {
+fn any_streams(rt: &impl Abort, alloc: Global, version: Version) -> Result<(), Fail> {
     let mut rng = Pcg32::new(42, 54);
     for number in 0..10_000 {
-        let mut side = Side::new(rt.alloc(), 7)?;
+        let mut side = Side::new(alloc, 7)?;
         let bytes = any_bytes(&mut rng);
         let (first, rest) = bytes.split_at(number % 65);
-        let _came = let_through(&rt, &mut side, first, rest);
+        let _came = let_through(rt, &mut side, version, first, rest);
     }
     Ok(())
+}
+
+#[test]
+fn streams_of_any_bytes(rt: HostRuntime) -> Result<(), Fail> {
+    any_streams(&rt, rt.alloc(), Version::One)
+}
+
+#[test]
+fn streams_of_any_bytes_behind_a_greeting(rt: HostRuntime) -> Result<(), Fail> {
+    any_streams(&rt, rt.alloc(), Version::Two)
+}
+
+// How many bytes of messages come through.
+fn changed_streams(rt: &impl Abort, alloc: Global, version: Version) -> Result<u64, Fail> {
+    let mut rng = Pcg32::new(42, 54);
+    let mut came = 0u64;
+    for number in 0..10_000 {
+        let mut side = Side::new(alloc, 7)?;
+        let bytes = changed_messages(&mut rng, version);
+        let (first, rest) = bytes.split_at(number % 65);
+        came = came.saturating_add(let_through(rt, &mut side, version, first, rest));
+    }
+    Ok(came)
 }
 
 // Half of the streams are whole for six messages and more.
 #[test]
 fn streams_of_changed_messages(rt: HostRuntime) -> Result<(), Fail> {
-    let mut rng = Pcg32::new(42, 54);
-    let mut came = 0u64;
-    for number in 0..10_000 {
-        let mut side = Side::new(rt.alloc(), 7)?;
-        let bytes = changed_messages(&mut rng);
-        let (first, rest) = bytes.split_at(number % 65);
-        came = came.saturating_add(let_through(&rt, &mut side, first, rest));
-    }
+    let came = changed_streams(&rt, rt.alloc(), Version::One)?;
     assert!(rt; came > 50_000);
+    Ok(())
+}
+
+// And for four and more, where messages are longer by two bytes.
+#[test]
+fn streams_of_changed_messages_behind_a_greeting(rt: HostRuntime) -> Result<(), Fail> {
+    let came = changed_streams(&rt, rt.alloc(), Version::Two)?;
+    assert!(rt; came > 40_000);
     Ok(())
 }

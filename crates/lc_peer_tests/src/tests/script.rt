@@ -12,7 +12,22 @@ use std::test::Fail;
 
 /// A peer on which nothing has happened.
 pub fn peer(alloc: Global, capacities: [u32; 7], slots: u32) -> Result<Peer, Fail> {
-    Ok(Peer::new(alloc, Config { capacities, slots })?)
+    peer_of(alloc, Version::One, capacities, slots)
+}
+
+/// The same, which writes this version.
+pub fn peer_of(
+    alloc: Global,
+    version: Version,
+    capacities: [u32; 7],
+    slots: u32,
+) -> Result<Peer, Fail> {
+    let config = Config {
+        version,
+        capacities,
+        slots,
+    };
+    Ok(Peer::new(alloc, config)?)
 }
 
 /// Where a stream is cut.

@@ -10,11 +10,11 @@ ghost use Rattle.lc_session.specs.Report.{AreOfOneSession};
 ghost use Rattle.lc_session.specs.Reading.{IsSameReading};
 ghost use Rattle.lc_session_tests.specs.Desks.{StaysOfOne};
 ghost use Rattle.std.specs.List.{AllZip};
-ghost use Rattle.lc_queue.specs.Parts.{IsSame};
+ghost use Rattle.lc_session.specs.Pumping.{IsSamePump};
 
 use crate::tests::same;
 use lc_driver::Counted;
-use lc_frame::Channel;
+use lc_frame::{Channel, Version};
 use lc_peer::{Config, Take};
 use lc_session::{Parts, ReadPump, RecvEnd, Report, SendEnd, Session, WritePump, finish};
 use lc_testing::{Odd, Pipe, PipeReader, PipeWriter, Plan, channel, number, plan_of, text};
@@ -31,12 +31,17 @@ pub struct Desk {
     pub input: Pipe,
 }
 
-/// A session with rings of 8 bytes and so many slots, to which the bytes of these digits come.
-pub fn new_desk(alloc: Global, slots: u32, digits: &str) -> Option<Desk>
+/// A session that writes in a version, with rings of 8 bytes and so many slots, to which the bytes of
+/// these digits come.
+pub fn new_desk(alloc: Global, version: Version, slots: u32, digits: &str) -> Option<Desk>
     ensures { IfSome result (λ desk. AreOfOneSession (state_of desk.parts)) }
 {
-    let capacities = [8; 7];
-    let parts = Session::new(alloc, Config { capacities, slots }).ok()?;
+    let config = Config {
+        version,
+        capacities: [8; 7],
+        slots,
+    };
+    let parts = Session::new(alloc, config).ok()?;
     let input = Pipe::of(hex::decode(alloc, digits).ok()?);
     Some(Desk { parts, input })
 }
@@ -163,7 +168,7 @@ fn read<R: Wait>(
 
 // How a run of the writing pump ends, what it wrote, and how often it wrote and flushed.
 fn write<R: Wait>(rt: &R, alloc: Global, pump: &mut WritePump, writer: PipeWriter) -> Option<String>
-    ensures { IsSame pump.new.drain.queue pump.old.drain.queue }
+    ensures { IsSamePump pump.old pump.new }
 {
     let mut writer = Counted::new(writer);
     let end = pump.run(rt, &mut writer);
@@ -247,7 +252,7 @@ fn reports(rt: &impl Abort, alloc: Global, report: &Report, script: &str) {
     }
 }
 
-/// A new session answers each line of a script as it says, and then its report does.
+/// A new session of version One answers each line of a script as it says, and then its report does.
 pub fn run<R: Wait + Abort>(
     rt: &R,
     alloc: Global,
@@ -256,7 +261,20 @@ pub fn run<R: Wait + Abort>(
     script: &str,
     report: &str,
 ) -> Result<(), Fail> {
-    let mut desk = new_desk(alloc, slots, digits).ok_or("there is no session")?;
+    run_as(rt, alloc, Version::One, slots, digits, script, report)
+}
+
+/// And so does one of this version.
+pub fn run_as<R: Wait + Abort>(
+    rt: &R,
+    alloc: Global,
+    version: Version,
+    slots: u32,
+    digits: &str,
+    script: &str,
+    report: &str,
+) -> Result<(), Fail> {
+    let mut desk = new_desk(alloc, version, slots, digits).ok_or("there is no session")?;
     works(rt, alloc, &mut desk, script);
     let Desk { parts, input: _ } = desk;
     reports(rt, alloc, &finish(rt, parts), report);

@@ -4,7 +4,7 @@ ghost use Rattle.lc_session.specs.Parts.{state_of};
 ghost use Rattle.lc_session.specs.Report.{AreOfOneSession};
 ghost use Rattle.lc_session.specs.Reading.{IsSameReading};
 ghost use Rattle.std.specs.List.{AllZip};
-ghost use Rattle.lc_queue.specs.Parts.{IsSame};
+ghost use Rattle.lc_session.specs.Pumping.{IsSamePump};
 ghost use Rattle.lc_outbox.specs.Outbox.{OutboxState, IsSameOutbox};
 ghost use Rattle.lc_inbox.specs.Sides.{Side, IsSameSide};
 ghost use Rattle.lc_session_tests.specs.Exchanges.{SameEnds, SamePumps, at_work};
@@ -12,6 +12,7 @@ ghost use Rattle.lc_session_tests.specs.Exchanges.{SameEnds, SamePumps, at_work}
 use crate::parted::{Ends, Pumps};
 use crate::tests::ends::{Load, send_all, take_all};
 use lc_driver::{Counted, ReadEnd};
+use lc_frame::Version;
 use lc_peer::{Config, PeerFault};
 use lc_session::{Parts, ReadPump, RecvEnd, Report, SendEnd, Session, WriteEnd, WritePump, finish};
 use std::alloc::{AllocError, Global};
@@ -35,12 +36,23 @@ where
     Ok((writer, reader))
 }
 
-/// A session with rings of so many bytes, and so many slots.
+/// A session of version One with rings of so many bytes, and so many slots.
 pub fn session(alloc: Global, ring: u32, slots: u32) -> Result<Parts, PeerFault>
     ensures { IfOk result (λ parts. AreOfOneSession (state_of parts)) }
 {
-    let capacities = [ring; 7];
-    Session::new(alloc, Config { capacities, slots })
+    session_as(alloc, Version::One, ring, slots)
+}
+
+// And one of this version.
+fn session_as(alloc: Global, version: Version, ring: u32, slots: u32) -> Result<Parts, PeerFault>
+    ensures { IfOk result (λ parts. AreOfOneSession (state_of parts)) }
+{
+    let config = Config {
+        version,
+        capacities: [ring; 7],
+        slots,
+    };
+    Session::new(alloc, config)
 }
 
 // Each sending end in a thread of its own.
@@ -131,7 +143,7 @@ fn write_all<R: Wait + Abort>(
     mut pump: WritePump,
     writer: BufWriter<TcpStream>,
 ) -> WritePump
-    ensures { IsSame result.drain.queue pump.drain.queue }
+    ensures { IsSamePump pump result }
 {
     let mut writer = Counted::new(writer);
     let end = pump.run(rt, &mut writer);
@@ -163,7 +175,7 @@ where
             ensures { IsSameReading reading.side result.side }
         { read_all(rt, reading, reader) },
         || -> WritePump
-            ensures { IsSame result.drain.queue writing.drain.queue }
+            ensures { IsSamePump writing result }
         { write_all(rt, writing, writer) },
     );
     Pumps { reading, writing }
@@ -329,19 +341,33 @@ fn is_balanced(rt: &impl Abort, client: &Report, server: &Report, bytes: u64) {
 /// bytes of all messages of a channel.
 const EXCHANGES: [(u32, u32, u32, u64); 3] = [(250, 32, 4, 2485), (100, 4, 1, 400), (1, 32, 4, 4)];
 
+/// In which both sessions write.
+const VERSIONS: [[Version; 2]; 3] = [
+    [Version::One, Version::One],
+    [Version::One, Version::Two],
+    [Version::Two, Version::Two],
+];
+
 // By which both sessions are stopped, wherever their parts are.
 fn clones(a: &Session, b: &Session) -> Result<[Session; 2], AllocError> {
     Ok([a.try_clone()?, b.try_clone()?])
 }
 
 // Two new sessions exchange what they are asked to, so many bytes on each channel, and balance.
-fn exchanges<R>(rt: &R, alloc: Global, load: Load, slots: u32, bytes: u64) -> Result<(), Fail>
+fn exchanges<R>(
+    rt: &R,
+    alloc: Global,
+    versions: [Version; 2],
+    load: Load,
+    slots: u32,
+    bytes: u64,
+) -> Result<(), Fail>
 where
     R: Threads + Wait + Abort + Sync + Net<Listener = TcpListener, Stream = TcpStream>,
 {
     let wires = wires(rt, alloc)?;
-    let a = session(alloc, load.ring, slots)?;
-    let b = session(alloc, load.ring, slots)?;
+    let a = session_as(alloc, versions[0], load.ring, slots)?;
+    let b = session_as(alloc, versions[1], load.ring, slots)?;
     let sessions = clones(&a.session, &b.session)?;
     let (a, b) = exchange(rt, a, b, wires, sessions, load);
     let (a, b) = (finish(rt, a), finish(rt, b));
@@ -352,8 +378,11 @@ where
 
 #[test]
 fn sessions_exchange_messages_in_threads(rt: HostRuntime) -> Result<(), Fail> {
-    for &(messages, ring, slots, bytes) in &EXCHANGES {
-        exchanges(&rt, rt.alloc(), Load { messages, ring }, slots, bytes)?;
+    for &versions in &VERSIONS {
+        for &(messages, ring, slots, bytes) in &EXCHANGES {
+            let load = Load { messages, ring };
+            exchanges(&rt, rt.alloc(), versions, load, slots, bytes)?;
+        }
     }
     Ok(())
 }

@@ -37,12 +37,26 @@ fn cut_at<R: Wait + Abort>(
     run(rt, alloc, 4, stream.bytes, script.as_str(), report.as_str())
 }
 
+fn cut_anywhere<R: Wait + Abort>(rt: &R, alloc: Global, stream: &Hostile) -> Result<(), Fail> {
+    for before in 0..stream.bytes.len() / 2 {
+        cut_at(rt, alloc, stream, before + 1)?;
+    }
+    Ok(())
+}
+
 #[test]
 fn streams_cut_anywhere(rt: HostRuntime) -> Result<(), Fail> {
     for stream in &HOSTILE {
-        for before in 0..stream.bytes.len() / 2 {
-            cut_at(&rt, rt.alloc(), stream, before + 1)?;
-        }
+        cut_anywhere(&rt, rt.alloc(), stream)?;
+    }
+    Ok(())
+}
+
+#[test]
+fn streams_of_version_two_cut_anywhere(rt: HostRuntime) -> Result<(), Fail> {
+    for stream in &HOSTILE {
+        let bytes = stream.in_two;
+        cut_anywhere(&rt, rt.alloc(), &Hostile { bytes, ..*stream })?;
     }
     Ok(())
 }

@@ -1,6 +1,6 @@
 //! Want of memory.
 ghost use Rattle.std.specs.List.{AllZip};
-ghost use Rattle.lc_queue.specs.Parts.{IsSame};
+ghost use Rattle.lc_session.specs.Pumping.{IsSamePump};
 ghost use Rattle.lc_inbox.specs.Sides.{IsSameSide};
 ghost use Rattle.lc_outbox.specs.Outbox.{IsSameOutbox};
 ghost use Rattle.lc_session.specs.Reading.{IsSameReading};
@@ -57,7 +57,7 @@ fn issue(rt: &(impl Wait + Abort), ends: &mut [RecvEnd; 7])
 
 // All that was put goes out, into a memory that is large enough.
 fn write(rt: &(impl Wait + Abort), pump: &mut WritePump, out: Vec<u8>, wanted: &[u8]) -> Vec<u8>
-    ensures { IsSame pump.new.drain.queue pump.old.drain.queue }
+    ensures { IsSamePump pump.old pump.new }
 {
     let mut writer = Counted::new(out);
     let end = pump.run(rt, &mut writer);

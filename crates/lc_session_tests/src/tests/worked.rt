@@ -1,5 +1,6 @@
 //! Worked sequences of calls, all in one thread.
-use crate::tests::desk::run;
+use crate::tests::desk::{run, run_as};
+use lc_frame::Version;
 use std::test::Fail;
 
 /// Of each: the slots of the queue, the bytes that come, the calls with what they answer, and what
@@ -117,6 +118,53 @@ const WORKED: [(u32, &str, &str, &str); 7] = [
 fn worked_calls(rt: HostRuntime) -> Result<(), Fail> {
     for &(slots, digits, script, report) in &WORKED {
         run(&rt, rt.alloc(), slots, digits, script, report)?;
+    }
+    Ok(())
+}
+
+/// The same of sessions of version Two.
+const GREETED: [(u32, &str, &str, &str); 4] = [
+    // The greeting goes out once, also where no frame does.
+    (
+        4,
+        "",
+        "stop => ()
+        write all => Stopped 4c434d02 calls 1 flushes 1
+        write all => Stopped  calls 0 flushes 1",
+        "left => (0, 0)",
+    ),
+    // The greeting and the frames behind it go out in one write, whatever version comes.
+    (
+        4,
+        "2100000005",
+        "read 10 all => Clean
+        send 1 6869 => Ok(())
+        issue 1 8 => Ok(())
+        stop => ()
+        write all => Stopped 4c434d02110000000268692100000008 calls 1 flushes 1
+        issue 2 3 => Ok(())
+        write all => Stopped 2200000003 calls 1 flushes 1",
+        "client 1 => (5, 3, 2, 0)
+        left => (0, 0)",
+    ),
+    // A greeting that was not written is left, and is no frame.
+    (4, "", "issue 1 8 => Ok(())", "left => (1, 4)"),
+    // Of a greeting that was begun the rest goes out first.
+    (
+        4,
+        "",
+        "issue 1 8 => Ok(())
+        write 1 fails 3 => Failed 4c43 calls 3 flushes 0
+        stop => ()
+        write all => Stopped 4d022100000008 calls 1 flushes 1",
+        "left => (0, 0)",
+    ),
+];
+
+#[test]
+fn worked_calls_of_version_two(rt: HostRuntime) -> Result<(), Fail> {
+    for &(slots, digits, script, report) in &GREETED {
+        run_as(&rt, rt.alloc(), Version::Two, slots, digits, script, report)?;
     }
     Ok(())
 }

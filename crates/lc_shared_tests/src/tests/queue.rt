@@ -25,7 +25,7 @@ fn send(alloc: Global, channel: Channel, text: &[u8]) -> Result<Frame, Fail> {
 fn push(rt: &(impl Wait + Abort), end: &mut LaneEnd, frame: Frame) -> Result<(), Frame>
     ensures { IsSameEnd end.old end.new }
 {
-    assert!(rt; frame.is_valid(Version::One) && frame.lane() == end.lane());
+    assert!(rt; frame.is_valid(end.version()) && frame.lane() == end.lane());
     end.push(rt, frame)
 }
 
@@ -46,7 +46,7 @@ fn issue() -> Frame {
 fn two_put(rt: &(impl Wait + Abort), alloc: Global) -> Result<Lanes, Fail>
     ensures { IfOk result (λ parts. All (λ end. IsSame parts.drain.queue end.queue) parts.ends) }
 {
-    let mut parts = lanes(alloc, 2)?;
+    let mut parts = lanes(alloc, 2, Version::One)?;
     let hi = send(alloc, DATA, b"hi")?;
     put(rt, &mut parts.ends[8], issue());
     put(rt, &mut parts.ends[1], hi);
@@ -127,7 +127,7 @@ fn rooms(
     slots: u32,
     pops: u32,
 ) -> Option<(u32, u32, u32)> {
-    let mut parts = lanes(alloc, slots).ok()?;
+    let mut parts = lanes(alloc, slots, Version::One).ok()?;
     let before = room(rt, slots, &mut parts.ends[13]);
     let taken = taken(rt, &mut parts.drain, pops);
     Some((before, taken, room(rt, slots, &mut parts.ends[13])))
@@ -160,7 +160,7 @@ fn a_frame_is_popped_at_once(rt: HostRuntime) -> Result<(), Fail> {
     let Lanes {
         mut ends,
         mut drain,
-    } = lanes(rt.alloc(), 2)?;
+    } = lanes(rt.alloc(), 2, Version::One)?;
     assert!(rt; drain.pop(&rt).is_none());
     for _ in 0..5 {
         put_and_pop(&rt, &mut ends[8], &mut drain);
@@ -175,7 +175,7 @@ fn shown(alloc: Global, parts: &Lanes) -> Option<String> {
 
 #[test]
 fn ends_show_their_lane(rt: HostRuntime) -> Result<(), Fail> {
-    let parts = lanes(rt.alloc(), 1)?;
+    let parts = lanes(rt.alloc(), 1, Version::One)?;
     let shown = shown(rt.alloc(), &parts).ok_or("no text")?;
     assert!(rt; shown.as_str() == "LaneEnd { lane: 8, .. }, Drain { .. }");
     Ok(())
@@ -185,7 +185,10 @@ fn ends_show_their_lane(rt: HostRuntime) -> Result<(), Fail> {
 fn no_queue_has_these_slots(rt: HostRuntime) {
     for slots in [0, 65_537, 4_294_967_295] {
         assert!(rt;
-            matches!(lanes(rt.alloc(), slots), Err(LanesFault::BadSlots)),
+            matches!(
+                lanes(rt.alloc(), slots, Version::One),
+                Err(LanesFault::BadSlots)
+            ),
             "{slots}"
         );
     }
@@ -202,7 +205,7 @@ fn are_in_order(ends: &[LaneEnd; 14]) -> bool {
 
 #[test]
 fn ends_have_their_lanes_in_order(rt: HostRuntime) -> Result<(), Fail> {
-    let parts = lanes(rt.alloc(), 1)?;
+    let parts = lanes(rt.alloc(), 1, Version::One)?;
     assert!(rt; are_in_order(&parts.ends));
     Ok(())
 }

@@ -8,14 +8,17 @@ use std::process::Abort;
 const FRAME_FAULTS: [(FrameFault, &str); 4] = [
     (
         FrameFault::BadTag,
-        "1 the first byte of a frame names no kind or no channel",
+        "1 the first byte of a frame names no kind or no channel, or a byte differs from the greeting",
     ),
     (FrameFault::ZeroLength, "2 a message has length 0"),
     (
         FrameFault::BadNumber,
         "3 a number in a frame is out of its range",
     ),
-    (FrameFault::Truncated, "4 the stream ends within a frame"),
+    (
+        FrameFault::Truncated,
+        "4 the stream ends within a frame or a greeting",
+    ),
 ];
 
 // Compares a number and the text of its error.

@@ -1,12 +1,13 @@
 //! Sequences of calls at a client's and a server's book of one channel, as frames would carry them.
 use super::{Subject, answers, text};
 use lc_book::{ClientBook, ClientParts, Refusal, ServerBook, ServerParts, Violation};
-use lc_frame::{MAX_AMOUNT, MAX_BODY, MAX_TOTAL};
+use lc_frame::{MAX_AMOUNT, MAX_BODY, MAX_TOTAL, Version};
 use std::alloc::Global;
 use std::test::Fail;
 
 // What 2^62 - 1 guarantees leave that went through a channel.
 const OLD_CLIENT: ClientParts = ClientParts {
+    version: Version::One,
     received: 4_611_686_018_427_387_903,
     spent: 4_611_686_018_427_387_903,
     absolved: 0,
@@ -99,9 +100,9 @@ struct Books {
 }
 
 impl Books {
-    fn new(capacity: u32) -> Result<Books, Fail> {
+    fn new(version: Version, capacity: u32) -> Result<Books, Fail> {
         Ok(Books {
-            client: ClientBook::new(),
+            client: ClientBook::new(version),
             server: ServerBook::new(capacity).ok_or("no server")?,
         })
     }
@@ -155,6 +156,13 @@ client => held 0 received 0 spent 0 absolved 0 send_left None receive_left None 
 limit_sending 0 => Ok(())
 spend 0 => Err(EmptyBody)
 spend 1 => Err(PastSendLimit { left: 0 })
+";
+
+// The longest message of version Two.
+const LONGER: &str = "spend 65536 => Err(NoGuarantee { held: 0 })
+spend 1048577 => Err(BodyTooLong)
+issued 1048576 => Ok(())
+spend 1048576 => Ok(())
 ";
 
 // A full ring gives no guarantees until a take.
@@ -283,9 +291,11 @@ fn calls_have_their_answers(rt: HostRuntime) -> Result<(), Fail> {
         (8, NEVER_RAISED),
         (8, LIMITED),
     ] {
-        let mut books = Books::new(*capacity)?;
+        let mut books = Books::new(Version::One, *capacity)?;
         answers(&rt, rt.alloc(), &mut books, calls);
     }
+    let mut books = Books::new(Version::Two, 8)?;
+    answers(&rt, rt.alloc(), &mut books, LONGER);
     let mut books = Books::near_the_end()?;
     answers(&rt, rt.alloc(), &mut books, TOTALS);
     Ok(())

@@ -2,6 +2,7 @@
 use super::books::{shown_client, shown_server};
 use super::same;
 use lc_book::{ClientBook, ClientParts, ServerBook, ServerParts};
+use lc_frame::Version;
 use std::test::Fail;
 
 const TWO_24: u32 = 16_777_216;
@@ -10,6 +11,7 @@ const TWO_62: u64 = 4_611_686_018_427_387_904;
 
 // A client at each of its bounds.
 const FULL_CLIENT: ClientParts = ClientParts {
+    version: Version::One,
     received: TWO_62,
     spent: TWO_62 - 16_777_217,
     absolved: 1,

@@ -9,7 +9,7 @@ const REFUSALS: [(Refusal, &str); 15] = [
     (Refusal::EmptyBody, "1 the message is empty"),
     (
         Refusal::BodyTooLong,
-        "2 the message is longer than 65,535 bytes",
+        "2 the message is longer than the version allows",
     ),
     (
         Refusal::PastSendLimit { left: 7 },

@@ -1,7 +1,7 @@
 //! Worked sequences of events at two peers, on one channel, and the books that they leave.
 use super::{Subject, answers, same, text};
 use lc_frame::{Body, Channel, Version};
-use lc_world::{Act, Answer, Event, NewFault, Side, World, run};
+use lc_world::{Act, Answer, Event, NewFault, Side, World, run, run_as};
 use std::alloc::Global;
 use std::process::Abort;
 use std::test::Fail;
@@ -67,6 +67,51 @@ A send 62 => Accepted
 A send 63 => Accepted
 B deliver 0 => Delivered { bytes: 0, frames: 0 }
 B deliver 4294967295 => Delivered { bytes: 8, frames: 2 }
+";
+
+// Streams of version Two begin with a greeting, which may be cut too: it is no frame, and comes with
+// the first one.
+const GREETED: &str = "B arrive => NothingInFlight
+B deliver 3 => Delivered { bytes: 3, frames: 0 }
+B arrive => NothingInFlight
+A issue 5 => Accepted
+B deliver 2 => Delivered { bytes: 2, frames: 0 }
+B arrive => Arrived
+B deliver 1 => NothingInFlight
+A deliver 0 => Delivered { bytes: 0, frames: 0 }
+A deliver 9 => Delivered { bytes: 4, frames: 0 }
+A deliver 0 => NothingInFlight
+B send 61 => Accepted
+A deliver 9 => Delivered { bytes: 6, frames: 1 }
+A take => Took(Body { bytes: [97] })
+";
+
+// A greeting that comes whole, with a frame behind it.
+const GREETED_AT_ONCE: &str = "A issue 5 => Accepted
+B arrive => Arrived
+B deliver 1 => NothingInFlight
+B issue 3 => Accepted
+B issue 2 => Accepted
+A deliver 13 => Delivered { bytes: 13, frames: 1 }
+A arrive => Arrived
+A send 616263 => Accepted
+B arrive => Arrived
+B take => Took(Body { bytes: [97, 98, 99] })
+";
+
+// A's stream is of version One, B's of version Two.
+const MIXED: &str = "B arrive => NothingInFlight
+B deliver 9 => NothingInFlight
+A issue 5 => Accepted
+B deliver 9 => Delivered { bytes: 5, frames: 1 }
+B send 61 => Accepted
+A arrive => Arrived
+A take => Took(Body { bytes: [97] })
+B issue 5 => Accepted
+A deliver 9 => Delivered { bytes: 5, frames: 1 }
+A send 6263 => Accepted
+B deliver 9 => Delivered { bytes: 5, frames: 1 }
+B take => Took(Body { bytes: [98, 99] })
 ";
 
 // An event that counts bytes.
@@ -142,33 +187,36 @@ impl Subject for Ran {
     }
 }
 
-// A world that was given these events, and answered each of them so.
-fn play(rt: &impl Abort, alloc: Global, capacity: u32, lines: &str) -> Result<Stepped, Fail> {
+// The world after these events, each of which it answered so.
+fn play(rt: &impl Abort, alloc: Global, world: World, lines: &str) -> Stepped {
     let mut stepped = Stepped {
-        world: World::new(alloc, capacity)?,
+        world,
         events: Vec::new(alloc),
     };
     answers(rt, alloc, &mut stepped, lines);
-    Ok(stepped)
-}
-
-// `run` answers these events so.
-fn run_answers(
-    rt: &impl Abort,
-    alloc: Global,
-    capacity: u32,
-    events: &[Event],
-    lines: &str,
-) -> Result<(), Fail> {
-    let mut ran = Ran(run(alloc, capacity, events)?.into_iter());
-    answers(rt, alloc, &mut ran, lines);
-    Ok(())
+    stepped
 }
 
 // A world answers these events so, and `run` does.
 fn are_answered(rt: &impl Abort, alloc: Global, capacity: u32, lines: &str) -> Result<(), Fail> {
-    let stepped = play(rt, alloc, capacity, lines)?;
-    run_answers(rt, alloc, capacity, stepped.events.as_slice(), lines)
+    let stepped = play(rt, alloc, World::new(alloc, capacity)?, lines);
+    let ran = run(alloc, capacity, stepped.events.as_slice())?;
+    answers(rt, alloc, &mut Ran(ran.into_iter()), lines);
+    Ok(())
+}
+
+// A world of streams of these versions answers these events so, and `run_as` does.
+fn are_answered_as(
+    rt: &impl Abort,
+    alloc: Global,
+    capacity: u32,
+    versions: [Version; 2],
+    lines: &str,
+) -> Result<(), Fail> {
+    let stepped = play(rt, alloc, World::new_as(alloc, capacity, versions)?, lines);
+    let ran = run_as(alloc, capacity, versions, stepped.events.as_slice())?;
+    answers(rt, alloc, &mut Ran(ran.into_iter()), lines);
+    Ok(())
 }
 
 // A world in which the bytes of a frame that is to arrive come one by one.
@@ -213,8 +261,10 @@ fn arrive_byte_by_byte(
     capacity: u32,
     lines: &str,
 ) -> Result<(), Fail> {
-    let mut world = ByteByByte(World::new(alloc, capacity)?);
-    answers(rt, alloc, &mut world, lines);
+    for version in [Version::One, Version::Two] {
+        let mut world = ByteByByte(World::new_as(alloc, capacity, [version; 2])?);
+        answers(rt, alloc, &mut world, lines);
+    }
     Ok(())
 }
 
@@ -233,6 +283,24 @@ fn events_have_their_answers(rt: HostRuntime) -> Result<(), Fail> {
     are_answered(&rt, rt.alloc(), 16, HONOURED)
 }
 
+const ONE: Version = Version::One;
+
+const TWO: Version = Version::Two;
+
+#[test]
+fn a_greeting_comes_before_the_frames(rt: HostRuntime) -> Result<(), Fail> {
+    are_answered_as(&rt, rt.alloc(), 8, [TWO, TWO], GREETED)?;
+    are_answered_as(&rt, rt.alloc(), 8, [TWO, TWO], GREETED_AT_ONCE)
+}
+
+#[test]
+fn each_side_has_its_version(rt: HostRuntime) -> Result<(), Fail> {
+    are_answered_as(&rt, rt.alloc(), 8, [ONE, TWO], MIXED)?;
+    are_answered_as(&rt, rt.alloc(), 8, [TWO, ONE], MESSAGE)?;
+    are_answered_as(&rt, rt.alloc(), 8, [TWO, TWO], LIMITED)?;
+    are_answered_as(&rt, rt.alloc(), 16, [TWO, TWO], HONOURED)
+}
+
 // What is held, spent and absolved, what is outstanding, buffered and free, and what A issued.
 fn books(alloc: Global, world: &World) -> Option<String> {
     let (client, server) = (world.client(Side::A, DATA), world.server(Side::B, DATA));
@@ -244,7 +312,7 @@ fn books(alloc: Global, world: &World) -> Option<String> {
 
 #[test]
 fn events_leave_their_books(rt: HostRuntime) -> Result<(), Fail> {
-    let stepped = play(&rt, rt.alloc(), 16, HONOURED)?;
+    let stepped = play(&rt, rt.alloc(), World::new(rt.alloc(), 16)?, HONOURED);
     let found = books(rt.alloc(), &stepped.world);
     same(&rt, "books", found, "2 5 3, 2 5 9, 0");
     Ok(())
@@ -311,6 +379,32 @@ B deliver 65536 => Delivered {{ bytes: 4, frames: 1 }}
 "
     )?;
     are_answered(&rt, alloc, 131_071, &lines)
+}
+
+// A message that is too long in version One, and one that is too long in version Two.
+#[test]
+fn longer_messages_have_their_answers(rt: HostRuntime) -> Result<(), Fail> {
+    let alloc = rt.alloc();
+    let (body, bytes) = ("61".repeat(alloc, 65_536)?, "97, ".repeat(alloc, 65_535)?);
+    let longer = "61".repeat(alloc, 1_048_577)?;
+    let lines = format!(in alloc;
+        "B issue 65536 => Accepted
+A arrive => Arrived
+A send {body} => Accepted
+A send {longer} => Refused(BodyTooLong)
+B deliver 65544 => Delivered {{ bytes: 65544, frames: 0 }}
+B deliver 2 => Delivered {{ bytes: 1, frames: 1 }}
+B take => Took(Body {{ bytes: [{bytes}97] }})
+"
+    )?;
+    are_answered_as(&rt, alloc, 65_536, [TWO, TWO], &lines)?;
+    let refused = format!(in alloc;
+        "B issue 65536 => Accepted
+A arrive => Arrived
+A send {body} => Refused(BodyTooLong)
+"
+    )?;
+    are_answered_as(&rt, alloc, 65_536, [ONE, TWO], &refused)
 }
 
 // Why there is no world with rings of so many bytes, and no run.

@@ -1,6 +1,10 @@
-use Rattle.std.proofs.Common.{arith, sym, ◌∙◌}
+use Rattle.std.proofs.Common.{arith, sym, ap, ◌∙◌}
+use Rattle.lc_frame.specs.declared.version.Version.{Version}
+use Rattle.lc_frame.specs.Encoding.{encoding}
 use Rattle.lc_c.proofs.Gives.{begins}
 use Rattle.lc_c.proofs.streams.begin_next.Goals as goal
 
 pub returns-in-Some : goal.returns-in-Some
-returns-in-Some c = begins c.args.side.now c.in-Some.frame c.next_out.new.self c.begin.new.self (omega (arith, c.len.ensures.value, c.if-len-gt0.false)) (sym c.in-Some.is ∙ c.next_out.ensures.value) c.next_out.ensures.after c.begin.ensures
+returns-in-Some c =
+    let is = c.begin.ensures ∙ ap (λ (v : Version). encoding v c.in-Some.frame) c.version-version.ensures in
+    begins c.args.side.now c.in-Some.frame c.next_out.new.self c.begin.new.self (omega (arith, c.len.ensures.value, c.if-len-gt0.false)) (sym c.in-Some.is ∙ c.next_out.ensures.value) c.next_out.ensures.after is

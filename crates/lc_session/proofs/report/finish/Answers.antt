@@ -11,11 +11,11 @@ use Rattle.lc_session.proofs.Ended.{put_on_listed, reported, served_listed}
 use Rattle.lc_session.proofs.report.finish.Goals as goal
 
 pub end_senders-outgoing-requires : goal.end_senders-outgoing-requires
-end_senders-outgoing-requires g c = put_on_listed _ _ _ _ (ap (λ (p : Pumping). p.drain.queue) c.into_parts-drain.ensures) c.apart.ensures c.requires.clients_put
+end_senders-outgoing-requires g c = put_on_listed _ _ _ _ (ap (λ (p : Pumping). p.drain) c.into_parts-drain.ensures) c.apart.ensures c.requires.clients_put
 
 pub join_servers-requires : goal.join_servers-requires
 join_servers-requires g c =
-    served_listed _ _ _ _ _ _ _ _ (ap (λ (p : Pumping). p.drain.queue) c.into_parts-drain.ensures ∙ sym (ap (λ (o : Outlet). o.queue) c.end_senders-outgoing.ensures.joins)) (ap (λ (r : ReadingSide). r.inboxes) c.into_parts-incoming.ensures) c.requires.servers_put c.finish_all-ended.ensures c.apart-3.ensures
+    served_listed _ _ _ _ _ _ _ _ _ (ap (λ (p : Pumping). p.drain.queue) c.into_parts-drain.ensures ∙ sym (ap (λ (o : Outlet). o.queue) c.end_senders-outgoing.ensures.joins)) (ap (λ (r : ReadingSide). r.inboxes) c.into_parts-incoming.ensures) c.requires.servers_put c.finish_all-ended.ensures c.apart-3.ensures
 
 pub returns : goal.returns
 returns g c =

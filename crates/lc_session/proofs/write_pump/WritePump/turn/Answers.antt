@@ -1,9 +1,9 @@
-use Rattle.std.proofs.Common.{refl}
+use Rattle.std.proofs.Common.{refl, ◌∙◌}
 use Rattle.lc_session.proofs.Pumped.{goes_keep, pumps_on, pumps_popped}
 use Rattle.lc_session.proofs.write_pump.WritePump.turn.Goals as goal
 
 pub invariant_of-self : goal.invariant_of-self
-invariant_of-self g c = goes_keep _ _ _ _ c.self-2.invariant c.write_pending.ensures.writes.goes
+invariant_of-self g c = (goes_keep _ _ _ _ c.self-2.invariant.0 c.self-2.invariant.1 c.write_pending.ensures.writes.goes, c.write_pending.ensures.writes.goes.version ∙ c.self-2.invariant.1)
 
 pub returns-then-not-stopping-clause-pumps : goal.returns-then-not-stopping-clause-pumps
 returns-then-not-stopping-clause-pumps g c = pumps_on _ _ _ _ _ c.join_popped.ensures.pops c.rest.ensures.pumps
