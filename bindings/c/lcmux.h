@@ -66,7 +66,9 @@ enum {
     LCMUX_TOTAL_REACHED = 12,     /* at most 2^62 guarantees are issued on a channel */
     LCMUX_QUEUE_FULL = 13,        /* as many frames wait to go out as may: write some first */
     LCMUX_OUT_OF_MEMORY = 14,
+    LCMUX_CHANNEL_FINISHED = 15,  /* the channel's client finished it */
     LCMUX_BUFFER_TOO_SMALL = 16,  /* number: how many bytes the buffer needs */
+    LCMUX_WRONG_VERSION = 17,     /* lcmux_peer_finish on a peer that writes version 1 */
 
     /* Handles and configurations. */
     LCMUX_NO_PEER = 32,           /* the handle is empty */
@@ -79,7 +81,7 @@ enum {
 
     /* Takes. */
     LCMUX_EMPTY = 48,             /* no message waits */
-    LCMUX_ENDED = 49,             /* no message waits, and none will come: the other side's limit on sending is used up */
+    LCMUX_ENDED = 49,             /* no message waits, and none will come: the other side's limit on sending is used up, or it finished */
 
     /* Violations: a frame that arrived breaks the rules. The session is over. */
     LCMUX_V1_NOT_GUARANTEED = 101,
@@ -90,6 +92,7 @@ enum {
     LCMUX_V6_TOO_MANY_GUARANTEES = 106,
     LCMUX_V7_RECEIVE_LIMIT_RAISED = 107,
     LCMUX_V8_TOTAL_PASSED = 108,
+    LCMUX_V9_AFTER_FINISH = 109,
 
     /* Faults: the bytes that came are no frame. The session is over. */
     LCMUX_F1_BAD_TAG = 201,
@@ -129,23 +132,27 @@ typedef struct lcmux_delivery {
 /* A channel as client, the side that sends. */
 typedef struct lcmux_client {
     uint64_t held;         /* guarantees that may be used up now, 0 to 2^24 */
-    uint64_t received;     /* held + spent + absolved */
+    uint64_t received;     /* held + spent + absolved + waived */
     uint64_t spent;        /* used up by messages */
     uint64_t absolved;     /* given up */
+    uint64_t waived;       /* given up by lcmux_peer_finish, then and since */
     uint64_t send_left;    /* what the own limit leaves, or LCMUX_NONE */
     uint64_t receive_left; /* what the other side may still issue, or LCMUX_NONE */
     uint64_t asked;        /* the target of the plead that is kept, or LCMUX_NONE */
+    uint64_t finished;     /* 1 where this side finished the channel, else 0 */
 } lcmux_client;
 
 /* A channel as server, the side that receives. */
 typedef struct lcmux_server {
     uint64_t capacity;     /* outstanding + buffered + room */
     uint64_t issued;
-    uint64_t outstanding;  /* issued, and neither used up nor absolved as far as is known */
+    uint64_t outstanding;  /* issued, and neither used up, absolved nor waived as far as is known */
     uint64_t buffered;     /* arrived, and not taken */
     uint64_t room;         /* the most that may be issued now */
+    uint64_t waived;       /* given up by the other side's Finish */
     uint64_t send_left;    /* what the other side may still send, or LCMUX_NONE; 0: it ends here */
     uint64_t receive_left; /* what the own limit leaves, or LCMUX_NONE */
+    uint64_t finished;     /* 1 where the other side's Finish arrived, else 0 */
 } lcmux_server;
 
 /* Makes a peer behind an empty handle. LCMUX_HAS_PEER, LCMUX_BAD_VERSION, LCMUX_BAD_CAPACITY,
@@ -159,28 +166,33 @@ lcmux_answer lcmux_peer_new(const lcmux_config *config, lcmux_peer *peer) LCMUX_
  * LCMUX_NO_PEER where it was empty. */
 lcmux_answer lcmux_peer_free(lcmux_peer *peer) LCMUX_NONNULL;
 
-/* Sends a copy of 1 to 65,535 bytes as one message, in version 2 of 1 to 1,048,576. Codes 1, 2, 3, 4,
- * 14 and 13, in this order. */
+/* Sends a copy of 1 to 65,535 bytes as one message, in version 2 of 1 to 1,048,576. Codes 15, 1, 2, 3,
+ * 4, 14 and 13, in this order. */
 lcmux_answer lcmux_peer_send(lcmux_peer *peer, uint32_t channel, const uint8_t *body, size_t len) LCMUX_NONNULL;
 
-/* Issues guarantees. Codes 5, 9, 10, 12 and 13. */
+/* Issues guarantees. Codes 15, 5, 9, 10, 12 and 13. */
 lcmux_answer lcmux_peer_issue(lcmux_peer *peer, uint32_t channel, uint32_t amount) LCMUX_NONNULL;
 
-/* Gives guarantees up. Codes 5, 6 and 13. */
+/* Gives guarantees up. Codes 15, 5, 6 and 13. */
 lcmux_answer lcmux_peer_absolve(lcmux_peer *peer, uint32_t channel, uint32_t amount) LCMUX_NONNULL;
 
-/* Asks the other side to absolve until it holds at most so many. Codes 11 and 13. */
+/* Asks the other side to absolve until it holds at most so many. Codes 15, 11 and 13. */
 lcmux_answer lcmux_peer_plead(lcmux_peer *peer, uint32_t channel, uint32_t target) LCMUX_NONNULL;
 
 /* Absolves of what is held above the target of the plead that is kept, and forgets the plead. The
- * number is what was absolved, 0 where there was nothing to absolve. Code 13, which keeps the plead. */
+ * number is what was absolved, 0 where there was nothing to absolve. Code 15, and 13, which keeps the
+ * plead. */
 lcmux_answer lcmux_peer_honour(lcmux_peer *peer, uint32_t channel) LCMUX_NONNULL;
 
-/* At most so many bytes are sent from here on; 0 ends the channel. Codes 7, 8 and 13. */
+/* At most so many bytes are sent from here on; 0 ends the channel. Codes 15, 7, 8 and 13. */
 lcmux_answer lcmux_peer_limit_sending(lcmux_peer *peer, uint32_t channel, uint64_t bound) LCMUX_NONNULL;
 
-/* At most so many guarantees are issued from here on. Codes 7, 8 and 13. */
+/* At most so many guarantees are issued from here on. Codes 15, 7, 8 and 13. */
 lcmux_answer lcmux_peer_limit_receiving(lcmux_peer *peer, uint32_t channel, uint64_t bound) LCMUX_NONNULL;
+
+/* Nothing more is sent, and all guarantees that are held or still come are given up. The other side
+ * learns that the channel has ended. For version 2. Codes 17, 15 and 13. */
+lcmux_answer lcmux_peer_finish(lcmux_peer *peer, uint32_t channel) LCMUX_NONNULL;
 
 /* The next bytes of the stream that comes, of either version, cut anywhere; len may be 0. Whole frames
  * arrive, and part of one is kept inside. After a violation or a fault the stream is given up: the

@@ -71,6 +71,7 @@ static void empty_handle(lcmux_peer *peer) {
     must(lcmux_peer_honour(peer, 1).code == LCMUX_NO_PEER, "honour");
     must(lcmux_peer_limit_sending(peer, 1, 1).code == LCMUX_NO_PEER, "limit sending");
     must(lcmux_peer_limit_receiving(peer, 1, 1).code == LCMUX_NO_PEER, "limit receiving");
+    must(lcmux_peer_finish(peer, 1).code == LCMUX_NO_PEER, "finish");
     must(lcmux_peer_write(peer, buffer, 4).code == LCMUX_NO_PEER, "write");
     must(lcmux_peer_pending(peer).code == LCMUX_NO_PEER, "pending");
     must(lcmux_peer_end(peer).code == LCMUX_NO_PEER, "end");

@@ -20,12 +20,12 @@ static size_t piece = SIZE_MAX;
 static char said[512];
 
 static void say_code(uint32_t code, uint64_t number) {
-    static const char *const named[17] = {[3] = "left", [4] = "held", [6] = "held", [8] = "left", [9] = "left", [10] = "room", [11] = "outstanding", [16] = "need"};
+    static const char *const named[18] = {[3] = "left", [4] = "held", [6] = "held", [8] = "left", [9] = "left", [10] = "room", [11] = "outstanding", [16] = "need"};
     if (code == LCMUX_OK)
         strcpy(said, "ok");
-    else if (code < 17 && named[code])
+    else if (code < 18 && named[code])
         snprintf(said, sizeof said, "refused %" PRIu32 " %s %" PRIu64, code, named[code], number);
-    else if (code < 17)
+    else if (code < 18)
         snprintf(said, sizeof said, "refused %" PRIu32, code);
     else if (code == LCMUX_NO_PEER || code == LCMUX_NO_CHANNEL)
         strcpy(said, code == LCMUX_NO_PEER ? "no peer" : "no channel");
@@ -78,13 +78,21 @@ static void deliver(struct side *me, const uint8_t *bytes, size_t len) {
     say_code(d.code, 0);
 }
 
+/* Behind what was said: what was waived, where the channel is finished. */
+static void say_waived(int at, uint64_t finished, uint64_t waived) {
+    if (finished || waived)
+        snprintf(said + at, sizeof said - (size_t)at, " finished %" PRIu64 " waived %" PRIu64, finished, waived);
+}
+
 static void say_client(lcmux_peer *peer, uint32_t channel) {
     lcmux_client c;
     char a[24], b[24], d[24];
     lcmux_answer got = lcmux_peer_client(peer, channel, &c);
     say_code(got.code, got.number);
-    if (got.code == LCMUX_OK)
-        snprintf(said, sizeof said, "held %" PRIu64 " send_left %s receive_left %s asked %s", c.held, or_none(c.send_left, a), or_none(c.receive_left, b), or_none(c.asked, d));
+    if (got.code != LCMUX_OK)
+        return;
+    int at = snprintf(said, sizeof said, "held %" PRIu64 " send_left %s receive_left %s asked %s", c.held, or_none(c.send_left, a), or_none(c.receive_left, b), or_none(c.asked, d));
+    say_waived(at, c.finished, c.waived);
 }
 
 static void say_server(lcmux_peer *peer, uint32_t channel) {
@@ -95,7 +103,8 @@ static void say_server(lcmux_peer *peer, uint32_t channel) {
         return;
     int at = snprintf(said, sizeof said, "outstanding %" PRIu64 " buffered %" PRIu64 " room %" PRIu64, s.outstanding, s.buffered, s.room);
     if (s.send_left != LCMUX_NONE)
-        snprintf(said + at, sizeof said - (size_t)at, " send_left %" PRIu64, s.send_left);
+        at += snprintf(said + at, sizeof said - (size_t)at, " send_left %" PRIu64, s.send_left);
+    say_waived(at, s.finished, s.waived);
 }
 
 /* One line without its answer. Answers whether it is an own call with a plain answer. */
@@ -116,6 +125,8 @@ static bool own_call(lcmux_peer *peer, const char *word, uint32_t channel, const
         *answer = lcmux_peer_limit_sending(peer, channel, number);
     else if (!strcmp(word, "limit-receiving"))
         *answer = lcmux_peer_limit_receiving(peer, channel, number);
+    else if (!strcmp(word, "finish"))
+        *answer = lcmux_peer_finish(peer, channel);
     else
         return false;
     return true;

@@ -56,11 +56,15 @@ pub enum Refusal {
     QueueFull,
     /// 14. Memory was refused.
     OutOfMemory,
+    /// 15. The channel's client finished it.
+    ChannelFinished,
     /// 16. The buffer is shorter than the message.
     BufferTooSmall {
         /// The message's length.
         need: usize,
     },
+    /// 17. In version One no channel is finished.
+    WrongVersion,
 }
 
 impl Refusal {
@@ -82,9 +86,11 @@ impl Refusal {
             12 => Refusal::TotalReached,
             13 => Refusal::QueueFull,
             14 => Refusal::OutOfMemory,
+            15 => Refusal::ChannelFinished,
             16 => Refusal::BufferTooSmall {
                 need: number as usize,
             },
+            17 => Refusal::WrongVersion,
             _ => unreachable!("code {code}"),
         }
     }
@@ -106,7 +112,9 @@ impl Refusal {
             Refusal::TotalReached => 12,
             Refusal::QueueFull => 13,
             Refusal::OutOfMemory => 14,
+            Refusal::ChannelFinished => 15,
             Refusal::BufferTooSmall { .. } => 16,
+            Refusal::WrongVersion => 17,
         }
     }
 }
@@ -138,8 +146,12 @@ impl Display for Refusal {
             Refusal::TotalReached => write!(f, "the guarantees of one channel would pass 2^62"),
             Refusal::QueueFull => write!(f, "the outgoing queue is full"),
             Refusal::OutOfMemory => write!(f, "out of memory"),
+            Refusal::ChannelFinished => write!(f, "the channel is finished"),
             Refusal::BufferTooSmall { need } => {
                 write!(f, "the buffer is too small: {need} bytes are needed")
+            }
+            Refusal::WrongVersion => {
+                write!(f, "version One of the format cannot finish a channel")
             }
         }
     }
@@ -167,11 +179,13 @@ pub enum Violation {
     ReceiveLimitRaised,
     /// V8. More than 2^62 guarantees would be received.
     TotalPassed,
+    /// V9. A frame of the client comes behind its Finish.
+    AfterFinish,
 }
 
 impl Violation {
     /// The violations, in the order of their numbers.
-    pub const ALL: [Violation; 8] = [
+    pub const ALL: [Violation; 9] = [
         Violation::NotGuaranteed,
         Violation::SentPastLimit,
         Violation::AbsolvedTooMuch,
@@ -180,9 +194,10 @@ impl Violation {
         Violation::TooManyGuarantees,
         Violation::ReceiveLimitRaised,
         Violation::TotalPassed,
+        Violation::AfterFinish,
     ];
 
-    /// The violation's number, 1 to 8: it is printed as V1 to V8.
+    /// The violation's number, 1 to 9: it is printed as V1 to V9.
     pub fn number(self) -> u8 {
         self as u8 + 1
     }
@@ -199,6 +214,7 @@ impl Display for Violation {
             Violation::TooManyGuarantees => "more than 2^24 guarantees held",
             Violation::ReceiveLimitRaised => "a limit on receiving that raises an earlier one",
             Violation::TotalPassed => "more than 2^62 guarantees on one channel",
+            Violation::AfterFinish => "a frame of the client behind its Finish",
         })
     }
 }
@@ -260,7 +276,7 @@ impl Stop {
     pub(crate) fn of(code: u32) -> Option<Stop> {
         match code {
             0 => None,
-            101..=108 => Some(Stop::Violated(Violation::ALL[code as usize - 101])),
+            101..=109 => Some(Stop::Violated(Violation::ALL[code as usize - 101])),
             201..=204 => Some(Stop::Fault(Fault::ALL[code as usize - 201])),
             _ => unreachable!("code {code}"),
         }

@@ -95,7 +95,7 @@ pub enum Take {
     Took(usize),
     /// No message waits.
     Empty,
-    /// No message waits, and none will come: the other side's limit on sending is used up.
+    /// No message waits, and none will come: the other side's limit on sending is used up, or it finished.
     Ended,
 }
 
@@ -104,18 +104,22 @@ pub enum Take {
 pub struct ClientBook {
     /// Guarantees that may be used up now, 0 to 2^24.
     pub held: u64,
-    /// All guarantees that arrived: held, spent and absolved together.
+    /// All guarantees that arrived: held, spent, absolved and waived together.
     pub received: u64,
     /// The guarantees that messages used up.
     pub spent: u64,
     /// The guarantees that were given up.
     pub absolved: u64,
+    /// The guarantees that finishing gave up, then and since.
+    pub waived: u64,
     /// What may still be sent; `None` without a limit.
     pub send_left: Option<u64>,
     /// What the other side may still issue; `None` without a limit.
     pub receive_left: Option<u64>,
     /// The target of the plead that is kept.
     pub asked: Option<u32>,
+    /// Whether this side finished the channel.
+    pub finished: bool,
 }
 
 /// The balances of a channel as server, the side that receives. All count bytes of messages.
@@ -125,16 +129,20 @@ pub struct ServerBook {
     pub capacity: u64,
     /// All guarantees that were issued.
     pub issued: u64,
-    /// Issued, and neither used up nor absolved as far as is known.
+    /// Issued, and neither used up, absolved nor waived as far as is known.
     pub outstanding: u64,
     /// Arrived, and not taken.
     pub buffered: u64,
     /// The most that may be issued now.
     pub room: u64,
+    /// The guarantees that the other side's Finish gave up.
+    pub waived: u64,
     /// What the other side may still send; `None` without a limit.
     pub send_left: Option<u64>,
     /// What may still be issued; `None` without a limit.
     pub receive_left: Option<u64>,
+    /// Whether the other side's Finish arrived.
+    pub finished: bool,
 }
 
 fn some_unless_none(number: u64) -> Option<u64> {
@@ -203,44 +211,65 @@ impl Peer {
     }
 
     /// A copy of 1 to 65,535 bytes is sent as one message, in version Two of 1 to 1,048,576. Refused by
-    /// 1, 2, 3, 4, 14 and 13, in this order.
+    /// 15, 1, 2, 3, 4, 14 and 13, in this order.
     pub fn send(&mut self, channel: Channel, body: &[u8]) -> Result<(), Refusal> {
         done(self.handle.send(channel.number().into(), body))
     }
 
-    /// `amount` guarantees are issued. Refused by 5, 9, 10, 12 and 13, in this order.
+    /// `amount` guarantees are issued. Refused by 15, 5, 9, 10, 12 and 13, in this order.
     pub fn issue(&mut self, channel: Channel, amount: u32) -> Result<(), Refusal> {
         done(self.handle.issue(channel.number().into(), amount))
     }
 
-    /// `amount` guarantees are given up. Refused by 5, 6 and 13, in this order.
+    /// `amount` guarantees are given up. Refused by 15, 5, 6 and 13, in this order.
     pub fn absolve(&mut self, channel: Channel, amount: u32) -> Result<(), Refusal> {
         done(self.handle.absolve(channel.number().into(), amount))
     }
 
-    /// The other side is asked to absolve until it holds at most `target`. Refused by 11 and 13, in
+    /// The other side is asked to absolve until it holds at most `target`. Refused by 15, 11 and 13, in
     /// this order.
     pub fn plead(&mut self, channel: Channel, target: u32) -> Result<(), Refusal> {
         done(self.handle.plead(channel.number().into(), target))
     }
 
     /// The plead that is kept is honoured and forgotten: what is held above its target is absolved,
-    /// which is the answer, `None` where there is nothing. Refused by 13, which keeps the plead.
+    /// which is the answer, `None` where there is nothing. Refused by 15, and by 13, which keeps the
+    /// plead.
     pub fn honour(&mut self, channel: Channel) -> Result<Option<u32>, Refusal> {
         let answer = self.handle.honour(channel.number().into());
         done(answer)?;
         Ok((answer.number > 0).then_some(answer.number as u32))
     }
 
-    /// At most `bound` bytes are sent from here on; 0 ends the channel. Refused by 7, 8 and 13, in
+    /// At most `bound` bytes are sent from here on; 0 ends the channel. Refused by 15, 7, 8 and 13, in
     /// this order.
     pub fn limit_sending(&mut self, channel: Channel, bound: u64) -> Result<(), Refusal> {
         done(self.handle.limit_sending(channel.number().into(), bound))
     }
 
-    /// At most `bound` guarantees are issued from here on. Refused by 7, 8 and 13, in this order.
+    /// At most `bound` guarantees are issued from here on. Refused by 15, 7, 8 and 13, in this order.
     pub fn limit_receiving(&mut self, channel: Channel, bound: u64) -> Result<(), Refusal> {
         done(self.handle.limit_receiving(channel.number().into(), bound))
+    }
+
+    /// Nothing more is sent, and all guarantees that are held or still come are given up; the other
+    /// side learns that the channel has ended. For version Two. Refused by 17, 15 and 13, in this order.
+    ///
+    /// ```
+    /// # use lcmux::{Channel::Data, Config, Peer, Refusal, Take, Version};
+    /// # let mut config = Config::new([8; 7], 4);
+    /// # config.version = Version::Two;
+    /// # let (mut alice, mut bob) = (Peer::new(&config)?, Peer::new(&config)?);
+    /// # let mut wire = Vec::new();
+    /// alice.finish(Data)?;
+    /// assert_eq!(alice.send(Data, b"hello"), Err(Refusal::ChannelFinished));
+    /// alice.write_to(&mut wire)?;
+    /// bob.read_from(&mut wire.as_slice())?;
+    /// assert_eq!(bob.take_into(Data, &mut [])?, Take::Ended);
+    /// # Ok::<(), Box<dyn std::error::Error>>(())
+    /// ```
+    pub fn finish(&mut self, channel: Channel) -> Result<(), Refusal> {
+        done(self.handle.finish(channel.number().into()))
     }
 
     /// The next bytes of the stream that comes, cut anywhere. Whole frames arrive, and part of one is
@@ -377,9 +406,11 @@ impl Peer {
             received: book.received,
             spent: book.spent,
             absolved: book.absolved,
+            waived: book.waived,
             send_left: some_unless_none(book.send_left),
             receive_left: some_unless_none(book.receive_left),
             asked: some_unless_none(book.asked).map(|target| target as u32),
+            finished: book.finished != 0,
         }
     }
 
@@ -392,8 +423,10 @@ impl Peer {
             outstanding: book.outstanding,
             buffered: book.buffered,
             room: book.room,
+            waived: book.waived,
             send_left: some_unless_none(book.send_left),
             receive_left: some_unless_none(book.receive_left),
+            finished: book.finished != 0,
         }
     }
 }

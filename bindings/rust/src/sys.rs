@@ -46,9 +46,11 @@ pub(crate) struct Client {
     pub received: u64,
     pub spent: u64,
     pub absolved: u64,
+    pub waived: u64,
     pub send_left: u64,
     pub receive_left: u64,
     pub asked: u64,
+    pub finished: u64,
 }
 
 #[repr(C)]
@@ -59,8 +61,10 @@ pub(crate) struct Server {
     pub outstanding: u64,
     pub buffered: u64,
     pub room: u64,
+    pub waived: u64,
     pub send_left: u64,
     pub receive_left: u64,
+    pub finished: u64,
 }
 
 extern "C" {
@@ -73,6 +77,7 @@ extern "C" {
     fn lcmux_peer_honour(peer: *mut Raw, channel: u32) -> Answer;
     fn lcmux_peer_limit_sending(peer: *mut Raw, channel: u32, bound: u64) -> Answer;
     fn lcmux_peer_limit_receiving(peer: *mut Raw, channel: u32, bound: u64) -> Answer;
+    fn lcmux_peer_finish(peer: *mut Raw, channel: u32) -> Answer;
     fn lcmux_peer_deliver(peer: *mut Raw, piece: *const u8, len: usize) -> Delivery;
     fn lcmux_peer_end(peer: *mut Raw) -> Answer;
     fn lcmux_peer_write(peer: *mut Raw, buffer: *mut u8, len: usize) -> Answer;
@@ -133,6 +138,10 @@ impl Handle {
 
     pub fn limit_receiving(&mut self, channel: u32, bound: u64) -> Answer {
         unsafe { lcmux_peer_limit_receiving(self.0.get(), channel, bound) }
+    }
+
+    pub fn finish(&mut self, channel: u32) -> Answer {
+        unsafe { lcmux_peer_finish(self.0.get(), channel) }
     }
 
     pub fn deliver(&mut self, piece: &[u8]) -> Delivery {

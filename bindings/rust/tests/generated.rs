@@ -1,5 +1,5 @@
 //! Random calls at two peers whose bytes are cut anywhere, beside a model of the rules.
-use lcmux::{Channel, Config, Peer, Refusal, Take};
+use lcmux::{Channel, Config, Peer, Refusal, Take, Version};
 use std::collections::VecDeque;
 
 const CAPACITY: u64 = 24;
@@ -13,14 +13,24 @@ enum Frame {
     Plead(u32),
     LimitSending(u64),
     LimitReceiving(u64),
+    Finish,
 }
 
 impl Frame {
-    fn len(&self) -> usize {
+    fn len(&self, version: Version) -> usize {
         match self {
-            Frame::Send(body) => 3 + body.len(),
+            Frame::Send(body) if version == Version::One => 3 + body.len(),
+            Frame::Send(body) => 5 + body.len(),
             Frame::Issue(_) | Frame::Absolve(_) | Frame::Plead(_) => 5,
             Frame::LimitSending(_) | Frame::LimitReceiving(_) => 9,
+            Frame::Finish => 1,
+        }
+    }
+
+    fn is_of_client(&self) -> bool {
+        match self {
+            Frame::Send(_) | Frame::Absolve(_) | Frame::LimitSending(_) | Frame::Finish => true,
+            Frame::Issue(_) | Frame::Plead(_) | Frame::LimitReceiving(_) => false,
         }
     }
 }
@@ -31,13 +41,18 @@ struct Direction {
     held: u64,
     spent: u64,
     absolved: u64,
+    waived: u64,
     send_left: Option<u64>,
     receive_left: Option<u64>,
     asked: Option<u32>,
+    finished: bool,
+    issued: u64,
     outstanding: u64,
+    server_waived: u64,
     ring: VecDeque<Vec<u8>>,
     server_send_left: Option<u64>,
     server_receive_left: Option<u64>,
+    server_finished: bool,
 }
 
 impl Direction {
@@ -84,6 +99,7 @@ impl Direction {
             Some(left) if n > left => Err(Refusal::PastReceiveLimit { left }),
             _ if n > self.room() => Err(Refusal::NoRoom { room: self.room() }),
             left => Ok(Direction {
+                issued: self.issued + n,
                 outstanding: self.outstanding + n,
                 server_receive_left: left.map(|left| left - n),
                 ..self.clone()
@@ -98,6 +114,41 @@ impl Direction {
             false => Err(Refusal::NothingToAsk { outstanding }),
         }
     }
+
+    fn finished(&self) -> Direction {
+        Direction {
+            held: 0,
+            waived: self.held,
+            asked: None,
+            finished: true,
+            ..self.clone()
+        }
+    }
+
+    // What comes first, whatever the call is, then the rules of the call.
+    fn after(&self, frame: &Frame, version: Version) -> Result<Direction, Refusal> {
+        let finished = match frame.is_of_client() {
+            true => self.finished,
+            false => self.server_finished,
+        };
+        match frame {
+            Frame::Finish if version == Version::One => Err(Refusal::WrongVersion),
+            _ if finished => Err(Refusal::ChannelFinished),
+            Frame::Send(body) => self.sent(body.len() as u64),
+            Frame::Absolve(n) => self.absolved(*n),
+            Frame::Issue(n) => self.issued(*n),
+            Frame::Plead(target) => self.pleaded(*target),
+            Frame::LimitSending(bound) => Ok(Direction {
+                send_left: Some(limited(self.send_left, *bound)?),
+                ..self.clone()
+            }),
+            Frame::LimitReceiving(bound) => Ok(Direction {
+                server_receive_left: Some(limited(self.server_receive_left, *bound)?),
+                ..self.clone()
+            }),
+            Frame::Finish => Ok(self.finished()),
+        }
+    }
 }
 
 fn limited(left: Option<u64>, bound: u64) -> Result<u64, Refusal> {
@@ -107,13 +158,16 @@ fn limited(left: Option<u64>, bound: u64) -> Result<u64, Refusal> {
     }
 }
 
-// One side: the peer, and in the model what waits, what was begun, and its bytes on the wire.
+// One side: the peer, and in the model what waits, what was begun, and its bytes on the wire. A
+// greeting is begun at the start.
 struct Side {
     peer: Peer,
+    version: Version,
     waiting: VecDeque<(usize, Frame)>,
     begun: usize,
     flying: VecDeque<(usize, Frame)>,
     wire: VecDeque<u8>,
+    greeting: usize,
     arrived: usize,
 }
 
@@ -135,58 +189,57 @@ impl Random {
     }
 }
 
-fn new_side() -> Side {
+fn new_side(version: Version) -> Side {
+    let mut config = Config::new([CAPACITY as u32; 7], SLOTS as u32);
+    config.version = version;
+    let greeting = if version == Version::One { 0 } else { 4 };
     Side {
-        peer: Peer::new(&Config::new([CAPACITY as u32; 7], SLOTS as u32)).unwrap(),
+        peer: Peer::new(&config).unwrap(),
+        version,
         waiting: VecDeque::new(),
-        begun: 0,
+        begun: greeting,
         flying: VecDeque::new(),
         wire: VecDeque::new(),
+        greeting,
         arrived: 0,
+    }
+}
+
+fn new_frame(random: &mut Random) -> Frame {
+    let n = random.below(12);
+    match random.below(9) {
+        0..=2 => Frame::Send(vec![n as u8; n as usize]),
+        3..=5 => Frame::Issue(n),
+        6 => Frame::Absolve(n / 2),
+        7 => Frame::Plead(n as u32),
+        _ => match random.below(32) {
+            0 | 1 => Frame::LimitSending(40 + n),
+            2 | 3 => Frame::LimitReceiving(40 + n),
+            4 => Frame::Finish,
+            _ => Frame::Absolve(0),
+        },
     }
 }
 
 impl Pair {
     // The refusal of the books, by the table, then of the queue; else the frame is put.
     fn expect(&mut self, me: usize, at: usize, frame: Frame) -> Result<(), Refusal> {
-        let full = self.sides[me].waiting.len() == SLOTS;
-        let way = match frame {
-            Frame::Send(_) | Frame::Absolve(_) | Frame::LimitSending(_) => &mut self.ways[me][at],
-            _ => &mut self.ways[1 - me][at],
+        let side = &mut self.sides[me];
+        let way = match frame.is_of_client() {
+            true => &mut self.ways[me][at],
+            false => &mut self.ways[1 - me][at],
         };
-        let next = match &frame {
-            Frame::Send(body) => way.sent(body.len() as u64)?,
-            Frame::Absolve(n) => way.absolved(*n)?,
-            Frame::Issue(n) => way.issued(*n)?,
-            Frame::Plead(target) => way.pleaded(*target)?,
-            Frame::LimitSending(bound) => Direction {
-                send_left: Some(limited(way.send_left, *bound)?),
-                ..way.clone()
-            },
-            Frame::LimitReceiving(bound) => Direction {
-                server_receive_left: Some(limited(way.server_receive_left, *bound)?),
-                ..way.clone()
-            },
-        };
-        if full {
+        let next = way.after(&frame, side.version)?;
+        if side.waiting.len() == SLOTS {
             return Err(Refusal::QueueFull);
         }
         *way = next;
-        self.sides[me].waiting.push_back((at, frame));
+        side.waiting.push_back((at, frame));
         Ok(())
     }
 
     fn call(&mut self, random: &mut Random, me: usize, at: usize) {
-        let n = random.below(12);
-        let frame = match random.below(9) {
-            0..=2 => Frame::Send(vec![n as u8; n as usize]),
-            3..=5 => Frame::Issue(n),
-            6 => Frame::Absolve(n / 2),
-            7 => Frame::Plead(n as u32),
-            _ if random.below(8) > 0 => Frame::Absolve(0),
-            _ if n % 2 == 0 => Frame::LimitSending(40 + n),
-            _ => Frame::LimitReceiving(40 + n),
-        };
+        let frame = new_frame(random);
         let (peer, channel) = (&mut self.sides[me].peer, Channel::ALL[at]);
         let answer = match &frame {
             Frame::Send(body) => peer.send(channel, body),
@@ -195,6 +248,7 @@ impl Pair {
             Frame::Plead(target) => peer.plead(channel, *target),
             Frame::LimitSending(bound) => peer.limit_sending(channel, *bound),
             Frame::LimitReceiving(bound) => peer.limit_receiving(channel, *bound),
+            Frame::Finish => peer.finish(channel),
         };
         let shown = format!("{frame:?}");
         assert_eq!(answer, self.expect(me, at, frame), "{shown}");
@@ -206,7 +260,9 @@ impl Pair {
         let due = way
             .asked
             .map_or(0, |target| way.held.saturating_sub(target.into()));
-        if due == 0 {
+        if way.finished {
+            assert_eq!(answer, Err(Refusal::ChannelFinished));
+        } else if due == 0 {
             way.asked = None;
             assert_eq!(answer, Ok(None));
         } else if self.sides[me].waiting.len() == SLOTS {
@@ -234,7 +290,7 @@ impl Pair {
             let Some(next) = side.waiting.pop_front() else {
                 break;
             };
-            side.begun = next.1.len();
+            side.begun = next.1.len(side.version);
             side.flying.push_back(next);
         }
         assert_eq!(count, room - left);
@@ -245,14 +301,16 @@ impl Pair {
         let other = &mut self.sides[1 - me];
         let count = most.min(other.wire.len());
         let piece: Vec<u8> = other.wire.drain(..count).collect();
-        other.arrived += count;
+        let greeted = count.min(other.greeting);
+        other.greeting -= greeted;
+        other.arrived += count - greeted;
         let mut whole = Vec::new();
         while let Some((_, frame)) = other
             .flying
             .front()
-            .filter(|next| next.1.len() <= other.arrived)
+            .filter(|next| next.1.len(other.version) <= other.arrived)
         {
-            other.arrived -= frame.len();
+            other.arrived -= frame.len(other.version);
             whole.extend(other.flying.pop_front());
         }
         let delivery = self.sides[me].peer.deliver(&piece);
@@ -277,13 +335,21 @@ impl Pair {
                 server.ring.push_back(body);
             }
             Frame::Issue(n) => {
-                client.held += n;
+                match client.finished {
+                    true => client.waived += n,
+                    false => client.held += n,
+                }
                 client.receive_left = client.receive_left.map(|left| left - n);
             }
             Frame::Absolve(n) => server.outstanding -= n,
+            Frame::Plead(_) if client.finished => {}
             Frame::Plead(target) => client.asked = Some(target),
             Frame::LimitSending(bound) => server.server_send_left = Some(bound),
             Frame::LimitReceiving(bound) => client.receive_left = Some(bound),
+            Frame::Finish => {
+                (server.outstanding, server.server_waived) = (0, server.outstanding);
+                server.server_finished = true;
+            }
         }
     }
 
@@ -300,7 +366,9 @@ impl Pair {
                 assert_eq!(buffer[..body.len()], body[..]);
                 way.ring.pop_front();
             }
-            None if way.server_send_left == Some(0) => assert_eq!(answer, Ok(Take::Ended)),
+            None if way.server_finished || way.server_send_left == Some(0) => {
+                assert_eq!(answer, Ok(Take::Ended));
+            }
             None => assert_eq!(answer, Ok(Take::Empty)),
         }
     }
@@ -309,47 +377,84 @@ impl Pair {
         let (side, channel) = (&self.sides[me], Channel::ALL[at]);
         let (book, way) = (side.peer.client(channel), &self.ways[me][at]);
         assert_eq!(
-            (book.held, book.spent, book.absolved),
-            (way.held, way.spent, way.absolved)
+            (book.held, book.spent, book.absolved, book.waived),
+            (way.held, way.spent, way.absolved, way.waived)
         );
-        assert_eq!(book.received, way.held + way.spent + way.absolved);
         assert_eq!(
-            (book.send_left, book.receive_left, book.asked),
-            (way.send_left, way.receive_left, way.asked)
+            book.received,
+            way.held + way.spent + way.absolved + way.waived
+        );
+        assert_eq!(
+            (book.send_left, book.receive_left, book.asked, book.finished),
+            (way.send_left, way.receive_left, way.asked, way.finished)
         );
         let (book, way) = (side.peer.server(channel), &self.ways[1 - me][at]);
         assert_eq!(
             (book.outstanding, book.buffered, book.room),
             (way.outstanding, way.buffered(), way.room())
         );
+        assert_eq!((book.issued, book.waived), (way.issued, way.server_waived));
         assert_eq!(
-            (book.send_left, book.receive_left),
-            (way.server_send_left, way.server_receive_left)
+            (book.send_left, book.receive_left, book.finished),
+            (
+                way.server_send_left,
+                way.server_receive_left,
+                way.server_finished
+            )
         );
         assert_eq!(side.peer.front_len(channel), way.ring.front().map(Vec::len));
-        let waiting: usize = side.waiting.iter().map(|next| next.1.len()).sum();
-        assert_eq!(side.peer.pending(), side.begun + waiting);
+        let waiting = side.waiting.iter().map(|next| next.1.len(side.version));
+        assert_eq!(side.peer.pending(), side.begun + waiting.sum::<usize>());
+    }
+
+    // Once all has arrived, both sides of a direction know the same of it.
+    fn settle(&mut self) {
+        (0..2).for_each(|me| self.write(me, 1_000));
+        (0..2).for_each(|me| self.deliver(me, usize::MAX));
+        for (me, at) in (0..14).map(|k| (k % 2, k / 2)) {
+            self.compare(me, at);
+            let client = self.sides[me].peer.client(Channel::ALL[at]);
+            let server = self.sides[1 - me].peer.server(Channel::ALL[at]);
+            assert_eq!(
+                (client.received, client.held, client.waived),
+                (server.issued, server.outstanding, server.waived)
+            );
+            assert_eq!(client.finished, server.finished);
+        }
     }
 }
 
-#[test]
-fn random_calls_answer_as_the_rules_say() {
-    for seed in 0..40 {
-        let mut random = Random(seed);
-        let mut pair = Pair {
-            sides: [new_side(), new_side()],
-            ways: Default::default(),
-        };
-        for _ in 0..3_000 {
-            let (me, at) = (random.below(2) as usize, random.below(3) as usize * 3);
-            match random.below(8) {
-                0..=2 => pair.call(&mut random, me, at),
-                3 => pair.honour(me, at),
-                4 => pair.write(me, random.below(30) as usize),
-                5 | 6 => pair.deliver(me, random.below(20) as usize),
-                _ => pair.take(me, at, random.below(16) as usize),
-            }
-            pair.compare(me, at);
+fn play(versions: [Version; 2], seed: u64) {
+    let mut random = Random(seed);
+    let mut pair = Pair {
+        sides: versions.map(new_side),
+        ways: Default::default(),
+    };
+    for _ in 0..3_000 {
+        let (me, at) = (random.below(2) as usize, random.below(3) as usize * 3);
+        match random.below(8) {
+            0..=2 => pair.call(&mut random, me, at),
+            3 => pair.honour(me, at),
+            4 => pair.write(me, random.below(30) as usize),
+            5 | 6 => pair.deliver(me, random.below(20) as usize),
+            _ => pair.take(me, at, random.below(16) as usize),
         }
+        pair.compare(me, at);
     }
+    pair.settle();
+}
+
+#[test]
+fn random_calls_in_version_one_answer_as_the_rules_say() {
+    (0..40).for_each(|seed| play([Version::One, Version::One], seed));
+}
+
+#[test]
+fn random_calls_in_version_two_answer_as_the_rules_say() {
+    (0..40).for_each(|seed| play([Version::Two, Version::Two], seed));
+}
+
+#[test]
+fn random_calls_in_both_versions_answer_as_the_rules_say() {
+    (0..40).for_each(|seed| play([Version::One, Version::Two], seed));
 }

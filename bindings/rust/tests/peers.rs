@@ -124,7 +124,7 @@ fn errors_have_their_numbers_and_texts() {
     let texts: Vec<String> = errors.iter().map(ToString::to_string).collect();
     assert_eq!(texts[0], "guarantees for 3 bytes are held");
     assert_eq!(texts[3], "the capacity of Data is not 1 to 2^24");
-    assert!(Violation::ALL.iter().map(|v| v.number()).eq(1..=8));
+    assert!(Violation::ALL.iter().map(|v| v.number()).eq(1..=9));
     assert!(Fault::ALL.iter().map(|f| f.number()).eq(1..=4));
     assert_eq!(
         Peer::new(&Config::new([8; 7], 65_537)).unwrap_err(),

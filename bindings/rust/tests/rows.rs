@@ -91,14 +91,23 @@ fn taken(take: Result<Take, Refusal>, buffer: &[u8]) -> String {
     }
 }
 
+// What was waived, where the channel is finished.
+fn waived(finished: bool, waived: u64) -> String {
+    match (finished, waived) {
+        (false, 0) => String::new(),
+        _ => format!(" finished {} waived {waived}", u8::from(finished)),
+    }
+}
+
 fn balances(peer: &Peer, word: &str, channel: Channel) -> String {
     if word == "client" {
         let book = peer.client(channel);
         let (send, receive) = (or_none(book.send_left), or_none(book.receive_left));
         return format!(
-            "held {} send_left {send} receive_left {receive} asked {}",
+            "held {} send_left {send} receive_left {receive} asked {}{}",
             book.held,
-            or_none(book.asked)
+            or_none(book.asked),
+            waived(book.finished, book.waived)
         );
     }
     let book = peer.server(channel);
@@ -106,8 +115,11 @@ fn balances(peer: &Peer, word: &str, channel: Channel) -> String {
         .send_left
         .map_or(String::new(), |left| format!(" send_left {left}"));
     format!(
-        "outstanding {} buffered {} room {}{left}",
-        book.outstanding, book.buffered, book.room
+        "outstanding {} buffered {} room {}{left}{}",
+        book.outstanding,
+        book.buffered,
+        book.room,
+        waived(book.finished, book.waived)
     )
 }
 
@@ -143,6 +155,7 @@ fn answer(me: &mut Side, other: &mut Side, words: &[&str], piece: usize) -> Stri
         "plead" => own(peer.plead(channel, number(2) as u32)),
         "limit-sending" => own(peer.limit_sending(channel, number(2))),
         "limit-receiving" => own(peer.limit_receiving(channel, number(2))),
+        "finish" => own(peer.finish(channel)),
         "honour" => match peer.honour(channel) {
             Ok(Some(amount)) => format!("absolved {amount}"),
             Ok(None) => "nothing to absolve".into(),

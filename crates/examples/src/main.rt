@@ -7,13 +7,14 @@ use lc_frame::Version;
 use std::{fs, io};
 
 // The scripts of `data/`, each with the bytes of its receiving rings and the version of its streams.
-const SCRIPTS: [(&str, u32, Version); 6] = [
+const SCRIPTS: [(&str, u32, Version); 7] = [
     ("first.script", 8, Version::One),
     ("limits.script", 8, Version::One),
     ("pleads.script", 16, Version::One),
     ("cut.script", 8, Version::One),
     ("ideas.script", 8, Version::One),
     ("greeting.script", 8, Version::Two),
+    ("finish.script", 8, Version::Two),
 ];
 
 // How a command line names a version.

@@ -92,7 +92,7 @@ fn spend_each(end: &mut CreditOut, calls: u32, amount: u32) -> bool
 fn spend(end: &mut CreditOut, amount: u32) -> bool
     requires { 0 < amount }
 {
-    if end.pending().is_some() {
+    if end.pending().is_some() || end.is_finished() {
         return false;
     }
     match end.spend(amount) {

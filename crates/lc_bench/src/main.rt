@@ -22,7 +22,7 @@ mod ring;
 
 use credit::measure_credits;
 use inbox::measure_inboxes;
-use lc_frame::{Body, Channel, Frame};
+use lc_frame::{Body, Channel, Frame, Version};
 use operation::{Operation, measure};
 use peer::measure_peers;
 use ping::measure_ping;
@@ -59,7 +59,8 @@ fn frame_of(rt: &HostRuntime, len: usize) -> io::Result<Frame> {
 
 fn measure_frame(rt: &HostRuntime, plan: &Plan, name: &str, frame: &Frame) -> io::Result<()> {
     for operation in &OPERATIONS {
-        measure(rt, plan, *operation, name, frame)?;
+        measure(rt, plan, *operation, Version::One, name, frame)?;
+        measure(rt, plan, *operation, Version::Two, name, frame)?;
     }
     Ok(())
 }

@@ -1,5 +1,4 @@
 //! What is measured.
-ghost use Rattle.lc_frame.specs.declared.version.Version.TheVariants.{One};
 ghost use Rattle.lc_frame.specs.Frame.{IsValid};
 
 use crate::figures::{Figure, Turns};
@@ -39,10 +38,19 @@ impl Operation {
     }
 }
 
-// An operation over one frame, and over as many of it as a walk has, as bytes.
+// What the version adds to the first part of a figure's name.
+fn suffix(version: Version) -> &'static str {
+    match version {
+        Version::One => "",
+        Version::Two => "_two",
+    }
+}
+
+// An operation in a version over one frame, and over as many of it as a walk has, as bytes.
 #[derive(Drop)]
 struct Walk<'a> {
     operation: Operation,
+    version: Version,
     frame: &'a Frame,
     count: usize,
     bytes: Vec<u8>,
@@ -54,52 +62,73 @@ struct Walk<'a> {
 }
 
 impl<'a> Walk<'a> {
-    // The walk over a frame, which has to be valid.
-    fn new(alloc: Global, operation: Operation, frame: &'a Frame) -> io::Result<Walk<'a>> {
-        if !frame.is_valid(Version::One) {
+    // The walk over a frame, which has to be valid. The greeting went before it.
+    fn new(
+        alloc: Global,
+        operation: Operation,
+        version: Version,
+        frame: &'a Frame,
+    ) -> io::Result<Walk<'a>> {
+        if !frame.is_valid(version) {
             return Err(io::Error::other("a frame is not valid"));
         }
-        let count = (WALK / frame.encoded_len(Version::One).max(1)).max(1);
+        let count = (WALK / frame.encoded_len(version).max(1)).max(1);
         let mut bytes = Vec::new(alloc);
-        encode_into(frame, count, &mut bytes)?;
+        encode_into(version, frame, count, &mut bytes)?;
+        let mut decoder = StreamDecoder::new(alloc)?;
+        decoder.feed(version.greeting());
         Ok(Walk {
             operation,
+            version,
             frame,
             count,
             out: Vec::with_capacity(alloc, bytes.len())?,
             slice: vec![in alloc; 0u8; bytes.len()]?,
             bytes,
-            decoder: StreamDecoder::new(alloc)?,
-            receiver: Receiver::new(alloc, WALK as u32)?,
+            decoder,
+            receiver: Receiver::new(alloc, version, WALK as u32)?,
             alloc,
         })
     }
-}
 
-impl Turns for Walk<'_> {
-    fn run(&mut self, turns: u64, sum: &mut u64) -> io::Result<()> {
+    // So many turns of the operation in the version, which is the walk's.
+    #[inline(always)]
+    fn go_over(&mut self, version: Version, turns: u64, sum: &mut u64) -> io::Result<()> {
         match self.operation {
             Operation::EncodeInto => {
-                encode_into_turns(self.frame, self.count, turns, &mut self.out)?;
+                encode_into_turns(version, self.frame, self.count, turns, &mut self.out)?;
             }
             Operation::EncodeToSlice => {
-                encode_to_slice_turns(self.frame, self.count, turns, &mut self.slice);
+                let out = &mut self.slice;
+                encode_to_slice_turns(version, self.frame, self.count, turns, out);
             }
             Operation::Decode => {
                 let mut last = FrameRef::Issue {
                     channel: Channel::DataChannel,
                     amount: 1,
                 };
-                decode_turns(&self.bytes, turns, &mut last);
+                decode_turns(version, &self.bytes, turns, &mut last);
                 *sum = sum.wrapping_add(weight(last));
             }
-            Operation::DecodeOwned => decode_owned_turns(self.alloc, &self.bytes, turns, sum)?,
+            Operation::DecodeOwned => {
+                decode_owned_turns(self.alloc, version, &self.bytes, turns, sum)?;
+            }
             Operation::Stream512 => stream_turns(&mut self.decoder, &self.bytes, turns, sum),
             Operation::Deliver512 => {
                 deliver_turns(&mut self.receiver, &self.bytes, turns, sum)?;
             }
         }
         Ok(())
+    }
+}
+
+impl Turns for Walk<'_> {
+    // The version is a constant in each arm, as it is in a program that has one.
+    fn run(&mut self, turns: u64, sum: &mut u64) -> io::Result<()> {
+        match self.version {
+            Version::One => self.go_over(Version::One, turns, sum),
+            Version::Two => self.go_over(Version::Two, turns, sum),
+        }
     }
 }
 
@@ -111,57 +140,70 @@ fn weight(frame: FrameRef<'_>) -> u64 {
         FrameRef::Issue { amount, .. } | FrameRef::Absolve { amount, .. } => u64::from(amount),
         FrameRef::Plead { target, .. } => u64::from(target),
         FrameRef::LimitSending { bound, .. } | FrameRef::LimitReceiving { bound, .. } => bound,
+        FrameRef::Finish { .. } => 0,
     };
     number ^ u64::from(frame.channel().number())
 }
 
-#[inline(never)]
+#[inline(always)]
 fn encode_into_turns(
+    version: Version,
     frame: &Frame,
     count: usize,
     turns: u64,
     out: &mut Vec<u8>,
 ) -> Result<(), AllocError> {
-    if !frame.is_valid(Version::One) {
+    if !frame.is_valid(version) {
         return Ok(());
     }
     for _ in 0..turns {
         out.clear();
-        encode_into(frame, count, out)?;
+        encode_into(version, frame, count, out)?;
     }
     Ok(())
 }
 
-#[inline]
-fn encode_into(frame: &Frame, count: usize, out: &mut Vec<u8>) -> Result<(), AllocError>
-    requires { IsValid One frame.now }
+#[inline(always)]
+fn encode_into(
+    version: Version,
+    frame: &Frame,
+    count: usize,
+    out: &mut Vec<u8>,
+) -> Result<(), AllocError>
+    requires { IsValid version frame.now }
 {
     for _ in 0..count {
-        frame.encode_into(Version::One, out)?;
+        frame.view().encode_into(version, out)?;
     }
     Ok(())
 }
 
-#[inline(never)]
-fn encode_to_slice_turns(frame: &Frame, count: usize, turns: u64, out: &mut [u8]) {
-    if !frame.is_valid(Version::One) {
+#[inline(always)]
+fn encode_to_slice_turns(
+    version: Version,
+    frame: &Frame,
+    count: usize,
+    turns: u64,
+    out: &mut [u8],
+) {
+    if !frame.is_valid(version) {
         return;
     }
     for _ in 0..turns {
-        encode_to_slice(frame, count, out);
+        encode_to_slice(version, frame, count, out);
     }
 }
 
-#[inline]
-fn encode_to_slice(frame: &Frame, count: usize, out: &mut [u8])
-    requires { IsValid One frame.now }
+#[inline(always)]
+fn encode_to_slice(version: Version, frame: &Frame, count: usize, out: &mut [u8])
+    requires { IsValid version frame.now }
 {
     let mut at = 0usize;
     for _ in 0..count {
         if at > out.len() {
             break;
         }
-        let Ok(used) = frame.encode_to_slice(Version::One, &mut out[at..]) else {
+        let Ok(used) = frame.encode_to_slice(version, &mut out[at..]) else {
             break;
         };
         at = at.wrapping_add(used);
@@ -169,39 +211,45 @@ fn encode_to_slice(frame: &Frame, count: usize, out: &mut [u8])
 }
 
 // Each frame is written to where the last one stood, so that all of its fields are made.
-#[inline(never)]
-fn decode_turns<'a>(bytes: &'a [u8], turns: u64, last: &mut FrameRef<'a>) {
+#[inline(always)]
+fn decode_turns<'a>(version: Version, bytes: &'a [u8], turns: u64, last: &mut FrameRef<'a>) {
     for _ in 0..turns {
-        decode_all(bytes, last);
+        decode_all(version, bytes, last);
     }
 }
 
-#[inline]
-fn decode_all<'a>(bytes: &'a [u8], last: &mut FrameRef<'a>) {
+#[inline(always)]
+fn decode_all<'a>(version: Version, bytes: &'a [u8], last: &mut FrameRef<'a>) {
     let mut rest = bytes;
-    while let Decoded::Whole { frame, used } = decode(Version::One, rest) {
+    while let Decoded::Whole { frame, used } = decode(version, rest) {
         rest = rest.split_at(used).1;
         *last = frame;
     }
 }
 
-#[inline(never)]
+#[inline(always)]
 fn decode_owned_turns(
     alloc: Global,
+    version: Version,
     bytes: &[u8],
     turns: u64,
     sum: &mut u64,
 ) -> Result<(), AllocError> {
     for _ in 0..turns {
-        decode_owned(alloc, bytes, sum)?;
+        decode_owned(alloc, version, bytes, sum)?;
     }
     Ok(())
 }
 
-#[inline]
-fn decode_owned(alloc: Global, bytes: &[u8], sum: &mut u64) -> Result<(), AllocError> {
+#[inline(always)]
+fn decode_owned(
+    alloc: Global,
+    version: Version,
+    bytes: &[u8],
+    sum: &mut u64,
+) -> Result<(), AllocError> {
     let mut rest = bytes;
-    while let Decoded::Whole { frame, used } = decode(Version::One, rest) {
+    while let Decoded::Whole { frame, used } = decode(version, rest) {
         let owned = frame.to_frame(alloc)?;
         rest = rest.split_at(used).1;
         *sum = sum.wrapping_add(weight(owned.view()));
@@ -255,18 +303,19 @@ fn deliver_turns(
     Ok(())
 }
 
-/// Takes the figures of one operation at one frame.
+/// Takes the figures of one operation in a version at one frame.
 pub fn measure(
     rt: &HostRuntime,
     plan: &Plan,
     operation: Operation,
+    version: Version,
     subject: &str,
     frame: &Frame,
 ) -> io::Result<()> {
-    let name = format!(in rt.alloc(); "{}.{subject}", operation.name())?;
-    let mut walk = Walk::new(rt.alloc(), operation, frame)?;
+    let name = format!(in rt.alloc(); "{}{}.{subject}", operation.name(), suffix(version))?;
+    let mut walk = Walk::new(rt.alloc(), operation, version, frame)?;
     // A body that is lent is not touched, so its bytes per second would say nothing.
-    let is_lent = matches!(operation, Operation::Decode) && frame.encoded_len(Version::One) >= 100;
+    let is_lent = matches!(operation, Operation::Decode) && frame.encoded_len(version) >= 100;
     let figure = Figure {
         name: name.as_str(),
         things: "frames",

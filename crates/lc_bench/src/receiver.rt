@@ -17,16 +17,17 @@ pub struct Receiver {
 }
 
 impl Receiver {
-    /// A receiver with room for so many bytes.
-    pub fn new(alloc: Global, room: u32) -> io::Result<Receiver> {
+    /// A receiver with room for so many bytes, to which the greeting of the version has come.
+    pub fn new(alloc: Global, version: Version, room: u32) -> io::Result<Receiver> {
         let mut capacities = [1; 7];
         capacities[CHANNEL.index()] = room;
         let config = Config {
-            version: Version::One,
+            version,
             capacities,
             slots: 2,
         };
-        let decoder = StreamDecoder::new(alloc)?;
+        let mut decoder = StreamDecoder::new(alloc)?;
+        decoder.feed(version.greeting());
         let Ok(peer) = Peer::new(alloc, config) else {
             return Err(io::Error::other("no peer was made"));
         };

@@ -1,18 +1,19 @@
 -- The sums over a list of frames are those over the frames of one lane.
 use Rattle.std.proofs.Common.{◌≡◌, ℕ, ◌+◌, false, List, [], ◌∷◌, ◌++◌, length, refl, sym, ap, ◌∙◌, inl, inr, arith, append_assoc}
-use Rattle.std.specs.Prelude.{◌==◌, sum_by}
+use Rattle.std.specs.Prelude.{◌==◌, ◌||◌, sum_by}
 use Rattle.std.proofs.lemmas.Bool.{cases_Bool}
 use Rattle.std.proofs.lemmas.Bool.Decides.{nat_tests}
 use Rattle.std.proofs.lemmas.List.{append-nil}
 use Rattle.lc_frame.specs.declared.channel.Channel.{Channel}
 use Rattle.lc_frame.specs.declared.frame.Frame.{Frame}
-use Rattle.lc_frame.specs.declared.frame.Frame.TheVariants.{Send, Issue, Absolve, Plead, LimitSending, LimitReceiving}
+use Rattle.lc_frame.specs.declared.frame.Frame.TheVariants.{Send, Issue, Absolve, Plead, LimitSending, LimitReceiving, Finish}
 use Rattle.lc_frame.specs.Channel.{is_same, number_of}
 use Rattle.lc_frame.specs.Frame.{channel_of, lane_of}
-use Rattle.lc_frame.specs.Stream.{of_lane, messages, issued, absolved, send_left, receive_left}
+use Rattle.lc_frame.specs.Stream.{of_lane, messages, issued, absolved, send_left, receive_left, finished}
 use Rattle.lc_frame.proofs.Channels.{cases_same}
-use Rattle.lc_frame.proofs.Measures.{messages-append, messages-one, messages-other, issued-append, issued-one, issued-other, absolved-append, absolved-one, absolved-other, send_left_then, send_left-push, send_left-other, receive_left_then, receive_left-push, receive_left-other}
+use Rattle.lc_frame.proofs.Measures.{messages-append, messages-one, messages-other, issued-append, issued-one, issued-other, absolved-append, absolved-one, absolved-other, send_left_then, send_left-push, send_left-other, receive_left_then, receive_left-push, receive_left-other, finished-append, finished-other}
 use Rattle.lc_book.specs.Sums.{SumsAreOfLanes, EverySumIsOfItsLane}
+use Rattle.lc_book.proofs.SumsKept.{not_finished_more}
 
 -- a measure that goes on alike after one frame more, and that a frame of another lane leaves as it is, sees one lane alone
 module _ {X : Type 0} (measure : List Frame → X) (lane : ℕ) (goes_on : (xs ys : List Frame) (f : Frame) → measure xs ≡ measure ys → measure (xs ++ f ∷ []) ≡ measure (ys ++ f ∷ [])) (stays : (xs : List Frame) (f : Frame) → (lane_of f == lane) ≡ false → measure (xs ++ f ∷ []) ≡ measure xs) where
@@ -47,6 +48,7 @@ silent_messages xs (Absolve c n) e = same_number (number_of c) e
 silent_messages xs (Plead c n) e = let f : Frame = Plead c n in messages-append c xs (f ∷ []) ∙ ap (λ ys. messages c xs ++ ys) (messages-one f) ∙ append-nil (messages c xs)
 silent_messages xs (LimitSending c n) e = same_number (number_of c) e
 silent_messages xs (LimitReceiving c n) e = let f : Frame = LimitReceiving c n in messages-append c xs (f ∷ []) ∙ ap (λ ys. messages c xs ++ ys) (messages-one f) ∙ append-nil (messages c xs)
+silent_messages xs (Finish c) e = same_number (number_of c) e
 
 messages_go_on : (c : Channel) (xs ys : List Frame) (f : Frame) → messages c xs ≡ messages c ys → messages c (xs ++ f ∷ []) ≡ messages c (ys ++ f ∷ [])
 messages_go_on c xs ys f e = messages-append c xs (f ∷ []) ∙ ap (λ zs. zs ++ messages c (f ∷ [])) e ∙ sym (messages-append c ys (f ∷ []))
@@ -62,6 +64,7 @@ silent_absolved xs (Absolve c n) e = same_number (number_of c) e
 silent_absolved xs (Plead c n) e = let f : Frame = Plead c n in omega (arith, absolved-append c xs (f ∷ []), absolved-one f)
 silent_absolved xs (LimitSending c n) e = same_number (number_of c) e
 silent_absolved xs (LimitReceiving c n) e = let f : Frame = LimitReceiving c n in omega (arith, absolved-append c xs (f ∷ []), absolved-one f)
+silent_absolved xs (Finish c) e = same_number (number_of c) e
 
 absolved_goes_on : (c : Channel) (xs ys : List Frame) (f : Frame) → absolved c xs ≡ absolved c ys → absolved c (xs ++ f ∷ []) ≡ absolved c (ys ++ f ∷ [])
 absolved_goes_on c xs ys f e = omega (arith, absolved-append c xs (f ∷ []), absolved-append c ys (f ∷ []))
@@ -77,6 +80,7 @@ silent_send_left xs (Absolve c n) e = same_number (number_of c) e
 silent_send_left xs (Plead c n) e = send_left-push xs (Plead c n)
 silent_send_left xs (LimitSending c n) e = same_number (number_of c) e
 silent_send_left xs (LimitReceiving c n) e = send_left-push xs (LimitReceiving c n)
+silent_send_left xs (Finish c) e = same_number (number_of c) e
 
 send_left_goes_on : (c : Channel) (xs ys : List Frame) (f : Frame) → send_left c xs ≡ send_left c ys → send_left c (xs ++ f ∷ []) ≡ send_left c (ys ++ f ∷ [])
 send_left_goes_on c xs ys f e =
@@ -87,6 +91,22 @@ send_left_goes_on c xs ys f e =
 
 send_left-of_lane : (c : Channel) (frames : List Frame) → send_left c (of_lane (number_of c) frames) ≡ send_left c frames
 send_left-of_lane c frames = lane_alone (send_left c) (number_of c) (send_left_goes_on c) (stays_elsewhere send_left number_of send_left-other silent_send_left c) frames
+
+-- whether the client finished
+silent_finished : (xs : List Frame) (f : Frame) → (lane_of f == number_of (channel_of f)) ≡ false → finished (channel_of f) (xs ++ f ∷ []) ≡ finished (channel_of f) xs
+silent_finished xs (Send c body) e = same_number (number_of c) e
+silent_finished xs (Issue c n) e = sym (not_finished_more xs (Issue c n) refl)
+silent_finished xs (Absolve c n) e = same_number (number_of c) e
+silent_finished xs (Plead c n) e = sym (not_finished_more xs (Plead c n) refl)
+silent_finished xs (LimitSending c n) e = same_number (number_of c) e
+silent_finished xs (LimitReceiving c n) e = sym (not_finished_more xs (LimitReceiving c n) refl)
+silent_finished xs (Finish c) e = same_number (number_of c) e
+
+finished_goes_on : (c : Channel) (xs ys : List Frame) (f : Frame) → finished c xs ≡ finished c ys → finished c (xs ++ f ∷ []) ≡ finished c (ys ++ f ∷ [])
+finished_goes_on c xs ys f e = finished-append c xs (f ∷ []) ∙ ap (λ b. b || finished c (f ∷ [])) e ∙ sym (finished-append c ys (f ∷ []))
+
+finished-of_lane : (c : Channel) (frames : List Frame) → finished c (of_lane (number_of c) frames) ≡ finished c frames
+finished-of_lane c frames = lane_alone (finished c) (number_of c) (finished_goes_on c) (stays_elsewhere finished number_of finished-other silent_finished c) frames
 
 -- the guarantees issued
 abbrev server_lane : Channel → ℕ
@@ -99,6 +119,7 @@ silent_issued xs (Absolve c n) e = let f : Frame = Absolve c n in omega (arith, 
 silent_issued xs (Plead c n) e = same_number (server_lane c) e
 silent_issued xs (LimitSending c n) e = let f : Frame = LimitSending c n in omega (arith, issued-append c xs (f ∷ []), issued-one f)
 silent_issued xs (LimitReceiving c n) e = same_number (server_lane c) e
+silent_issued xs (Finish c) e = let f : Frame = Finish c in omega (arith, issued-append c xs (f ∷ []), issued-one f)
 
 issued_goes_on : (c : Channel) (xs ys : List Frame) (f : Frame) → issued c xs ≡ issued c ys → issued c (xs ++ f ∷ []) ≡ issued c (ys ++ f ∷ [])
 issued_goes_on c xs ys f e = omega (arith, issued-append c xs (f ∷ []), issued-append c ys (f ∷ []))
@@ -114,6 +135,7 @@ silent_receive_left xs (Absolve c n) e = receive_left-push xs (Absolve c n)
 silent_receive_left xs (Plead c n) e = same_number (server_lane c) e
 silent_receive_left xs (LimitSending c n) e = receive_left-push xs (LimitSending c n)
 silent_receive_left xs (LimitReceiving c n) e = same_number (server_lane c) e
+silent_receive_left xs (Finish c) e = receive_left-push xs (Finish c)
 
 receive_left_goes_on : (c : Channel) (xs ys : List Frame) (f : Frame) → receive_left c xs ≡ receive_left c ys → receive_left c (xs ++ f ∷ []) ≡ receive_left c (ys ++ f ∷ [])
 receive_left_goes_on c xs ys f e =
@@ -131,6 +153,7 @@ sums_are_of_lanes c frames = record {
   cost_is = ap (sum_by length) (messages-of_lane c frames);
   absolved_is = absolved-of_lane c frames;
   send_left_is = send_left-of_lane c frames;
+  finished_is = finished-of_lane c frames;
   issued_is = issued-of_lane c frames;
   receive_left_is = receive_left-of_lane c frames;
 }

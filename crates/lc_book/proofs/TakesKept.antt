@@ -13,7 +13,7 @@ use Rattle.lc_book.proofs.SumsKept.{server_is}
 take_keeps : (capacity : ℕ) (c : Channel) (put arrived : List Frame) (count : ℕ) → TakeKeepsSums capacity c put arrived count
 take_keeps capacity c put arrived count = record {
   waits = λ more. omega (arith, sum_by_more_le length (messages c arrived) count [] more);
-  takes = λ more. server_is _ _ refl refl refl (sym (sum_by_more length (messages c arrived) count [] more)) refl refl refl;
+  takes = λ more. server_is _ _ refl refl refl (sym (sum_by_more length (messages c arrived) count [] more)) refl refl refl refl;
   stays = λ f enough. ap (sum_by length) (ap (take count) (messages-append c arrived (f ∷ [])) ∙ take-append-le count (messages c arrived) (messages c (f ∷ [])) enough);
 }
 

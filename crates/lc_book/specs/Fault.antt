@@ -1,9 +1,9 @@
 -- The numbers of refusals and violations: this project's own.
 use Rattle.std.specs.Prelude.{ℕ}
 use Rattle.lc_book.specs.declared.fault.Refusal.{Refusal}
-use Rattle.lc_book.specs.declared.fault.Refusal.TheVariants.{EmptyBody, BodyTooLong, PastSendLimit, NoGuarantee, ZeroAmount, NotHeld, BoundTooLarge, LimitRaised, PastReceiveLimit, NoRoom, NothingToAsk, TotalReached, QueueFull, OutOfMemory, BufferTooSmall}
+use Rattle.lc_book.specs.declared.fault.Refusal.TheVariants.{EmptyBody, BodyTooLong, PastSendLimit, NoGuarantee, ZeroAmount, NotHeld, BoundTooLarge, LimitRaised, PastReceiveLimit, NoRoom, NothingToAsk, TotalReached, QueueFull, OutOfMemory, ChannelFinished, BufferTooSmall, WrongVersion}
 use Rattle.lc_book.specs.declared.fault.Violation.{Violation}
-use Rattle.lc_book.specs.declared.fault.Violation.TheVariants.{NotGuaranteed, SentPastLimit, AbsolvedTooMuch, SendLimitRaised, IssuedPastLimit, TooManyGuarantees, ReceiveLimitRaised, TotalPassed}
+use Rattle.lc_book.specs.declared.fault.Violation.TheVariants.{NotGuaranteed, SentPastLimit, AbsolvedTooMuch, SendLimitRaised, IssuedPastLimit, TooManyGuarantees, ReceiveLimitRaised, TotalPassed, AfterFinish}
 
 abbrev pub refusal_number : Refusal → ℕ
 refusal_number EmptyBody = 1
@@ -20,7 +20,9 @@ refusal_number (NothingToAsk outstanding) = 11
 refusal_number TotalReached = 12
 refusal_number QueueFull = 13
 refusal_number OutOfMemory = 14
+refusal_number ChannelFinished = 15
 refusal_number (BufferTooSmall need) = 16
+refusal_number WrongVersion = 17
 
 abbrev pub violation_number : Violation → ℕ
 violation_number NotGuaranteed = 1
@@ -31,3 +33,4 @@ violation_number IssuedPastLimit = 5
 violation_number TooManyGuarantees = 6
 violation_number ReceiveLimitRaised = 7
 violation_number TotalPassed = 8
+violation_number AfterFinish = 9

@@ -1,5 +1,5 @@
--- The server's book of one channel direction, and what each call on it refuses and leaves. Guarantees as promises of free buffer space, and pleading for their absolution, are LCMUX's; the order of refusals and the violations are this project's own.
-use Rattle.std.specs.Prelude.{◌≡◌, ℕ, ◌+◌, ◌-◌, ◌≤◌, ◌==◌, nat_lt, nat_le, if◌then◌else◌, Option, Some, None}
+-- The server's book of one channel direction, and what each call on it refuses and leaves. Guarantees as promises of free buffer space, and pleading for their absolution, are LCMUX's; the order of refusals, the violations and that a client may finish are this project's own.
+use Rattle.std.specs.Prelude.{◌≡◌, ◌⊎◌, ℕ, Bool, true, false, ◌+◌, ◌-◌, ◌≤◌, ◌==◌, nat_lt, nat_le, if◌then◌else◌, Option, Some, None}
 use Rattle.std.specs.Option.{ForSome}
 use Rattle.lc_frame.specs.Bounds.{IsCapacity}
 use Rattle.lc_frame.specs.Kind.{max_total}
@@ -8,9 +8,10 @@ use Rattle.lc_book.specs.declared.fault.Refusal.{Refusal}
 use Rattle.lc_book.specs.declared.fault.Refusal.TheVariants.{ZeroAmount, PastReceiveLimit, NoRoom, NothingToAsk, TotalReached}
 use Rattle.lc_book.specs.declared.fault.Violation.{Violation}
 use Rattle.lc_book.specs.declared.fault.Violation.TheVariants.{NotGuaranteed, SentPastLimit, AbsolvedTooMuch, SendLimitRaised}
-use Rattle.lc_book.specs.Limit.{is_past, less, left_of}
+use Rattle.lc_book.specs.Limit.{is_past, less, left_of, limit_refusal}
+use Rattle.lc_book.specs.Finish.{finished_refusal_or, finished_violation_or}
 
--- the bytes of the receiving ring, the guarantees issued, the bytes that arrived and those that were taken, the guarantees absolved, and what is left of both limits
+-- the bytes of the receiving ring, the guarantees issued, the bytes that arrived and those that were taken, the guarantees absolved, what is left of both limits, and whether the client's Finish arrived
 pub record Server : Type 0 where
   pub capacity : ℕ
   pub issued : ℕ
@@ -19,13 +20,18 @@ pub record Server : Type 0 where
   pub absolved : ℕ
   pub send_left : Option ℕ
   pub receive_left : Option ℕ
+  pub finished : Bool
 
 abbrev pub new_server : ℕ → Server
-new_server capacity = record { capacity = capacity; issued = 0; arrived = 0; taken = 0; absolved = 0; send_left = None; receive_left = None }
+new_server capacity = record { capacity = capacity; issued = 0; arrived = 0; taken = 0; absolved = 0; send_left = None; receive_left = None; finished = false }
 
--- the promises that still stand, the bytes that wait, and the rest of the ring. On these numbers the minus stops at 0; IsServer says that it never has to
+-- where the client's Finish arrived, all promises that no message used up and that were not absolved. On these numbers the minus stops at 0; IsServer says that it never has to
+abbrev pub waived : Server → ℕ
+waived b = if b.finished then b.issued - b.arrived - b.absolved else 0
+
+-- the promises that still stand, the bytes that wait, and the rest of the ring
 abbrev pub outstanding : Server → ℕ
-outstanding b = b.issued - b.arrived - b.absolved
+outstanding b = b.issued - b.arrived - b.absolved - waived b
 
 abbrev pub buffered : Server → ℕ
 buffered b = b.arrived - b.taken
@@ -33,14 +39,14 @@ buffered b = b.arrived - b.taken
 abbrev pub room : Server → ℕ
 room b = b.capacity - outstanding b - buffered b
 
--- the client will send nothing more
+-- the client will send nothing more: its limit is used up, or it finished
 abbrev pub IsEnded : Server → Type 0
-IsEnded b = b.send_left ≡ Some 0
+IsEnded b = (b.send_left ≡ Some 0) ⊎ (b.finished ≡ true)
 
 -- no balance is below 0, the ring holds what is buffered and what is promised, and the numbers are within the profile's limits
 pub record IsServer (b : Server) : Type 0 where
   pub capacity : IsCapacity b.capacity
-  pub used : b.arrived + b.absolved ≤ b.issued
+  pub used : b.arrived + b.absolved + waived b ≤ b.issued
   pub total : b.issued ≤ max_total
   pub taken : b.taken ≤ b.arrived
   pub fits : outstanding b + buffered b ≤ b.capacity
@@ -48,25 +54,33 @@ pub record IsServer (b : Server) : Type 0 where
   pub receive_bound : ForSome b.receive_left (λ left. left ≤ max_total)
 
 abbrev pub server_of_parts : ServerParts → Server
-server_of_parts p = record { capacity = p.capacity; issued = p.issued; arrived = p.arrived; taken = p.taken; absolved = p.absolved; send_left = p.send_left; receive_left = p.receive_left }
+server_of_parts p = record { capacity = p.capacity; issued = p.issued; arrived = p.arrived; taken = p.taken; absolved = p.absolved; send_left = p.send_left; receive_left = p.receive_left; finished = p.finished }
+
+-- the fields are those of a book, which has what is waived by the others
+pub record AreServerParts (p : ServerParts) : Type 0 where
+  pub is_server : IsServer (server_of_parts p)
+  pub waived_is : p.waived ≡ waived (server_of_parts p)
 
 -- why a server may not issue so much, and what issuing leaves
 abbrev pub issue_refusal : Server → ℕ → Option Refusal
 issue_refusal b n =
-    if n == 0 then Some ZeroAmount
+    finished_refusal_or b.finished (if n == 0 then Some ZeroAmount
     else (if is_past b.receive_left n then Some (PastReceiveLimit (left_of b.receive_left))
     else (if nat_lt (room b) n then Some (NoRoom (room b))
     else (if nat_lt max_total (b.issued + n) then Some TotalReached
-    else None)))
+    else None))))
 
 abbrev pub issue : Server → ℕ → Server
 issue b n = record b { issued = b.issued + n; receive_left = less b.receive_left n }
 
--- why a server may not plead: the target is met already
+-- why a server may not plead: the client finished, or the target is met already
 abbrev pub plead_refusal : Server → ℕ → Option Refusal
-plead_refusal b target = if nat_le (outstanding b) target then Some (NothingToAsk (outstanding b)) else None
+plead_refusal b target = finished_refusal_or b.finished (if nat_le (outstanding b) target then Some (NothingToAsk (outstanding b)) else None)
 
--- a limit on receiving
+-- why a server may not limit its receiving, and what a limit leaves
+abbrev pub limit_receiving_refusal : Server → ℕ → Option Refusal
+limit_receiving_refusal b bound = finished_refusal_or b.finished (limit_refusal b.receive_left bound)
+
 abbrev pub limit_server : Server → ℕ → Server
 limit_server b bound = record b { receive_left = Some bound }
 
@@ -83,23 +97,30 @@ pub record AreFreed (len : ℕ) (old new : Server) : Type 0 where
 -- what is wrong with a message that arrives, and what it leaves
 abbrev pub message_violation : Server → ℕ → Option Violation
 message_violation b len =
-    if nat_lt (outstanding b) len then Some NotGuaranteed
+    finished_violation_or b.finished (if nat_lt (outstanding b) len then Some NotGuaranteed
     else (if is_past b.send_left len then Some SentPastLimit
-    else None)
+    else None))
 
 abbrev pub add_arrived : Server → ℕ → Server
 add_arrived b len = record b { arrived = b.arrived + len; send_left = less b.send_left len }
 
 -- what is wrong with an absolving that arrives, and what it leaves
 abbrev pub absolve_violation : Server → ℕ → Option Violation
-absolve_violation b n = if nat_lt (outstanding b) n then Some AbsolvedTooMuch else None
+absolve_violation b n = finished_violation_or b.finished (if nat_lt (outstanding b) n then Some AbsolvedTooMuch else None)
 
 abbrev pub add_absolved : Server → ℕ → Server
 add_absolved b n = record b { absolved = b.absolved + n }
 
 -- what is wrong with a limit on sending that arrives, and what it leaves
 abbrev pub send_limit_violation : Server → ℕ → Option Violation
-send_limit_violation b bound = if is_past b.send_left bound then Some SendLimitRaised else None
+send_limit_violation b bound = finished_violation_or b.finished (if is_past b.send_left bound then Some SendLimitRaised else None)
 
 abbrev pub note_send_limit : Server → ℕ → Server
 note_send_limit b bound = record b { send_left = Some bound }
+
+-- what is wrong with a Finish that arrives, and what it leaves
+abbrev pub finish_violation : Server → Option Violation
+finish_violation b = finished_violation_or b.finished None
+
+abbrev pub note_finish : Server → Server
+note_finish b = record b { finished = true }

@@ -3,15 +3,14 @@ use Rattle.std.specs.Prelude.{◌≡◌, ℕ, ◌+◌, ◌<◌, ◌≤◌, List,
 use Rattle.lc_frame.specs.declared.version.Version.{Version}
 use Rattle.lc_frame.specs.declared.channel.Channel.{Channel}
 use Rattle.lc_frame.specs.declared.frame.Frame.{Frame}
-use Rattle.lc_frame.specs.declared.frame.Frame.TheVariants.{Send, Issue, Absolve, Plead, LimitSending, LimitReceiving}
+use Rattle.lc_frame.specs.declared.frame.Frame.TheVariants.{Send, Issue, Absolve, Plead, LimitSending, LimitReceiving, Finish}
 use Rattle.lc_frame.specs.Channel.{is_same, number_of}
 use Rattle.lc_frame.specs.Frame.{channel_of, IsValid}
-use Rattle.lc_frame.specs.Stream.{of_lane, messages, cost, issued as issued_on, absolved as absolved_on, send_left as send_left_on, receive_left as receive_left_on}
-use Rattle.lc_book.specs.Limit.{limit_refusal}
-use Rattle.lc_book.specs.Client.{Client, IsClient, spend_refusal, spend, absolve_refusal, absolve, amount_to_absolve, honour, limit_client, add_received, keep_plead, note_receive_limit}
-use Rattle.lc_book.specs.Server.{Server, IsServer, buffered, issue_refusal, issue, plead_refusal, limit_server, note_taken, add_arrived, add_absolved, note_send_limit}
+use Rattle.lc_frame.specs.Stream.{of_lane, messages, cost, issued as issued_on, absolved as absolved_on, send_left as send_left_on, receive_left as receive_left_on, finished as finished_on}
+use Rattle.lc_book.specs.Client.{Client, IsClient, spend_refusal, spend, absolve_refusal, absolve, amount_to_absolve, kept, honour, limit_sending_refusal, limit_client, finish_refusal, finish, add_received, keep_plead, note_receive_limit}
+use Rattle.lc_book.specs.Server.{Server, IsServer, buffered, issue_refusal, issue, plead_refusal, limit_receiving_refusal, limit_server, note_taken, add_arrived, add_absolved, note_send_limit, note_finish}
 
--- the client's book of a channel, by the version of its stream, all frames that it put, the frames that arrived at it, and the target of the plead that it keeps
+-- the client's book of a channel, by the version of its stream, all frames that it put, the frames that arrived at it, and the target of the plead that it keeps where it did not finish
 abbrev pub client_of : Version → Channel → List Frame → List Frame → Option ℕ → Client
 client_of version c put arrived asked =
     record {
@@ -21,7 +20,8 @@ client_of version c put arrived asked =
       absolved = absolved_on c put;
       send_left = send_left_on c put;
       receive_left = receive_left_on c arrived;
-      asked = asked;
+      asked = kept (finished_on c put) asked;
+      finished = finished_on c put;
     }
 
 -- the server's book, by all frames that it put, the frames that arrived at it, and the bytes that were taken
@@ -35,6 +35,7 @@ server_of capacity c put arrived taken =
       absolved = absolved_on c arrived;
       send_left = send_left_on c arrived;
       receive_left = receive_left_on c put;
+      finished = finished_on c arrived;
     }
 
 -- what a frame on its channel leaves of the client's book, where the client put it, and where it arrived
@@ -42,6 +43,7 @@ abbrev pub client_after_put : Frame → Client → Client
 client_after_put (Send c body) b = spend b (length body)
 client_after_put (Absolve c amount) b = absolve b amount
 client_after_put (LimitSending c bound) b = limit_client b bound
+client_after_put (Finish c) b = finish b
 client_after_put f b = b
 
 abbrev pub client_after_arrival : Frame → Client → Client
@@ -60,6 +62,7 @@ abbrev pub server_after_arrival : Frame → Server → Server
 server_after_arrival (Send c body) b = add_arrived b (length body)
 server_after_arrival (Absolve c amount) b = add_absolved b amount
 server_after_arrival (LimitSending c bound) b = note_send_limit b bound
+server_after_arrival (Finish c) b = note_finish b
 server_after_arrival f b = b
 
 -- the plead that is kept after a frame on its channel arrived
@@ -109,10 +112,11 @@ pub record PutsValidFrames (client : Client) (server : Server) (c : Channel) : T
   pub send : (body : List ℕ) → spend_refusal client (length body) ≡ None → IsValid client.version (Send c body)
   pub absolve : (amount : ℕ) → absolve_refusal client amount ≡ None → IsValid client.version (Absolve c amount)
   pub honour : (amount : ℕ) → amount_to_absolve client ≡ Some amount → IsValid client.version (Absolve c amount)
-  pub limit_sending : (bound : ℕ) → limit_refusal client.send_left bound ≡ None → IsValid client.version (LimitSending c bound)
+  pub limit_sending : (bound : ℕ) → limit_sending_refusal client bound ≡ None → IsValid client.version (LimitSending c bound)
+  pub finish : finish_refusal client ≡ None → IsValid client.version (Finish c)
   pub issue : (amount : ℕ) → issue_refusal server amount ≡ None → IsValid client.version (Issue c amount)
   pub plead : (target : ℕ) → plead_refusal server target ≡ None → IsValid client.version (Plead c target)
-  pub limit_receiving : (bound : ℕ) → limit_refusal server.receive_left bound ≡ None → IsValid client.version (LimitReceiving c bound)
+  pub limit_receiving : (bound : ℕ) → limit_receiving_refusal server bound ≡ None → IsValid client.version (LimitReceiving c bound)
 
 abbrev pub EveryBookPutsValidFrames : Type 0
 EveryBookPutsValidFrames = (client : Client) (server : Server) (c : Channel) → IsClient client → IsServer server → PutsValidFrames client server c
@@ -123,6 +127,7 @@ pub record SumsAreOfLanes (c : Channel) (frames : List Frame) : Type 0 where
   pub cost_is : cost c (of_lane (number_of c) frames) ≡ cost c frames
   pub absolved_is : absolved_on c (of_lane (number_of c) frames) ≡ absolved_on c frames
   pub send_left_is : send_left_on c (of_lane (number_of c) frames) ≡ send_left_on c frames
+  pub finished_is : finished_on c (of_lane (number_of c) frames) ≡ finished_on c frames
   pub issued_is : issued_on c (of_lane (7 + number_of c) frames) ≡ issued_on c frames
   pub receive_left_is : receive_left_on c (of_lane (7 + number_of c) frames) ≡ receive_left_on c frames
 

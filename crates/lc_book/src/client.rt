@@ -1,12 +1,14 @@
-//! The client's book: guarantees received, spent and absolved, both limits, and the plead that is kept.
-ghost use Rattle.std.specs.Prelude.{◌≡◌, ◌+◌, ◌<◌, ◌≤◌, ◌↔◌, if◌then◌else◌, is_ok, IsSome, IfSome, IsTrue, OnOk};
+//! The client's book: guarantees received, spent, absolved and waived, both limits, and the plead
+//! that is kept.
+ghost use Rattle.std.specs.Prelude.{◌≡◌, ◌+◌, ◌<◌, ◌≤◌, ◌↔◌, if◌then◌else◌, is_ok, true, IsSome, IfSome, IfOk, IsTrue, OnOk};
 ghost use Rattle.std.specs.Result.{result_err};
 ghost use Rattle.std.specs.Option.{ForSome};
-ghost use Rattle.lc_frame.specs.Kind.{max_amount, max_total};
-ghost use Rattle.lc_book.specs.Limit.{limit_refusal};
-ghost use Rattle.lc_book.specs.Client.{IsClient, client_of_parts, new_client, held, spend_refusal, spend, absolve_refusal, absolve, amount_to_absolve, honour, limit_client, issued_violation, add_received, keep_plead, receive_limit_violation, note_receive_limit};
+ghost use Rattle.lc_frame.specs.declared.kind.Kind.TheVariants.{Finish};
+ghost use Rattle.lc_frame.specs.Kind.{has, max_amount, max_total};
+ghost use Rattle.lc_book.specs.Client.{IsClient, AreClientParts, client_of_parts, new_client, waived, held, spend_refusal, spend, absolve_refusal, absolve, honour_refusal, amount_to_absolve, honour, limit_sending_refusal, limit_client, finish_refusal, finish, issued_violation, add_received, keep_plead, receive_limit_violation, note_receive_limit};
 
 use crate::fault::{Refusal, Violation};
+use crate::finish::{check_own, waived_of};
 use crate::limit::{after_message, check_limit, is_bound, take_from};
 use lc_frame::{MAX_AMOUNT, MAX_TOTAL, Version};
 use std::marker::Model;
@@ -21,6 +23,7 @@ pub struct ClientBook {
     send_left: Option<u64>,
     receive_left: Option<u64>,
     asked: Option<u32>,
+    finished: bool,
 }
 
 impl Model for ClientBook {
@@ -28,11 +31,11 @@ impl Model for ClientBook {
 
     ghost Value = { Client };
 
-    ghost view = { λ b. record { version = b.version; received = b.received; spent = b.spent; absolved = b.absolved; send_left = b.send_left; receive_left = b.receive_left; asked = b.asked } };
+    ghost view = { λ b. record { version = b.version; received = b.received; spent = b.spent; absolved = b.absolved; send_left = b.send_left; receive_left = b.receive_left; asked = b.asked; finished = b.finished } };
 
-    ghost invariant = { λ b. IsClient (record { version = b.version; received = b.received; spent = b.spent; absolved = b.absolved; send_left = b.send_left; receive_left = b.receive_left; asked = b.asked }) };
+    ghost invariant = { λ b. IsClient (record { version = b.version; received = b.received; spent = b.spent; absolved = b.absolved; send_left = b.send_left; receive_left = b.receive_left; asked = b.asked; finished = b.finished }) };
 
-    ghost inverse = { λ b. record { version = b.version; received = b.received; spent = b.spent; absolved = b.absolved; send_left = b.send_left; receive_left = b.receive_left; asked = b.asked } };
+    ghost inverse = { λ b. record { version = b.version; received = b.received; spent = b.spent; absolved = b.absolved; send_left = b.send_left; receive_left = b.receive_left; asked = b.asked; finished = b.finished } };
 }
 
 /// The fields of a client's book, by name, the numbers in bytes of messages.
@@ -46,12 +49,16 @@ pub struct ClientParts {
     pub spent: u64,
     /// The guarantees that were given up.
     pub absolved: u64,
+    /// The guarantees that were given up by finishing: what was held then, and all that came later.
+    pub waived: u64,
     /// What may still be sent, 0 to 2^62; `None` without a limit.
     pub send_left: Option<u64>,
     /// What the server may still issue, 0 to 2^62; `None` without a limit.
     pub receive_left: Option<u64>,
     /// The target of the plead that is kept, 0 to 2^24; `None` where none is kept.
     pub asked: Option<u32>,
+    /// Whether the client finished the channel.
+    pub finished: bool,
 }
 
 impl ClientBook {
@@ -68,14 +75,17 @@ impl ClientBook {
             send_left: None,
             receive_left: None,
             asked: None,
+            finished: false,
         }
     }
 
     /// A book of these fields, `None` exactly where they break what every book keeps: what was
-    /// spent and absolved is at most what was received, what was received and both limits are at
-    /// most 2^62, what is held and the target asked for at most 2^24. For tests.
+    /// spent, absolved and waived is at most what was received, what was received and both limits
+    /// are at most 2^62, what is held and the target asked for at most 2^24. A client that finished
+    /// holds nothing, keeps no plead and is not of version One; one that did not waived nothing. For
+    /// tests.
     pub fn restore(parts: ClientParts) -> Option<ClientBook>
-        ensures valid { IsSome result ↔ IsClient (client_of_parts parts) }
+        ensures valid { IsSome result ↔ AreClientParts parts }
         ensures value { IfSome result (λ b. b ≡ client_of_parts parts) }
     {
         let ClientParts {
@@ -83,14 +93,20 @@ impl ClientBook {
             received,
             spent,
             absolved,
+            waived,
             send_left,
             receive_left,
             asked,
+            finished,
         } = parts;
         if received > MAX_TOTAL || spent > received || absolved > received - spent {
             return None;
         }
-        if received - spent - absolved > u64::from(MAX_AMOUNT) {
+        let unused = received - spent - absolved;
+        if waived != waived_of(finished, unused) || unused - waived > u64::from(MAX_AMOUNT) {
+            return None;
+        }
+        if finished && (asked.is_some() || !version.has_finish()) {
             return None;
         }
         if !is_bound(send_left) || !is_bound(receive_left) || !is_target(asked) {
@@ -104,6 +120,7 @@ impl ClientBook {
             send_left,
             receive_left,
             asked,
+            finished,
         })
     }
 
@@ -114,14 +131,14 @@ impl ClientBook {
         self.version
     }
 
-    /// The guarantees held, 0 to 2^24: received, and neither spent nor absolved.
+    /// The guarantees held, 0 to 2^24: received, and neither spent, absolved nor waived.
     pub fn held(&self) -> u64
         ensures value { result ≡ held self.now }
         ensures small { result ≤ max_amount }
-        ensures sum { result + self.now.spent + self.now.absolved ≡ self.now.received }
+        ensures sum { result + self.now.spent + self.now.absolved + waived self.now ≡ self.now.received }
         ensures kept { IsClient self.now }
     {
-        self.received - self.spent - self.absolved
+        self.received - self.spent - self.absolved - self.waived()
     }
 
     /// All guarantees that arrived, 0 to 2^62.
@@ -150,6 +167,16 @@ impl ClientBook {
         self.absolved
     }
 
+    /// The guarantees that were given up by finishing, 0 to 2^62: what was held then, and all that
+    /// came later.
+    pub fn waived(&self) -> u64
+        ensures value { result ≡ waived self.now }
+        ensures within { self.now.spent + self.now.absolved + result ≤ self.now.received }
+        ensures small { result ≤ max_total }
+    {
+        waived_of(self.finished, self.received - self.spent - self.absolved)
+    }
+
     /// What may still be sent, 0 to 2^62; `None` without a limit.
     pub fn send_left(&self) -> Option<u64>
         ensures value { result ≡ self.now.send_left }
@@ -174,11 +201,19 @@ impl ClientBook {
         self.asked
     }
 
-    /// A message of `len` bytes is sent. Refused by 1, 2, 3 and 4, in this order.
+    /// Whether the client finished the channel.
+    pub fn is_finished(&self) -> bool
+        ensures { result ≡ self.now.finished }
+    {
+        self.finished
+    }
+
+    /// A message of `len` bytes is sent. Refused by 15, 1, 2, 3 and 4, in this order.
     pub fn spend(&mut self, len: u32) -> Result<(), Refusal>
         ensures answer { result_err result ≡ spend_refusal self.old len }
         ensures after { self.new ≡ (if is_ok result then spend self.old len else self.old) }
     {
+        check_own(self.finished)?;
         let send_left = after_message(self.version, self.send_left, len as usize)?;
         let cost = u64::from(len);
         let held = self.held();
@@ -190,12 +225,13 @@ impl ClientBook {
         Ok(())
     }
 
-    /// `n` guarantees are given up. Refused by 5 and 6, in this order.
+    /// `n` guarantees are given up. Refused by 15, 5 and 6, in this order.
     pub fn absolve(&mut self, n: u32) -> Result<(), Refusal>
         ensures answer { result_err result ≡ absolve_refusal self.old n }
         ensures small { OnOk result (n ≤ max_amount) }
         ensures after { self.new ≡ (if is_ok result then absolve self.old n else self.old) }
     {
+        check_own(self.finished)?;
         if n == 0 {
             return Err(Refusal::ZeroAmount);
         }
@@ -208,34 +244,56 @@ impl ClientBook {
     }
 
     /// The plead that is kept is honoured: where more is held than its target, the rest is
-    /// absolved, and the answer is that amount. The plead is forgotten in any case.
-    pub fn honour(&mut self) -> Option<u32>
-        ensures answer { result ≡ amount_to_absolve self.old }
-        ensures range { IfSome result (λ n. (0 < n) × (n ≤ max_amount)) }
-        ensures after { self.new ≡ honour self.old }
+    /// absolved, and the answer is that amount. The plead is forgotten in both cases. Refused by 15.
+    pub fn honour(&mut self) -> Result<Option<u32>, Refusal>
+        ensures refused { result_err result ≡ honour_refusal self.old }
+        ensures answer { IfOk result (λ amount. amount ≡ amount_to_absolve self.old) }
+        ensures range { IfOk result (λ amount. IfSome amount (λ n. (0 < n) × (n ≤ max_amount))) }
+        ensures after { self.new ≡ (if is_ok result then honour self.old else self.old) }
     {
-        let target = u64::from(self.asked.take()?);
+        check_own(self.finished)?;
+        let Some(target) = self.asked.take() else {
+            return Ok(None);
+        };
         let held = self.held();
-        if held <= target {
-            return None;
+        if held <= u64::from(target) {
+            return Ok(None);
         }
-        let amount = held - target;
+        let amount = held - u64::from(target);
         self.absolved += amount;
-        Some(amount as u32)
+        Ok(Some(amount as u32))
     }
 
-    /// At most `bound` bytes are sent from here on; 0 ends the channel. Refused by 7 and 8, in this
-    /// order.
+    /// At most `bound` bytes are sent from here on; 0 ends the channel. Refused by 15, 7 and 8, in
+    /// this order.
     pub fn limit_sending(&mut self, bound: u64) -> Result<(), Refusal>
-        ensures answer { result_err result ≡ limit_refusal self.old.send_left bound }
+        ensures answer { result_err result ≡ limit_sending_refusal self.old bound }
         ensures after { self.new ≡ (if is_ok result then limit_client self.old bound else self.old) }
     {
+        check_own(self.finished)?;
         check_limit(self.send_left, bound)?;
         self.send_left = Some(bound);
         Ok(())
     }
 
-    /// `n` guarantees arrive. Violations V5, V6 and V8, in this order.
+    /// The client sends nothing more, and gives up all guarantees that it holds or that still come.
+    /// A plead that is kept is forgotten. Refused by 17 and 15, in this order.
+    pub fn finish(&mut self) -> Result<(), Refusal>
+        ensures answer { result_err result ≡ finish_refusal self.old }
+        ensures known { OnOk result (has self.old.version Finish ≡ true) }
+        ensures after { self.new ≡ (if is_ok result then finish self.old else self.old) }
+    {
+        if !self.version.has_finish() {
+            return Err(Refusal::WrongVersion);
+        }
+        check_own(self.finished)?;
+        self.asked = None;
+        self.finished = true;
+        Ok(())
+    }
+
+    /// `n` guarantees arrive; where the client finished they are waived. Violations V5, V6 and V8, in
+    /// this order.
     pub fn issued(&mut self, n: u32) -> Result<(), Violation>
         requires { n ≤ max_amount }
         ensures answer { result_err result ≡ issued_violation self.old n }
@@ -257,12 +315,13 @@ impl ClientBook {
         Ok(())
     }
 
-    /// A plead arrives, to hold at most `target`; it is kept in place of an older one.
+    /// A plead arrives, to hold at most `target`; it is kept in place of an older one, but not where
+    /// the client finished.
     pub fn pleaded(&mut self, target: u32)
         requires { target ≤ max_amount }
         ensures { self.new ≡ keep_plead self.old target }
     {
-        self.asked = Some(target);
+        self.asked = if self.finished { None } else { Some(target) };
     }
 
     /// The server's limit arrives: it issues at most `bound` from there on. Violation V7.

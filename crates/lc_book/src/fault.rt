@@ -50,9 +50,15 @@ pub enum Refusal {
     /// 14. A growth of memory was refused.
     #[error("out of memory")]
     OutOfMemory,
+    /// 15. The client finished the channel.
+    #[error("the channel is finished")]
+    ChannelFinished,
     /// 16. The caller's buffer is shorter than the message; `need` is the message's length.
     #[error("the buffer is too small: {need} bytes are needed")]
     BufferTooSmall { need: usize },
+    /// 17. A stream of version One can't say that a channel is finished.
+    #[error("version One of the format cannot finish a channel")]
+    WrongVersion,
 }
 
 impl Refusal {
@@ -75,7 +81,9 @@ impl Refusal {
             Refusal::TotalReached => 12,
             Refusal::QueueFull => 13,
             Refusal::OutOfMemory => 14,
+            Refusal::ChannelFinished => 15,
             Refusal::BufferTooSmall { .. } => 16,
+            Refusal::WrongVersion => 17,
         }
     }
 }
@@ -108,6 +116,9 @@ pub enum Violation {
     /// V8. More than 2^62 guarantees would be received.
     #[error("more than 2^62 guarantees on one channel")]
     TotalPassed,
+    /// V9. A frame of the client comes behind its Finish.
+    #[error("a frame of the client behind its Finish")]
+    AfterFinish,
 }
 
 impl Violation {
@@ -124,6 +135,7 @@ impl Violation {
             Violation::TooManyGuarantees => 6,
             Violation::ReceiveLimitRaised => 7,
             Violation::TotalPassed => 8,
+            Violation::AfterFinish => 9,
         }
     }
 }

@@ -5,6 +5,7 @@
 
 mod client;
 mod fault;
+mod finish;
 pub mod laws;
 mod limit;
 mod server;

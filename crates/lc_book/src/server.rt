@@ -1,13 +1,14 @@
-//! The server's book: guarantees issued, used up by messages and absolved, what is buffered, and both limits.
+//! The server's book: guarantees issued, used up by messages, absolved and waived, what is buffered,
+//! and both limits.
 ghost use Rattle.std.specs.Prelude.{◌≡◌, ◌≤◌, ◌<◌, ◌↔◌, ◌⊎◌, if◌then◌else◌, is_ok, IsSome, IfSome, IsTrue, OnOk, ◌+◌};
 ghost use Rattle.std.specs.Result.{result_err};
 ghost use Rattle.lc_frame.specs.Bounds.{IsCapacity};
 ghost use Rattle.lc_frame.specs.declared.version.Version.TheVariants.{Two};
 ghost use Rattle.lc_frame.specs.Kind.{max_body, max_amount, max_total};
-ghost use Rattle.lc_book.specs.Limit.{limit_refusal};
-ghost use Rattle.lc_book.specs.Server.{IsServer, server_of_parts, new_server, outstanding, buffered, room, IsEnded, issue_refusal, issue, plead_refusal, limit_server, note_taken, AreFreed, message_violation, add_arrived, absolve_violation, add_absolved, send_limit_violation, note_send_limit};
+ghost use Rattle.lc_book.specs.Server.{IsServer, AreServerParts, server_of_parts, new_server, waived, outstanding, buffered, room, IsEnded, issue_refusal, issue, plead_refusal, limit_receiving_refusal, limit_server, note_taken, AreFreed, message_violation, add_arrived, absolve_violation, add_absolved, send_limit_violation, note_send_limit, finish_violation, note_finish};
 
 use crate::fault::{Refusal, Violation};
+use crate::finish::{check_arrival, check_own, waived_of};
 use crate::limit::{check_limit, is_bound, take_from};
 use lc_frame::{MAX_TOTAL, is_capacity};
 use std::marker::Model;
@@ -22,6 +23,7 @@ pub struct ServerBook {
     absolved: u64,
     send_left: Option<u64>,
     receive_left: Option<u64>,
+    finished: bool,
 }
 
 impl Model for ServerBook {
@@ -29,11 +31,11 @@ impl Model for ServerBook {
 
     ghost Value = { Server };
 
-    ghost view = { λ b. record { capacity = b.capacity; issued = b.issued; arrived = b.arrived; taken = b.taken; absolved = b.absolved; send_left = b.send_left; receive_left = b.receive_left } };
+    ghost view = { λ b. record { capacity = b.capacity; issued = b.issued; arrived = b.arrived; taken = b.taken; absolved = b.absolved; send_left = b.send_left; receive_left = b.receive_left; finished = b.finished } };
 
-    ghost invariant = { λ b. IsServer (record { capacity = b.capacity; issued = b.issued; arrived = b.arrived; taken = b.taken; absolved = b.absolved; send_left = b.send_left; receive_left = b.receive_left }) };
+    ghost invariant = { λ b. IsServer (record { capacity = b.capacity; issued = b.issued; arrived = b.arrived; taken = b.taken; absolved = b.absolved; send_left = b.send_left; receive_left = b.receive_left; finished = b.finished }) };
 
-    ghost inverse = { λ b. record { capacity = b.capacity; issued = b.issued; arrived = b.arrived; taken = b.taken; absolved = b.absolved; send_left = b.send_left; receive_left = b.receive_left } };
+    ghost inverse = { λ b. record { capacity = b.capacity; issued = b.issued; arrived = b.arrived; taken = b.taken; absolved = b.absolved; send_left = b.send_left; receive_left = b.receive_left; finished = b.finished } };
 }
 
 /// The fields of a server's book, by name, in bytes of messages.
@@ -49,10 +51,14 @@ pub struct ServerParts {
     pub taken: u64,
     /// The guarantees that the client gave up, as far as that arrived.
     pub absolved: u64,
+    /// The guarantees that the client gave up by finishing, as far as that arrived.
+    pub waived: u64,
     /// What the client may still send, 0 to 2^62; `None` without a limit.
     pub send_left: Option<u64>,
     /// What may still be issued, 0 to 2^62; `None` without a limit.
     pub receive_left: Option<u64>,
+    /// Whether the client's Finish arrived.
+    pub finished: bool,
 }
 
 impl ServerBook {
@@ -73,15 +79,17 @@ impl ServerBook {
             absolved: 0,
             send_left: None,
             receive_left: None,
+            finished: false,
         })
     }
 
     /// A book of these fields, `None` exactly where they break what every book keeps: the capacity
-    /// is 1 to 2^24, what arrived and was absolved is at most what was issued, what was issued and
-    /// both limits are at most 2^62, what was taken is at most what arrived, and what is
-    /// outstanding and buffered together at most the capacity. For tests.
+    /// is 1 to 2^24, what arrived, was absolved and waived is at most what was issued, what was
+    /// issued and both limits are at most 2^62, what was taken is at most what arrived, and what is
+    /// outstanding and buffered together at most the capacity. Where the client finished nothing is
+    /// outstanding, and nothing is waived where it did not. For tests.
     pub fn restore(parts: ServerParts) -> Option<ServerBook>
-        ensures valid { IsSome result ↔ IsServer (server_of_parts parts) }
+        ensures valid { IsSome result ↔ AreServerParts parts }
         ensures value { IfSome result (λ b. b ≡ server_of_parts parts) }
     {
         let ServerParts {
@@ -90,8 +98,10 @@ impl ServerBook {
             arrived,
             taken,
             absolved,
+            waived,
             send_left,
             receive_left,
+            finished,
         } = parts;
         if !is_capacity(capacity) || issued > MAX_TOTAL {
             return None;
@@ -99,7 +109,11 @@ impl ServerBook {
         if arrived > issued || absolved > issued - arrived || taken > arrived {
             return None;
         }
-        if (issued - arrived - absolved) + (arrived - taken) > u64::from(capacity) {
+        let unused = issued - arrived - absolved;
+        if waived != waived_of(finished, unused) {
+            return None;
+        }
+        if (unused - waived) + (arrived - taken) > u64::from(capacity) {
             return None;
         }
         if !is_bound(send_left) || !is_bound(receive_left) {
@@ -113,6 +127,7 @@ impl ServerBook {
             absolved,
             send_left,
             receive_left,
+            finished,
         })
     }
 
@@ -124,14 +139,23 @@ impl ServerBook {
         self.capacity
     }
 
-    /// The guarantees that were issued, and neither used up by a message that arrived nor absolved,
-    /// 0 to 2^24.
+    /// The guarantees that were issued, and neither used up by a message that arrived, absolved nor
+    /// waived, 0 to 2^24.
     pub fn outstanding(&self) -> u64
         ensures value { result ≡ outstanding self.now }
         ensures small { result ≤ max_amount }
         ensures fits { result + buffered self.now ≤ self.now.capacity }
     {
-        self.issued - self.arrived - self.absolved
+        self.issued - self.arrived - self.absolved - self.waived()
+    }
+
+    /// The guarantees that the client gave up by finishing, as far as that arrived, 0 to 2^62.
+    pub fn waived(&self) -> u64
+        ensures value { result ≡ waived self.now }
+        ensures within { self.now.arrived + self.now.absolved + result ≤ self.now.issued }
+        ensures small { result ≤ max_total }
+    {
+        waived_of(self.finished, self.issued - self.arrived - self.absolved)
     }
 
     /// The bytes that arrived and were not taken, 0 to 2^24.
@@ -177,19 +201,27 @@ impl ServerBook {
         self.receive_left
     }
 
-    /// Whether the client will send nothing more: its limit on sending is used up.
+    /// Whether the client's Finish arrived.
+    pub fn is_finished(&self) -> bool
+        ensures { result ≡ self.now.finished }
+    {
+        self.finished
+    }
+
+    /// Whether the client will send nothing more: its limit on sending is used up, or it finished.
     pub fn is_ended(&self) -> bool
         ensures { IsTrue result ↔ IsEnded self.now }
     {
-        matches!(self.send_left, Some(0))
+        self.finished || matches!(self.send_left, Some(0))
     }
 
-    /// `n` guarantees are issued. Refused by 5, 9, 10 and 12, in this order.
+    /// `n` guarantees are issued. Refused by 15, 5, 9, 10 and 12, in this order.
     pub fn issue(&mut self, n: u32) -> Result<(), Refusal>
         ensures answer { result_err result ≡ issue_refusal self.old n }
         ensures small { OnOk result (n ≤ max_amount) }
         ensures after { self.new ≡ (if is_ok result then issue self.old n else self.old) }
     {
+        check_own(self.finished)?;
         if n == 0 {
             return Err(Refusal::ZeroAmount);
         }
@@ -210,12 +242,13 @@ impl ServerBook {
         Ok(())
     }
 
-    /// The client is asked to absolve until it holds at most `target`. Refused by 11; the book
-    /// stays as it is.
+    /// The client is asked to absolve until it holds at most `target`. Refused by 15 and 11, in this
+    /// order; the book stays as it is.
     pub fn plead(&self, target: u32) -> Result<(), Refusal>
         ensures answer { result_err result ≡ plead_refusal self.now target }
         ensures small { OnOk result (target ≤ max_amount) }
     {
+        check_own(self.finished)?;
         let outstanding = self.outstanding();
         if u64::from(target) >= outstanding {
             return Err(Refusal::NothingToAsk { outstanding });
@@ -223,11 +256,12 @@ impl ServerBook {
         Ok(())
     }
 
-    /// At most `bound` guarantees are issued from here on. Refused by 7 and 8, in this order.
+    /// At most `bound` guarantees are issued from here on. Refused by 15, 7 and 8, in this order.
     pub fn limit_receiving(&mut self, bound: u64) -> Result<(), Refusal>
-        ensures answer { result_err result ≡ limit_refusal self.old.receive_left bound }
+        ensures answer { result_err result ≡ limit_receiving_refusal self.old bound }
         ensures after { self.new ≡ (if is_ok result then limit_server self.old bound else self.old) }
     {
+        check_own(self.finished)?;
         check_limit(self.receive_left, bound)?;
         self.receive_left = Some(bound);
         Ok(())
@@ -242,12 +276,13 @@ impl ServerBook {
         self.taken += u64::from(len);
     }
 
-    /// A message of `len` bytes arrives. Violations V1 and V2, in this order.
+    /// A message of `len` bytes arrives. Violations V9, V1 and V2, in this order.
     pub fn message(&mut self, len: u32) -> Result<(), Violation>
         requires { len ≤ max_body Two }
         ensures answer { result_err result ≡ message_violation self.old len }
         ensures after { self.new ≡ (if is_ok result then add_arrived self.old len else self.old) }
     {
+        check_arrival(self.finished)?;
         let cost = u64::from(len);
         if cost > self.outstanding() {
             return Err(Violation::NotGuaranteed);
@@ -261,12 +296,13 @@ impl ServerBook {
         Ok(())
     }
 
-    /// The news arrives that the client absolved `n` guarantees. Violation V3.
+    /// The news arrives that the client absolved `n` guarantees. Violations V9 and V3, in this order.
     pub fn was_absolved(&mut self, n: u32) -> Result<(), Violation>
         requires { n ≤ max_amount }
         ensures answer { result_err result ≡ absolve_violation self.old n }
         ensures after { self.new ≡ (if is_ok result then add_absolved self.old n else self.old) }
     {
+        check_arrival(self.finished)?;
         if u64::from(n) > self.outstanding() {
             return Err(Violation::AbsolvedTooMuch);
         }
@@ -274,18 +310,31 @@ impl ServerBook {
         Ok(())
     }
 
-    /// The client's limit arrives: it sends at most `bound` bytes from there on. Violation V4.
+    /// The client's limit arrives: it sends at most `bound` bytes from there on. Violations V9 and V4,
+    /// in this order.
     pub fn sending_limited(&mut self, bound: u64) -> Result<(), Violation>
         requires { bound ≤ max_total }
         ensures answer { result_err result ≡ send_limit_violation self.old bound }
         ensures after { self.new ≡ (if is_ok result then note_send_limit self.old bound else self.old) }
     {
+        check_arrival(self.finished)?;
         if let Some(left) = self.send_left
             && bound > left
         {
             return Err(Violation::SendLimitRaised);
         }
         self.send_left = Some(bound);
+        Ok(())
+    }
+
+    /// The client's Finish arrives: it sends nothing more, and what is outstanding is waived.
+    /// Violation V9.
+    pub fn finished(&mut self) -> Result<(), Violation>
+        ensures answer { result_err result ≡ finish_violation self.old }
+        ensures after { self.new ≡ (if is_ok result then note_finish self.old else self.old) }
+    {
+        check_arrival(self.finished)?;
+        self.finished = true;
         Ok(())
     }
 }

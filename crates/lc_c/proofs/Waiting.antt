@@ -6,7 +6,7 @@ use Rattle.std.proofs.lemmas.Option.{slice_get_within, get_or_from_slice_get}
 use Rattle.std.proofs.lemmas.List.Concat.{flat_map-append, flat_map-cons}
 use Rattle.std.proofs.Math.Seq.{take-add}
 use Rattle.lc_frame.specs.declared.frame.Frame.{Frame}
-use Rattle.lc_frame.specs.declared.frame.Frame.TheVariants.{Send, Issue, Absolve, Plead, LimitSending, LimitReceiving}
+use Rattle.lc_frame.specs.declared.frame.Frame.TheVariants.{Send, Issue, Absolve, Plead, LimitSending, LimitReceiving, Finish}
 use Rattle.lc_frame.specs.declared.version.Version.{Version}
 use Rattle.lc_frame.specs.declared.version.Version.TheVariants.{One, Two}
 use Rattle.lc_frame.specs.Kind.{max_frame}
@@ -21,6 +21,7 @@ longest version (Absolve c n) v = omega arith
 longest version (Plead c n) v = omega arith
 longest version (LimitSending c n) v = omega arith
 longest version (LimitReceiving c n) v = omega arith
+longest version (Finish c) v = omega arith
 
 pub first_of : (ws : List Frame) (f : Frame) → Some f ≡ slice_get ws 0 → ws ≡ f ∷ drop 1 ws
 first_of [] f e = cc

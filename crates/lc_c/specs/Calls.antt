@@ -37,11 +37,11 @@ honoured None None = only done
 honoured None (Some amount) = record { code = done; number = amount }
 
 abbrev pub honour_answer : Option Side → Option Channel → LcmuxAnswer
-honour_answer held channel = answered held channel (λ side c. honoured (honour_refusal side.peer (due side.peer c)) (due side.peer c))
+honour_answer held channel = answered held channel (λ side c. honoured (honour_refusal side.peer c) (due side.peer c))
 
 abbrev pub honour_where : Option Refusal → Side → Channel → Side
 honour_where None side c = record side { peer = put_honour side.peer c }
 honour_where (Some refusal) side c = side
 
 abbrev pub honour_after : Option Side → Option Channel → Option Side
-honour_after held channel = changed held channel (λ side c. honour_where (honour_refusal side.peer (due side.peer c)) side c)
+honour_after held channel = changed held channel (λ side c. honour_where (honour_refusal side.peer c) side c)

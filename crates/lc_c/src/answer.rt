@@ -67,7 +67,9 @@ fn number_in(refusal: Refusal) -> u64
         | Refusal::BoundTooLarge
         | Refusal::TotalReached
         | Refusal::QueueFull
-        | Refusal::OutOfMemory => 0,
+        | Refusal::OutOfMemory
+        | Refusal::ChannelFinished
+        | Refusal::WrongVersion => 0,
     }
 }
 

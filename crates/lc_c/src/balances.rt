@@ -4,7 +4,7 @@ ghost use Rattle.lc_frame.specs.Channel.{channel_at};
 ghost use Rattle.lc_peer.specs.Peer.{client, server};
 ghost use Rattle.lc_c.specs.Answers.{only, done};
 ghost use Rattle.lc_c.specs.Reach.{answered, given};
-ghost use Rattle.lc_c.specs.Balances.{or_no_limit, client_shown, server_shown};
+ghost use Rattle.lc_c.specs.Balances.{or_no_limit, flag, client_shown, server_shown};
 
 use crate::answer::{DONE, LcmuxAnswer, only};
 use crate::peer::LcmuxPeer;
@@ -23,9 +23,11 @@ pub struct LcmuxClient {
     pub received: u64,
     pub spent: u64,
     pub absolved: u64,
+    pub waived: u64,
     pub send_left: u64,
     pub receive_left: u64,
     pub asked: u64,
+    pub finished: u64,
 }
 
 /// The balances of a channel at its server, in bytes of messages.
@@ -37,8 +39,10 @@ pub struct LcmuxServer {
     pub outstanding: u64,
     pub buffered: u64,
     pub room: u64,
+    pub waived: u64,
     pub send_left: u64,
     pub receive_left: u64,
+    pub finished: u64,
 }
 
 fn or_no_limit(left: Option<u64>) -> u64
@@ -48,6 +52,13 @@ fn or_no_limit(left: Option<u64>) -> u64
         Some(left) => left,
         None => NO_LIMIT,
     }
+}
+
+// C may hand in any byte, which a bool is not.
+fn flag(is: bool) -> u64
+    ensures { result ≡ flag is }
+{
+    if is { 1 } else { 0 }
 }
 
 // The target of a plead.
@@ -68,9 +79,11 @@ fn client_shown(book: &ClientBook) -> LcmuxClient
         received: book.received(),
         spent: book.spent(),
         absolved: book.absolved(),
+        waived: book.waived(),
         send_left: or_no_limit(book.send_left()),
         receive_left: or_no_limit(book.receive_left()),
         asked: or_no_plead(book.asked()),
+        finished: flag(book.is_finished()),
     }
 }
 
@@ -83,8 +96,10 @@ fn server_shown(book: &ServerBook) -> LcmuxServer
         outstanding: book.outstanding(),
         buffered: book.buffered(),
         room: book.room(),
+        waived: book.waived(),
         send_left: or_no_limit(book.send_left()),
         receive_left: or_no_limit(book.receive_left()),
+        finished: flag(book.is_finished()),
     }
 }
 

@@ -25,8 +25,8 @@ pub use balances::{LcmuxClient, LcmuxServer, NO_LIMIT, lcmux_peer_client, lcmux_
 pub use handle::Slot;
 pub use make::{LcmuxConfig, lcmux_peer_free, lcmux_peer_new};
 pub use own::{
-    lcmux_peer_absolve, lcmux_peer_honour, lcmux_peer_issue, lcmux_peer_limit_receiving,
-    lcmux_peer_limit_sending, lcmux_peer_plead, lcmux_peer_send,
+    lcmux_peer_absolve, lcmux_peer_finish, lcmux_peer_honour, lcmux_peer_issue,
+    lcmux_peer_limit_receiving, lcmux_peer_limit_sending, lcmux_peer_plead, lcmux_peer_send,
 };
 pub use peer::LcmuxPeer;
 pub use pending::Pending;

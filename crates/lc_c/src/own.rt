@@ -1,6 +1,6 @@
 //! The own calls of a peer, behind its handle.
 ghost use Rattle.std.specs.Prelude.{◌≡◌};
-ghost use Rattle.lc_frame.specs.declared.frame.Frame.TheVariants.{Send, Issue, Absolve, Plead, LimitSending, LimitReceiving};
+ghost use Rattle.lc_frame.specs.declared.frame.Frame.TheVariants.{Send, Issue, Absolve, Plead, LimitSending, LimitReceiving, Finish};
 ghost use Rattle.lc_frame.specs.Channel.{channel_at};
 ghost use Rattle.lc_c.specs.Answers.{is_done};
 ghost use Rattle.lc_c.specs.Calls.{frame_answer, frame_after, SendAnswers, honour_answer, honour_after};
@@ -10,8 +10,8 @@ use crate::peer::LcmuxPeer;
 use crate::reach::{Target, reach};
 use std::alloc::Global;
 
-/// A message is sent, of 1 to 65,535 bytes in version 1 and to 1,048,576 in version 2. Codes 1, 2,
-/// 3, 4, 14 and 13, in this order.
+/// A message is sent, of 1 to 65,535 bytes in version 1 and to 1,048,576 in version 2. Codes 15, 1,
+/// 2, 3, 4, 14 and 13, in this order.
 #[unsafe(no_mangle)]
 pub extern "C" fn lcmux_peer_send(
     alloc: Global,
@@ -32,7 +32,7 @@ pub extern "C" fn lcmux_peer_send(
     }
 }
 
-/// `amount` guarantees are issued. Codes 5, 9, 10, 12 and 13, in this order.
+/// `amount` guarantees are issued. Codes 15, 5, 9, 10, 12 and 13, in this order.
 #[unsafe(no_mangle)]
 pub extern "C" fn lcmux_peer_issue(
     alloc: Global,
@@ -53,7 +53,7 @@ pub extern "C" fn lcmux_peer_issue(
     }
 }
 
-/// `amount` guarantees are given up. Codes 5, 6 and 13, in this order.
+/// `amount` guarantees are given up. Codes 15, 5, 6 and 13, in this order.
 #[unsafe(no_mangle)]
 pub extern "C" fn lcmux_peer_absolve(
     alloc: Global,
@@ -74,7 +74,7 @@ pub extern "C" fn lcmux_peer_absolve(
     }
 }
 
-/// The client is asked to absolve until it holds at most `target`. Codes 11 and 13, in this order.
+/// The client is asked to absolve until it holds at most `target`. Codes 15, 11 and 13, in this order.
 #[unsafe(no_mangle)]
 pub extern "C" fn lcmux_peer_plead(
     alloc: Global,
@@ -95,7 +95,8 @@ pub extern "C" fn lcmux_peer_plead(
     }
 }
 
-/// At most `bound` bytes are sent from here on; 0 ends the channel. Codes 7, 8 and 13, in this order.
+/// At most `bound` bytes are sent from here on; 0 ends the channel. Codes 15, 7, 8 and 13, in this
+/// order.
 #[unsafe(no_mangle)]
 pub extern "C" fn lcmux_peer_limit_sending(
     alloc: Global,
@@ -116,7 +117,7 @@ pub extern "C" fn lcmux_peer_limit_sending(
     }
 }
 
-/// At most `bound` guarantees are issued from here on. Codes 7, 8 and 13, in this order.
+/// At most `bound` guarantees are issued from here on. Codes 15, 7, 8 and 13, in this order.
 #[unsafe(no_mangle)]
 pub extern "C" fn lcmux_peer_limit_receiving(
     alloc: Global,
@@ -137,8 +138,29 @@ pub extern "C" fn lcmux_peer_limit_receiving(
     }
 }
 
+/// Nothing more is sent, and all guarantees that are held or still come are given up. Codes 17, 15 and
+/// 13, in this order.
+#[unsafe(no_mangle)]
+pub extern "C" fn lcmux_peer_finish(
+    alloc: Global,
+    peer: &mut LcmuxPeer,
+    channel: u32,
+) -> LcmuxAnswer
+    ensures answer { result ≡ frame_answer peer.old.slot.held (channel_at channel) (λ c. Finish c) }
+    ensures after { peer.new.slot.held ≡ frame_after (is_done result) peer.old.slot.held (channel_at channel) (λ c. Finish c) }
+{
+    match reach(peer, alloc, channel) {
+        Target::Barred(answer) => answer,
+        Target::At(mut side, channel) => {
+            let judged = side.peer.finish(channel);
+            *peer = LcmuxPeer::of(side);
+            answer(judged)
+        }
+    }
+}
+
 /// The plead that is kept is honoured. The number is what was absolved, 0 where there was nothing to
-/// absolve. Code 13.
+/// absolve. Codes 15 and 13, in this order.
 #[unsafe(no_mangle)]
 pub extern "C" fn lcmux_peer_honour(
     alloc: Global,

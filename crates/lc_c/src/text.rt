@@ -32,7 +32,9 @@ fn refusal_sentence(code: u32) -> &'static [u8] {
         12 => b"the guarantees of one channel would pass 2^62",
         13 => b"the outgoing queue is full",
         14 => b"out of memory",
+        15 => b"the channel is finished",
         16 => b"the buffer is too small",
+        17 => b"version 1 of the format cannot finish a channel",
         _ => b"",
     }
 }
@@ -64,6 +66,7 @@ fn arrival_sentence(code: u32) -> &'static [u8] {
         106 => b"more than 2^24 guarantees held",
         107 => b"a limit on receiving that raises an earlier one",
         108 => b"more than 2^62 guarantees on one channel",
+        109 => b"a frame of the client behind its Finish",
         201 => b"a byte names no kind or channel, or is not the greeting's",
         202 => b"a message has length 0",
         203 => b"a number in a frame is out of its range",

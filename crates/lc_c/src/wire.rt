@@ -40,8 +40,8 @@ fn shown(delivery: Delivery) -> LcmuxDelivery
     }
 }
 
-/// The next bytes of the stream, of either version, arrive. Codes 101 to 108 for a violation, 201 to 203 for a fault,
-/// which are kept.
+/// The next bytes of the stream, of either version, arrive. Codes 101 to 109 for a violation, 201 to
+/// 203 for a fault, which are kept.
 #[unsafe(no_mangle)]
 pub extern "C" fn lcmux_peer_deliver(
     alloc: Global,

@@ -279,6 +279,7 @@ pub(crate) fn channel_of(act: &Act) -> Option<Channel> {
         | Act::Honour { channel }
         | Act::LimitSending { channel, .. }
         | Act::LimitReceiving { channel, .. }
+        | Act::Finish { channel }
         | Act::Take { channel } => Some(*channel),
         Act::Arrive | Act::Deliver { .. } => None,
     }

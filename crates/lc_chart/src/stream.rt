@@ -128,6 +128,7 @@ impl Display for Kind<'_> {
             FrameRef::Plead { target, .. } => write!(f, "plead to hold {target}"),
             FrameRef::LimitSending { bound, .. } => write!(f, "limit sending to {bound}"),
             FrameRef::LimitReceiving { bound, .. } => write!(f, "limit receiving to {bound}"),
+            FrameRef::Finish { .. } => write!(f, "finish"),
         }
     }
 }

@@ -34,6 +34,7 @@ impl Display for Asked<'_> {
             Act::Honour { .. } => write!(f, "honour"),
             Act::LimitSending { bound, .. } => write!(f, "limit sending to {bound}"),
             Act::LimitReceiving { bound, .. } => write!(f, "limit receiving to {bound}"),
+            Act::Finish { .. } => write!(f, "finish"),
             Act::Arrive => write!(f, "arrive"),
             Act::Deliver { count } => {
                 let size = Bytes(u64::from(*count));

@@ -68,6 +68,18 @@ B arrive
 B issue 1 1
 ";
 
+/// A channel that A finishes, in version Two: a message, what A still held, and an end. The greeting,
+/// the message and the Finish are delivered together.
+const FINISHED: &str = "B issue 1 8
+A arrive
+A send 1 6869
+A finish 1
+A honour 1
+B deliver 12
+B take 1
+B take 1
+";
+
 /// The largest ring, full of promises and then of a message and promises.
 const FULL: &str = "B issue 1 16777216
 A arrive

@@ -53,6 +53,8 @@ fn judged_against(refusal: Refusal) -> Option<(&'static str, u64)> {
         | Refusal::BoundTooLarge
         | Refusal::TotalReached
         | Refusal::QueueFull
-        | Refusal::OutOfMemory => None,
+        | Refusal::OutOfMemory
+        | Refusal::ChannelFinished
+        | Refusal::WrongVersion => None,
     }
 }

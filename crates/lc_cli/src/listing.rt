@@ -51,6 +51,7 @@ fn write_frame<W: Write>(frame: &FrameRef<'_>, out: &mut W) -> io::Result<()> {
         FrameRef::Plead { target, .. } => ("plead", u64::from(*target)),
         FrameRef::LimitSending { bound, .. } => ("limit-sending", *bound),
         FrameRef::LimitReceiving { bound, .. } => ("limit-receiving", *bound),
+        FrameRef::Finish { .. } => return writeln!(out, "finish {number}"),
     };
     writeln!(out, "{word} {number} {value}")
 }

@@ -107,6 +107,7 @@ impl<'a> Fields<'a> {
                 channel,
                 bound: self.bound()?,
             }),
+            "finish" => Ok(Act::Finish { channel }),
             "take" => Ok(Act::Take { channel }),
             _ => Err(LineFault::Bad),
         }

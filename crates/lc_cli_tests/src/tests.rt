@@ -6,6 +6,7 @@ mod bounds;
 mod commands;
 mod devices;
 mod failures;
+mod finishes;
 mod loops;
 mod nets;
 mod sessions;

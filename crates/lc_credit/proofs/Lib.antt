@@ -3,4 +3,5 @@ mod Steps
 mod Seats
 mod Targets
 mod Kept
+mod Settled
 pub mod Channels

@@ -1,5 +1,5 @@
--- What contracts see of the two sides of one channel's credit, and what each call does to them. Sending and absolving within the guarantees received, limits on receiving and pleads are LCMUX's; the order of the violations, and that an amount is pending between its use and its frame, is this project's own.
-use Rattle.std.specs.Prelude.{◌≡◌, ◌⊎◌, ℕ, ◌+◌, ◌-◌, ◌≤◌, ◌<◌, true, false, List, [], Option, None, Some}
+-- What contracts see of the two sides of one channel's credit, and what each call does to them. Sending and absolving within the guarantees received, limits on receiving and pleads are LCMUX's; the order of the violations, that an amount is pending between its use and its frame, and that an end may be finished, which waives its guarantees, is this project's own.
+use Rattle.std.specs.Prelude.{◌≡◌, ◌⊎◌, ℕ, ◌+◌, ◌-◌, ◌≤◌, ◌<◌, true, false, List, [], Option, None, Some, MatchOption, unwrap_or}
 use Rattle.std.specs.Option.{ForSome}
 use Rattle.atomic_table.specs.Seated.{TableId}
 use Rattle.lc_frame.specs.Kind.{max_amount, max_total}
@@ -29,13 +29,14 @@ pub record Incoming : Type 0 where
   pub received : ℕ
   pub left : Option ℕ
 
--- the sending end: the history that it has seen, how often it has loaded the credit word or emptied the asked one, the sums of what it spent and absolved, what left the word and is not counted yet, and a number that the word has at least: what the end loaded last, less what it used since, and with what it gave back
+-- the sending end: the history that it has seen, how often it has loaded the credit word or emptied the asked one, the sums of what it spent and absolved, what it took out of the word when it was finished, None where it is not, what left the word and is not counted yet, and a number that the word has at least: what the end loaded last, less what it used since, and with what it gave back
 pub record Outgoing : Type 0 where
   pub credit : CreditId
   pub seen : List Entry
   pub looks : ℕ
   pub spent : ℕ
   pub absolved : ℕ
+  pub waived : Option ℕ
   pub pending : Option Pending
   pub least : ℕ
 
@@ -43,26 +44,34 @@ abbrev pub new_incoming : CreditId → Incoming
 new_incoming credit = record { credit = credit; seen = []; looks = 0; received = 0; left = None }
 
 abbrev pub new_outgoing : CreditId → Outgoing
-new_outgoing credit = record { credit = credit; seen = []; looks = 0; spent = 0; absolved = 0; pending = None; least = 0 }
+new_outgoing credit = record { credit = credit; seen = []; looks = 0; spent = 0; absolved = 0; waived = None; pending = None; least = 0 }
 
 abbrev pub amount_of : Option Pending → ℕ
 amount_of None = 0
 amount_of (Some p) = p.amount
 
--- nothing is pending
+-- nothing is pending; and the end is not finished
 abbrev pub IsIdle : Outgoing → Type 0
 IsIdle o = o.pending ≡ None
 
--- what each side counted is what its entries add up to, and what is pending is the last use, which did not come back
+abbrev pub IsUnfinished : Outgoing → Type 0
+IsUnfinished o = o.waived ≡ None
+
+-- what an end has counted: what it spent and absolved, and what it took out when it was finished
+abbrev pub all_counted : Outgoing → ℕ
+all_counted o = o.spent + o.absolved + unwrap_or o.waived 0
+
+-- what each side counted is what its entries add up to, and what is pending is the last use, which did not come back, at an end that is not finished
 pub record IsIncoming (i : Incoming) : Type 0 where
   pub counted : i.received ≡ received i.seen
   pub total : i.received ≤ max_total
   pub bound : ForSome i.left (λ left. left ≤ max_total)
 
 pub record IsOutgoing (o : Outgoing) : Type 0 where
-  pub counted : used o.seen ≡ returned o.seen + (o.spent + o.absolved + amount_of o.pending)
-  pub total : o.spent + o.absolved + amount_of o.pending ≤ max_total
+  pub counted : used o.seen ≡ returned o.seen + (all_counted o + amount_of o.pending)
+  pub total : all_counted o + amount_of o.pending ≤ max_total
   pub last : ForSome o.pending (λ p. last_use o.seen ≡ Some p.amount)
+  pub unfinished : ForSome o.pending (λ p. IsUnfinished o)
 
 -- the reading side loaded the word in this very call, which is no more than what it received
 pub record LoadsIn (word : ℕ) (old new : Incoming) : Type 0 where
@@ -122,6 +131,10 @@ pub record LoadsOut (word : ℕ) (old new : Outgoing) : Type 0 where
   pub least : old.least ≤ word
   pub after : new ≡ record old { seen = new.seen; looks = old.looks + 1; least = word }
 
+-- what an end holds: the word, which it loaded in this very call; and nothing where it is finished, without a look
+abbrev pub Holds : ℕ → Outgoing → Outgoing → Type 0
+Holds held old new = MatchOption old.waived (LoadsOut held old new) (λ _. (held ≡ 0) × (new ≡ old))
+
 -- the word, as it was loaded, had enough, and was lowered; the amount is pending
 pub record IsUsed (kind : Use) (n : ℕ) (old new : Outgoing) : Type 0 where
   pub held : ℕ
@@ -152,15 +165,24 @@ counted p o = counted_as p.kind p.amount o
 abbrev pub given_back : Pending → List Entry → Outgoing → Outgoing
 given_back p seen o = record o { seen = seen; pending = None; least = o.least + p.amount }
 
--- A channel is settled: what both sides counted, beside what is held, adds up; and there is one history that both sides know, of which these are the sums
+-- all that the word had, as it was loaded, was taken out and is waived; what came since is in the word
+pub record IsWaived (old new : Outgoing) : Type 0 where
+  pub held : ℕ
+  pub between : Outgoing
+  pub loads : LoadsOut held old between
+  pub makes : Makes is_outgoing between.seen (Used held) new.seen
+  pub after : new ≡ record between { seen = new.seen; waived = Some held; least = 0 }
+
+-- A channel is settled: what both sides counted, beside what is held, adds up, and nothing is held where the end is finished, nor waived where it is not; and there is one history that both sides know, of which these are the sums
 pub record IsSettled (incoming : Incoming) (outgoing : Outgoing) (b : Balance) : Type 0 where
   pub received_is : b.received ≡ incoming.received
   pub spent_is : b.spent ≡ outgoing.spent
   pub absolved_is : b.absolved ≡ outgoing.absolved
-  pub adds_up : b.held + b.spent + b.absolved ≡ b.received
+  pub waived_is : MatchOption outgoing.waived (b.waived ≡ 0) (λ taken. (b.held ≡ 0) × (taken ≤ b.waived))
+  pub adds_up : b.held + b.spent + b.absolved + b.waived ≡ b.received
   pub history : List Entry
   pub legal : IsHistory history
   pub incoming_knows : Knows is_incoming incoming.seen history
   pub outgoing_knows : Knows is_outgoing outgoing.seen history
   pub all_received : received history ≡ b.received
-  pub all_used : used history ≡ returned history + (b.spent + b.absolved)
+  pub all_used : used history ≡ returned history + all_counted outgoing

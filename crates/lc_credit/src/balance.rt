@@ -19,6 +19,8 @@ pub struct Balance {
     pub spent: u64,
     /// Those that were given up.
     pub absolved: u64,
+    /// Those that were left when the channel was finished, and those that came afterwards.
+    pub waived: u64,
 }
 
 const NOTHING: Balance = Balance {
@@ -26,6 +28,7 @@ const NOTHING: Balance = Balance {
     held: 0,
     spent: 0,
     absolved: 0,
+    waived: 0,
 };
 
 /// The balance of each channel, in the channels' order. Each end has to stand at its own channel's

@@ -147,7 +147,8 @@ impl ChannelIn {
             .store::<StoreAsked>(&mut self.seat, ASKED, asked);
     }
 
-    /// Takes the sending end in, and settles the channel.
+    /// Takes the sending end in, and settles the channel. What is left in the word is held, or
+    /// waived where the end is finished.
     pub(crate) fn settle(&mut self, end: CreditOut) -> Balance
         requires matched { self.old.credit ≡ end.credit }
         requires idle { IsIdle end }
@@ -159,18 +160,24 @@ impl ChannelIn {
             seat,
             spent,
             absolved,
+            waived,
             pending: _,
         } = end;
         self.words
             .shared
             .join_seat::<TwoSides>(&mut self.seat, seat);
-        let held = self.words.shared.load::<LoadLast>(&mut self.seat, CREDIT);
+        let left = self.words.shared.load::<LoadLast>(&mut self.seat, CREDIT);
         drop(self.words.shared.split_seat::<TwoSides>(&mut self.seat));
+        let (held, waived) = match waived {
+            Some(taken) => (0, taken + left),
+            None => (left, 0),
+        };
         Balance {
             received: self.received,
             held,
             spent,
             absolved,
+            waived,
         }
     }
 }

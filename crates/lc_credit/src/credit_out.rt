@@ -1,11 +1,11 @@
 //! The sending end of one channel's credit.
-ghost use Rattle.std.specs.Prelude.{◌≡◌, ◌+◌, ◌-◌, ◌≤◌, ◌<◌, OnOk, IfErr, IfSome, IfNone, IsSome, None, Some};
+ghost use Rattle.std.specs.Prelude.{◌≡◌, ◌+◌, ◌-◌, ◌≤◌, ◌<◌, OnOk, IfErr, IfSome, IfNone, IsSome, None, Some, is_some};
 ghost use Rattle.std.specs.Option.{option_map};
 ghost use Rattle.lc_frame.specs.Kind.{max_amount, max_total};
 ghost use Rattle.lc_credit.specs.declared.history.Entry.TheVariants.{Used, Returned, Taken};
 ghost use Rattle.lc_credit.specs.History.{is_outgoing, last_use, Learns, Makes, waiting};
 ghost use Rattle.lc_credit.specs.Rule.{TakesOut};
-ghost use Rattle.lc_credit.specs.Sides.{IsIdle, IsOutgoing, LoadsOut, IsUsed, IsNotSpent, IsNotAbsolved, counted, given_back};
+ghost use Rattle.lc_credit.specs.Sides.{IsIdle, IsUnfinished, IsOutgoing, LoadsOut, Holds, IsUsed, IsNotSpent, IsNotAbsolved, IsWaived, counted, given_back};
 ghost use Rattle.lc_credit.specs.Channels.{SameCredit};
 
 use crate::channel_in::{ASKED, CREDIT, Words};
@@ -39,12 +39,17 @@ pub struct Pending {
 /// A use has two halves: [`spend`](CreditOut::spend) or [`absolve`](CreditOut::absolve) takes the
 /// amount out of the credit, which leaves it pending; then, by whether its frame was put,
 /// [`confirm`](CreditOut::confirm) counts it or [`give_back`](CreditOut::give_back) undoes it.
+///
+/// [`finish`](CreditOut::finish) is the last use: it waives what the credit has, and what still
+/// comes.
 #[derive(Drop)]
 pub struct CreditOut {
     pub(crate) words: Arc<Words, Global>,
     pub(crate) seat: Seat<(), View>,
     pub(crate) spent: u64,
     pub(crate) absolved: u64,
+    // What was taken out of the credit word when the end was finished.
+    pub(crate) waived: Option<u64>,
     pub(crate) pending: Option<Pending>,
 }
 
@@ -56,9 +61,9 @@ impl Model for CreditOut {
 
     ghost Value = { Outgoing };
 
-    ghost view = { λ c. record { credit = c.seat.table_id; seen = seen_of c.seat.me.0; looks = looks_of c.seat.me.0; spent = c.spent; absolved = c.absolved; pending = c.pending; least = least_of c.seat.me.0 } };
+    ghost view = { λ c. record { credit = c.seat.table_id; seen = seen_of c.seat.me.0; looks = looks_of c.seat.me.0; spent = c.spent; absolved = c.absolved; waived = c.waived; pending = c.pending; least = least_of c.seat.me.0 } };
 
-    ghost invariant = { λ c. (c.seat.table_id ≡ (arc_value c.words).shared.table_id) × (c.seat.table_id.words ≡ 2) × IsSending (least_of c.seat.me.0) c.seat.me × IsOutgoing (record { credit = c.seat.table_id; seen = seen_of c.seat.me.0; looks = looks_of c.seat.me.0; spent = c.spent; absolved = c.absolved; pending = c.pending; least = least_of c.seat.me.0 }) };
+    ghost invariant = { λ c. (c.seat.table_id ≡ (arc_value c.words).shared.table_id) × (c.seat.table_id.words ≡ 2) × IsSending (least_of c.seat.me.0) c.seat.me × IsOutgoing (record { credit = c.seat.table_id; seen = seen_of c.seat.me.0; looks = looks_of c.seat.me.0; spent = c.spent; absolved = c.absolved; waived = c.waived; pending = c.pending; least = least_of c.seat.me.0 }) };
 }
 
 impl Debug for CreditOut {
@@ -66,21 +71,43 @@ impl Debug for CreditOut {
         f.debug_struct("CreditOut")
             .field("spent", &self.spent)
             .field("absolved", &self.absolved)
+            .field("waived", &self.waived)
             .field("pending", &self.pending)
             .finish_non_exhaustive()
     }
 }
 
 impl CreditOut {
-    /// The guarantees held, 0 to 2^62: the credit word as it is. More may come at any time, and
-    /// only this end uses them up.
-    pub fn held(&mut self) -> u64
+    // Loads the credit word.
+    fn load(&mut self) -> u64
         ensures loads { LoadsOut result self.old self.new }
         ensures small { result ≤ max_total }
         ensures kept { IsOutgoing self.new }
         ensures same { SameCredit self.old self.new }
     {
         self.words.shared.load::<LoadOut>(&mut self.seat, CREDIT)
+    }
+
+    /// The guarantees held, 0 to 2^62: the credit word as it is. More may come at any time, and
+    /// only this end uses them up. A finished end holds nothing, and does not look.
+    pub fn held(&mut self) -> u64
+        ensures holds { Holds result self.old self.new }
+        ensures small { result ≤ max_total }
+        ensures kept { IsOutgoing self.new }
+        ensures same { SameCredit self.old self.new }
+    {
+        if self.is_finished() {
+            return 0;
+        }
+        self.load()
+    }
+
+    /// Whether the end is finished: it holds and uses nothing more.
+    pub fn is_finished(&self) -> bool
+        ensures value { result ≡ is_some self.now.waived }
+        ensures kept { IsOutgoing self.now }
+    {
+        self.waived.is_some()
     }
 
     /// What was taken out of the credit and is neither confirmed nor given back.
@@ -94,6 +121,7 @@ impl CreditOut {
     // Lowers the credit word.
     fn lower(&mut self, kind: Use, n: u32)
         requires idle { IsIdle self.old }
+        requires unfinished { IsUnfinished self.old }
         requires enough { n ≤ self.old.least }
         ensures makes { Makes is_outgoing self.old.seen (Used n) self.new.seen }
         ensures kept { IsOutgoing self.new }
@@ -111,12 +139,13 @@ impl CreditOut {
     pub fn spend(&mut self, n: u32) -> Result<(), Refusal>
         requires some { 0 < n }
         requires idle { IsIdle self.old }
+        requires unfinished { IsUnfinished self.old }
         ensures ok { OnOk result (IsUsed Use.Spend n self.old self.new) }
         ensures err { IfErr result (λ e. IsNotSpent e n self.old self.new) }
         ensures kept { IsOutgoing self.new }
         ensures same { SameCredit self.old self.new }
     {
-        let held = self.held();
+        let held = self.load();
         if u64::from(n) > held {
             return Err(Refusal::NoGuarantee { held });
         }
@@ -129,13 +158,14 @@ impl CreditOut {
     pub fn absolve(&mut self, n: u32) -> Result<(), Refusal>
         requires some { 0 < n }
         requires idle { IsIdle self.old }
+        requires unfinished { IsUnfinished self.old }
         ensures ok { OnOk result (IsUsed Use.Absolve n self.old self.new) }
         ensures small { OnOk result (n ≤ max_amount) }
         ensures err { IfErr result (λ e. IsNotAbsolved e n self.old self.new) }
         ensures kept { IsOutgoing self.new }
         ensures same { SameCredit self.old self.new }
     {
-        let held = self.held();
+        let held = self.load();
         if u64::from(n) > held || n > MAX_AMOUNT {
             return Err(Refusal::NotHeld { held });
         }
@@ -148,6 +178,7 @@ impl CreditOut {
         requires { IsSome self.old.pending }
         ensures after { IfSome self.old.pending (λ p. self.new ≡ counted p self.old) }
         ensures idle { IsIdle self.new }
+        ensures unfinished { IsUnfinished self.new }
         ensures same { SameCredit self.old self.new }
     {
         let Some(pending) = self.pending.take() else {
@@ -166,6 +197,7 @@ impl CreditOut {
         ensures makes { IfSome self.old.pending (λ p. Makes is_outgoing self.old.seen (Returned p.amount) self.new.seen) }
         ensures after { IfSome self.old.pending (λ p. self.new ≡ given_back p self.new.seen self.old) }
         ensures idle { IsIdle self.new }
+        ensures unfinished { IsUnfinished self.new }
         ensures same { SameCredit self.old self.new }
     {
         let Some(pending) = self.pending else {
@@ -175,6 +207,22 @@ impl CreditOut {
             .shared
             .fetch_add::<AddReturned>(&mut self.seat, CREDIT, u64::from(pending.amount));
         self.pending = None;
+    }
+
+    /// The channel is finished: all that the credit has is waived, and so is what comes afterwards,
+    /// which stays in the credit word until all is settled. From here on nothing is held or used.
+    pub fn finish(&mut self)
+        requires idle { IsIdle self.old }
+        requires unfinished { IsUnfinished self.old }
+        ensures waived { IsWaived self.old self.new }
+        ensures kept { IsOutgoing self.new }
+        ensures same { SameCredit self.old self.new }
+    {
+        let left = self.load();
+        self.words
+            .shared
+            .fetch_sub::<SubtractUsed>(&mut self.seat, CREDIT, left);
+        self.waived = Some(left);
     }
 
     // Empties the asked word. 0 says that nothing waited there, else it is the target and 1.

@@ -1,6 +1,6 @@
 //! The parts that threads share the credits by.
 ghost use Rattle.std.specs.Prelude.{◌≡◌, IfOk, All};
-ghost use Rattle.lc_credit.specs.Sides.{IsIdle, new_incoming, new_outgoing};
+ghost use Rattle.lc_credit.specs.Sides.{IsIdle, IsUnfinished, new_incoming, new_outgoing};
 ghost use Rattle.lc_credit.specs.Channels.{AreMatched, AreNew};
 
 use crate::channel_in::{ChannelIn, Words};
@@ -25,6 +25,7 @@ pub fn credits(alloc: Global) -> Result<CreditParts, AllocError>
     ensures new { IfOk result (λ parts. AreNew parts.incoming parts.outgoing) }
     ensures matched { IfOk result (λ parts. AreMatched parts.incoming parts.outgoing) }
     ensures idle { IfOk result (λ parts. All IsIdle parts.outgoing) }
+    ensures unfinished { IfOk result (λ parts. All IsUnfinished parts.outgoing) }
 {
     let (reconciliation, reconciliation_out) = credit(alloc)?;
     let (data, data_out) = credit(alloc)?;
@@ -76,6 +77,7 @@ fn credit(alloc: Global) -> Result<(ChannelIn, CreditOut), AllocError>
         seat: seat_out,
         spent: 0,
         absolved: 0,
+        waived: None,
         pending: None,
     };
     Ok((incoming, outgoing))

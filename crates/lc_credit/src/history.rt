@@ -4,7 +4,7 @@
 pub enum Entry {
     /// So much was received.
     Received(u64),
-    /// So much was taken out of the credit word, to be spent or absolved.
+    /// So much was taken out of the credit word, to be spent, absolved or waived.
     Used(u64),
     /// So much of what was used came back, since its frame was not put.
     Returned(u64),

@@ -3,7 +3,8 @@
 //! A channel's credit is one atomic word: what was received less what is used. The thread that
 //! reads raises it, and the channel's sending end alone lowers it, so no call waits for another
 //! thread, and none tries again. A second word holds the target of a plead that was not taken yet.
-//! No memory is taken but by [`credits`].
+//! An end that is finished waives what the word has, and what still comes. No memory is taken but by
+//! [`credits`].
 #![tactic(auto)]
 
 mod balance;

@@ -90,7 +90,7 @@ impl Play<(), View> for LoadOut {
     ghost then = { LoadedOut };
 }
 
-/// The sending end subtracts what it uses.
+/// The sending end subtracts what it uses, or waives.
 pub struct SubtractUsed;
 
 impl Play<(), View> for SubtractUsed {

@@ -8,7 +8,7 @@ use Rattle.std.proofs.Math.Seq.{take-add}
 use Rattle.lc_frame.specs.declared.version.Version.{Version}
 use Rattle.lc_frame.specs.declared.version.Version.TheVariants.{One, Two}
 use Rattle.lc_frame.specs.declared.frame.Frame.{Frame}
-use Rattle.lc_frame.specs.declared.frame.Frame.TheVariants.{Send, Issue, Absolve, Plead, LimitSending, LimitReceiving}
+use Rattle.lc_frame.specs.declared.frame.Frame.TheVariants.{Send, Issue, Absolve, Plead, LimitSending, LimitReceiving, Finish}
 use Rattle.lc_frame.specs.Kind.{max_frame}
 use Rattle.lc_frame.specs.Frame.{IsValid}
 use Rattle.lc_frame.specs.Encoding.{encoding}
@@ -28,6 +28,7 @@ longest version (Absolve c n) v = omega (arith, least_room version)
 longest version (Plead c n) v = omega (arith, least_room version)
 longest version (LimitSending c n) v = omega (arith, least_room version)
 longest version (LimitReceiving c n) v = omega (arith, least_room version)
+longest version (Finish c) v = omega (arith, least_room version)
 
 -- one frame more is joined
 take_one_more : (ws : List Frame) (i : ℕ) (f : Frame) → Some f ≡ slice_get ws i → take (i + 1) ws ≡ take i ws ++ f ∷ []

@@ -1,7 +1,6 @@
 -- The frames of a list of bytes as they are computed: no matter by how many turns, and what Splits says.
 use Rattle.std.proofs.Common.{◌≡◌, ℕ, zero, suc, ◌+◌, ◌-◌, ◌≤◌, Bool, true, false, List, [], ◌∷◌, ◌++◌, length, take, drop, Option, Some, None, refl, sym, ap, ap₂, ◌∙◌, append_assoc, arith}
 use Rattle.std.specs.Prelude.{if◌then◌else◌, nat_lt, ⊤}
-use Rattle.std.specs.Int.{byte_len, from_be_bytes}
 use Rattle.std.specs.List.{flat_map, AllByRecursion}
 use Rattle.std.specs.Option.{option_map_or}
 use Rattle.std.proofs.lemmas.List.{drop_at, length-drop, length-append}
@@ -10,12 +9,13 @@ use Rattle.lc_frame.specs.declared.version.Version.{Version}
 use Rattle.lc_frame.specs.declared.channel.Channel.{Channel}
 use Rattle.lc_frame.specs.declared.kind.Kind.{Kind}
 use Rattle.lc_frame.specs.declared.frame.Frame.{Frame}
+use Rattle.lc_frame.specs.declared.frame_fault.FrameFault.TheVariants.{BadTag}
 use Rattle.lc_frame.specs.declared.scan.Scan.{Scan}
 use Rattle.lc_frame.specs.declared.scan.Scan.TheVariants.{Whole, Fault, Needs}
-use Rattle.lc_frame.specs.Kind.{width_of, is_in_range, fault_of, body_len, header_len}
+use Rattle.lc_frame.specs.Kind.{has, width_of, width_len, is_in_range, fault_of, body_len, header_len}
 use Rattle.lc_frame.specs.Frame.{IsValid}
 use Rattle.lc_frame.specs.Encoding.{encoding, FrameStands}
-use Rattle.lc_frame.specs.Scan.{frame_in, scan_body, scan_number, scan_tag, scan_of, Finds}
+use Rattle.lc_frame.specs.Scan.{frame_in, number_in, scan_body, scan_number, scan_tag, scan_of, Finds}
 use Rattle.lc_frame.specs.Held.{Held, IsValidIn, encoding_in, before}
 use Rattle.lc_frame.specs.Splits.{Splits, first_frame, split_in, split_as, frames_of, rest_of}
 use Rattle.lc_frame.proofs.Bytes.{IsBytes, IsBytes-drop}
@@ -40,8 +40,8 @@ uses_body v k c n rest = uses_either _ (Needs (header_len v k + body_len k n)) (
 uses_number : (v : Version) (k : Kind) (c : Channel) (bytes : List ℕ) → UsesSome (scan_number v k c bytes)
 unfolding scan_number
 uses_number v k c bytes =
-    let width : ℕ = byte_len (width_of v k) in
-    let number : ℕ = from_be_bytes (width_of v k) (take width bytes) in
+    let width : ℕ = width_len (width_of v k) in
+    let number : ℕ = number_in (width_of v k) (take width bytes) in
     let body : Scan = scan_body v k c number (drop width bytes) in
     let fault : Scan = Fault (fault_of k number) in
     let in_range : Bool = is_in_range v k number in
@@ -51,7 +51,7 @@ uses_tag : (v : Version) (k : Option Kind) (c : Option Channel) (rest : List ℕ
 unfolding scan_tag
 uses_tag v None c rest = tt
 uses_tag v (Some k) None rest = tt
-uses_tag v (Some k) (Some c) rest = uses_number v k c rest
+uses_tag v (Some k) (Some c) rest = uses_either (has v k) (scan_number v k c rest) (Fault BadTag) (uses_number v k c rest) tt
 
 uses_some : (v : Version) (bytes : List ℕ) → UsesSome (scan_of v bytes)
 unfolding scan_of

@@ -1,6 +1,5 @@
 -- What a scan of a list of bytes answers, and what stands at its front: each follows from the other.
 use Rattle.std.proofs.Common.{◌≡◌, ℕ, zero, suc, ◌+◌, ◌^◌, ◌/◌, ◌%◌, ◌<◌, ◌≤◌, Bool, true, false, cond, ltb, List, [], ◌∷◌, ◌++◌, length, take, drop, Option, Some, None, refl, sym, ap, ap₂, subst, ◌∙◌, append_assoc, arith, inl, inr, All}
-use Rattle.std.specs.Int.{byte_len, from_be_bytes, to_be_bytes}
 use Rattle.std.proofs.lemmas.Bool.{cases_lt, ltb-false, ltb-true, le-ltb, lt-ltb, false_from_ne_true, true≢false}
 use Rattle.std.proofs.lemmas.Bool.Decides.{nat_tests}
 use Rattle.std.proofs.lemmas.List.{take_at, drop_at, take-append-drop, length-append, length-take, length-take-le, append-nil, nil_from_length, get_or_past}
@@ -11,18 +10,18 @@ use Rattle.lc_frame.specs.declared.channel.Channel.{Channel}
 use Rattle.lc_frame.specs.declared.kind.Kind.{Kind}
 use Rattle.lc_frame.specs.declared.kind.Kind.TheVariants as kinds
 use Rattle.lc_frame.specs.declared.frame.Frame.{Frame}
-use Rattle.lc_frame.specs.declared.frame.Frame.TheVariants.{Send, Issue, Absolve, Plead, LimitSending, LimitReceiving}
+use Rattle.lc_frame.specs.declared.frame.Frame.TheVariants.{Send, Issue, Absolve, Plead, LimitSending, LimitReceiving, Finish}
 use Rattle.lc_frame.specs.declared.frame_fault.FrameFault.{FrameFault}
 use Rattle.lc_frame.specs.declared.frame_fault.FrameFault.TheVariants.{BadTag, ZeroLength, BadNumber, Truncated}
 use Rattle.lc_frame.specs.declared.head.Head.{Head}
 use Rattle.lc_frame.specs.declared.scan.Scan.{Scan}
 use Rattle.lc_frame.specs.declared.scan.Scan.TheVariants.{Whole, Fault, Needs}
 use Rattle.lc_frame.specs.Channel.{channel_at}
-use Rattle.lc_frame.specs.Kind.{kind_at, width_of, IsInRange, is_in_range, fault_of, body_len, header_len, max_frame}
+use Rattle.lc_frame.specs.Kind.{kind_at, has, width_of, width_len, IsInRange, is_in_range, fault_of, body_len, header_len, max_frame}
 use Rattle.lc_frame.specs.Frame.{kind_of, channel_of, field_of, body_of, IsValid}
-use Rattle.lc_frame.specs.Encoding.{tag_of, header, encoding, FrameStands, NoTagStands, NumberStands, FaultStands}
+use Rattle.lc_frame.specs.Encoding.{tag_of, number_bytes, header, encoding, FrameStands, NoTagStands, NumberStands, FaultStands}
 use Rattle.lc_frame.specs.Decoded.{IsOpen, OnlyFrame, OnlyFault, StandsAlone}
-use Rattle.lc_frame.specs.Scan.{frame_with, frame_in, scan_body, scan_number, scan_tag, scan_of, FindsFrame, NeedsMore, Finds}
+use Rattle.lc_frame.specs.Scan.{frame_with, frame_in, number_in, scan_body, scan_number, scan_tag, scan_of, FindsFrame, NeedsMore, Finds}
 use Rattle.lc_frame.proofs.Bytes.{IsBytes, IsBytes-take, IsBytes-rest, wide_of}
 use Rattle.lc_frame.proofs.Tags.{kind_again, channel_again, tag_from}
 
@@ -32,14 +31,14 @@ length-header : (v : Version) (k : Kind) (c : Channel) (n : ℕ) → length (hea
 length-header v k c n = omega (arith, (wide_of v k).len n)
 
 -- a header in front is read as its kind, channel and number
-scan_header : (v : Version) (k : Kind) (c : Channel) (n : ℕ) (rest : List ℕ) → n < 256 ^ byte_len (width_of v k)
+scan_header : (v : Version) (k : Kind) (c : Channel) (n : ℕ) (rest : List ℕ) → has v k ≡ true → n < 256 ^ width_len (width_of v k)
     → scan_of v (header v k c n ++ rest) ≡ cond (is_in_range v k n) (scan_body v k c n rest) (Fault (fault_of k n))
 unfolding scan_of scan_tag scan_number
-scan_header v k c n rest fits =
+scan_header v k c n rest known fits =
     let wide = wide_of v k in
     let len = wide.len n in
-    let long : ltb (length (to_be_bytes (width_of v k) n ++ rest)) (byte_len (width_of v k)) ≡ false = le-ltb _ _ (omega (arith, length-append (to_be_bytes (width_of v k) n) rest)) in
-    rw (kind_again k c, channel_again k c, long, take_at (to_be_bytes (width_of v k) n) rest (byte_len (width_of v k)) len, drop_at (to_be_bytes (width_of v k) n) rest (byte_len (width_of v k)) len, wide.again n fits) refl
+    let long : ltb (length (number_bytes (width_of v k) n ++ rest)) (width_len (width_of v k)) ≡ false = le-ltb _ _ (omega (arith, length-append (number_bytes (width_of v k) n) rest)) in
+    rw (kind_again k c, channel_again k c, known, long, take_at (number_bytes (width_of v k) n) rest (width_len (width_of v k)) len, drop_at (number_bytes (width_of v k) n) rest (width_len (width_of v k)) len, wide.again n fits) refl
 
 -- ---- numbers in range
 
@@ -53,7 +52,7 @@ out_test : (v : Version) (k : Kind) (n : ℕ) → ¬ IsInRange v k n → is_in_r
 out_test v k n out = false_from_ne_true _ (λ t. out (range_from v k n t))
 
 -- a number in range has room in its field
-fits_of : (v : Version) (k : Kind) (n : ℕ) → IsInRange v k n → n < 256 ^ byte_len (width_of v k)
+fits_of : (v : Version) (k : Kind) (n : ℕ) → IsInRange v k n → n < 256 ^ width_len (width_of v k)
 fits_of One kinds.Send n r = omega arith
 fits_of Two kinds.Send n r = omega arith
 fits_of v kinds.Issue n r = omega arith
@@ -61,6 +60,7 @@ fits_of v kinds.Absolve n r = omega arith
 fits_of v kinds.Plead n r = omega arith
 fits_of v kinds.LimitSending n r = omega arith
 fits_of v kinds.LimitReceiving n r = omega arith
+fits_of v kinds.Finish n r = omega arith
 
 -- and no frame is longer than the longest
 small_of : (v : Version) (k : Kind) (n : ℕ) → IsInRange v k n → header_len v k + body_len k n ≤ max_frame v
@@ -76,6 +76,8 @@ small_of One kinds.LimitSending n r = omega arith
 small_of Two kinds.LimitSending n r = omega arith
 small_of One kinds.LimitReceiving n r = omega arith
 small_of Two kinds.LimitReceiving n r = omega arith
+small_of One kinds.Finish n r = omega arith
+small_of Two kinds.Finish n r = omega arith
 
 header_small : (v : Version) (k : Kind) → header_len v k ≤ max_frame v
 header_small One kinds.Send = omega arith
@@ -90,11 +92,13 @@ header_small One kinds.LimitSending = omega arith
 header_small Two kinds.LimitSending = omega arith
 header_small One kinds.LimitReceiving = omega arith
 header_small Two kinds.LimitReceiving = omega arith
+header_small One kinds.Finish = omega arith
+header_small Two kinds.Finish = omega arith
 
 -- ---- what stands is what is read
 
-ranged : (v : Version) (k : Kind) (c : Channel) (n : ℕ) (rest : List ℕ) → IsInRange v k n → scan_of v (header v k c n ++ rest) ≡ scan_body v k c n rest
-ranged v k c n rest r = scan_header v k c n rest (fits_of v k n r) ∙ rw (range_test v k n r) refl
+ranged : (v : Version) (k : Kind) (c : Channel) (n : ℕ) (rest : List ℕ) → has v k ≡ true → IsInRange v k n → scan_of v (header v k c n ++ rest) ≡ scan_body v k c n rest
+ranged v k c n rest known r = scan_header v k c n rest known (fits_of v k n r) ∙ rw (range_test v k n r) refl
 
 abbrev pub head_of : Frame → Head
 head_of f = record { kind = kind_of f; channel = channel_of f; number = field_of f }
@@ -114,6 +118,7 @@ body_len_of (Absolve c n) = refl
 body_len_of (Plead c n) = refl
 body_len_of (LimitSending c n) = refl
 body_len_of (LimitReceiving c n) = refl
+body_len_of (Finish c) = refl
 
 pub length-encoding : (v : Version) (f : Frame) → length (encoding v f) ≡ header_len v (kind_of f) + length (body_of f)
 length-encoding v f = omega (arith, length-append (header v (kind_of f) (channel_of f) (field_of f)) (body_of f), length-header v (kind_of f) (channel_of f) (field_of f))
@@ -125,7 +130,7 @@ stands_whole v f bytes s =
     let n = field_of f in
     let parted : bytes ≡ header v k c n ++ (body_of f ++ s.rest) = s.is ∙ append_assoc (header v k c n) (body_of f) s.rest in
     let count : header_len v k + body_len k n ≡ length (encoding v f) = omega (arith, length-encoding v f, body_len_of f) in
-    ap (scan_of v) parted ∙ ranged v k c n (body_of f ++ s.rest) s.valid ∙ long_body v k c n (body_of f ++ s.rest) (omega (arith, body_len_of f, length-append (body_of f) s.rest)) ∙ ap (λ (m : ℕ). Whole (head_of f) m) count
+    ap (scan_of v) parted ∙ ranged v k c n (body_of f ++ s.rest) s.valid.0 s.valid.1 ∙ long_body v k c n (body_of f ++ s.rest) (omega (arith, body_len_of f, length-append (body_of f) s.rest)) ∙ ap (λ (m : ℕ). Whole (head_of f) m) count
 
 -- a frame is what its head and its bytes say
 with_again : (f : Frame) → frame_with (kind_of f) (channel_of f) (field_of f) (body_of f) ≡ f
@@ -135,6 +140,7 @@ with_again (Absolve c n) = refl
 with_again (Plead c n) = refl
 with_again (LimitSending c n) = refl
 with_again (LimitReceiving c n) = refl
+with_again (Finish c) = refl
 
 pub frame_again : (v : Version) (f : Frame) (bytes : List ℕ) → FrameStands v f bytes → frame_in v (head_of f) (take (length (encoding v f)) bytes) ≡ f
 frame_again v f bytes s =
@@ -145,19 +151,22 @@ frame_again v f bytes s =
     let body : drop (header_len v k) (encoding v f) ≡ body_of f = drop_at (header v k c n) (body_of f) (header_len v k) (length-header v k c n) in
     ap (λ (x : List ℕ). frame_in v (head_of f) x) text ∙ ap (λ (x : List ℕ). frame_with k c n x) body ∙ with_again f
 
+unless_known : (b : Bool) (s t : Scan) → b ≡ false → cond b s t ≡ t
+unless_known b s t e = rw e refl
+
 bad_tag : (v : Version) (first : ℕ) (rest : List ℕ) (k : Option Kind) (c : Option Channel) → kind_at (first / 16) ≡ k → channel_at (first % 16) ≡ c
-    → ((k' : Kind) (c' : Channel) → ¬ (first ≡ tag_of k' c')) → scan_tag v k c rest ≡ Fault BadTag
+    → ((k' : Kind) (c' : Channel) → has v k' ≡ true → ¬ (first ≡ tag_of k' c')) → scan_tag v k c rest ≡ Fault BadTag
 unfolding scan_tag
 bad_tag v first rest None c ek ec alien = refl
 bad_tag v first rest (Some k) None ek ec alien = refl
-bad_tag v first rest (Some k) (Some c) ek ec alien = absurd (alien k c (tag_from first k c ek ec))
+bad_tag v first rest (Some k) (Some c) ek ec alien = unless_known (has v k) (scan_number v k c rest) (Fault BadTag) (false_from_ne_true _ (λ known. alien k c known (tag_from first k c ek ec)))
 
-no_tag_again : (v : Version) (bytes : List ℕ) → NoTagStands bytes → scan_of v bytes ≡ Fault BadTag
+no_tag_again : (v : Version) (bytes : List ℕ) → NoTagStands v bytes → scan_of v bytes ≡ Fault BadTag
 unfolding scan_of
 no_tag_again v bytes s = ap (scan_of v) s.is ∙ bad_tag v s.first s.rest _ _ refl refl s.no_tag
 
 number_again : (v : Version) (e : FrameFault) (bytes : List ℕ) → NumberStands v e bytes → scan_of v bytes ≡ Fault e
-number_again v e bytes s = ap (scan_of v) s.is ∙ scan_header v s.kind s.channel s.number s.rest s.fits ∙ rw (out_test v s.kind s.number s.out) (ap Fault s.names)
+number_again v e bytes s = ap (scan_of v) s.is ∙ scan_header v s.kind s.channel s.number s.rest s.known s.fits ∙ rw (out_test v s.kind s.number s.out) (ap Fault s.names)
 
 stands_fault : (v : Version) (e : FrameFault) (bytes : List ℕ) → FaultStands v e bytes → scan_of v bytes ≡ Fault e
 stands_fault v BadTag bytes s = no_tag_again v bytes s
@@ -211,21 +220,22 @@ needs_more v bytes n short small more = record {
 }
 
 -- what is left of a number's bytes is read as the number
-header_back : (v : Version) (k : Kind) (c : Channel) (rest : List ℕ) → IsBytes rest → byte_len (width_of v k) ≤ length rest
-    → tag_of k c ∷ rest ≡ header v k c (from_be_bytes (width_of v k) (take (byte_len (width_of v k)) rest)) ++ drop (byte_len (width_of v k)) rest
+header_back : (v : Version) (k : Kind) (c : Channel) (rest : List ℕ) → IsBytes rest → width_len (width_of v k) ≤ length rest
+    → tag_of k c ∷ rest ≡ header v k c (number_in (width_of v k) (take (width_len (width_of v k)) rest)) ++ drop (width_len (width_of v k)) rest
 header_back v k c rest fits long =
-    let w = byte_len (width_of v k) in
+    let w = width_len (width_of v k) in
     let front = (wide_of v k).back (take w rest) (omega (arith, length-take w rest)) (IsBytes-take w rest fits) in
     ap (λ (x : List ℕ). tag_of k c ∷ x) (sym (take-append-drop w rest) ∙ ap (λ (x : List ℕ). x ++ drop w rest) (sym front))
 
 -- a head in range and a body of its length are those of the frame
-with_valid : (v : Version) (k : Kind) (c : Channel) (n : ℕ) (body : List ℕ) → IsInRange v k n → length body ≡ body_len k n → IsValid v (frame_with k c n body)
-with_valid v kinds.Send c n body r e = subst (λ (m : ℕ). IsInRange v kinds.Send m) (sym e) r
-with_valid v kinds.Issue c n body r e = r
-with_valid v kinds.Absolve c n body r e = r
-with_valid v kinds.Plead c n body r e = r
-with_valid v kinds.LimitSending c n body r e = r
-with_valid v kinds.LimitReceiving c n body r e = r
+with_valid : (v : Version) (k : Kind) (c : Channel) (n : ℕ) (body : List ℕ) → has v k ≡ true → IsInRange v k n → length body ≡ body_len k n → IsValid v (frame_with k c n body)
+with_valid v kinds.Send c n body known r e = (refl, subst (λ (m : ℕ). IsInRange v kinds.Send m) (sym e) r)
+with_valid v kinds.Issue c n body known r e = (refl, r)
+with_valid v kinds.Absolve c n body known r e = (refl, r)
+with_valid v kinds.Plead c n body known r e = (refl, r)
+with_valid v kinds.LimitSending c n body known r e = (refl, r)
+with_valid v kinds.LimitReceiving c n body known r e = (refl, r)
+with_valid v kinds.Finish c n body known r e = (known, (omega arith, omega arith))
 
 with_encoding : (v : Version) (k : Kind) (c : Channel) (n : ℕ) (body : List ℕ) → length body ≡ body_len k n → header v k c n ++ body ≡ encoding v (frame_with k c n body)
 with_encoding v kinds.Send c n body e = ap (λ (m : ℕ). header v kinds.Send c m ++ body) (sym e)
@@ -234,10 +244,11 @@ with_encoding v kinds.Absolve c n body e = ap (λ (x : List ℕ). header v kinds
 with_encoding v kinds.Plead c n body e = ap (λ (x : List ℕ). header v kinds.Plead c n ++ x) (nil_from_length body e)
 with_encoding v kinds.LimitSending c n body e = ap (λ (x : List ℕ). header v kinds.LimitSending c n ++ x) (nil_from_length body e)
 with_encoding v kinds.LimitReceiving c n body e = ap (λ (x : List ℕ). header v kinds.LimitReceiving c n ++ x) (nil_from_length body e)
+with_encoding v kinds.Finish c n body e = ap (λ (x : List ℕ). header v kinds.Finish c n ++ x) (nil_from_length body e)
 
-body_found : (v : Version) (k : Kind) (c : Channel) (n : ℕ) (rest bytes : List ℕ) → IsInRange v k n → bytes ≡ header v k c n ++ rest → body_len k n ≤ length rest
+body_found : (v : Version) (k : Kind) (c : Channel) (n : ℕ) (rest bytes : List ℕ) → has v k ≡ true → IsInRange v k n → bytes ≡ header v k c n ++ rest → body_len k n ≤ length rest
     → FindsFrame v (record { kind = k; channel = c; number = n }) (header_len v k + body_len k n) bytes
-body_found v k c n rest bytes r e long =
+body_found v k c n rest bytes known r e long =
     let h : Head = record { kind = k; channel = c; number = n } in
     let len = body_len k n in
     let used = header_len v k + len in
@@ -248,7 +259,7 @@ body_found v k c n rest bytes r e long =
     let is : frame_in v h (take used bytes) ≡ frame_with k c n body = ap (λ (x : List ℕ). frame_in v h x) text ∙ ap (λ (x : List ℕ). frame_with k c n x) (drop_at (header v k c n) body (header_len v k) count) in
     let whole : header v k c n ++ body ≡ encoding v (frame_with k c n body) = with_encoding v k c n body fills in
     let stands : FrameStands v (frame_with k c n body) bytes = record {
-      valid = with_valid v k c n body r fills;
+      valid = with_valid v k c n body known r fills;
       rest = drop len rest;
       is = e ∙ ap (λ (x : List ℕ). header v k c n ++ x) (sym (take-append-drop len rest)) ∙ sym (append_assoc (header v k c n) body (drop len rest)) ∙ ap (λ (x : List ℕ). x ++ drop len rest) whole;
     } in
@@ -262,15 +273,15 @@ body_found v k c n rest bytes r e long =
     }
 
 -- behind a number in range
-finds_body : (v : Version) (k : Kind) (c : Channel) (n : ℕ) (rest bytes : List ℕ) → IsInRange v k n → bytes ≡ header v k c n ++ rest → Finds v (scan_body v k c n rest) bytes
-finds_body v k c n rest bytes r e =
+finds_body : (v : Version) (k : Kind) (c : Channel) (n : ℕ) (rest bytes : List ℕ) → has v k ≡ true → IsInRange v k n → bytes ≡ header v k c n ++ rest → Finds v (scan_body v k c n rest) bytes
+finds_body v k c n rest bytes known r e =
     elim (cases_lt (length rest) (body_len k n)) [
       | inl few ↦
           subst (λ (s : Scan). Finds v s bytes) (sym (short_body v k c n rest few)) (
           needs_more v bytes (header_len v k + body_len k n) (omega (arith, ap length e, length-append (header v k c n) rest, length-header v k c n)) (small_of v k n r) (λ ys lt.
           let parted : bytes ++ ys ≡ header v k c n ++ (rest ++ ys) = ap (λ (x : List ℕ). x ++ ys) e ∙ append_assoc (header v k c n) rest ys in
-          ap (scan_of v) parted ∙ ranged v k c n (rest ++ ys) r ∙ short_body v k c n (rest ++ ys) (omega (arith, ap length parted, length-append (header v k c n) (rest ++ ys), length-header v k c n))))
-      | inr long ↦ subst (λ (s : Scan). Finds v s bytes) (sym (long_body v k c n rest long)) (body_found v k c n rest bytes r e long)
+          ap (scan_of v) parted ∙ ranged v k c n (rest ++ ys) known r ∙ short_body v k c n (rest ++ ys) (omega (arith, ap length parted, length-append (header v k c n) (rest ++ ys), length-header v k c n))))
+      | inr long ↦ subst (λ (s : Scan). Finds v s bytes) (sym (long_body v k c n rest long)) (body_found v k c n rest bytes known r e long)
     ]
 
 -- a number out of range is a fault
@@ -282,14 +293,16 @@ number_fault v kinds.Absolve n bytes s = s
 number_fault v kinds.Plead n bytes s = s
 number_fault v kinds.LimitSending n bytes s = s
 number_fault v kinds.LimitReceiving n bytes s = s
+number_fault v kinds.Finish n bytes s = s
 
 -- behind a whole number
-finds_range : (v : Version) (k : Kind) (c : Channel) (n : ℕ) (rest bytes : List ℕ) → n < 256 ^ byte_len (width_of v k) → bytes ≡ header v k c n ++ rest → (ok : Bool) → is_in_range v k n ≡ ok
+finds_range : (v : Version) (k : Kind) (c : Channel) (n : ℕ) (rest bytes : List ℕ) → has v k ≡ true → n < 256 ^ width_len (width_of v k) → bytes ≡ header v k c n ++ rest → (ok : Bool) → is_in_range v k n ≡ ok
     → Finds v (cond ok (scan_body v k c n rest) (Fault (fault_of k n))) bytes
-finds_range v k c n rest bytes fits e true t = finds_body v k c n rest bytes (range_from v k n t) e
-finds_range v k c n rest bytes fits e false t =
+finds_range v k c n rest bytes known fits e true t = finds_body v k c n rest bytes known (range_from v k n t) e
+finds_range v k c n rest bytes known fits e false t =
     only_fault v (fault_of k n) bytes (number_fault v k n bytes (record {
       kind = k;
+      known = known;
       channel = c;
       number = n;
       rest = rest;
@@ -302,34 +315,51 @@ finds_range v k c n rest bytes fits e false t =
 none_some : {X : Type 0} {x : X} → None ≡ Some x → ⊥
 none_some e = cc
 
-scan_tagged : (v : Version) (k : Kind) (c : Channel) (rest : List ℕ) → scan_of v (tag_of k c ∷ rest) ≡ scan_number v k c rest
+pub scan_tagged : (v : Version) (k : Kind) (c : Channel) (rest : List ℕ) → has v k ≡ true → scan_of v (tag_of k c ∷ rest) ≡ scan_number v k c rest
 unfolding scan_of scan_tag
-scan_tagged v k c rest = rw (kind_again k c, channel_again k c) refl
+scan_tagged v k c rest known = rw (kind_again k c, channel_again k c, known) refl
 
 -- behind a tag
-finds_number : (v : Version) (k : Kind) (c : Channel) (rest bytes : List ℕ) → IsBytes rest → bytes ≡ tag_of k c ∷ rest → (short : Bool) → ltb (length rest) (byte_len (width_of v k)) ≡ short → Finds v (scan_number v k c rest) bytes
+finds_number : (v : Version) (k : Kind) (c : Channel) (rest bytes : List ℕ) → has v k ≡ true → IsBytes rest → bytes ≡ tag_of k c ∷ rest → (short : Bool) → ltb (length rest) (width_len (width_of v k)) ≡ short → Finds v (scan_number v k c rest) bytes
 unfolding scan_number
-finds_number v k c rest bytes fits e true t =
-    let w = byte_len (width_of v k) in
+finds_number v k c rest bytes known fits e true t =
+    let w = width_len (width_of v k) in
     let shown : scan_number v k c rest ≡ Needs (header_len v k) = rw t refl in
     let few = ltb-true _ _ t in
     subst (λ (s : Scan). Finds v s bytes) (sym shown) (
     needs_more v bytes (header_len v k) (omega (arith, few, ap length e)) (header_small v k) (λ ys lt.
     let parted : bytes ++ ys ≡ tag_of k c ∷ (rest ++ ys) = ap (λ (x : List ℕ). x ++ ys) e in
     let still : ltb (length (rest ++ ys)) w ≡ true = lt-ltb _ _ (omega (arith, ap length parted)) in
-    ap (scan_of v) parted ∙ scan_tagged v k c (rest ++ ys) ∙ rw still refl))
-finds_number v k c rest bytes fits e false t =
-    let w = byte_len (width_of v k) in
+    ap (scan_of v) parted ∙ scan_tagged v k c (rest ++ ys) known ∙ rw still refl))
+finds_number v k c rest bytes known fits e false t =
+    let w = width_len (width_of v k) in
     let long : w ≤ length rest = ltb-false _ _ t in
-    let n : ℕ = from_be_bytes (width_of v k) (take w rest) in
+    let n : ℕ = number_in (width_of v k) (take w rest) in
     let shown : scan_number v k c rest ≡ cond (is_in_range v k n) (scan_body v k c n (drop w rest)) (Fault (fault_of k n)) = rw t refl in
-    subst (λ (s : Scan). Finds v s bytes) (sym shown) (finds_range v k c n (drop w rest) bytes ((wide_of v k).below (take w rest) (IsBytes-take w rest fits)) (e ∙ header_back v k c rest fits long) _ refl)
+    subst (λ (s : Scan). Finds v s bytes) (sym shown) (finds_range v k c n (drop w rest) bytes known ((wide_of v k).below (take w rest) (IsBytes-take w rest fits)) (e ∙ header_back v k c rest fits long) _ refl)
+
+some_is : {X : Type 0} {x y : X} → Some x ≡ Some y → x ≡ y
+some_is e = cc
+
+-- behind a tag of the version, or of the other one
+finds_known : (v : Version) (first : ℕ) (k : Kind) (c : Channel) (rest : List ℕ) → IsBytes rest → kind_at (first / 16) ≡ Some k → channel_at (first % 16) ≡ Some c → (known : Bool) → has v k ≡ known
+    → Finds v (cond known (scan_number v k c rest) (Fault BadTag)) (first ∷ rest)
+finds_known v first k c rest fits ek ec true known = finds_number v k c rest (first ∷ rest) known fits (ap (λ (b : ℕ). b ∷ rest) (tag_from first k c ek ec)) _ refl
+finds_known v first k c rest fits ek ec false alien =
+    only_fault v BadTag (first ∷ rest) (record {
+      first = first;
+      rest = rest;
+      is = refl;
+      no_tag = λ k' c' known e.
+          let same : k ≡ k' = some_is (sym ek ∙ ap (λ (b : ℕ). kind_at (b / 16)) e ∙ kind_again k' c') in
+          absurd (true≢false (sym known ∙ ap (has v) (sym same) ∙ alien));
+    })
 
 finds_tag : (v : Version) (first : ℕ) (rest : List ℕ) (k : Option Kind) (c : Option Channel) → IsBytes rest → kind_at (first / 16) ≡ k → channel_at (first % 16) ≡ c → Finds v (scan_tag v k c rest) (first ∷ rest)
 unfolding scan_tag
-finds_tag v first rest None c fits ek ec = only_fault v BadTag (first ∷ rest) (record { first = first; rest = rest; is = refl; no_tag = λ k' c' e. absurd (none_some (sym ek ∙ ap (λ (b : ℕ). kind_at (b / 16)) e ∙ kind_again k' c')) })
-finds_tag v first rest (Some k) None fits ek ec = only_fault v BadTag (first ∷ rest) (record { first = first; rest = rest; is = refl; no_tag = λ k' c' e. absurd (none_some (sym ec ∙ ap (λ (b : ℕ). channel_at (b % 16)) e ∙ channel_again k' c')) })
-finds_tag v first rest (Some k) (Some c) fits ek ec = finds_number v k c rest (first ∷ rest) fits (ap (λ (b : ℕ). b ∷ rest) (tag_from first k c ek ec)) _ refl
+finds_tag v first rest None c fits ek ec = only_fault v BadTag (first ∷ rest) (record { first = first; rest = rest; is = refl; no_tag = λ k' c' known e. absurd (none_some (sym ek ∙ ap (λ (b : ℕ). kind_at (b / 16)) e ∙ kind_again k' c')) })
+finds_tag v first rest (Some k) None fits ek ec = only_fault v BadTag (first ∷ rest) (record { first = first; rest = rest; is = refl; no_tag = λ k' c' known e. absurd (none_some (sym ec ∙ ap (λ (b : ℕ). channel_at (b % 16)) e ∙ channel_again k' c')) })
+finds_tag v first rest (Some k) (Some c) fits ek ec = finds_known v first k c rest fits ek ec (has v k) refl
 
 -- nothing was read yet
 frame_some : (v : Version) → 1 ≤ max_frame v
@@ -356,6 +386,7 @@ frame_goes_on v f bytes ys s = record { valid = s.valid; rest = s.rest ++ ys; is
 number_goes_on : (v : Version) (e : FrameFault) (bytes ys : List ℕ) → NumberStands v e bytes → NumberStands v e (bytes ++ ys)
 number_goes_on v e bytes ys s = record {
   kind = s.kind;
+  known = s.known;
   channel = s.channel;
   number = s.number;
   rest = s.rest ++ ys;
@@ -404,7 +435,17 @@ range_in_two kinds.Absolve n r = r
 range_in_two kinds.Plead n r = r
 range_in_two kinds.LimitSending n r = r
 range_in_two kinds.LimitReceiving n r = r
+range_in_two kinds.Finish n r = r
+
+two_has : (k : Kind) → has Two k ≡ true
+two_has kinds.Send = refl
+two_has kinds.Issue = refl
+two_has kinds.Absolve = refl
+two_has kinds.Plead = refl
+two_has kinds.LimitSending = refl
+two_has kinds.LimitReceiving = refl
+two_has kinds.Finish = refl
 
 pub valid_in_two : (v : Version) (f : Frame) → IsValid v f → IsValid Two f
-valid_in_two One f valid = range_in_two (kind_of f) (field_of f) valid
+valid_in_two One f valid = (two_has (kind_of f), range_in_two (kind_of f) (field_of f) valid.1)
 valid_in_two Two f valid = valid

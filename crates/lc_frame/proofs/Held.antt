@@ -132,6 +132,7 @@ no_mark kinds.Absolve c = let small = number_below c in grind (arith, nat_tests)
 no_mark kinds.Plead c = let small = number_below c in grind (arith, nat_tests)
 no_mark kinds.LimitSending c = let small = number_below c in grind (arith, nat_tests)
 no_mark kinds.LimitReceiving c = let small = number_below c in grind (arith, nat_tests)
+no_mark kinds.Finish c = let small = number_below c in grind (arith, nat_tests)
 
 pub stream_told : (v : Version) (f : Frame) (more : List ℕ) → opened (greeting v ++ encoding v f ++ more) ≡ held_in v (encoding v f ++ more)
 stream_told One f more = rw (no_mark (kind_of f) (channel_of f)) refl

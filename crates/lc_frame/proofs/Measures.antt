@@ -1,17 +1,18 @@
 -- The measures of frame lists over lists that are put together, and over one frame more.
 use Rattle.std.proofs.Common.{◌≡◌, ℕ, ◌+◌, false, List, [], ◌∷◌, ◌++◌, length, Option, Some, None, refl, ap, ◌∙◌, arith}
-use Rattle.std.specs.Prelude.{◌-◌, sum, sum_by}
-use Rattle.std.specs.List.{filter_map, cons_option}
+use Rattle.std.specs.Prelude.{◌-◌, ◌||◌, sum, sum_by}
+use Rattle.std.specs.List.{filter_map, cons_option, list_any}
 use Rattle.std.specs.Option.{option_map, option_or}
 use Rattle.std.proofs.lemmas.List.{append-nil}
 use Rattle.std.proofs.lemmas.List.Sums.{sum_by-append}
 use Rattle.std.proofs.lemmas.List.Elements.{filter-append, filter_map-append}
+use Rattle.std.proofs.lemmas.List.Folds.{list_any-append}
 use Rattle.lc_frame.specs.declared.channel.Channel.{Channel}
 use Rattle.lc_frame.specs.declared.frame.Frame.{Frame}
-use Rattle.lc_frame.specs.declared.frame.Frame.TheVariants.{Send, Issue, Absolve, Plead, LimitSending, LimitReceiving}
+use Rattle.lc_frame.specs.declared.frame.Frame.TheVariants.{Send, Issue, Absolve, Plead, LimitSending, LimitReceiving, Finish}
 use Rattle.lc_frame.specs.Channel.{is_same}
 use Rattle.lc_frame.specs.Frame.{channel_of}
-use Rattle.lc_frame.specs.Stream.{on, message_of, issue_of, absolve_of, target_of, send_bound_of, receive_bound_of, messages, cost, issued, absolved, pleads, last_limit, send_left, receive_left}
+use Rattle.lc_frame.specs.Stream.{on, message_of, issue_of, absolve_of, target_of, send_bound_of, receive_bound_of, messages, cost, issued, absolved, pleads, last_limit, send_left, receive_left, is_finish, finished}
 use Rattle.lc_frame.proofs.Channels.{same_is_same}
 
 -- lists that are put together
@@ -36,6 +37,9 @@ pleads-append c xs ys = rw (on-append c xs ys) (filter_map-append target_of (on 
 pub absolved-append : (c : Channel) (xs ys : List Frame) → absolved c (xs ++ ys) ≡ absolved c xs + absolved c ys
 absolved-append c xs ys = rw (on-append c xs ys, filter_map-append absolve_of (on c xs) (on c ys)) (sum-append (filter_map absolve_of (on c xs)) (filter_map absolve_of (on c ys)))
 
+pub finished-append : (c : Channel) (xs ys : List Frame) → finished c (xs ++ ys) ≡ (finished c xs || finished c ys)
+finished-append c xs ys = rw (on-append c xs ys) (list_any-append is_finish (on c xs) (on c ys))
+
 -- a frame alone, on its own channel and on another
 pub on-here : (f : Frame) → on (channel_of f) (f ∷ []) ≡ f ∷ []
 on-here f = rw (same_is_same (channel_of f)) refl
@@ -56,6 +60,13 @@ issued-one f = ap (λ frames. sum (filter_map issue_of frames)) (on-here f)
 pub absolved-one : (f : Frame) → absolved (channel_of f) (f ∷ []) ≡ sum (cons_option (absolve_of f) [])
 absolved-one f = ap (λ frames. sum (filter_map absolve_of frames)) (on-here f)
 
+pub finished-one : (f : Frame) → finished (channel_of f) (f ∷ []) ≡ (is_finish f || false)
+finished-one f = ap (list_any is_finish) (on-here f)
+
+-- a frame more finishes its channel where it is a Finish
+pub finished-push : (frames : List Frame) (f : Frame) → finished (channel_of f) (frames ++ f ∷ []) ≡ (finished (channel_of f) frames || (is_finish f || false))
+finished-push frames f = finished-append (channel_of f) frames (f ∷ []) ∙ ap (λ b. finished (channel_of f) frames || b) (finished-one f)
+
 -- one frame more on another channel
 module _ (c : Channel) (frames : List Frame) (f : Frame) (apart : is_same c (channel_of f) ≡ false) where
   pub on-other : on c (frames ++ f ∷ []) ≡ on c frames
@@ -72,6 +83,9 @@ module _ (c : Channel) (frames : List Frame) (f : Frame) (apart : is_same c (cha
 
   pub absolved-other : absolved c (frames ++ f ∷ []) ≡ absolved c frames
   absolved-other = ap (λ (fs : List Frame). sum (filter_map absolve_of fs)) on-other
+
+  pub finished-other : finished c (frames ++ f ∷ []) ≡ finished c frames
+  finished-other = ap (list_any is_finish) on-other
 
   pub send_left-other : send_left c (frames ++ f ∷ []) ≡ send_left c frames
   send_left-other = ap (λ (fs : List Frame). option_map (λ p. p.0 - cost c p.1) (last_limit send_bound_of fs)) on-other
@@ -141,6 +155,7 @@ send_left-push frames (Absolve c n) = let f : Frame = Absolve c n in rw (push_on
 send_left-push frames (Plead c n) = let f : Frame = Plead c n in rw (push_on c frames f refl) (send_left-on c f 0 (on c frames) refl (cost-one f) ∙ less_nothing _)
 send_left-push frames (LimitSending c n) = rw (push_on c frames (LimitSending c n) refl, last_limit-push send_bound_of (on c frames) (LimitSending c n)) (ap Some (omega arith))
 send_left-push frames (LimitReceiving c n) = let f : Frame = LimitReceiving c n in rw (push_on c frames f refl) (send_left-on c f 0 (on c frames) refl (cost-one f) ∙ less_nothing _)
+send_left-push frames (Finish c) = let f : Frame = Finish c in rw (push_on c frames f refl) (send_left-on c f 0 (on c frames) refl (cost-one f) ∙ less_nothing _)
 
 pub receive_left-push : (frames : List Frame) (f : Frame) → receive_left (channel_of f) (frames ++ f ∷ []) ≡ receive_left_then f (receive_left (channel_of f) frames)
 receive_left-push frames (Send c body) = let f : Frame = Send c body in rw (push_on c frames f refl) (receive_left-on c f 0 (on c frames) refl (issued-one f) ∙ less_nothing _)
@@ -149,3 +164,4 @@ receive_left-push frames (Absolve c n) = let f : Frame = Absolve c n in rw (push
 receive_left-push frames (Plead c n) = let f : Frame = Plead c n in rw (push_on c frames f refl) (receive_left-on c f 0 (on c frames) refl (issued-one f) ∙ less_nothing _)
 receive_left-push frames (LimitSending c n) = let f : Frame = LimitSending c n in rw (push_on c frames f refl) (receive_left-on c f 0 (on c frames) refl (issued-one f) ∙ less_nothing _)
 receive_left-push frames (LimitReceiving c n) = rw (push_on c frames (LimitReceiving c n) refl, last_limit-push receive_bound_of (on c frames) (LimitReceiving c n)) (ap Some (omega arith))
+receive_left-push frames (Finish c) = let f : Frame = Finish c in rw (push_on c frames f refl) (receive_left-on c f 0 (on c frames) refl (issued-one f) ∙ less_nothing _)

@@ -3,7 +3,7 @@ use Rattle.std.proofs.Common.{◌≡◌, ℕ, zero, suc, ◌/◌, ◌%◌, Some,
 use Rattle.lc_frame.specs.declared.channel.Channel.{Channel}
 use Rattle.lc_frame.specs.declared.channel.Channel.TheVariants.{ReconciliationChannel, DataChannel, OverlapChannel, CapabilityChannel, AreaOfInterestChannel, PayloadRequestChannel, StaticTokenChannel}
 use Rattle.lc_frame.specs.declared.kind.Kind.{Kind}
-use Rattle.lc_frame.specs.declared.kind.Kind.TheVariants.{Send, Issue, Absolve, Plead, LimitSending, LimitReceiving}
+use Rattle.lc_frame.specs.declared.kind.Kind.TheVariants.{Send, Issue, Absolve, Plead, LimitSending, LimitReceiving, Finish}
 use Rattle.lc_frame.specs.Channel.{number_of}
 use Rattle.lc_frame.specs.Kind.{code_of, kind_at}
 use Rattle.lc_frame.specs.Encoding.{tag_of}
@@ -17,6 +17,7 @@ kind_of_code Absolve = refl
 kind_of_code Plead = refl
 kind_of_code LimitSending = refl
 kind_of_code LimitReceiving = refl
+kind_of_code Finish = refl
 
 pub kind_again : (k : Kind) (c : Channel) → kind_at (tag_of k c / 16) ≡ Some k
 kind_again k c =
@@ -38,7 +39,8 @@ code_from (suc (suc (suc zero))) k e = let s : Absolve ≡ k = cc in ap code_of 
 code_from (suc (suc (suc (suc zero)))) k e = let s : Plead ≡ k = cc in ap code_of s
 code_from (suc (suc (suc (suc (suc zero))))) k e = let s : LimitSending ≡ k = cc in ap code_of s
 code_from (suc (suc (suc (suc (suc (suc zero)))))) k e = let s : LimitReceiving ≡ k = cc in ap code_of s
-code_from (suc (suc (suc (suc (suc (suc (suc n))))))) k e = absurd cc
+code_from (suc (suc (suc (suc (suc (suc (suc zero))))))) k e = let s : Finish ≡ k = cc in ap code_of s
+code_from (suc (suc (suc (suc (suc (suc (suc (suc n)))))))) k e = absurd cc
 
 number_from : (n : ℕ) (c : Channel) → channel_at n ≡ Some c → n ≡ number_of c
 number_from zero c e = let s : ReconciliationChannel ≡ c = cc in ap number_of s

@@ -2,7 +2,7 @@
 use Rattle.lc_frame.specs.declared.frame.Frame.{Frame}
 use Rattle.lc_frame.specs.declared.frame.Frame.TheVariants as owned
 use Rattle.lc_frame.specs.declared.frame_ref.FrameRef.{FrameRef}
-use Rattle.lc_frame.specs.declared.frame_ref.FrameRef.TheVariants.{Send, Issue, Absolve, Plead, LimitSending, LimitReceiving}
+use Rattle.lc_frame.specs.declared.frame_ref.FrameRef.TheVariants.{Send, Issue, Absolve, Plead, LimitSending, LimitReceiving, Finish}
 
 -- the same kind, channel and number, and the bytes that are lent
 abbrev pub frame_of : FrameRef → Frame
@@ -12,3 +12,4 @@ frame_of (Absolve c amount) = owned.Absolve c amount
 frame_of (Plead c target) = owned.Plead c target
 frame_of (LimitSending c bound) = owned.LimitSending c bound
 frame_of (LimitReceiving c bound) = owned.LimitReceiving c bound
+frame_of (Finish c) = owned.Finish c

@@ -1,10 +1,10 @@
--- The table of the kinds of frame, by version: of each the code in its tag, how wide the number behind the tag is, the least and the greatest number, and how many bytes stand behind it. The kinds are those of LCMUX; codes, widths and ranges are this project's own.
-use Rattle.std.specs.Prelude.{ℕ, zero, suc, Bool, ◌+◌, ◌≤◌, ◌^◌, ◌&&◌, nat_le, Option, Some, None}
+-- The table of the kinds of frame, by version: of each the code in its tag, whether the version has it, how wide the number behind the tag is, the least and the greatest number, and how many bytes stand behind it. The kinds are those of LCMUX, but for Finish; that, codes, widths and ranges are this project's own.
+use Rattle.std.specs.Prelude.{ℕ, zero, suc, Bool, true, false, ◌+◌, ◌≤◌, ◌^◌, ◌&&◌, nat_le, Option, Some, None}
 use Rattle.std.specs.Int.{Width, w16, w32, w64, byte_len}
 use Rattle.lc_frame.specs.declared.version.Version.{Version}
 use Rattle.lc_frame.specs.declared.version.Version.TheVariants.{One, Two}
 use Rattle.lc_frame.specs.declared.kind.Kind.{Kind}
-use Rattle.lc_frame.specs.declared.kind.Kind.TheVariants.{Send, Issue, Absolve, Plead, LimitSending, LimitReceiving}
+use Rattle.lc_frame.specs.declared.kind.Kind.TheVariants.{Send, Issue, Absolve, Plead, LimitSending, LimitReceiving, Finish}
 use Rattle.lc_frame.specs.declared.frame_fault.FrameFault.{FrameFault}
 use Rattle.lc_frame.specs.declared.frame_fault.FrameFault.TheVariants.{ZeroLength, BadNumber}
 
@@ -29,6 +29,7 @@ code_of Absolve = 3
 code_of Plead = 4
 code_of LimitSending = 5
 code_of LimitReceiving = 6
+code_of Finish = 7
 
 -- the kind of a code, where there is one
 abbrev pub kind_at : ℕ → Option Kind
@@ -38,21 +39,39 @@ kind_at (suc (suc (suc zero))) = Some Absolve
 kind_at (suc (suc (suc (suc zero)))) = Some Plead
 kind_at (suc (suc (suc (suc (suc zero))))) = Some LimitSending
 kind_at (suc (suc (suc (suc (suc (suc zero)))))) = Some LimitReceiving
+kind_at (suc (suc (suc (suc (suc (suc (suc zero))))))) = Some Finish
 kind_at _ = None
+
+-- whether a version has the kind
+abbrev pub has : Version → Kind → Bool
+has v Send = true
+has v Issue = true
+has v Absolve = true
+has v Plead = true
+has v LimitSending = true
+has v LimitReceiving = true
+has One Finish = false
+has Two Finish = true
 
 -- the width of a message's length
 abbrev pub length_width : Version → Width
 length_width One = w16
 length_width Two = w32
 
--- the width of the number behind the tag
-abbrev pub width_of : Version → Kind → Width
-width_of v Send = length_width v
-width_of v Issue = w32
-width_of v Absolve = w32
-width_of v Plead = w32
-width_of v LimitSending = w64
-width_of v LimitReceiving = w64
+-- the width of the number behind the tag, where there is one
+abbrev pub width_of : Version → Kind → Option Width
+width_of v Send = Some (length_width v)
+width_of v Issue = Some w32
+width_of v Absolve = Some w32
+width_of v Plead = Some w32
+width_of v LimitSending = Some w64
+width_of v LimitReceiving = Some w64
+width_of v Finish = None
+
+-- how many bytes a number of that width has
+abbrev pub width_len : Option Width → ℕ
+width_len None = 0
+width_len (Some width) = byte_len width
 
 -- the least number
 abbrev pub least_of : Kind → ℕ
@@ -62,6 +81,7 @@ least_of Absolve = 1
 least_of Plead = 0
 least_of LimitSending = 0
 least_of LimitReceiving = 0
+least_of Finish = 0
 
 -- the greatest number
 abbrev pub greatest_of : Version → Kind → ℕ
@@ -71,6 +91,7 @@ greatest_of v Absolve = max_amount
 greatest_of v Plead = max_amount
 greatest_of v LimitSending = max_total
 greatest_of v LimitReceiving = max_total
+greatest_of v Finish = 0
 
 -- a frame of this kind may carry the number
 abbrev pub IsInRange : Version → Kind → ℕ → Type 0
@@ -92,7 +113,7 @@ body_len kind number = 0
 
 -- the tag and the number
 abbrev pub header_len : Version → Kind → ℕ
-header_len v kind = 1 + byte_len (width_of v kind)
+header_len v kind = 1 + width_len (width_of v kind)
 
 -- the longest frame
 abbrev pub max_frame : Version → ℕ

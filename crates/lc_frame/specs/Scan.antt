@@ -1,10 +1,10 @@
 -- Reading the front of a list of bytes from left to right: the way that src/scan.rt goes, and what it finds. A device of the proofs: what decoding means is in Decoded.antt, without it.
 use Rattle.std.specs.Prelude.{◌≡◌, ℕ, ◌+◌, ◌/◌, ◌%◌, ◌≤◌, ◌<◌, ◌++◌, List, [], ◌∷◌, length, take, drop, Option, Some, None, nat_lt, if◌then◌else◌}
-use Rattle.std.specs.Int.{byte_len, from_be_bytes}
+use Rattle.std.specs.Int.{Width, from_be_bytes}
 use Rattle.lc_frame.specs.declared.version.Version.{Version}
 use Rattle.lc_frame.specs.declared.channel.Channel.{Channel}
 use Rattle.lc_frame.specs.declared.kind.Kind.{Kind}
-use Rattle.lc_frame.specs.declared.kind.Kind.TheVariants.{Send, Issue, Absolve, Plead, LimitSending, LimitReceiving}
+use Rattle.lc_frame.specs.declared.kind.Kind.TheVariants.{Send, Issue, Absolve, Plead, LimitSending, LimitReceiving, Finish}
 use Rattle.lc_frame.specs.declared.frame.Frame.{Frame}
 use Rattle.lc_frame.specs.declared.frame.Frame.TheVariants as frames
 use Rattle.lc_frame.specs.declared.frame_fault.FrameFault.TheVariants.{BadTag}
@@ -12,7 +12,7 @@ use Rattle.lc_frame.specs.declared.head.Head.{Head}
 use Rattle.lc_frame.specs.declared.scan.Scan.{Scan}
 use Rattle.lc_frame.specs.declared.scan.Scan.TheVariants.{Whole, Fault, Needs}
 use Rattle.lc_frame.specs.Channel.{channel_at}
-use Rattle.lc_frame.specs.Kind.{width_of, kind_at, IsInRange, is_in_range, fault_of, body_len, header_len, max_frame}
+use Rattle.lc_frame.specs.Kind.{has, width_of, width_len, kind_at, IsInRange, is_in_range, fault_of, body_len, header_len, max_frame}
 use Rattle.lc_frame.specs.Encoding.{encoding}
 use Rattle.lc_frame.specs.Decoded.{IsOpen, OnlyFrame, OnlyFault}
 
@@ -24,10 +24,16 @@ frame_with Absolve c number body = frames.Absolve c number
 frame_with Plead c number body = frames.Plead c number
 frame_with LimitSending c number body = frames.LimitSending c number
 frame_with LimitReceiving c number body = frames.LimitReceiving c number
+frame_with Finish c number body = frames.Finish c
 
 -- the frame of these bytes, by its head
 abbrev pub frame_in : Version → Head → List ℕ → Frame
 frame_in v head text = frame_with head.kind head.channel head.number (drop (header_len v head.kind) text)
+
+-- the number of bytes of this width, 0 where there is none
+abbrev pub number_in : Option Width → List ℕ → ℕ
+number_in None bytes = 0
+number_in (Some width) bytes = from_be_bytes width bytes
 
 -- behind a number in range
 unfoldable pub scan_body : Version → Kind → Channel → ℕ → List ℕ → Scan
@@ -39,8 +45,8 @@ scan_body v kind c number rest =
 -- behind a tag
 unfoldable pub scan_number : Version → Kind → Channel → List ℕ → Scan
 scan_number v kind c bytes =
-    let width = byte_len (width_of v kind) in
-    let number = from_be_bytes (width_of v kind) (take width bytes) in
+    let width = width_len (width_of v kind) in
+    let number = number_in (width_of v kind) (take width bytes) in
     if nat_lt (length bytes) width then Needs (header_len v kind)
     else if is_in_range v kind number then scan_body v kind c number (drop width bytes)
     else Fault (fault_of kind number)
@@ -48,7 +54,7 @@ scan_number v kind c bytes =
 unfoldable pub scan_tag : Version → Option Kind → Option Channel → List ℕ → Scan
 scan_tag v None c rest = Fault BadTag
 scan_tag v (Some kind) None rest = Fault BadTag
-scan_tag v (Some kind) (Some c) rest = scan_number v kind c rest
+scan_tag v (Some kind) (Some c) rest = if has v kind then scan_number v kind c rest else Fault BadTag
 
 unfoldable pub scan_of : Version → List ℕ → Scan
 scan_of v [] = Needs 1

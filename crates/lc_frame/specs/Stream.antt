@@ -1,10 +1,10 @@
--- What the frames of a stream add up to on one channel: its messages and their cost, the guarantees issued and absolved, and what is left of a limit. All but what a limit counts is LCMUX's; that a limit counts what follows it on the stream is this project's own.
-use Rattle.std.specs.Prelude.{ℕ, ◌-◌, ◌==◌, List, [], ◌∷◌, length, filter, sum, sum_by, Option, Some, None}
-use Rattle.std.specs.List.{filter_map}
+-- What the frames of a stream add up to on one channel: its messages and their cost, the guarantees issued and absolved, what is left of a limit, and whether the client finished. All but what a limit counts and the Finish is LCMUX's; that a limit counts what follows it on the stream is this project's own, and so is Finish.
+use Rattle.std.specs.Prelude.{ℕ, ◌-◌, ◌==◌, Bool, true, false, List, [], ◌∷◌, length, filter, sum, sum_by, Option, Some, None}
+use Rattle.std.specs.List.{filter_map, list_any}
 use Rattle.std.specs.Option.{option_map, option_or}
 use Rattle.lc_frame.specs.declared.channel.Channel.{Channel}
 use Rattle.lc_frame.specs.declared.frame.Frame.{Frame}
-use Rattle.lc_frame.specs.declared.frame.Frame.TheVariants.{Send, Issue, Absolve, Plead, LimitSending, LimitReceiving}
+use Rattle.lc_frame.specs.declared.frame.Frame.TheVariants.{Send, Issue, Absolve, Plead, LimitSending, LimitReceiving, Finish}
 use Rattle.lc_frame.specs.Channel.{is_same}
 use Rattle.lc_frame.specs.Frame.{channel_of, lane_of}
 
@@ -41,6 +41,10 @@ abbrev pub receive_bound_of : Frame → Option ℕ
 receive_bound_of (LimitReceiving c bound) = Some bound
 receive_bound_of f = None
 
+abbrev pub is_finish : Frame → Bool
+is_finish (Finish c) = true
+is_finish f = false
+
 -- the bodies sent on a channel, in order
 abbrev pub messages : Channel → List Frame → List (List ℕ)
 messages c frames = filter_map message_of (on c frames)
@@ -60,6 +64,10 @@ absolved c frames = sum (filter_map absolve_of (on c frames))
 -- the targets of the pleads on a channel, in order
 abbrev pub pleads : Channel → List Frame → List ℕ
 pleads c frames = filter_map target_of (on c frames)
+
+-- whether a Finish of a channel is among the frames
+abbrev pub finished : Channel → List Frame → Bool
+finished c frames = list_any is_finish (on c frames)
 
 -- the bound of the last limit in a list, and the frames after it
 abbrev pub last_limit : (Frame → Option ℕ) → List Frame → Option (ℕ × List Frame)

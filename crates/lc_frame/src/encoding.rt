@@ -161,6 +161,7 @@ impl FrameRef<'_> {
             FrameRef::LimitSending { bound, .. } | FrameRef::LimitReceiving { bound, .. } => {
                 out.extend_from_slice(&long(tag, bound))
             }
+            FrameRef::Finish { .. } => out.extend_from_slice(&[tag]),
         }
     }
 
@@ -190,6 +191,7 @@ impl FrameRef<'_> {
             FrameRef::LimitSending { bound, .. } | FrameRef::LimitReceiving { bound, .. } => {
                 put(out, &long(tag, bound));
             }
+            FrameRef::Finish { .. } => put(out, &[tag]),
         }
         Ok(need)
     }

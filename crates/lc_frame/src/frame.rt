@@ -31,6 +31,8 @@ pub enum Frame {
     LimitSending { channel: Channel, bound: u64 },
     /// The server issues at most the bound after this frame.
     LimitReceiving { channel: Channel, bound: u64 },
+    /// The client sends nothing more, and gives up all guarantees that it holds or that still come.
+    Finish { channel: Channel },
 }
 
 impl Frame {
@@ -64,6 +66,7 @@ impl Frame {
                 channel: *channel,
                 bound: *bound,
             },
+            Frame::Finish { channel } => FrameRef::Finish { channel: *channel },
         }
     }
 
@@ -76,7 +79,7 @@ impl Frame {
     }
 
     /// The lane of the frame: the channel's number for what a client puts (Send, Absolve,
-    /// LimitSending), 7 more for what a server puts.
+    /// LimitSending, Finish), 7 more for what a server puts.
     pub fn lane(&self) -> u8
         ensures value { result ≡ lane_of self.now }
         ensures range { result < 14 }
@@ -84,9 +87,9 @@ impl Frame {
         self.view().lane()
     }
 
-    /// Whether the number of the frame is in the range of its kind: a body of 1 to
-    /// `Version::max_body` bytes, an amount of 1 to `MAX_AMOUNT`, a target up to `MAX_AMOUNT`, a
-    /// bound up to `MAX_TOTAL`.
+    /// Whether the version has the frame's kind, and its number is in the range of that: a body of
+    /// 1 to `Version::max_body` bytes, an amount of 1 to `MAX_AMOUNT`, a target up to `MAX_AMOUNT`,
+    /// a bound up to `MAX_TOTAL`. Only version Two has Finish.
     #[inline]
     pub fn is_valid(&self, version: Version) -> bool
         ensures { IsTrue result ↔ IsValid version self.now }

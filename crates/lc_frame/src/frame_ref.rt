@@ -26,6 +26,8 @@ pub enum FrameRef<'a> {
     LimitSending { channel: Channel, bound: u64 },
     /// The server issues at most the bound after this frame.
     LimitReceiving { channel: Channel, bound: u64 },
+    /// The client sends nothing more, and gives up all guarantees that it holds or that still come.
+    Finish { channel: Channel },
 }
 
 impl<'a> FrameRef<'a> {
@@ -45,6 +47,7 @@ impl<'a> FrameRef<'a> {
             FrameRef::Plead { channel, target } => Frame::Plead { channel, target },
             FrameRef::LimitSending { channel, bound } => Frame::LimitSending { channel, bound },
             FrameRef::LimitReceiving { channel, bound } => Frame::LimitReceiving { channel, bound },
+            FrameRef::Finish { channel } => Frame::Finish { channel },
         })
     }
 
@@ -59,31 +62,33 @@ impl<'a> FrameRef<'a> {
             | FrameRef::Absolve { channel, .. }
             | FrameRef::Plead { channel, .. }
             | FrameRef::LimitSending { channel, .. }
-            | FrameRef::LimitReceiving { channel, .. } => channel,
+            | FrameRef::LimitReceiving { channel, .. }
+            | FrameRef::Finish { channel } => channel,
         }
     }
 
     /// The lane of the frame: the channel's number for what a client puts (Send, Absolve,
-    /// LimitSending), 7 more for what a server puts.
+    /// LimitSending, Finish), 7 more for what a server puts.
     pub fn lane(&self) -> u8
         ensures value { result ≡ lane_of (frame_of self.now) }
         ensures range { result < 14 }
     {
         let number = self.channel().number();
         match self.kind() {
-            Kind::Send | Kind::Absolve | Kind::LimitSending => number,
+            Kind::Send | Kind::Absolve | Kind::LimitSending | Kind::Finish => number,
             Kind::Issue | Kind::Plead | Kind::LimitReceiving => 7 + number,
         }
     }
 
-    /// Whether the number of the frame is in the range of its kind: a body of 1 to
-    /// `Version::max_body` bytes, an amount of 1 to `MAX_AMOUNT`, a target up to `MAX_AMOUNT`, a
-    /// bound up to `MAX_TOTAL`.
+    /// Whether the version has the frame's kind, and its number is in the range of that: a body of
+    /// 1 to `Version::max_body` bytes, an amount of 1 to `MAX_AMOUNT`, a target up to `MAX_AMOUNT`,
+    /// a bound up to `MAX_TOTAL`. Only version Two has Finish.
     #[inline]
     pub fn is_valid(&self, version: Version) -> bool
         ensures { IsTrue result ↔ IsValid version (frame_of self.now) }
     {
-        self.kind().allows(version, self.field())
+        let kind = self.kind();
+        kind.is_in(version) && kind.allows(version, self.field())
     }
 
     #[inline]
@@ -97,10 +102,12 @@ impl<'a> FrameRef<'a> {
             FrameRef::Plead { .. } => Kind::Plead,
             FrameRef::LimitSending { .. } => Kind::LimitSending,
             FrameRef::LimitReceiving { .. } => Kind::LimitReceiving,
+            FrameRef::Finish { .. } => Kind::Finish,
         }
     }
 
-    // The number that the frame carries: a body's length, an amount, a target or a bound.
+    // The number that the frame carries: a body's length, an amount, a target or a bound; 0 where it
+    // carries none.
     #[inline]
     fn field(&self) -> u64
         ensures { result ≡ field_of (frame_of self.now) }
@@ -110,6 +117,7 @@ impl<'a> FrameRef<'a> {
             FrameRef::Issue { amount, .. } | FrameRef::Absolve { amount, .. } => u64::from(amount),
             FrameRef::Plead { target, .. } => u64::from(target),
             FrameRef::LimitSending { bound, .. } | FrameRef::LimitReceiving { bound, .. } => bound,
+            FrameRef::Finish { .. } => 0,
         }
     }
 

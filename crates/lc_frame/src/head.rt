@@ -9,7 +9,7 @@ use crate::frame_ref::FrameRef;
 use crate::kind::Kind;
 use crate::version::Version;
 
-/// The tag and the number of a frame.
+/// The tag and the number of a frame, which is 0 where it has none.
 #[derive(Clone, Copy, Debug)]
 pub(crate) struct Head {
     pub(crate) number: u64,
@@ -51,6 +51,7 @@ impl Head {
                 channel,
                 bound: self.number,
             },
+            Kind::Finish => FrameRef::Finish { channel },
         }
     }
 }

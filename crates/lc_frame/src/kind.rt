@@ -1,7 +1,6 @@
 //! The kinds of frame: the table that the format rests on.
 ghost use Rattle.std.specs.Prelude.{◌≡◌, ◌≤◌, ◌↔◌, IsTrue};
-ghost use Rattle.std.specs.Int.{byte_len};
-ghost use Rattle.lc_frame.specs.Kind.{code_of, kind_at, width_of, IsInRange, is_in_range, fault_of, body_len, header_len};
+ghost use Rattle.lc_frame.specs.Kind.{code_of, kind_at, has, width_of, width_len, IsInRange, is_in_range, fault_of, body_len, header_len};
 
 use crate::frame::{MAX_AMOUNT, MAX_TOTAL};
 use crate::frame_fault::FrameFault;
@@ -16,6 +15,7 @@ pub(crate) enum Kind {
     Plead,
     LimitSending,
     LimitReceiving,
+    Finish,
 }
 
 impl Kind {
@@ -31,6 +31,7 @@ impl Kind {
             Kind::Plead => 4,
             Kind::LimitSending => 5,
             Kind::LimitReceiving => 6,
+            Kind::Finish => 7,
         }
     }
 
@@ -46,14 +47,26 @@ impl Kind {
             4 => Some(Kind::Plead),
             5 => Some(Kind::LimitSending),
             6 => Some(Kind::LimitReceiving),
+            7 => Some(Kind::Finish),
             _ => None,
+        }
+    }
+
+    /// Whether a version has the kind.
+    #[inline]
+    pub(crate) fn is_in(self, version: Version) -> bool
+        ensures { result ≡ has version self }
+    {
+        match self {
+            Kind::Finish => version.has_finish(),
+            _ => true,
         }
     }
 
     /// How many bytes the number behind the tag has.
     #[inline]
     pub(crate) fn width(self, version: Version) -> usize
-        ensures { result ≡ byte_len (width_of version self) }
+        ensures { result ≡ width_len (width_of version self) }
     {
         match self {
             Kind::Send => match version {
@@ -62,6 +75,7 @@ impl Kind {
             },
             Kind::Issue | Kind::Absolve | Kind::Plead => size_of::<u32>(),
             Kind::LimitSending | Kind::LimitReceiving => size_of::<u64>(),
+            Kind::Finish => 0,
         }
     }
 
@@ -95,6 +109,7 @@ impl Kind {
             Kind::Issue | Kind::Absolve => 1 <= number && number <= u64::from(MAX_AMOUNT),
             Kind::Plead => number <= u64::from(MAX_AMOUNT),
             Kind::LimitSending | Kind::LimitReceiving => number <= MAX_TOTAL,
+            Kind::Finish => number == 0,
         }
     }
 

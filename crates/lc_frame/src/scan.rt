@@ -1,11 +1,10 @@
 //! Reading the front of some bytes, from left to right.
 ghost use Rattle.std.specs.Prelude.{◌≡◌, ◌/◌, ◌%◌, length, IfSome, IfNone};
-ghost use Rattle.std.specs.Int.{byte_len, from_be_bytes};
-ghost use Rattle.lc_frame.specs.Kind.{kind_at, width_of, IsInRange};
+ghost use Rattle.lc_frame.specs.Kind.{kind_at, width_of, width_len, IsInRange};
 ghost use Rattle.lc_frame.specs.Channel.{channel_at};
 ghost use Rattle.lc_frame.specs.declared.kind.Kind.TheVariants.{Send};
 ghost use Rattle.lc_frame.specs.Encoding.{tag_of};
-ghost use Rattle.lc_frame.specs.Scan.{scan_of, scan_tag, scan_number, scan_body, Finds};
+ghost use Rattle.lc_frame.specs.Scan.{number_in, scan_of, scan_tag, scan_number, scan_body, Finds};
 
 use crate::channel::Channel;
 use crate::frame_fault::FrameFault;
@@ -24,11 +23,11 @@ pub(crate) enum Scan {
     Needs(usize),
 }
 
-// The number of a kind that the bytes are.
+// The number of a kind that the bytes are, 0 where it has none.
 #[inline]
 fn number_at(version: Version, kind: Kind, bytes: &[u8]) -> u64
-    requires { length bytes.now ≡ byte_len (width_of version kind) }
-    ensures { result ≡ from_be_bytes (width_of version kind) bytes.now }
+    requires { length bytes.now ≡ width_len (width_of version kind) }
+    ensures { result ≡ number_in (width_of version kind) bytes.now }
 {
     match kind {
         Kind::Send => match version {
@@ -43,6 +42,7 @@ fn number_at(version: Version, kind: Kind, bytes: &[u8]) -> u64
         Kind::LimitSending | Kind::LimitReceiving => u64::from_be_bytes([
             bytes[0], bytes[1], bytes[2], bytes[3], bytes[4], bytes[5], bytes[6], bytes[7],
         ]),
+        Kind::Finish => 0,
     }
 }
 
@@ -116,6 +116,9 @@ fn scan_other(version: Version, tag: u8, rest: &[u8]) -> Scan
             scan_number(version, kind, channel, rest)
         }
         (Some(kind @ (Kind::LimitSending | Kind::LimitReceiving)), Some(channel)) => {
+            scan_number(version, kind, channel, rest)
+        }
+        (Some(kind @ Kind::Finish), Some(channel)) if kind.is_in(version) => {
             scan_number(version, kind, channel, rest)
         }
         _ => Scan::Fault(FrameFault::BadTag),

@@ -2,12 +2,14 @@
 ghost use Rattle.std.specs.Prelude.{◌≡◌, ◌≤◌};
 ghost use Rattle.lc_frame.specs.declared.version.Version.TheVariants.{Two};
 ghost use Rattle.lc_frame.specs.Version.{greeting};
-ghost use Rattle.lc_frame.specs.Kind.{max_body, max_frame};
+ghost use Rattle.lc_frame.specs.declared.kind.Kind.TheVariants.{Finish};
+ghost use Rattle.lc_frame.specs.Kind.{max_body, max_frame, has};
 
 use crate::encoding::MAX_FRAME;
 
 /// A version of the format. A stream of version Two begins with a greeting of four bytes, and the
-/// length of a message has four bytes there, where it has two in version One. All else is one.
+/// length of a message has four bytes there, where it has two in version One, which has no Finish.
+/// All else is one.
 #[derive(Clone, Copy, Debug, PartialEq, Eq)]
 pub enum Version {
     One,
@@ -38,6 +40,7 @@ impl Version {
             Version::Two => 1_048_576,
         }
     }
+
     /// The longest frame, in bytes: a Send of the longest message.
     #[inline]
     pub fn max_frame(self) -> usize
@@ -48,5 +51,13 @@ impl Version {
             Version::One => 65_538,
             Version::Two => MAX_FRAME,
         }
+    }
+
+    /// Whether a client may finish a channel: whether there are frames that say so.
+    #[inline]
+    pub fn has_finish(self) -> bool
+        ensures { result ≡ has self Finish }
+    {
+        matches!(self, Version::Two)
     }
 }

@@ -3,7 +3,7 @@ use Rattle.std.proofs.Common.{◌≡◌, ℕ, [], ◌∷◌, ◌++◌, Option, N
 use Rattle.lc_frame.specs.declared.version.Version.TheVariants.{One}
 use Rattle.lc_frame.specs.declared.channel.Channel.{Channel}
 use Rattle.lc_frame.specs.declared.frame.Frame.{Frame}
-use Rattle.lc_frame.specs.declared.frame.Frame.TheVariants.{Send, Issue, Absolve, Plead, LimitSending, LimitReceiving}
+use Rattle.lc_frame.specs.declared.frame.Frame.TheVariants.{Send, Issue, Absolve, Plead, LimitSending, LimitReceiving, Finish}
 use Rattle.lc_frame.specs.Frame.{channel_of}
 use Rattle.lc_frame.specs.Stream.{issued, receive_left}
 use Rattle.lc_book.specs.Limit.{less}
@@ -25,6 +25,7 @@ after_put (Send c body) b d is = is
 after_put (Absolve c n) b d is = is
 after_put (Plead c n) b d is = is
 after_put (LimitSending c n) b d is = is
+after_put (Finish c) b d is = is
 
 pub put_keeps : (f : Frame) (h : Held) → channel_of f ≡ h.channel → IsHeld h → IsHeld (put f h)
 put_keeps f h on kept =
@@ -37,6 +38,7 @@ of_arrival : (f : Frame) (b : Server) → OfPut (server_after_arrival f b) ≡ O
 of_arrival (Send c body) b = refl
 of_arrival (Absolve c n) b = refl
 of_arrival (LimitSending c n) b = refl
+of_arrival (Finish c) b = refl
 of_arrival (Issue c n) b = refl
 of_arrival (Plead c n) b = refl
 of_arrival (LimitReceiving c n) b = refl

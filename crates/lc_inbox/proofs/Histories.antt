@@ -9,7 +9,7 @@ use Rattle.lc_history.proofs.Histories.{history-push}
 use Rattle.lc_frame.specs.declared.version.Version.TheVariants.{One}
 use Rattle.lc_frame.specs.declared.channel.Channel.{Channel}
 use Rattle.lc_frame.specs.declared.frame.Frame.{Frame}
-use Rattle.lc_frame.specs.declared.frame.Frame.TheVariants.{Send, Issue, Absolve, Plead, LimitSending, LimitReceiving}
+use Rattle.lc_frame.specs.declared.frame.Frame.TheVariants.{Send, Issue, Absolve, Plead, LimitSending, LimitReceiving, Finish}
 use Rattle.lc_frame.specs.Channel.{number_of}
 use Rattle.lc_frame.specs.Frame.{channel_of, lane_of}
 use Rattle.lc_frame.specs.Stream.{messages}
@@ -50,6 +50,7 @@ pub client_lane : (c : Channel) (f : Frame) → lane_of f ≡ number_of c → ch
 client_lane c (Send d body) on = same_from_number d c on
 client_lane c (Absolve d n) on = same_from_number d c on
 client_lane c (LimitSending d n) on = same_from_number d c on
+client_lane c (Finish d) on = same_from_number d c on
 client_lane c (Issue d n) on = let small = number_below c in absurd (omega arith)
 client_lane c (Plead d n) on = let small = number_below c in absurd (omega arith)
 client_lane c (LimitReceiving d n) on = let small = number_below c in absurd (omega arith)
@@ -58,6 +59,7 @@ pub server_lane : (c : Channel) (f : Frame) → lane_of f ≡ 7 + number_of c �
 server_lane c (Send d body) on = let small = number_below d in absurd (omega arith)
 server_lane c (Absolve d n) on = let small = number_below d in absurd (omega arith)
 server_lane c (LimitSending d n) on = let small = number_below d in absurd (omega arith)
+server_lane c (Finish d) on = let small = number_below d in absurd (omega arith)
 server_lane c (Issue d n) on = same_from_number d c (omega arith)
 server_lane c (Plead d n) on = same_from_number d c (omega arith)
 server_lane c (LimitReceiving d n) on = same_from_number d c (omega arith)
@@ -75,6 +77,7 @@ ring_after (Absolve c n) taken ring = let f : Frame = Absolve c n in rw (message
 ring_after (Plead c n) taken ring = let f : Frame = Plead c n in rw (messages-one f) (append-nil (taken ++ ring.messages))
 ring_after (LimitSending c n) taken ring = let f : Frame = LimitSending c n in rw (messages-one f) (append-nil (taken ++ ring.messages))
 ring_after (LimitReceiving c n) taken ring = let f : Frame = LimitReceiving c n in rw (messages-one f) (append-nil (taken ++ ring.messages))
+ring_after (Finish c) taken ring = let f : Frame = Finish c in rw (messages-one f) (append-nil (taken ++ ring.messages))
 
 same_capacity : (f : Frame) (ring : Ring) → (ring_after_arrival f ring).capacity ≡ ring.capacity
 same_capacity (Send c body) ring = refl
@@ -83,6 +86,7 @@ same_capacity (Absolve c n) ring = refl
 same_capacity (Plead c n) ring = refl
 same_capacity (LimitSending c n) ring = refl
 same_capacity (LimitReceiving c n) ring = refl
+same_capacity (Finish c) ring = refl
 
 -- the book of the sums, with one frame more
 book_heard : (capacity : ℕ) (c : Channel) (f : Frame) (p h : List Frame) (t : ℕ) → channel_of f ≡ c → server_after_arrival f (server_of capacity c p h t) ≡ server_of capacity c p (h ++ f ∷ []) t
@@ -207,7 +211,7 @@ module _ (key : Key) (log : List Entry) where
       let rest : List (List ℕ) = drop 1 (waiting key log) in
       let waits : waiting key (log ++ e ∷ []) ≡ rest = waits_as key log e rest (took_first key log body may (in_order key log h.legal)) in
       let sum : sum_by length (took log ++ body ∷ []) ≡ sum_by length (took log) + length body = sum_by-append length (took log) (body ∷ []) ∙ omega arith in
-      let book : note_taken (book_after key log) (length body) ≡ server_of key.capacity key.channel (put log) (heard log) (sum_by length (took log ++ body ∷ [])) = server_is _ _ refl refl refl (sym sum) refl refl refl in
+      let book : note_taken (book_after key log) (length body) ≡ server_of key.capacity key.channel (put log) (heard log) (sum_by length (took log ++ body ∷ [])) = server_is _ _ refl refl refl (sym sum) refl refl refl refl in
       record {
         legal = history-push (MayFollow key) log e may h.legal;
         is = is ∙ (ap (λ (x : Held). record x { inbox = take_first x.inbox }) h.is ∙ (take_is (held_after key log) body may ∙ ((λ i. record { channel = key.channel; inbox = record { book = book i; ring = record { messages = rest; capacity = key.capacity } }; lane = lane_after key log }) ∙ held_is key (log ++ e ∷ []) (put log) (heard log) (took log ++ body ∷ []) rest puts hears takes waits)));

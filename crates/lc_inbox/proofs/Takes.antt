@@ -1,5 +1,5 @@
 -- What a take into a buffer says of the first message.
-use Rattle.std.proofs.Common.{◌≡◌, ℕ, List, [], ◌∷◌, ◌++◌, length, take, drop, Option, Some, None, refl, sym, ◌∙◌, ap, subst, zero, suc}
+use Rattle.std.proofs.Common.{◌≡◌, ℕ, List, [], ◌∷◌, ◌++◌, length, take, drop, Bool, true, false, Option, Some, None, refl, sym, ◌∙◌, ap, subst, zero, suc}
 use Rattle.std.specs.Prelude.{slice_get}
 use Rattle.std.specs.Option.{option_map}
 use Rattle.lc_ring.specs.Ring.{front, with_front}
@@ -16,13 +16,14 @@ front_of [] (y ∷ ys) = refl
 front_of (x ∷ xs) ys = ap (λ (zs : List ℕ). x ∷ zs) (front_of xs ys)
 
 -- where none waits, a take gives no message
-not_waiting : (left : Option ℕ) (len : ℕ) → Took len ≡ none_waiting left → ⊥
-not_waiting None len is = absurd (cc)
-not_waiting (Some zero) len is = absurd (cc)
-not_waiting (Some (suc n)) len is = absurd (cc)
+not_waiting : (finished : Bool) (left : Option ℕ) (len : ℕ) → Took len ≡ none_waiting finished left → ⊥
+not_waiting true left len is = absurd (cc)
+not_waiting false None len is = absurd (cc)
+not_waiting false (Some zero) len is = absurd (cc)
+not_waiting false (Some (suc n)) len is = absurd (cc)
 
 took_first : (book : Server) (ms : List (List ℕ)) (capacity len : ℕ) (buffer filled : List ℕ) → Took len ≡ take_answer record { book = book; ring = record { messages = ms; capacity = capacity } } → filled ≡ with_front (slice_get ms 0) buffer → slice_get ms 0 ≡ Some (take len filled)
-took_first book [] capacity len buffer filled is fills = absurd (not_waiting book.send_left len is)
+took_first book [] capacity len buffer filled is fills = absurd (not_waiting book.finished book.send_left len is)
 took_first book (body ∷ ms) capacity len buffer filled is fills =
     let same : len ≡ length body = cc in
     ap Some (sym ((λ i. take (same i) (fills i)) ∙ front_of body (drop (length body) buffer)))
@@ -31,7 +32,7 @@ pub took_front : (i : InboxState) (len : ℕ) (buffer filled : List ℕ) → Too
 took_front i len buffer filled is fills = took_first i.book i.ring.messages i.ring.capacity len buffer filled is fills
 
 length_first : (book : Server) (ms : List (List ℕ)) (capacity len : ℕ) (body : List ℕ) → Took len ≡ take_answer record { book = book; ring = record { messages = ms; capacity = capacity } } → slice_get ms 0 ≡ Some body → len ≡ length body
-length_first book [] capacity len body is first = absurd (not_waiting book.send_left len is)
+length_first book [] capacity len body is first = absurd (not_waiting book.finished book.send_left len is)
 length_first book (b ∷ ms) capacity len body is first = let a : len ≡ length b = cc in let e : b ≡ body = cc in a ∙ ap length e
 
 pub length_front : (i : InboxState) (len : ℕ) (body : List ℕ) → Took len ≡ take_answer i → front i.ring ≡ Some body → len ≡ length body
@@ -77,4 +78,4 @@ nothing_taken h t none is = ap (λ (ms : List (List ℕ)). taken_entry (slice_ge
 
 -- and where no first message is there, a take gives none
 pub none_of : (i : InboxState) (len : ℕ) → front i.ring ≡ None → Took len ≡ take_answer i → ⊥
-none_of i len none is = not_waiting i.book.send_left len (is ∙ ap (λ (o : Option (List ℕ)). answer_by_length i.book (option_map length o)) none)
+none_of i len none is = not_waiting i.book.finished i.book.send_left len (is ∙ ap (λ (o : Option (List ℕ)). answer_by_length i.book (option_map length o)) none)

@@ -2,14 +2,13 @@
 use Rattle.std.specs.Prelude.{◌≡◌, ◌⊎◌, ◌+◌, ◌∷◌, [], ◌++◌, length, Option, Some, None}
 use Rattle.lc_frame.specs.declared.channel.Channel.{Channel}
 use Rattle.lc_frame.specs.declared.frame.Frame.{Frame}
-use Rattle.lc_frame.specs.declared.frame.Frame.TheVariants.{Send, Issue, Absolve, Plead, LimitSending, LimitReceiving}
+use Rattle.lc_frame.specs.declared.frame.Frame.TheVariants.{Send, Issue, Absolve, Plead, LimitSending, LimitReceiving, Finish}
 use Rattle.lc_frame.specs.Channel.{number_of}
 use Rattle.lc_frame.specs.Stream.{issued, receive_left}
 use Rattle.lc_book.specs.declared.fault.Refusal.{Refusal}
 use Rattle.lc_book.specs.declared.fault.Refusal.TheVariants.{QueueFull}
 use Rattle.lc_book.specs.declared.fault.Violation.{Violation}
-use Rattle.lc_book.specs.Limit.{limit_refusal}
-use Rattle.lc_book.specs.Server.{Server, issue_refusal, plead_refusal, message_violation, absolve_violation, send_limit_violation}
+use Rattle.lc_book.specs.Server.{Server, issue_refusal, plead_refusal, limit_receiving_refusal, message_violation, absolve_violation, send_limit_violation, finish_violation}
 use Rattle.lc_book.specs.Sums.{server_after_arrival, server_after_put}
 use Rattle.lc_peer.specs.Inbox.{InboxState, new_inbox}
 use Rattle.lc_peer.specs.Arrivals.{ring_after_arrival}
@@ -37,6 +36,7 @@ abbrev pub violation_of : Frame → Server → Option Violation
 violation_of (Send c body) book = message_violation book (length body)
 violation_of (Absolve c amount) book = absolve_violation book amount
 violation_of (LimitSending c bound) book = send_limit_violation book bound
+violation_of (Finish c) book = finish_violation book
 violation_of f book = None
 
 abbrev pub arrive : Frame → Held → Held
@@ -46,7 +46,7 @@ arrive f h = record h { inbox = record { book = server_after_arrival f h.inbox.b
 abbrev pub refusal_of : Frame → Server → Option Refusal
 refusal_of (Issue c amount) book = issue_refusal book amount
 refusal_of (Plead c target) book = plead_refusal book target
-refusal_of (LimitReceiving c bound) book = limit_refusal book.receive_left bound
+refusal_of (LimitReceiving c bound) book = limit_receiving_refusal book bound
 refusal_of f book = None
 
 abbrev pub put : Frame → Held → Held

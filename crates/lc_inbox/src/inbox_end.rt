@@ -94,7 +94,7 @@ impl InboxEnd {
         self.inbox.book()
     }
 
-    /// A frame of the client arrives. Violations V1 to V4, as the inbox's book has them.
+    /// A frame of the client arrives. Violations V9 and V1 to V4, as the inbox's book has them.
     pub(crate) fn arrive(&mut self, frame: FrameRef<'_>) -> Result<(), Violation>
         requires valid { IsValid Two (frame_of frame) }
         requires lane { lane_of (frame_of frame) ≡ number_of self.old.channel }
@@ -105,6 +105,7 @@ impl InboxEnd {
             FrameRef::Send { body, .. } => self.inbox.message(body),
             FrameRef::Absolve { amount, .. } => self.inbox.was_absolved(amount),
             FrameRef::LimitSending { bound, .. } => self.inbox.sending_limited(bound),
+            FrameRef::Finish { .. } => self.inbox.finished(),
             _ => Ok(()),
         }
     }
@@ -135,7 +136,7 @@ impl InboxEnd {
         }
     }
 
-    /// Issues `n` guarantees. Refused by 5, 9, 10, 12 and 13, in this order.
+    /// Issues `n` guarantees. Refused by 15, 5, 9, 10, 12 and 13, in this order.
     pub fn issue<R: Wait>(&mut self, rt: &R, n: u32) -> Result<(), Refusal>
         ensures ok { OnOk result (IsPut (Issue self.old.channel n) self.old self.new) }
         ensures err { IfErr result (λ e. IsNotPut e (Issue self.old.channel n) self.old self.new) }
@@ -146,7 +147,7 @@ impl InboxEnd {
         self.put(rt, Frame::Issue { channel, amount: n }, book)
     }
 
-    /// Asks the client to absolve until it holds at most `target`. Refused by 11 and 13, in this
+    /// Asks the client to absolve until it holds at most `target`. Refused by 15, 11 and 13, in this
     /// order.
     pub fn plead<R: Wait>(&mut self, rt: &R, target: u32) -> Result<(), Refusal>
         ensures ok { OnOk result (IsPut (Plead self.old.channel target) self.old self.new) }
@@ -158,7 +159,7 @@ impl InboxEnd {
         self.put(rt, Frame::Plead { channel, target }, book)
     }
 
-    /// Issues at most `bound` guarantees from here on. Refused by 7, 8 and 13, in this order.
+    /// Issues at most `bound` guarantees from here on. Refused by 15, 7, 8 and 13, in this order.
     pub fn limit<R: Wait>(&mut self, rt: &R, bound: u64) -> Result<(), Refusal>
         ensures ok { OnOk result (IsPut (LimitReceiving self.old.channel bound) self.old self.new) }
         ensures err { IfErr result (λ e. IsNotPut e (LimitReceiving self.old.channel bound) self.old self.new) }

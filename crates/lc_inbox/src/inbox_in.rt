@@ -86,8 +86,8 @@ impl InboxIn {
         self.channel
     }
 
-    /// A frame of the client arrives. Violations V1 to V4, each exactly where the book has it that
-    /// the whole history up to here leaves.
+    /// A frame of the client arrives. Violations V9 and V1 to V4, each exactly where the book has it
+    /// that the whole history up to here leaves.
     pub fn arrive<R: Wait>(&mut self, rt: &R, frame: FrameRef<'_>) -> Result<(), Violation>
         requires valid { IsValid Two (frame_of frame) }
         requires lane { lane_of (frame_of frame) ≡ number_of self.old.key.channel }

@@ -145,7 +145,7 @@ impl InboxOut {
         self.channel
     }
 
-    /// `n` guarantees are issued. Refused by 5, 9, 10 and 12, each exactly where the book has it
+    /// `n` guarantees are issued. Refused by 15, 5, 9, 10 and 12, each exactly where the book has it
     /// that the whole history up to here leaves, and by 13 where the queue gave the frame back.
     pub fn issue<R: Wait>(&mut self, rt: &R, n: u32) -> Result<(), Refusal>
         ensures ok { OnOk result (IsPutBy (Issue self.old.key.channel n) self.old self.new) }
@@ -161,8 +161,8 @@ impl InboxOut {
         answer
     }
 
-    /// The client is asked to absolve until it holds at most `target`. Refused by 11, by the same
-    /// book, and by 13 where the queue gave the frame back.
+    /// The client is asked to absolve until it holds at most `target`. Refused by 15 and 11, by the
+    /// same book, and by 13 where the queue gave the frame back.
     pub fn plead<R: Wait>(&mut self, rt: &R, target: u32) -> Result<(), Refusal>
         ensures ok { OnOk result (IsPutBy (Plead self.old.key.channel target) self.old self.new) }
         ensures err { IfErr result (λ e. IsNotPutBy e (Plead self.old.key.channel target) self.old self.new) }
@@ -177,7 +177,7 @@ impl InboxOut {
         answer
     }
 
-    /// At most `bound` guarantees are issued from here on. Refused by 7 and 8, by the same book,
+    /// At most `bound` guarantees are issued from here on. Refused by 15, 7 and 8, by the same book,
     /// and by 13 where the queue gave the frame back.
     pub fn limit<R: Wait>(&mut self, rt: &R, bound: u64) -> Result<(), Refusal>
         ensures ok { OnOk result (IsPutBy (LimitReceiving self.old.key.channel bound) self.old self.new) }

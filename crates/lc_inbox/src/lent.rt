@@ -7,6 +7,6 @@ pub enum Lent<T> {
     Read(T),
     /// No message waits.
     Empty,
-    /// No message waits, and none will come: the client's limit on sending is used up.
+    /// No message waits, and none will come: the client's limit on sending is used up, or it finished.
     Ended,
 }

@@ -1,13 +1,13 @@
 -- Sides whose ends kept the rules, in one order, are a state of two peers; and what that state keeps.
 use Rattle.std.proofs.Common.{◌≡◌, ℕ, ◌+◌, None, List, [], ◌++◌, length, drop, refl, sym, ap, subst, ◌∙◌, arith}
-use Rattle.std.specs.Prelude.{sum_by}
+use Rattle.std.specs.Prelude.{◌-◌, if◌then◌else◌, sum_by}
 use Rattle.std.proofs.lemmas.List.{drop_at, take_all}
 use Rattle.lc_frame.specs.declared.version.Version.{Version}
 use Rattle.lc_frame.specs.declared.channel.Channel.{Channel}
 use Rattle.lc_frame.specs.declared.frame.Frame.{Frame}
-use Rattle.lc_frame.specs.Stream.{messages, cost, issued, absolved}
+use Rattle.lc_frame.specs.Stream.{messages, cost, issued, absolved, finished}
 use Rattle.lc_frame.specs.Bounds.{IsCapacity}
-use Rattle.lc_book.specs.Client.{Client, held}
+use Rattle.lc_book.specs.Client.{Client, held, waived}
 use Rattle.lc_book.specs.Server.{Server, outstanding}
 use Rattle.lc_book.specs.Sums.{client_of, server_of}
 use Rattle.lc_inbox.specs.History as inboxes
@@ -15,6 +15,7 @@ use Rattle.lc_world.specs.declared.event.Side.TheVariants.{A, B}
 use Rattle.lc_world.specs.State.{State, Line, opening, stream, kept_plead, taken_messages, client_book, server_book}
 use Rattle.lc_world.specs.Histories.{History, IsHistory}
 use Rattle.lc_world.specs.Guarantee.{state_of, IsPrefix, IsBalanced}
+use Rattle.lc_world.proofs.Balances.{left_or_waived}
 use Rattle.lc_world.proofs.Guarantees.{keeps_guarantees}
 use Rattle.lc_interleaving.specs.Steps.{Step, took}
 use Rattle.lc_interleaving.specs.Interleaving.{Trace, Joint, of_a, of_b, IsOrderOf, IsInterleaving}
@@ -62,10 +63,14 @@ last_client c t = client_of t.version c t.put t.heard None
 abbrev pub last_server : ℕ → Channel → Trace → Server
 last_server capacity c t = server_of capacity c t.put t.heard (sum_by length (inboxes.took (t.inbox c)))
 
+-- what was received and neither spent nor absolved is held or waived
+pub left_over : (b : Client) → held b + waived b ≡ b.received - b.spent - b.absolved
+left_over b = left_or_waived b.finished (b.received - b.spent - b.absolved)
+
 -- what the last state keeps of one channel direction
 pub record Keeps (k : ℕ) (c : Channel) (client server : Trace) : Type 0 where
   pub in_order : IsPrefix (inboxes.took (server.inbox c)) (messages c client.put)
-  pub somewhere : outstanding (last_server k c server) ≡ held (last_client c client) + in_flight c client server
+  pub somewhere : outstanding (last_server k c server) ≡ (if finished c server.heard then 0 else held (last_client c client) + waived (last_client c client) + in_flight c client server)
 
 -- what is in flight on a line is what was put and not heard
 in_flight_is : (l : Line) (from to : Trace) → stream l ≡ from.put → l.arrived ≡ to.heard → l.in_flight ≡ under_way from to
@@ -75,7 +80,10 @@ in_flight_is l from to es ea =
     ∙ ap (λ (fs : List Frame). drop (length to.heard) fs) es)
 
 module _ (k n : ℕ) (c : Channel) (mine theirs : Line) (client server : Trace) (m : IsLineBetween mine client server) (t : IsLineBetween theirs server client) where
-  client_is : client_book c mine theirs ≡ client_of client.version c client.put client.heard (kept_plead c theirs)
+  abbrev client_now : Client
+  client_now = client_book c mine theirs
+
+  client_is : client_now ≡ client_of client.version c client.put client.heard (kept_plead c theirs)
   client_is =
       ap (λ (v : Version). client_of v c (stream mine) theirs.arrived (kept_plead c theirs)) m.version
       ∙ (ap (λ (fs : List Frame). client_of client.version c fs theirs.arrived (kept_plead c theirs)) m.put
@@ -87,18 +95,31 @@ module _ (k n : ℕ) (c : Channel) (mine theirs : Line) (client server : Trace) 
       ∙ (ap (λ (fs : List Frame). server_of n c server.put fs (sum_by length (taken_messages c mine))) m.heard
       ∙ ap (λ (ms : List (List ℕ)). server_of n c server.put server.heard (sum_by length ms)) (m.took c))
 
-  between : (sent got : List (List ℕ)) → IsPrefix got sent → got ≡ taken_messages c mine → sent ≡ messages c (stream mine) → outstanding (server_book n c theirs mine) ≡ held (client_book c mine theirs) + issued c theirs.in_flight + cost c mine.in_flight + absolved c mine.in_flight → Keeps k c client server
+  -- what is promised
+  abbrev here : ℕ
+  here = held client_now + waived client_now + issued c theirs.in_flight + cost c mine.in_flight + absolved c mine.in_flight
+
+  abbrev there : ℕ
+  there = held (last_client c client) + waived (last_client c client) + in_flight c client server
+
+  here_is : here ≡ there
+  here_is = omega (
+    arith,
+    ap held client_is,
+    ap waived client_is,
+    ap (issued c) (in_flight_is theirs server client t.put t.heard),
+    ap (cost c) (in_flight_is mine client server m.put m.heard),
+    ap (absolved c) (in_flight_is mine client server m.put m.heard),
+  )
+
+  between : (sent got : List (List ℕ)) → IsPrefix got sent → got ≡ taken_messages c mine → sent ≡ messages c (stream mine) → outstanding (server_book n c theirs mine) ≡ (if finished c mine.arrived then 0 else here) → Keeps k c client server
   between sent got p eg es o = record {
     in_order = (p.0, ap (λ (ms : List (List ℕ)). ms ++ p.0) (sym (eg ∙ m.took c)) ∙ (p.1 ∙ (es ∙ ap (messages c) m.put)));
-    somewhere = omega (
-      arith,
-      o,
-      ap outstanding server_is,
-      ap held client_is,
-      ap (issued c) (in_flight_is theirs server client t.put t.heard),
-      ap (cost c) (in_flight_is mine client server m.put m.heard),
-      ap (absolved c) (in_flight_is mine client server m.put m.heard),
-    );
+    somewhere =
+        ap outstanding (sym server_is)
+        ∙ (o
+        ∙ (ap (λ (fs : List Frame). if finished c fs then 0 else here) m.heard
+        ∙ ap (λ (left : ℕ). if finished c server.heard then 0 else left) here_is));
   }
 
 pub last_keeps : (capacity : ℕ) (a b : Trace) (h : History) (c : Channel) → IsStateOfBoth capacity a b h → Keeps capacity c a b × Keeps capacity c b a

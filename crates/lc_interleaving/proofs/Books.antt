@@ -1,6 +1,6 @@
 -- The book that an inbox's history leaves fits its ring.
 use Rattle.std.proofs.Common.{◌≡◌, ℕ, ◌+◌, ◌≤◌, Bool, true, false, List, [], ◌∷◌, ◌++◌, length, Option, Some, None, refl, sym, ap, subst, ◌∙◌, arith}
-use Rattle.std.specs.Prelude.{◌==◌, nat_lt, if◌then◌else◌, sum, sum_by}
+use Rattle.std.specs.Prelude.{◌==◌, ◌-◌, nat_lt, if◌then◌else◌, sum, sum_by}
 use Rattle.std.specs.List.{filter_map, cons_option}
 use Rattle.std.proofs.lemmas.Bool.Decides.{nat_tests}
 use Rattle.std.proofs.lemmas.List.{append-nil, append_assoc}
@@ -9,14 +9,14 @@ use Rattle.std.proofs.lemmas.List.Sums.{sum_by-append}
 use Rattle.lc_history.specs.History.{IsHistoryAfter, IsHistory}
 use Rattle.lc_frame.specs.declared.channel.Channel.{Channel}
 use Rattle.lc_frame.specs.declared.frame.Frame.{Frame}
-use Rattle.lc_frame.specs.declared.frame.Frame.TheVariants.{Send, Issue, Absolve, Plead, LimitSending, LimitReceiving}
+use Rattle.lc_frame.specs.declared.frame.Frame.TheVariants.{Send, Issue, Absolve, Plead, LimitSending, LimitReceiving, Finish}
 use Rattle.lc_frame.specs.Channel.{number_of}
 use Rattle.lc_frame.specs.Frame.{channel_of, lane_of}
-use Rattle.lc_frame.specs.Stream.{message_of, issue_of, absolve_of, messages, cost, issued, absolved}
+use Rattle.lc_frame.specs.Stream.{message_of, issue_of, absolve_of, messages, cost, issued, absolved, finished}
 use Rattle.lc_frame.proofs.Channels.{same_from_number, number_below}
 use Rattle.lc_frame.proofs.Measures.{cost-append, absolved-append, issued-append, cost-one, absolved-one, issued-one}
-use Rattle.lc_book.specs.declared.fault.Refusal.TheVariants.{ZeroAmount, PastReceiveLimit, NoRoom}
-use Rattle.lc_book.specs.declared.fault.Violation.TheVariants.{NotGuaranteed, AbsolvedTooMuch}
+use Rattle.lc_book.specs.declared.fault.Refusal.TheVariants.{ZeroAmount, PastReceiveLimit, NoRoom, ChannelFinished}
+use Rattle.lc_book.specs.declared.fault.Violation.TheVariants.{NotGuaranteed, AbsolvedTooMuch, AfterFinish}
 use Rattle.lc_book.specs.Limit.{is_past, left_of}
 use Rattle.lc_book.specs.Server.{Server, outstanding, room, issue_refusal}
 use Rattle.lc_inbox.specs.declared.history.Entry.{Entry}
@@ -26,17 +26,23 @@ use Rattle.lc_book.specs.Sums.{server_of}
 use Rattle.lc_inbox.specs.Ends.{violation_of, refusal_of}
 use Rattle.lc_inbox.specs.History.{heard_of, put_of, took_of, heard, put, took, book_after, waiting, MayFollow, IsInOrder}
 use Rattle.lc_world.specs.Guarantee.{FitsBuffer}
+use Rattle.lc_world.proofs.Sound.{none_waived}
+use Rattle.lc_world.proofs.Balances.{waives_no_more}
 
 -- where a reason does not hold, the next may; and what the last of them leaves
 pub later_reason : {E : Type 0} (b : Bool) (r : E) (x : Option E) → (if b then Some r else x) ≡ None → x ≡ None
 later_reason true r x e = absurd (cc)
 later_reason false r x e = e
 
+first_reason : {E : Type 0} (b : Bool) (r : E) (x : Option E) → (if b then Some r else x) ≡ None → b ≡ false
+first_reason true r x e = absurd (cc)
+first_reason false r x e = refl
+
 fits_in : {E : Type 0} (room n : ℕ) (r : E) (x : Option E) → (if nat_lt room n then Some r else x) ≡ None → n ≤ room
 fits_in room n r x e = grind (arith, nat_tests, e)
 
 has_room : (b : Server) (n : ℕ) → issue_refusal b n ≡ None → n ≤ room b
-has_room b n e = fits_in (room b) n (NoRoom (room b)) _ (later_reason (is_past b.receive_left n) (PastReceiveLimit (left_of b.receive_left)) _ (later_reason (n == 0) ZeroAmount _ e))
+has_room b n e = fits_in (room b) n (NoRoom (room b)) _ (later_reason (is_past b.receive_left n) (PastReceiveLimit (left_of b.receive_left)) _ (later_reason (n == 0) ZeroAmount _ (later_reason b.finished ChannelFinished _ e)))
 
 -- one frame more, on its own channel
 cost_more : (c : Channel) (f : Frame) (frames : List Frame) → channel_of f ≡ c → cost c (frames ++ f ∷ []) ≡ cost c frames + sum_by length (cons_option (message_of f) [])
@@ -67,15 +73,19 @@ module _ (capacity : ℕ) (c : Channel) (ps hs : List Frame) (taken : ℕ) (h : 
   heard_fits (Send d body) lane none =
       let f : Frame = Send d body in
       let same : d ≡ c = same_from_number d c lane in
-      let le : length body ≤ outstanding (server_of capacity c ps hs taken) = fits_in (outstanding (server_of capacity c ps hs taken)) (length body) NotGuaranteed _ none in
+      let le : length body ≤ outstanding (server_of capacity c ps hs taken) = fits_in (outstanding (server_of capacity c ps hs taken)) (length body) NotGuaranteed _ (later_reason (finished c hs) AfterFinish _ none) in
       record { covered = omega (arith, le, h.covered, cost_more c f hs same, absolved_more c f hs same); roomy = omega (arith, h.roomy, absolved_more c f hs same) }
   heard_fits (Absolve d n) lane none =
       let f : Frame = Absolve d n in
       let same : d ≡ c = same_from_number d c lane in
-      let le : n ≤ outstanding (server_of capacity c ps hs taken) = fits_in (outstanding (server_of capacity c ps hs taken)) n AbsolvedTooMuch _ none in
+      let le : n ≤ outstanding (server_of capacity c ps hs taken) = fits_in (outstanding (server_of capacity c ps hs taken)) n AbsolvedTooMuch _ (later_reason (finished c hs) AfterFinish _ none) in
       record { covered = omega (arith, le, h.covered, cost_more c f hs same, absolved_more c f hs same); roomy = omega (arith, h.roomy, absolved_more c f hs same) }
   heard_fits (LimitSending d n) lane none =
       let f : Frame = LimitSending d n in
+      let same : d ≡ c = same_from_number d c lane in
+      record { covered = omega (arith, h.covered, cost_more c f hs same, absolved_more c f hs same); roomy = omega (arith, h.roomy, absolved_more c f hs same) }
+  heard_fits (Finish d) lane none =
+      let f : Frame = Finish d in
       let same : d ≡ c = same_from_number d c lane in
       record { covered = omega (arith, h.covered, cost_more c f hs same, absolved_more c f hs same); roomy = omega (arith, h.roomy, absolved_more c f hs same) }
   heard_fits (Issue d n) lane none = client_lane c d lane
@@ -86,19 +96,16 @@ module _ (capacity : ℕ) (c : Channel) (ps hs : List Frame) (taken : ℕ) (h : 
   put_fits (Issue d n) lane none =
       let f : Frame = Issue d n in
       let same : d ≡ c = same_server c d lane in
-      let some : (n == 0) ≡ false = first_reason (n == 0) ZeroAmount _ none in
+      let unfinished : finished c hs ≡ false = first_reason (finished c hs) ChannelFinished _ none in
+      let some : (n == 0) ≡ false = first_reason (n == 0) ZeroAmount _ (later_reason (finished c hs) ChannelFinished _ none) in
       let le : n ≤ room (server_of capacity c ps hs taken) = has_room (server_of capacity c ps hs taken) n none in
-      record { covered = omega (arith, h.covered, issued_more c f ps same); roomy = issues_fit n le (positive n some) (issued_more c f ps same) }
+      record { covered = omega (arith, h.covered, issued_more c f ps same); roomy = issues_fit n unfinished le (positive n some) (issued_more c f ps same) }
     where
-      first_reason : {E : Type 0} (b : Bool) (r : E) (x : Option E) → (if b then Some r else x) ≡ None → b ≡ false
-      first_reason true r x e = absurd (cc)
-      first_reason false r x e = refl
-
       positive : (n : ℕ) → (n == 0) ≡ false → 1 ≤ n
       positive n e = grind (arith, nat_tests, e)
 
-      issues_fit : (n : ℕ) → n ≤ room (server_of capacity c ps hs taken) → 1 ≤ n → {m : ℕ} → m ≡ issued c ps + (0 + n) → m ≤ capacity + taken + absolved c hs
-      issues_fit n le some e = omega (arith, le, some, e, h.covered)
+      issues_fit : (n : ℕ) → finished c hs ≡ false → n ≤ room (server_of capacity c ps hs taken) → 1 ≤ n → {m : ℕ} → m ≡ issued c ps + (0 + n) → m ≤ capacity + taken + absolved c hs
+      issues_fit n unfinished le some e = omega (arith, le, some, e, h.covered, none_waived (finished c hs) (issued c ps - cost c hs - absolved c hs) unfinished)
   put_fits (Plead d n) lane none =
       let f : Frame = Plead d n in
       let same : d ≡ c = same_server c d lane in
@@ -110,6 +117,7 @@ module _ (capacity : ℕ) (c : Channel) (ps hs : List Frame) (taken : ℕ) (h : 
   put_fits (Send d body) lane none = server_lane c d lane
   put_fits (Absolve d n) lane none = server_lane c d lane
   put_fits (LimitSending d n) lane none = server_lane c d lane
+  put_fits (Finish d) lane none = server_lane c d lane
 
   took_fits : (n : ℕ) → Fits capacity c ps hs (taken + n)
   took_fits n = record { covered = h.covered; roomy = omega (arith, h.roomy) }
@@ -157,7 +165,7 @@ book_fits key history legal ordered =
     let s : FitsAfter key history = all_fit key [] history legal (record { covered = omega arith; roomy = omega arith }) in
     let arrived_is : sum_by length (messages key.channel (heard history)) ≡ sum_by length (took history) + sum_by length (waiting key history) = ap (sum_by length) ordered ∙ sum_by-append length (took history) (waiting key history) in
     record {
-      not_overdrawn = s.covered;
+      not_overdrawn = waives_no_more (finished key.channel (heard history)) (issued key.channel (put history)) (cost key.channel (heard history)) (absolved key.channel (heard history)) s.covered;
       taken_of_arrived = omega (arith, arrived_is);
       fits = omega (arith, s.covered, s.roomy, arrived_is);
     }

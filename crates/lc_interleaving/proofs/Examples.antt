@@ -1,4 +1,4 @@
--- There are two finished sessions and an order of their steps of which the laws speak. Session B limits what it issues to 9, issues 5 and pleads for 1; session A limits what it sends to 10, takes 4 out of its credit and gives them back, sends three bytes, and honours the plead by absolving 1; B takes the message, and issues 2 more, which are under way at the end. Nothing was written: the frames were left in the queues, and B's greeting, since B writes in version Two and A in version One.
+-- There are two finished sessions and an order of their steps of which the laws speak. Session B limits what it issues to 9, issues 5 and pleads for 1; session A limits what it sends to 10, takes 4 out of its credit and gives them back, sends three bytes, and honours the plead by absolving 1, and finishes the channel, which waives 1; B takes the message, issues 2 more, which are under way at the end, and hears the Finish. Nothing was written: the frames were left in the queues, and A's greeting, since A writes in version Two and B in version One.
 use Rattle.std.proofs.Common.{◌≡◌, ℕ, zero, suc, ◌+◌, ◌≤◌, List, [], ◌∷◌, Option, Some, None, refl, arith}
 use Rattle.std.specs.Prelude.{All}
 use Rattle.std.specs.List.{AllByRecursion}
@@ -8,7 +8,7 @@ use Rattle.lc_frame.specs.declared.version.Version.TheVariants.{One, Two}
 use Rattle.lc_frame.specs.declared.channel.Channel.{Channel}
 use Rattle.lc_frame.specs.declared.channel.Channel.TheVariants.{ReconciliationChannel, DataChannel, OverlapChannel, CapabilityChannel, AreaOfInterestChannel, PayloadRequestChannel, StaticTokenChannel}
 use Rattle.lc_frame.specs.declared.frame.Frame.{Frame}
-use Rattle.lc_frame.specs.declared.frame.Frame.TheVariants.{Send, Issue, Absolve, Plead, LimitSending, LimitReceiving}
+use Rattle.lc_frame.specs.declared.frame.Frame.TheVariants.{Send, Issue, Absolve, Plead, LimitSending, LimitReceiving, Finish}
 use Rattle.lc_frame.specs.Held.{nothing_held}
 use Rattle.lc_frame.specs.Channel.{number_of}
 use Rattle.lc_book.specs.Server.{Server}
@@ -57,7 +57,7 @@ abbrev pub message : List ℕ
 message = 1 ∷ 2 ∷ 3 ∷ []
 
 abbrev pub a_frames : List Frame
-a_frames = LimitSending DataChannel 10 ∷ Send DataChannel message ∷ Absolve DataChannel 1 ∷ []
+a_frames = LimitSending DataChannel 10 ∷ Send DataChannel message ∷ Absolve DataChannel 1 ∷ Finish DataChannel ∷ []
 
 abbrev pub b_frames : List Frame
 b_frames = LimitReceiving DataChannel 9 ∷ Issue DataChannel 5 ∷ Plead DataChannel 1 ∷ Issue DataChannel 2 ∷ []
@@ -66,27 +66,27 @@ b_frames = LimitReceiving DataChannel 9 ∷ Issue DataChannel 5 ∷ Plead DataCh
 abbrev pub a_heard : List Frame
 a_heard = LimitReceiving DataChannel 9 ∷ Issue DataChannel 5 ∷ Plead DataChannel 1 ∷ []
 
--- the history of A's credit, and of B's inbox, as far as the other thread had seen it
+-- the history of A's credit, and of B's inbox, each as far as one thread had seen it, and the whole
 abbrev pub credit_begun : List credit.Entry
 credit_begun = Received 5 ∷ Used 4 ∷ Returned 4 ∷ Used 3 ∷ Asked 1 ∷ []
 
 abbrev pub credit_whole : List credit.Entry
-credit_whole = Received 5 ∷ Used 4 ∷ Returned 4 ∷ Used 3 ∷ Asked 1 ∷ Taken 1 ∷ Used 1 ∷ []
+credit_whole = Received 5 ∷ Used 4 ∷ Returned 4 ∷ Used 3 ∷ Asked 1 ∷ Taken 1 ∷ Used 1 ∷ Used 1 ∷ []
 
 abbrev pub inbox_begun : List Entry
-inbox_begun = Put (LimitReceiving DataChannel 9) ∷ Put (Issue DataChannel 5) ∷ Put (Plead DataChannel 1) ∷ Heard (LimitSending DataChannel 10) ∷ Heard (Send DataChannel message) ∷ Took message ∷ Heard (Absolve DataChannel 1) ∷ []
+inbox_begun = Put (LimitReceiving DataChannel 9) ∷ Put (Issue DataChannel 5) ∷ Put (Plead DataChannel 1) ∷ Heard (LimitSending DataChannel 10) ∷ Heard (Send DataChannel message) ∷ Took message ∷ Heard (Absolve DataChannel 1) ∷ Put (Issue DataChannel 2) ∷ []
 
 abbrev pub inbox_whole : List Entry
-inbox_whole = Put (LimitReceiving DataChannel 9) ∷ Put (Issue DataChannel 5) ∷ Put (Plead DataChannel 1) ∷ Heard (LimitSending DataChannel 10) ∷ Heard (Send DataChannel message) ∷ Took message ∷ Heard (Absolve DataChannel 1) ∷ Put (Issue DataChannel 2) ∷ []
+inbox_whole = Put (LimitReceiving DataChannel 9) ∷ Put (Issue DataChannel 5) ∷ Put (Plead DataChannel 1) ∷ Heard (LimitSending DataChannel 10) ∷ Heard (Send DataChannel message) ∷ Took message ∷ Heard (Absolve DataChannel 1) ∷ Put (Issue DataChannel 2) ∷ Heard (Finish DataChannel) ∷ []
 
 abbrev pub order : List Joint
 order =
     at_b (puts (LimitReceiving DataChannel 9)) ∷ at_b (puts (Issue DataChannel 5)) ∷ at_a (hears (LimitReceiving DataChannel 9)) ∷ at_a (hears (Issue DataChannel 5)) ∷ at_a (puts (LimitSending DataChannel 10)) ∷ at_a (puts (Send DataChannel message))
-    ∷ at_b (puts (Plead DataChannel 1)) ∷ at_a (hears (Plead DataChannel 1)) ∷ at_a (puts (Absolve DataChannel 1)) ∷ at_b (hears (LimitSending DataChannel 10)) ∷ at_b (hears (Send DataChannel message)) ∷ at_b (takes DataChannel message) ∷ at_b (hears (Absolve DataChannel 1))
-    ∷ at_b (puts (Issue DataChannel 2)) ∷ []
+    ∷ at_b (puts (Plead DataChannel 1)) ∷ at_a (hears (Plead DataChannel 1)) ∷ at_a (puts (Absolve DataChannel 1)) ∷ at_a (puts (Finish DataChannel)) ∷ at_b (hears (LimitSending DataChannel 10)) ∷ at_b (hears (Send DataChannel message)) ∷ at_b (takes DataChannel message) ∷ at_b (hears (Absolve DataChannel 1))
+    ∷ at_b (puts (Issue DataChannel 2)) ∷ at_b (hears (Finish DataChannel)) ∷ []
 
 abbrev pub nothing : Balance
-nothing = record { received = 0; held = 0; spent = 0; absolved = 0 }
+nothing = record { received = 0; held = 0; spent = 0; absolved = 0; waived = 0 }
 
 -- which queue, which credits and which inboxes they are does not matter
 module _ (id : TableId) (base : Side) where
@@ -126,6 +126,7 @@ module _ (id : TableId) (base : Side) where
     received_is = refl;
     spent_is = refl;
     absolved_is = refl;
+    waived_is = refl;
     adds_up = refl;
     history = [];
     legal = tt;
@@ -136,7 +137,7 @@ module _ (id : TableId) (base : Side) where
   }
 
   pub unused_outbox : (v : Version) (c : Channel) → IsOutbox (outbox v c [] (new_outgoing id) None)
-  unused_outbox v c = record { lane = refl; idle = refl; spent = refl; absolved = refl; uses = refl; left = refl; rules = tt }
+  unused_outbox v c = record { lane = refl; idle = refl; spent = refl; absolved = refl; uses = refl; finished = refl; left = refl; rules = tt }
 
   unfoldable pub unused_inbox : (v : Version) (c : Channel) → sides.IsFinished (side v c []) (side v c []) (book_after (key v c) []) (lane_after (key v c) [])
   unused_inbox v c = record {
@@ -152,39 +153,43 @@ module _ (id : TableId) (base : Side) where
     in_order = refl;
   }
 
-  -- A, which sent, in version One
+  -- A, which sent and finished, in version Two
   abbrev pub a_outbox : OutboxState
-  a_outbox = outbox One DataChannel a_frames (record { credit = id; seen = credit_whole; looks = 0; spent = 3; absolved = 1; pending = None; least = 0 }) (Some 7)
+  a_outbox = outbox Two DataChannel a_frames (record { credit = id; seen = credit_whole; looks = 0; spent = 3; absolved = 1; waived = Some 1; pending = None; least = 0 }) (Some 7)
 
   abbrev pub a_incoming : Incoming
   a_incoming = record { credit = id; seen = credit_begun; looks = 0; received = 5; left = Some 4 }
 
+  abbrev pub a_balance : Balance
+  a_balance = record { received = 5; held = 0; spent = 3; absolved = 1; waived = 1 }
+
   abbrev pub a : Finished
   a = record {
-    session = session One a_outbox a_incoming [] [];
+    session = session Two a_outbox a_incoming [] [];
     arrived = a_heard;
-    clients = listed (λ c. nothing) (record { received = 5; held = 1; spent = 3; absolved = 1 });
-    servers = books One [];
-    left = 3;
-    partly = 0;
+    clients = listed (λ c. nothing) a_balance;
+    servers = books Two [];
+    left = 4;
+    partly = 4;
   }
 
-  unfoldable pub a_settled : IsSettled a_incoming a_outbox.credit (record { received = 5; held = 1; spent = 3; absolved = 1 })
+  unfoldable pub a_settled : IsSettled a_incoming a_outbox.credit a_balance
   a_settled = record {
     received_is = refl;
     spent_is = refl;
     absolved_is = refl;
+    waived_is = (refl, omega arith);
     adds_up = refl;
     history = credit_whole;
-    legal = (tt, (omega arith, (refl, (omega arith, (tt, (refl, (omega arith, tt)))))));
-    incoming_knows = record { later = Taken 1 ∷ Used 1 ∷ []; begins = refl; others = refl };
+    legal = (tt, (omega arith, (refl, (omega arith, (tt, (refl, (omega arith, (omega arith, tt))))))));
+    incoming_knows = record { later = Taken 1 ∷ Used 1 ∷ Used 1 ∷ []; begins = refl; others = refl };
     outgoing_knows = record { later = []; begins = refl; others = refl };
     all_received = refl;
     all_used = refl;
   }
 
   pub a_is_outbox : IsOutbox a_outbox
-  a_is_outbox = record { lane = refl; idle = refl; spent = refl; absolved = refl; uses = refl; left = refl; rules = ((refl, refl), ((refl, refl), ((refl, omega arith, omega arith), tt))) }
+  a_is_outbox = record { lane = refl; idle = refl; spent = refl; absolved = refl; uses = refl; finished = refl; left = refl; rules = ((refl, refl, refl), ((refl, refl, refl), ((refl, refl, (omega arith, omega arith)), ((refl, refl, refl), tt)))) }
 
   pub one_session : (v : Version) (o : OutboxState) (i : Incoming) (reads receives : List Entry) → o.channel ≡ DataChannel → o.lane.queue ≡ id → o.lane.version ≡ v → o.credit.credit ≡ i.credit → i.credit ≡ id → AreOfOneSession (session v o i reads receives)
   one_session v o i reads receives channel queue version credits known = record {
@@ -205,12 +210,12 @@ module _ (id : TableId) (base : Side) where
   unfoldable pub a_report : IsReport a.session a.clients a.servers a.left a.partly
   a_report = record {
     last = a_frames;
-    outboxes = all_of IsOutbox a.session.sending (unused_outbox One ReconciliationChannel, (a_is_outbox, (unused_outbox One OverlapChannel, (unused_outbox One CapabilityChannel, (unused_outbox One AreaOfInterestChannel, (unused_outbox One PayloadRequestChannel, (unused_outbox One StaticTokenChannel, tt)))))));
+    outboxes = all_of IsOutbox a.session.sending (unused_outbox Two ReconciliationChannel, (a_is_outbox, (unused_outbox Two OverlapChannel, (unused_outbox Two CapabilityChannel, (unused_outbox Two AreaOfInterestChannel, (unused_outbox Two PayloadRequestChannel, (unused_outbox Two StaticTokenChannel, tt)))))));
     clients_gave = all_of (GaveAll a_frames) a.session.sending (refl, (refl, (refl, (refl, (refl, (refl, (refl, tt)))))));
     settled = (unused ReconciliationChannel, (a_settled, (unused OverlapChannel, (unused CapabilityChannel, (unused AreaOfInterestChannel, (unused PayloadRequestChannel, (unused StaticTokenChannel, tt)))))));
-    lanes = lanes One [];
-    finished = (unused_inbox One ReconciliationChannel, (unused_inbox One DataChannel, (unused_inbox One OverlapChannel, (unused_inbox One CapabilityChannel, (unused_inbox One AreaOfInterestChannel, (unused_inbox One PayloadRequestChannel, (unused_inbox One StaticTokenChannel, tt)))))));
-    servers_gave = all_of (GaveAllOf a_frames) (lanes One []) (refl, (refl, (refl, (refl, (refl, (refl, (refl, tt)))))));
+    lanes = lanes Two [];
+    finished = (unused_inbox Two ReconciliationChannel, (unused_inbox Two DataChannel, (unused_inbox Two OverlapChannel, (unused_inbox Two CapabilityChannel, (unused_inbox Two AreaOfInterestChannel, (unused_inbox Two PayloadRequestChannel, (unused_inbox Two StaticTokenChannel, tt)))))));
+    servers_gave = all_of (GaveAllOf a_frames) (lanes Two []) (refl, (refl, (refl, (refl, (refl, (refl, (refl, tt)))))));
     left_is = refl;
     partly_is = refl;
   }
@@ -226,25 +231,25 @@ module _ (id : TableId) (base : Side) where
       (record { inbox = refl; received = refl; left = refl; asked = refl })
 
   unfoldable pub a_finished : IsFinished a
-  a_finished = record { one = one_session One a_outbox a_incoming [] [] refl refl refl refl refl; heard = a_has_heard; report = a_report }
+  a_finished = record { one = one_session Two a_outbox a_incoming [] [] refl refl refl refl refl; heard = a_has_heard; report = a_report }
 
-  -- B, which took, and writes in version Two
+  -- B, which took, and writes in version One
   abbrev pub b : Finished
   b = record {
-    session = session Two (outbox Two DataChannel [] (new_outgoing id) None) (new_incoming id) inbox_begun inbox_whole;
+    session = session One (outbox One DataChannel [] (new_outgoing id) None) (new_incoming id) inbox_whole inbox_begun;
     arrived = a_frames;
     clients = listed (λ c. nothing) nothing;
-    servers = books Two inbox_whole;
+    servers = books One inbox_whole;
     left = 4;
-    partly = 4;
+    partly = 0;
   }
 
-  unfoldable pub b_inbox : sides.IsFinished (side Two DataChannel inbox_begun) (side Two DataChannel inbox_whole) (book_after (key Two DataChannel) inbox_whole) (lane_after (key Two DataChannel) inbox_whole)
+  unfoldable pub b_inbox : sides.IsFinished (side One DataChannel inbox_whole) (side One DataChannel inbox_begun) (book_after (key One DataChannel) inbox_whole) (lane_after (key One DataChannel) inbox_whole)
   b_inbox = record {
     history = inbox_whole;
-    legal = ((refl, refl), ((refl, refl), ((refl, refl), ((refl, refl), ((refl, refl), (refl, ((refl, refl), ((refl, refl), tt))))))));
-    reads = record { later = Put (Issue DataChannel 2) ∷ []; begins = refl; others = refl };
-    receives = record { later = []; begins = refl; others = refl };
+    legal = ((refl, refl), ((refl, refl), ((refl, refl), ((refl, refl), ((refl, refl), (refl, ((refl, refl), ((refl, refl), ((refl, refl), tt)))))))));
+    reads = record { later = []; begins = refl; others = refl };
+    receives = record { later = Heard (Finish DataChannel) ∷ []; begins = refl; others = refl };
     book_is = refl;
     lane_is = refl;
     heard = refl;
@@ -256,12 +261,12 @@ module _ (id : TableId) (base : Side) where
   unfoldable pub b_report : IsReport b.session b.clients b.servers b.left b.partly
   b_report = record {
     last = b_frames;
-    outboxes = all_of IsOutbox b.session.sending (unused_outbox Two ReconciliationChannel, (unused_outbox Two DataChannel, (unused_outbox Two OverlapChannel, (unused_outbox Two CapabilityChannel, (unused_outbox Two AreaOfInterestChannel, (unused_outbox Two PayloadRequestChannel, (unused_outbox Two StaticTokenChannel, tt)))))));
+    outboxes = all_of IsOutbox b.session.sending (unused_outbox One ReconciliationChannel, (unused_outbox One DataChannel, (unused_outbox One OverlapChannel, (unused_outbox One CapabilityChannel, (unused_outbox One AreaOfInterestChannel, (unused_outbox One PayloadRequestChannel, (unused_outbox One StaticTokenChannel, tt)))))));
     clients_gave = all_of (GaveAll b_frames) b.session.sending (refl, (refl, (refl, (refl, (refl, (refl, (refl, tt)))))));
     settled = (unused ReconciliationChannel, (unused DataChannel, (unused OverlapChannel, (unused CapabilityChannel, (unused AreaOfInterestChannel, (unused PayloadRequestChannel, (unused StaticTokenChannel, tt)))))));
-    lanes = lanes Two inbox_whole;
-    finished = (unused_inbox Two ReconciliationChannel, (b_inbox, (unused_inbox Two OverlapChannel, (unused_inbox Two CapabilityChannel, (unused_inbox Two AreaOfInterestChannel, (unused_inbox Two PayloadRequestChannel, (unused_inbox Two StaticTokenChannel, tt)))))));
-    servers_gave = all_of (GaveAllOf b_frames) (lanes Two inbox_whole) (refl, (refl, (refl, (refl, (refl, (refl, (refl, tt)))))));
+    lanes = lanes One inbox_whole;
+    finished = (unused_inbox One ReconciliationChannel, (b_inbox, (unused_inbox One OverlapChannel, (unused_inbox One CapabilityChannel, (unused_inbox One AreaOfInterestChannel, (unused_inbox One PayloadRequestChannel, (unused_inbox One StaticTokenChannel, tt)))))));
+    servers_gave = all_of (GaveAllOf b_frames) (lanes One inbox_whole) (refl, (refl, (refl, (refl, (refl, (refl, (refl, tt)))))));
     left_is = refl;
     partly_is = refl;
   }
@@ -277,7 +282,7 @@ module _ (id : TableId) (base : Side) where
       (record { inbox = refl; received = refl; left = refl; asked = refl })
 
   unfoldable pub b_finished : IsFinished b
-  b_finished = record { one = one_session Two (outbox Two DataChannel [] (new_outgoing id) None) (new_incoming id) inbox_begun inbox_whole refl refl refl refl refl; heard = b_has_heard; report = b_report }
+  b_finished = record { one = one_session One (outbox One DataChannel [] (new_outgoing id) None) (new_incoming id) inbox_whole inbox_begun refl refl refl refl refl; heard = b_has_heard; report = b_report }
 
   -- the order is one of their steps
   pub enough : 5 ≤ 5
@@ -290,15 +295,15 @@ module _ (id : TableId) (base : Side) where
       put = refl;
       heard = refl;
       inboxes = each (λ c. entries c (of_a order) ≡ without_refusals ((trace a a_finished).inbox c)) refl refl refl refl refl refl refl;
-      in_time = (tt, (tt, (tt, (enough, (tt, (enough, tt))))));
+      in_time = (tt, (tt, (tt, (enough, (tt, (enough, (tt, tt)))))));
     };
     b_order = record {
       put = refl;
       heard = refl;
       inboxes = each (λ c. entries c (of_b order) ≡ without_refusals ((trace b b_finished).inbox c)) refl refl refl refl refl refl refl;
-      in_time = (tt, (tt, (tt, (tt, (tt, (tt, (tt, (tt, tt))))))));
+      in_time = (tt, (tt, (tt, (tt, (tt, (tt, (tt, (tt, (tt, tt)))))))));
     };
-    causal = (tt, (tt, ((Issue DataChannel 5 ∷ [], refl), (([], refl), (tt, (tt, (tt, (([], refl), (tt, ((Send DataChannel message ∷ Absolve DataChannel 1 ∷ [], refl), ((Absolve DataChannel 1 ∷ [], refl), (tt, (([], refl), (tt, tt))))))))))))));
+    causal = (tt, (tt, ((Issue DataChannel 5 ∷ [], refl), (([], refl), (tt, (tt, (tt, (([], refl), (tt, (tt, ((Send DataChannel message ∷ Absolve DataChannel 1 ∷ Finish DataChannel ∷ [], refl), ((Absolve DataChannel 1 ∷ Finish DataChannel ∷ [], refl), (tt, ((Finish DataChannel ∷ [], refl), (tt, (([], refl), tt))))))))))))))));
   }
 
   pub were_one : WereOne 6 a b a_finished b_finished order

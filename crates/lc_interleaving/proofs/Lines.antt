@@ -8,7 +8,7 @@ use Rattle.lc_history.specs.History.{IsHistoryAfter}
 use Rattle.lc_frame.specs.declared.version.Version.{Version}
 use Rattle.lc_frame.specs.declared.channel.Channel.{Channel}
 use Rattle.lc_frame.specs.declared.frame.Frame.{Frame}
-use Rattle.lc_frame.specs.declared.frame.Frame.TheVariants.{Send, Issue, Absolve, Plead, LimitSending, LimitReceiving}
+use Rattle.lc_frame.specs.declared.frame.Frame.TheVariants.{Send, Issue, Absolve, Plead, LimitSending, LimitReceiving, Finish}
 use Rattle.lc_frame.specs.Channel.{number_of, is_same}
 use Rattle.lc_frame.specs.Frame.{channel_of}
 use Rattle.lc_frame.specs.Kind.{max_amount}
@@ -21,7 +21,7 @@ use Rattle.lc_peer.specs.Calls.{book_refusal}
 use Rattle.lc_world.specs.declared.event.Side.TheVariants.{A, B}
 use Rattle.lc_world.specs.declared.event.Act.TheVariants.{Arrive}
 use Rattle.lc_world.specs.declared.event.Answer.TheVariants.{Accepted, Arrived}
-use Rattle.lc_world.specs.State.{State, Versions, Line, opening, stream, taken_count, taken_messages, client_book, server_book, kept_plead, put_on, arrive_first, arrive_on, take_on}
+use Rattle.lc_world.specs.State.{State, Versions, Line, opening, stream, taken_count, taken_messages, client_book, server_book, kept_plead, put_on, arrive_first, arrive_on, take_on, forget_finished}
 use Rattle.lc_world.specs.Answers.{judged, arrival, arrive_answer, take_answer, waiting, IsAnswerOf, mine_after, theirs_after, state_after}
 use Rattle.lc_world.specs.Histories.{after_all, IsLegal}
 use Rattle.lc_world.specs.Sound.{IsSound}
@@ -49,6 +49,7 @@ accepted capacity mine theirs (Absolve c n) e = inl (sym (ap judged e))
 accepted capacity mine theirs (Plead c n) e = inl (sym (ap judged e))
 accepted capacity mine theirs (LimitSending c n) e = inl (sym (ap judged e))
 accepted capacity mine theirs (LimitReceiving c n) e = inl (sym (ap judged e))
+accepted capacity mine theirs (Finish c) e = inl (sym (ap judged e))
 
 -- a frame that is the next of those put is the first in flight, and arrives
 pub first_in_flight : (l : Line) (all before : List Frame) (f : Frame) (rest : List Frame) → stream l ≡ all → l.arrived ≡ before → all ≡ before ++ f ∷ rest → l.in_flight ≡ f ∷ rest
@@ -170,6 +171,15 @@ line_takes l writer reader d body rest places e s = record {
       ];
 }
 
+-- which pleads are kept does not matter
+line_forgets : {v : Version} (mine l : Line) (writer reader : List Step) → IsLineOf v l writer reader → IsLineOf v (forget_finished mine l) writer reader
+line_forgets mine l writer reader s = record {
+  is_version = s.is_version;
+  put = s.put;
+  heard = s.heard;
+  takes = λ c. let t : TakesOf l reader c = s.takes c in record { count = t.count; rest = t.rest; some = t.some };
+}
+
 -- the first message that waits, behind those that were taken
 first_of : (xs : List (List ℕ)) (body : List ℕ) → slice_get xs 0 ≡ Some body → (rest : List (List ℕ)) × (xs ≡ body ∷ rest)
 first_of [] body e = absurd (cc)
@@ -198,6 +208,7 @@ no_plead version c put heard asked server (Absolve d n) = refl
 no_plead version c put heard asked server (Plead d n) = refl
 no_plead version c put heard asked server (LimitSending d n) = refl
 no_plead version c put heard asked server (LimitReceiving d n) = refl
+no_plead version c put heard asked server (Finish d) = refl
 
 -- what a step leaves of the lines, where a frame is put
 mine_put : (mine theirs : Line) (f : Frame) → mine_after mine theirs (act_putting f) Accepted ≡ put_on mine f
@@ -207,6 +218,7 @@ mine_put mine theirs (Absolve d n) = refl
 mine_put mine theirs (Plead d n) = refl
 mine_put mine theirs (LimitSending d n) = refl
 mine_put mine theirs (LimitReceiving d n) = refl
+mine_put mine theirs (Finish d) = refl
 
 theirs_put : (mine theirs : Line) (f : Frame) → theirs_after mine theirs (act_putting f) Accepted ≡ theirs
 theirs_put mine theirs (Send d body) = refl
@@ -215,6 +227,7 @@ theirs_put mine theirs (Absolve d n) = refl
 theirs_put mine theirs (Plead d n) = refl
 theirs_put mine theirs (LimitSending d n) = refl
 theirs_put mine theirs (LimitReceiving d n) = refl
+theirs_put mine theirs (Finish d) = refl
 
 -- a step at the side whose line is the first
 record Steps (v w : Version) (capacity : ℕ) (mine theirs : Line) (me peer : List Step) (step : Step) : Type 0 where
@@ -262,7 +275,7 @@ module _ (v w : Version) (capacity : ℕ) (small : capacity ≤ max_amount) (min
       ∙ (ap (λ (ms : List (List ℕ)). drop (length (took c me)) ms) first.1
       ∙ drop_at (took c me) (body ∷ first.0) (length (took c me)) refl)) in
       record {
-        right = inl (sym (ap (λ (ms : List (List ℕ)). take_answer (server_book capacity c mine theirs).send_left ms) waits));
+        right = inl (sym (ap (λ (ms : List (List ℕ)). take_answer (server_book capacity c mine theirs) ms) waits));
         mine_is = writer_stays mine me peer (takes c body) refl m;
         theirs_is = line_takes theirs peer me c body first.0 (places c) first.1 t;
       }
@@ -316,7 +329,9 @@ goes_on va vb w a b [] small s ha hb t = record {
 goes_on va vb w a b (at_a step ∷ later) small s ha hb t =
     let d : Steps va vb w.capacity w.a w.b a b step = steps va vb w.capacity small w.a w.b a b (sound_to_a w s.sound) (λ c. (s.sound.sums B c).places) s.a_line s.b_line step ha.0 t.0 in
     let next : State = state_after w A (act_of step) (answer_to step) in
-    let stands : StandsFor va vb next (a ++ step ∷ []) b = record { a_line = d.mine_is; b_line = d.theirs_is; sound = sound_step w A (act_of step) (answer_to step) d.right s.sound } in
+    let mine : Line = mine_after w.a w.b (act_of step) (answer_to step) in
+    let theirs : Line = theirs_after w.a w.b (act_of step) (answer_to step) in
+    let stands : StandsFor va vb next (a ++ step ∷ []) b = record { a_line = line_forgets theirs mine (a ++ step ∷ []) b d.mine_is; b_line = line_forgets mine theirs b (a ++ step ∷ []) d.theirs_is; sound = sound_step w A (act_of step) (answer_to step) d.right s.sound } in
     let rest : GoesOn va vb next (a ++ step ∷ []) b later = goes_on va vb next (a ++ step ∷ []) b later small stands ha.1 hb t.1 in
     record {
       legal = (d.right, rest.legal);
@@ -325,7 +340,9 @@ goes_on va vb w a b (at_a step ∷ later) small s ha hb t =
 goes_on va vb w a b (at_b step ∷ later) small s ha hb t =
     let d : Steps vb va w.capacity w.b w.a b a step = steps vb va w.capacity small w.b w.a b a (sound_to_b w s.sound) (λ c. (s.sound.sums A c).places) s.b_line s.a_line step hb.0 t.0 in
     let next : State = state_after w B (act_of step) (answer_to step) in
-    let stands : StandsFor va vb next a (b ++ step ∷ []) = record { a_line = d.theirs_is; b_line = d.mine_is; sound = sound_step w B (act_of step) (answer_to step) d.right s.sound } in
+    let mine : Line = mine_after w.b w.a (act_of step) (answer_to step) in
+    let theirs : Line = theirs_after w.b w.a (act_of step) (answer_to step) in
+    let stands : StandsFor va vb next a (b ++ step ∷ []) = record { a_line = line_forgets mine theirs a (b ++ step ∷ []) d.theirs_is; b_line = line_forgets theirs mine (b ++ step ∷ []) a d.mine_is; sound = sound_step w B (act_of step) (answer_to step) d.right s.sound } in
     let rest : GoesOn va vb next a (b ++ step ∷ []) later = goes_on va vb next a (b ++ step ∷ []) later small stands ha hb.1 t.1 in
     record {
       legal = (d.right, rest.legal);

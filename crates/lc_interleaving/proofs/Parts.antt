@@ -1,13 +1,13 @@
 -- The ends of a finished session kept the rules, each by its own history.
-use Rattle.std.proofs.Common.{◌≡◌, ℕ, zero, suc, ◌+◌, ◌≤◌, List, [], ◌∷◌, ◌++◌, map, Option, Some, None, refl, sym, ap, subst, ◌∙◌, arith}
-use Rattle.std.specs.Prelude.{All, slice_get, slice_index_or, IsSomeAnd}
+use Rattle.std.proofs.Common.{◌≡◌, ℕ, zero, suc, ◌+◌, ◌≤◌, true, false, List, [], ◌∷◌, ◌++◌, map, Option, Some, None, refl, sym, ap, subst, ◌∙◌, arith}
+use Rattle.std.specs.Prelude.{All, slice_get, slice_index_or, is_some, option_to_list, MatchOption, IsSomeAnd}
 use Rattle.lc_history.specs.History.{IsHistory}
 use Rattle.lc_frame.specs.declared.version.Version.{Version}
 use Rattle.lc_frame.specs.declared.channel.Channel.{Channel}
 use Rattle.lc_frame.specs.declared.channel.Channel.TheVariants.{ReconciliationChannel, DataChannel, OverlapChannel, CapabilityChannel, AreaOfInterestChannel, PayloadRequestChannel, StaticTokenChannel}
 use Rattle.lc_frame.specs.declared.frame.Frame.{Frame}
 use Rattle.lc_frame.specs.Channel.{number_of}
-use Rattle.lc_frame.specs.Stream.{of_lane, cost, absolved, issued}
+use Rattle.lc_frame.specs.Stream.{of_lane, cost, absolved, issued, finished}
 use Rattle.lc_book.specs.Server.{Server}
 use Rattle.lc_book.specs.Sums.{SumsAreOfLanes}
 use Rattle.lc_book.proofs.Lanes.{every_sum_is_of_its_lane}
@@ -71,19 +71,34 @@ pub record Sends (version : Version) (frames : List Frame) (c : Channel) (histor
   pub sending : KeepsSending version c history (of_lane (number_of c) frames)
   pub spent_is : b.spent ≡ cost c frames
   pub absolved_is : b.absolved ≡ absolved c frames
-  pub adds_up : b.held + b.spent + b.absolved ≡ b.received
+  pub held_is : finished c frames ≡ true → b.held ≡ 0
+  pub waived_is : finished c frames ≡ false → b.waived ≡ 0
+  pub adds_up : b.held + b.spent + b.absolved + b.waived ≡ b.received
+
+-- where something was waived nothing is held, and where nothing was, nothing is waived
+none_held : (taken : Option ℕ) (b : Balance) → MatchOption taken (b.waived ≡ 0) (λ n. (b.held ≡ 0) × (n ≤ b.waived)) → is_some taken ≡ true → b.held ≡ 0
+none_held None b h some = absurd (cc)
+none_held (Some n) b h some = h.0
+
+none_waived : (taken : Option ℕ) (b : Balance) → MatchOption taken (b.waived ≡ 0) (λ n. (b.held ≡ 0) × (n ≤ b.waived)) → is_some taken ≡ false → b.waived ≡ 0
+none_waived None b h none = h
+none_waived (Some n) b h none = absurd (cc)
 
 sends_one : (queue : QueueId) (version : Version) (frames : List Frame) (i : Incoming) (o : OutboxState) (b : Balance) (h : IsSettled i o.credit b) → IsOutbox o → PutsOn queue version o → GaveAll frames o → Sends version frames o.channel h.history b
 sends_one queue version frames i o b h is puts gave =
     let p : SumsAreOfLanes o.channel frames = every_sum_is_of_its_lane o.channel frames in
+    let finish_is : is_some o.credit.waived ≡ finished o.channel frames = is.finished ∙ (ap (finished o.channel) (sym gave) ∙ p.finished_is) in
     record {
       sending = record {
         legal = h.legal;
-        pays = uses_same o.credit.seen h.history h.outgoing_knows ∙ (is.uses ∙ ap amounts (sym gave));
+        waived = o.credit.waived;
+        pays = uses_same o.credit.seen h.history h.outgoing_knows ∙ (is.uses ∙ ap (λ (fs : List Frame). amounts fs ++ option_to_list o.credit.waived) (sym gave));
         rules = subst (λ (v : Version). IsHistory (MayPut v o.channel) (of_lane (number_of o.channel) frames)) puts.version_is (subst (λ (fs : List Frame). IsHistory (MayPut o.lane.version o.channel) fs) (sym gave) is.rules);
       };
       spent_is = h.spent_is ∙ (is.spent ∙ (ap (cost o.channel) (sym gave) ∙ p.cost_is));
       absolved_is = h.absolved_is ∙ (is.absolved ∙ (ap (absolved o.channel) (sym gave) ∙ p.absolved_is));
+      held_is = λ e. none_held o.credit.waived b h.waived_is (finish_is ∙ e);
+      waived_is = λ e. none_waived o.credit.waived b h.waived_is (finish_is ∙ e);
       adds_up = h.adds_up;
     }
 

@@ -4,9 +4,9 @@ use Rattle.atomic_table.specs.Seated.{TableId}
 use Rattle.lc_history.specs.History.{IsHistory}
 use Rattle.lc_frame.specs.declared.channel.Channel.{Channel}
 use Rattle.lc_frame.specs.declared.channel.Channel.TheVariants.{DataChannel}
-use Rattle.lc_frame.specs.declared.frame.Frame.TheVariants.{Send, Issue, Absolve, Plead, LimitSending, LimitReceiving}
+use Rattle.lc_frame.specs.declared.frame.Frame.TheVariants.{Send, Issue, Absolve, Plead, LimitSending, LimitReceiving, Finish}
 use Rattle.lc_inbox.specs.Sides.{Side}
-use Rattle.lc_frame.specs.declared.version.Version.TheVariants.{One}
+use Rattle.lc_frame.specs.declared.version.Version.TheVariants.{Two}
 use Rattle.lc_world.specs.State.{Versions, opening}
 use Rattle.lc_world.specs.Histories.{IsLegal}
 use Rattle.lc_interleaving.specs.Steps.{Step, put, heard, entries, without_refusals}
@@ -21,14 +21,14 @@ use Rattle.lc_interleaving.proofs.Examples.{each, message, a, b, a_finished, b_f
 abbrev too_early : List Joint
 too_early =
     at_b (puts (LimitReceiving DataChannel 9)) ∷ at_b (puts (Issue DataChannel 5)) ∷ at_a (hears (LimitReceiving DataChannel 9)) ∷ at_a (puts (LimitSending DataChannel 10)) ∷ at_a (puts (Send DataChannel message)) ∷ at_a (hears (Issue DataChannel 5))
-    ∷ at_b (puts (Plead DataChannel 1)) ∷ at_a (hears (Plead DataChannel 1)) ∷ at_a (puts (Absolve DataChannel 1)) ∷ at_b (hears (LimitSending DataChannel 10)) ∷ at_b (hears (Send DataChannel message)) ∷ at_b (takes DataChannel message) ∷ at_b (hears (Absolve DataChannel 1))
-    ∷ at_b (puts (Issue DataChannel 2)) ∷ []
+    ∷ at_b (puts (Plead DataChannel 1)) ∷ at_a (hears (Plead DataChannel 1)) ∷ at_a (puts (Absolve DataChannel 1)) ∷ at_a (puts (Finish DataChannel)) ∷ at_b (hears (LimitSending DataChannel 10)) ∷ at_b (hears (Send DataChannel message)) ∷ at_b (takes DataChannel message) ∷ at_b (hears (Absolve DataChannel 1))
+    ∷ at_b (puts (Issue DataChannel 2)) ∷ at_b (hears (Finish DataChannel)) ∷ []
 
 -- the same, but the message is heard before it was put
 abbrev unheard_of : List Joint
 unheard_of =
     at_b (puts (LimitReceiving DataChannel 9)) ∷ at_b (puts (Issue DataChannel 5)) ∷ at_b (puts (Plead DataChannel 1)) ∷ at_b (hears (LimitSending DataChannel 10)) ∷ at_b (hears (Send DataChannel message)) ∷ at_b (takes DataChannel message) ∷ at_b (hears (Absolve DataChannel 1)) ∷ at_b (puts (Issue DataChannel 2))
-    ∷ at_a (hears (LimitReceiving DataChannel 9)) ∷ at_a (hears (Issue DataChannel 5)) ∷ at_a (puts (LimitSending DataChannel 10)) ∷ at_a (puts (Send DataChannel message)) ∷ at_a (hears (Plead DataChannel 1)) ∷ at_a (puts (Absolve DataChannel 1)) ∷ []
+    ∷ at_b (hears (Finish DataChannel)) ∷ at_a (hears (LimitReceiving DataChannel 9)) ∷ at_a (hears (Issue DataChannel 5)) ∷ at_a (puts (LimitSending DataChannel 10)) ∷ at_a (puts (Send DataChannel message)) ∷ at_a (hears (Plead DataChannel 1)) ∷ at_a (puts (Absolve DataChannel 1)) ∷ at_a (puts (Finish DataChannel)) ∷ []
 
 -- what the premise asks of one session, but for the time of its frames
 record IsOrderBut (t : Trace) (steps : List Step) : Type 0 where
@@ -36,14 +36,14 @@ record IsOrderBut (t : Trace) (steps : List Step) : Type 0 where
   heard_is : heard steps ≡ t.heard
   inboxes : (c : Channel) → entries c steps ≡ without_refusals (t.inbox c)
 
--- both write in version One
-abbrev each_one : Versions
-each_one s = One
+-- both write in version Two
+abbrev each_two : Versions
+each_two s = Two
 
-not_legal : IsLegal (opening 6 each_one) (history_of too_early) → ⊥
+not_legal : IsLegal (opening 6 each_two) (history_of too_early) → ⊥
 not_legal h = elim h.1.1.1.1.0 [ inl e ↦ absurd (cc) | inr e ↦ absurd (let n = e.1 in cc) ]
 
-not_causal : IsLegal (opening 6 each_one) (history_of unheard_of) → ⊥
+not_causal : IsLegal (opening 6 each_two) (history_of unheard_of) → ⊥
 not_causal h = elim h.1.1.1.0 [ inl e ↦ absurd (cc) | inr e ↦ absurd (let n = e.1 in cc) ]
 
 module _ (id : TableId) (base : Side) where
@@ -59,8 +59,8 @@ module _ (id : TableId) (base : Side) where
   all_but_time = record {
     a_order = record { put_is = refl; heard_is = refl; inboxes = each (λ c. entries c (of_a too_early) ≡ without_refusals ((trace (a id base) (a_finished id base)).inbox c)) refl refl refl refl refl refl refl };
     b_order = record { put_is = refl; heard_is = refl; inboxes = each (λ c. entries c (of_b too_early) ≡ without_refusals ((trace (b id base) (b_finished id base)).inbox c)) refl refl refl refl refl refl refl };
-    b_in_time = (tt, (tt, (tt, (tt, (tt, (tt, (tt, (tt, tt))))))));
-    causal = (tt, (tt, ((Issue DataChannel 5 ∷ [], refl), (tt, (tt, (([], refl), (tt, (([], refl), (tt, ((Send DataChannel message ∷ Absolve DataChannel 1 ∷ [], refl), ((Absolve DataChannel 1 ∷ [], refl), (tt, (([], refl), (tt, tt))))))))))))));
+    b_in_time = (tt, (tt, (tt, (tt, (tt, (tt, (tt, (tt, (tt, tt)))))))));
+    causal = (tt, (tt, ((Issue DataChannel 5 ∷ [], refl), (tt, (tt, (([], refl), (tt, (([], refl), (tt, (tt, ((Send DataChannel message ∷ Absolve DataChannel 1 ∷ Finish DataChannel ∷ [], refl), ((Absolve DataChannel 1 ∷ Finish DataChannel ∷ [], refl), (tt, ((Finish DataChannel ∷ [], refl), (tt, (([], refl), tt))))))))))))))));
   }
 
   -- all of the premise but that nothing is heard before it was put
@@ -75,6 +75,6 @@ module _ (id : TableId) (base : Side) where
   all_but_causal = record {
     a_order = record { put_is = refl; heard_is = refl; inboxes = each (λ c. entries c (of_a unheard_of) ≡ without_refusals ((trace (a id base) (a_finished id base)).inbox c)) refl refl refl refl refl refl refl };
     b_order = record { put_is = refl; heard_is = refl; inboxes = each (λ c. entries c (of_b unheard_of) ≡ without_refusals ((trace (b id base) (b_finished id base)).inbox c)) refl refl refl refl refl refl refl };
-    a_in_time = (tt, (tt, (tt, (enough id base, (tt, (enough id base, tt))))));
-    b_in_time = (tt, (tt, (tt, (tt, (tt, (tt, (tt, (tt, tt))))))));
+    a_in_time = (tt, (tt, (tt, (enough id base, (tt, (enough id base, (tt, tt)))))));
+    b_in_time = (tt, (tt, (tt, (tt, (tt, (tt, (tt, (tt, (tt, tt)))))))));
   }

@@ -1,10 +1,11 @@
 -- The laws of two finished sessions.
 use Rattle.std.proofs.Common.{◌≡◌, ℕ, ◌+◌, List, ◌++◌, length, sym, ap, subst, ◌∙◌, arith}
-use Rattle.std.specs.Prelude.{sum_by}
+use Rattle.std.specs.Prelude.{if◌then◌else◌, sum_by}
 use Rattle.lc_frame.specs.declared.channel.Channel.{Channel}
 use Rattle.lc_frame.specs.declared.frame.Frame.{Frame}
 use Rattle.lc_frame.specs.Channel.{number_of}
-use Rattle.lc_frame.specs.Stream.{messages, issued}
+use Rattle.lc_frame.specs.Stream.{messages, issued, finished}
+use Rattle.lc_book.specs.Client.{Client, held, waived}
 use Rattle.lc_book.specs.Server.{Server, outstanding}
 use Rattle.lc_book.specs.Sums.{server_of}
 use Rattle.lc_book.proofs.Lanes.{every_sum_is_of_its_lane}
@@ -13,17 +14,16 @@ use Rattle.lc_inbox.specs.declared.rule.Key.{Key}
 use Rattle.lc_inbox.specs.History.{book_after}
 use Rattle.lc_world.specs.Guarantee.{FitsBuffer}
 use Rattle.lc_interleaving.specs.Steps.{Step, heard, took}
-use Rattle.lc_interleaving.specs.Interleaving.{Trace, of_a, of_b, IsOrderOf}
+use Rattle.lc_interleaving.specs.Interleaving.{Trace, Joint, of_a, of_b, IsOrderOf}
 use Rattle.lc_interleaving.specs.History.{history_of}
 use Rattle.lc_interleaving.specs.State.{IsStateOfBoth}
-use Rattle.lc_interleaving.specs.Promises.{in_flight, KeepsBetween}
-use Rattle.lc_interleaving.specs.Lawful.{IsLawfulAfter}
+use Rattle.lc_interleaving.specs.Promises.{promised, in_flight, KeepsBetween}
 use Rattle.lc_interleaving.specs.Finished.{Finished, IsFinished, trace, FitsRings}
-use Rattle.lc_interleaving.specs.Sessions.{ReportsAreAState, FinishedSessionsKeepPromises, NextFramesAreLawful, RefusedFramesAreBreaches}
+use Rattle.lc_interleaving.specs.Sessions.{WereOne, ReportsAreAState, FinishedSessionsKeepPromises, NextFramesAreLawful, RefusedFramesAreBreaches}
 use Rattle.lc_interleaving.proofs.Sides.{book_is, book_lasting}
-use Rattle.lc_interleaving.proofs.Between.{Keeps, last_server, may_all, state_of_both, took_is, last_keeps}
+use Rattle.lc_interleaving.proofs.Between.{Keeps, last_client, last_server, left_over, may_all, state_of_both, took_is, last_keeps}
 use Rattle.lc_interleaving.proofs.Books.{book_fits}
-use Rattle.lc_interleaving.proofs.Lawful.{lawful_after, refused_is_not_next, refused_by_credit}
+use Rattle.lc_interleaving.proofs.Lawful.{NextFrames, next_frames_after, refused_is_not_next, refused_by_credit}
 use Rattle.lc_interleaving.proofs.Parts.{SenderAt, ReceiverAt, sender_of, receiver_of, KeepsAt, Sends, Serves, sends_at, serves_at, received_is, keeps_rules}
 
 pub reports_are_a_state : ReportsAreAState
@@ -53,7 +53,9 @@ between k c x y fx fy rx ry steps o keeps =
     let capacity_is : book.capacity ≡ key.capacity = ap (λ (s : Server). s.capacity) is in
     let fits : FitsBuffer book.capacity book = subst (λ (n : ℕ). FitsBuffer n book) (sym capacity_is) (subst (λ (s : Server). FitsBuffer key.capacity s) (sym serves.keeps.book_is) (book_fits key ((trace y fy).inbox c) serves.keeps.receiving.legal serves.keeps.ordered)) in
     let received : b.received ≡ issued c (trace x fx).heard = received_is k x fx rx c in
-    let somewhere : outstanding book ≡ b.held + in_flight c (trace x fx) (trace y fy) = omega (arith, keeps.somewhere, ap outstanding is, received, sends.keeps.spent_is, sends.keeps.absolved_is, sends.keeps.adds_up) in
+    let client : Client = last_client c (trace x fx) in
+    let promises : held client + waived client + in_flight c (trace x fx) (trace y fy) ≡ b.held + b.waived + in_flight c (trace x fx) (trace y fy) = omega (arith, left_over client, received, sends.keeps.spent_is, sends.keeps.absolved_is, sends.keeps.adds_up) in
+    let somewhere : outstanding book ≡ promised c (trace x fx) (trace y fy) b = ap outstanding is ∙ (keeps.somewhere ∙ ap (λ (n : ℕ). if finished c (trace y fy).heard then 0 else n) promises) in
     let sender : SenderAt (trace x fx).put c x.session.sending (number_of c) = sender_of x fx c in
     let receiver : ReceiverAt ((trace y fy).inbox c) y.session.receiving (number_of c) = receiver_of y fy c in
     let sent_is : messages c (trace x fx).put ≡ messages c sender.end.lane.put = sym ((every_sum_is_of_its_lane c (trace x fx).put).messages_are) ∙ ap (messages c) sender.gave in
@@ -67,7 +69,7 @@ between k c x y fx fy rx ry steps o keeps =
       balance_there = sends.there;
       book_there = serves.there;
       in_order = (keeps.in_order.0, ap (λ (ms : List (List ℕ)). ms ++ keeps.in_order.0) (sym receiver.took_is) ∙ (keeps.in_order.1 ∙ sent_is));
-      adds_up = record { received_is = received; spent_is = sends.keeps.spent_is; absolved_is = sends.keeps.absolved_is; adds_up = sends.keeps.adds_up };
+      adds_up = record { received_is = received; spent_is = sends.keeps.spent_is; absolved_is = sends.keeps.absolved_is; held_is = sends.keeps.held_is; waived_is = sends.keeps.waived_is; adds_up = sends.keeps.adds_up };
       fits = fits;
       somewhere = somewhere;
       conserved = omega (arith, somewhere, fits.fits);
@@ -81,15 +83,19 @@ finished_sessions_keep_promises k a b fa fb order w =
       b_sends = λ c. between k c b a fb fa w.b_rings w.a_rings (of_a order) w.interleaving.a_order (last_keeps k (trace a fa) (trace b fb) (history_of order) c s).1;
     }
 
+next_frames : (k : ℕ) (a b : Finished) (fa : IsFinished a) (fb : IsFinished b) (order : List Joint) → WereOne k a b fa fb order → (earlier later : List Joint) → order ≡ earlier ++ later → NextFrames k (trace a fa) (trace b fb) earlier
+next_frames k a b fa fb order w earlier later is = next_frames_after k (trace a fa) (trace b fb) order earlier later w.is_capacity.at_most is (may_all k w.is_capacity (trace a fa) (trace b fb) (keeps_rules k a fa w.a_rings) (keeps_rules k b fb w.b_rings) order w.interleaving)
+
 pub next_frames_are_lawful : NextFramesAreLawful
-next_frames_are_lawful k a b fa fb order w earlier later is = lawful_after k (trace a fa) (trace b fb) order earlier later w.is_capacity.at_most is (may_all k w.is_capacity (trace a fa) (trace b fb) (keeps_rules k a fa w.a_rings) (keeps_rules k b fb w.b_rings) order w.interleaving)
+next_frames_are_lawful k a b fa fb order w earlier later is = (next_frames k a b fa fb order w earlier later is).are_lawful
 
 pub refused_frames_are_breaches : RefusedFramesAreBreaches
 refused_frames_are_breaches k a b fa fb order w earlier later is =
-    let next : IsLawfulAfter k (trace a fa) (trace b fb) earlier = next_frames_are_lawful k a b fa fb order w earlier later is in
+    let next : NextFrames k (trace a fa) (trace b fb) earlier = next_frames k a b fa fb order w earlier later is in
+    let small = w.is_capacity.at_most in
     record {
-      at_a = refused_is_not_next k (trace a fa).version (trace a fa) (of_a earlier) (of_b earlier) (keeps_rules k a fa w.a_rings).receiving next.at_a;
-      at_b = refused_is_not_next k (trace b fb).version (trace b fb) (of_b earlier) (of_a earlier) (keeps_rules k b fb w.b_rings).receiving next.at_b;
-      a_credits = refused_by_credit k (trace a fa).version (of_a earlier) (of_b earlier) next.at_a;
-      b_credits = refused_by_credit k (trace b fb).version (of_b earlier) (of_a earlier) next.at_b;
+      at_a = refused_is_not_next k (trace a fa).version (trace a fa) (of_a earlier) (of_b earlier) (keeps_rules k a fa w.a_rings).receiving next.are_lawful.at_a;
+      at_b = refused_is_not_next k (trace b fb).version (trace b fb) (of_b earlier) (of_a earlier) (keeps_rules k b fb w.b_rings).receiving next.are_lawful.at_b;
+      a_credits = refused_by_credit k (trace a fa).version (of_a earlier) (of_b earlier) small next.a_covered next.are_lawful.at_a;
+      b_credits = refused_by_credit k (trace b fb).version (of_b earlier) (of_a earlier) small next.b_covered next.are_lawful.at_b;
     }

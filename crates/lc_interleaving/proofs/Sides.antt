@@ -1,25 +1,26 @@
 -- A side whose ends kept the rules, each by its own history, kept them as a whole.
 use Rattle.std.proofs.Common.{◌≡◌, ℕ, ◌+◌, ◌<◌, ◌≤◌, Bool, true, false, List, [], ◌∷◌, ◌++◌, length, drop, Option, Some, None, refl, sym, ap, subst, ◌∙◌, arith}
-use Rattle.std.specs.Prelude.{◌==◌, nat_lt, if◌then◌else◌, sum, sum_by, slice_index_or, slice_get, cond}
+use Rattle.std.specs.Prelude.{◌==◌, ◌-◌, nat_lt, if◌then◌else◌, sum, sum_by, slice_index_or, slice_get, cond, option_to_list}
 use Rattle.std.specs.List.{filter_map, cons_option}
 use Rattle.std.proofs.lemmas.Bool.Decides.{nat_tests}
-use Rattle.std.proofs.lemmas.List.{append-nil}
+use Rattle.std.proofs.lemmas.List.{append-nil, append_assoc}
 use Rattle.std.proofs.lemmas.List.Elements.{filter-append}
 use Rattle.std.proofs.lemmas.List.Sums.{sum_by-cons}
 use Rattle.lc_history.specs.History.{IsHistoryAfter, IsHistory}
 use Rattle.lc_history.proofs.Histories.{follows_each}
 use Rattle.lc_frame.specs.declared.channel.Channel.{Channel}
 use Rattle.lc_frame.specs.declared.frame.Frame.{Frame}
-use Rattle.lc_frame.specs.declared.frame.Frame.TheVariants.{Send, Issue, Absolve, Plead, LimitSending, LimitReceiving}
+use Rattle.lc_frame.specs.declared.frame.Frame.TheVariants.{Send, Issue, Absolve, Plead, LimitSending, LimitReceiving, Finish}
 use Rattle.lc_frame.specs.Channel.{number_of, is_same}
 use Rattle.lc_frame.specs.Frame.{channel_of, lane_of}
 use Rattle.lc_frame.specs.declared.version.Version.{Version}
 use Rattle.lc_frame.specs.Kind.{max_total, max_body}
-use Rattle.lc_frame.specs.Stream.{of_lane, messages, cost, absolved, send_left}
+use Rattle.lc_frame.specs.Stream.{of_lane, messages, cost, absolved, send_left, finished}
 use Rattle.lc_frame.proofs.Measures.{cost-append, absolved-append, cost-one, absolved-one}
 use Rattle.lc_book.specs.declared.fault.Refusal.{Refusal}
-use Rattle.lc_book.specs.declared.fault.Refusal.TheVariants.{EmptyBody, BodyTooLong, PastSendLimit, NoGuarantee, ZeroAmount, NotHeld, PastReceiveLimit, NoRoom, TotalReached}
+use Rattle.lc_book.specs.declared.fault.Refusal.TheVariants.{EmptyBody, BodyTooLong, PastSendLimit, NoGuarantee, ZeroAmount, NotHeld, PastReceiveLimit, NoRoom, TotalReached, ChannelFinished, WrongVersion}
 use Rattle.lc_book.specs.Limit.{is_past, left_of, limit_refusal}
+use Rattle.lc_book.specs.Finish.{finished_refusal_or}
 use Rattle.lc_book.specs.Client.{Client, held, message_refusal, spend_refusal, absolve_refusal}
 use Rattle.lc_book.specs.Server.{Server, room, issue_refusal}
 use Rattle.lc_book.specs.Sums.{server_of, SumsAreOfLanes}
@@ -35,6 +36,7 @@ use Rattle.lc_inbox.specs.declared.rule.Key.{Key}
 use Rattle.lc_inbox.specs.Ends.{refusal_of, violation_of}
 use Rattle.lc_inbox.specs.History as inboxes
 use Rattle.lc_inbox.specs.History.{book_after, waiting, inbox_after}
+use Rattle.lc_world.proofs.Sound.{none_waived}
 use Rattle.lc_interleaving.specs.Steps.{Step, put_of, put, heard, took, entry_of, entries, changes, without_refusals, client_then, server_then}
 use Rattle.lc_interleaving.specs.Steps.Step.{puts, hears, takes}
 use Rattle.lc_interleaving.specs.Interleaving.{Trace, before_uses, IsFunded, IsInTime, IsOrderOf}
@@ -42,10 +44,11 @@ use Rattle.lc_interleaving.proofs.Cuts.{history_by_cuts, begins_after, cut_of}
 use Rattle.lc_interleaving.proofs.Lines.{MayStep}
 use Rattle.lc_interleaving.proofs.Paid.{paid_at}
 
--- a sending end: its credit's history is legal, its uses pay the frames of the lane, one by one, and each of these might follow those before it
+-- a sending end: its credit's history is legal, its uses pay the frames of the lane, one by one, and then what was waived, if anything, and each of these frames might follow those before it
 pub record KeepsSending (version : Version) (c : Channel) (history : List credit.Entry) (frames : List Frame) : Type 0 where
   pub legal : credits.IsHistory history
-  pub pays : uses history ≡ amounts frames
+  pub waived : Option ℕ
+  pub pays : uses history ≡ amounts frames ++ option_to_list waived
   pub rules : IsHistory (MayPut version c) frames
 
 -- a receiving end: its inbox's history is legal, and its ring is no larger
@@ -68,18 +71,26 @@ next_passes false r x y h e = h e
 enough_passes : (held n : ℕ) (r : Refusal) → n ≤ held → (if nat_lt held n then Some r else None) ≡ None
 enough_passes held n r le = grind (arith, nat_tests, le)
 
-message_passes : (b : Client) (n : ℕ) → message_refusal b.version b.send_left n ≡ None → n ≤ held b → spend_refusal b n ≡ None
-message_passes b n e le =
-    next_passes (n == 0) EmptyBody _ _
+-- on a channel that is not finished the other reasons decide
+open_passes : (finished : Bool) (x : Option Refusal) → finished ≡ false → x ≡ None → finished_refusal_or finished x ≡ None
+open_passes finished x unfinished e = ap (λ (z : Bool). finished_refusal_or z x) unfinished ∙ e
+
+-- and all that came is held but what was used
+open_holds : (b : Client) → b.finished ≡ false → held b ≡ b.received - b.spent - b.absolved
+open_holds b unfinished = omega (arith, none_waived b.finished (b.received - b.spent - b.absolved) unfinished)
+
+message_passes : (b : Client) (n : ℕ) → b.finished ≡ false → message_refusal b.version b.send_left n ≡ None → n ≤ held b → spend_refusal b n ≡ None
+message_passes b n unfinished e le =
+    open_passes b.finished _ unfinished (next_passes (n == 0) EmptyBody _ _
     (next_passes (nat_lt (max_body b.version) n) BodyTooLong _ _
     (next_passes (is_past b.send_left n) (PastSendLimit (left_of b.send_left)) _ _
-    (λ u. enough_passes (held b) n (NoGuarantee (held b)) le))) e
+    (λ u. enough_passes (held b) n (NoGuarantee (held b)) le))) e)
 
 some_amount : (n : ℕ) → 0 < n → (n == 0) ≡ false
 some_amount n some = grind (arith, nat_tests, some)
 
-absolve_passes : (b : Client) (n : ℕ) → 0 < n → n ≤ held b → absolve_refusal b n ≡ None
-absolve_passes b n some le = ap (λ (z : Bool). if z then Some ZeroAmount else (if nat_lt (held b) n then Some (NotHeld (held b)) else None)) (some_amount n some) ∙ enough_passes (held b) n (NotHeld (held b)) le
+absolve_passes : (b : Client) (n : ℕ) → b.finished ≡ false → 0 < n → n ≤ held b → absolve_refusal b n ≡ None
+absolve_passes b n unfinished some le = open_passes b.finished _ unfinished (ap (λ (z : Bool). if z then Some ZeroAmount else (if nat_lt (held b) n then Some (NotHeld (held b)) else None)) (some_amount n some) ∙ enough_passes (held b) n (NotHeld (held b)) le)
 
 -- a larger ring has no less room
 room_passes : (small more n : ℕ) (r r' : Refusal) (x : Option Refusal) → small ≤ more → (if nat_lt small n then Some r else x) ≡ None → (if nat_lt more n then Some r' else x) ≡ None
@@ -89,9 +100,10 @@ larger_issues : (small large : ℕ) (c : Channel) (steps : List Step) (n : ℕ) 
 larger_issues small large c steps n le e =
     let b : Server = server_then small c steps in
     let d : Server = server_then large c steps in
-    next_passes (n == 0) ZeroAmount _ _
+    next_passes b.finished ChannelFinished _ _
+    (next_passes (n == 0) ZeroAmount _ _
     (next_passes (is_past b.receive_left n) (PastReceiveLimit (left_of b.receive_left)) _ _
-    (room_passes (room b) (room d) n (NoRoom (room b)) (NoRoom (room d)) (if nat_lt max_total (b.issued + n) then Some TotalReached else None) (omega (arith, le)))) e
+    (room_passes (room b) (room d) n (NoRoom (room b)) (NoRoom (room d)) (if nat_lt max_total (b.issued + n) then Some TotalReached else None) (omega (arith, le))))) e
 
 -- the amounts of a client's frames are what they cost and absolve
 send_uses : (d : Channel) (body : List ℕ) → cost d (Send d body ∷ []) + absolved d (Send d body ∷ []) ≡ length body
@@ -102,6 +114,9 @@ absolve_uses d n = let f : Frame = Absolve d n in omega (arith, cost-one f, abso
 
 limit_uses : (d : Channel) (n : ℕ) → cost d (LimitSending d n ∷ []) + absolved d (LimitSending d n ∷ []) ≡ 0
 limit_uses d n = let f : Frame = LimitSending d n in omega (arith, cost-one f, absolved-one f)
+
+finish_uses : (d : Channel) → cost d (Finish d ∷ []) + absolved d (Finish d ∷ []) ≡ 0
+finish_uses d = let f : Frame = Finish d in omega (arith, cost-one f, absolved-one f)
 
 more_used : (c d : Channel) (f : Frame) (fs : List Frame) (n : ℕ) → d ≡ c → cost d (f ∷ []) + absolved d (f ∷ []) ≡ n → n + (cost c fs + absolved c fs) ≡ cost c (f ∷ fs) + absolved c (f ∷ fs)
 more_used c d f fs n same e =
@@ -119,9 +134,12 @@ sums_to version c before (Absolve d n ∷ fs) h =
 sums_to version c before (LimitSending d n ∷ fs) h =
     let f : Frame = LimitSending d n in
     omega (arith, sums_to version c (before ++ f ∷ []) fs h.1, more_used c d f fs 0 h.0.0 (limit_uses d n))
-sums_to version c before (Issue d n ∷ fs) h = absurd h.0
-sums_to version c before (Plead d n ∷ fs) h = absurd h.0
-sums_to version c before (LimitReceiving d n ∷ fs) h = absurd h.0
+sums_to version c before (Finish d ∷ fs) h =
+    let f : Frame = Finish d in
+    omega (arith, sums_to version c (before ++ f ∷ []) fs h.1, more_used c d f fs 0 h.0.0 (finish_uses d))
+sums_to version c before (Issue d n ∷ fs) h = absurd h.0.2
+sums_to version c before (Plead d n ∷ fs) h = absurd h.0.2
+sums_to version c before (LimitReceiving d n ∷ fs) h = absurd h.0.2
 
 -- a frame of a lane, among those of the lane
 equal_self : (n : ℕ) → (n == n) ≡ true
@@ -179,7 +197,7 @@ book_is key c steps on =
     ∙ (ap (λ (fs : List Frame). server_of key.capacity c fs (inboxes.heard (entries c steps)) (sum_by length (inboxes.took (entries c steps)))) (entries_put c steps)
     ∙ (ap (λ (fs : List Frame). server_of key.capacity c (of_lane (7 + number_of c) (put steps)) fs (sum_by length (inboxes.took (entries c steps)))) (entries_heard c steps)
     ∙ (ap (λ (ms : List (List ℕ)). server_of key.capacity c (of_lane (7 + number_of c) (put steps)) (of_lane (number_of c) (heard steps)) (sum_by length ms)) (entries_took c steps)
-    ∙ server_is (server_of key.capacity c (of_lane (7 + number_of c) (put steps)) (of_lane (number_of c) (heard steps)) taken) (server_then key.capacity c steps) refl p.issued_is h.cost_is refl h.absolved_is h.send_left_is p.receive_left_is)))
+    ∙ server_is (server_of key.capacity c (of_lane (7 + number_of c) (put steps)) (of_lane (number_of c) (heard steps)) taken) (server_then key.capacity c steps) refl p.issued_is h.cost_is refl h.absolved_is h.send_left_is p.receive_left_is h.finished_is)))
 
 -- a refusal changes nothing
 pub kept_lasting : {X : Type 0} (of : Entry → Option X) → ((f : Frame) → of (Refused f) ≡ None) → (history : List Entry) → filter_map of (without_refusals history) ≡ filter_map of history
@@ -261,33 +279,45 @@ module _ (capacity : ℕ) (t : Trace) (k : KeepsRules capacity t) (steps : List 
   left_is : (c : Channel) (before : List Step) → send_left c (of_lane (number_of c) (put before)) ≡ send_left c (put before)
   left_is c before = (every_sum_is_of_its_lane c (put before)).send_left_is
 
-  -- what a client's frame uses is held
+  -- where a client's frame stands its channel is not finished
+  is_open : (before : List Step) (f : Frame) (later : List Step) → lane_of f ≡ number_of (channel_of f) → steps ≡ before ++ puts f ∷ later → finished (channel_of f) (put before) ≡ false
+  is_open before f later lane is = sym (every_sum_is_of_its_lane (channel_of f) (put before)).finished_is ∙ (client_may before f later lane is).1
+
+  -- what it uses is held
   is_held : (before : List Step) (f : Frame) (n : ℕ) (later : List Step) → lane_of f ≡ number_of (channel_of f) → amount_of f ≡ Some n → IsFunded t before (channel_of f) → steps ≡ before ++ puts f ∷ later → n ≤ held (client_then t.version (channel_of f) before)
   is_held before f n later lane uses_it funded is =
       let c : Channel = channel_of f in
       let s : KeepsSending t.version c (t.credit c) (of_lane (number_of c) t.put) = k.sending c in
       let mine : List Frame = of_lane (number_of c) (put before) in
       let cut : of_lane (number_of c) t.put ≡ mine ++ f ∷ of_lane (number_of c) (put later) = client_cut before f later lane is in
-      let used_is : uses (t.credit c) ≡ amounts mine ++ n ∷ amounts (of_lane (number_of c) (put later)) = s.pays ∙ cut_of amount_of (of_lane (number_of c) t.put) mine f (of_lane (number_of c) (put later)) n cut uses_it in
-      let paid : sum (amounts mine) + n ≤ slice_index_or (before_uses (t.credit c)) (length (amounts mine)) 0 = paid_at (t.credit c) (amounts mine) n (amounts (of_lane (number_of c) (put later))) s.legal used_is in
+      let rest : List ℕ = amounts (of_lane (number_of c) (put later)) in
+      let used_is : uses (t.credit c) ≡ amounts mine ++ n ∷ (rest ++ option_to_list s.waived) =
+      s.pays
+      ∙ (ap (λ (xs : List ℕ). xs ++ option_to_list s.waived) (cut_of amount_of (of_lane (number_of c) t.put) mine f (of_lane (number_of c) (put later)) n cut uses_it)
+      ∙ append_assoc (amounts mine) (n ∷ rest) (option_to_list s.waived)) in
+      let paid : sum (amounts mine) + n ≤ slice_index_or (before_uses (t.credit c)) (length (amounts mine)) 0 = paid_at (t.credit c) (amounts mine) n (rest ++ option_to_list s.waived) s.legal used_is in
       let begun : IsHistory (MayPut t.version c) mine = begins_after (MayPut t.version c) [] mine (f ∷ of_lane (number_of c) (put later)) (subst (λ (fs : List Frame). IsHistory (MayPut t.version c) fs) cut s.rules) in
       let p : SumsAreOfLanes c (put before) = every_sum_is_of_its_lane c (put before) in
-      omega (arith, paid, funded, sums_to t.version c [] mine begun, p.cost_is, p.absolved_is)
+      omega (arith, paid, funded, sums_to t.version c [] mine begun, p.cost_is, p.absolved_is, open_holds (client_then t.version c before) (is_open before f later lane is))
 
   may_step : (before : List Step) (step : Step) (later : List Step) → IsInTime t before step → steps ≡ before ++ step ∷ later → MayStep capacity t.version before step
   may_step before (puts (Send d body)) later funded is =
       let f : Frame = Send d body in
       let may : MayPut t.version d (of_lane (number_of d) (put before)) f = client_may before f later refl is in
-      let left : message_refusal t.version (send_left d (put before)) (length body) ≡ None = ap (λ (o : Option ℕ). message_refusal t.version o (length body)) (sym (left_is d before)) ∙ may.1 in
-      message_passes (client_then t.version d before) (length body) left (is_held before f (length body) later refl refl funded is)
+      let left : message_refusal t.version (send_left d (put before)) (length body) ≡ None = ap (λ (o : Option ℕ). message_refusal t.version o (length body)) (sym (left_is d before)) ∙ may.2 in
+      message_passes (client_then t.version d before) (length body) (is_open before f later refl is) left (is_held before f (length body) later refl refl funded is)
   may_step before (puts (Absolve d n)) later funded is =
       let f : Frame = Absolve d n in
       let may : MayPut t.version d (of_lane (number_of d) (put before)) f = client_may before f later refl is in
-      absolve_passes (client_then t.version d before) n may.1 (is_held before f n later refl refl funded is)
+      absolve_passes (client_then t.version d before) n (is_open before f later refl is) may.2.0 (is_held before f n later refl refl funded is)
   may_step before (puts (LimitSending d n)) later funded is =
       let f : Frame = LimitSending d n in
       let may : MayPut t.version d (of_lane (number_of d) (put before)) f = client_may before f later refl is in
-      ap (λ (o : Option ℕ). limit_refusal o n) (sym (left_is d before)) ∙ may.1
+      open_passes (finished d (put before)) _ (is_open before f later refl is) (ap (λ (o : Option ℕ). limit_refusal o n) (sym (left_is d before)) ∙ may.2)
+  may_step before (puts (Finish d)) later funded is =
+      let f : Frame = Finish d in
+      let may : MayPut t.version d (of_lane (number_of d) (put before)) f = client_may before f later refl is in
+      ap (λ (z : Bool). if z then finished_refusal_or (finished d (put before)) None else Some WrongVersion) may.2 ∙ open_passes (finished d (put before)) None (is_open before f later refl is) refl
   may_step before (puts (Issue d n)) later funded is = larger_issues (k.receiving d).key.capacity capacity d before n (k.receiving d).small (server_may before (Issue d n) later refl is)
   may_step before (puts (Plead d n)) later funded is = server_may before (Plead d n) later refl is
   may_step before (puts (LimitReceiving d n)) later funded is = server_may before (LimitReceiving d n) later refl is

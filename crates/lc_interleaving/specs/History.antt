@@ -4,7 +4,7 @@ use Rattle.lc_frame.specs.declared.frame.Frame.{Frame}
 use Rattle.lc_frame.specs.declared.frame.Frame.TheVariants as frame
 use Rattle.lc_world.specs.declared.event.Side.TheVariants.{A, B}
 use Rattle.lc_world.specs.declared.event.Act.{Act}
-use Rattle.lc_world.specs.declared.event.Act.TheVariants.{Send, Issue, Plead, Absolve, LimitSending, LimitReceiving, Arrive, Take}
+use Rattle.lc_world.specs.declared.event.Act.TheVariants.{Send, Issue, Plead, Absolve, LimitSending, LimitReceiving, Finish, Arrive, Take}
 use Rattle.lc_world.specs.declared.event.Event.{Event}
 use Rattle.lc_world.specs.declared.event.Answer.{Answer}
 use Rattle.lc_world.specs.declared.event.Answer.TheVariants.{Accepted, Arrived, Took}
@@ -22,6 +22,7 @@ act_putting (frame.Absolve c amount) = Absolve c amount
 act_putting (frame.Plead c target) = Plead c target
 act_putting (frame.LimitSending c bound) = LimitSending c bound
 act_putting (frame.LimitReceiving c bound) = LimitReceiving c bound
+act_putting (frame.Finish c) = Finish c
 
 abbrev pub act_of : Step → Act
 act_of (puts f) = act_putting f

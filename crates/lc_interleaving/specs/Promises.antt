@@ -1,9 +1,9 @@
 -- What two finished sessions keep of one channel direction, in what `finish` gave: the headline of running sessions. That a client that sends within its guarantees never has a message dropped is LCMUX's promise.
-use Rattle.std.specs.Prelude.{◌≡◌, ℕ, ◌+◌, List, length, drop, slice_get, Some}
+use Rattle.std.specs.Prelude.{◌≡◌, ℕ, ◌+◌, if◌then◌else◌, true, false, List, length, drop, slice_get, Some}
 use Rattle.lc_frame.specs.declared.channel.Channel.{Channel}
 use Rattle.lc_frame.specs.declared.frame.Frame.{Frame}
 use Rattle.lc_frame.specs.Channel.{number_of}
-use Rattle.lc_frame.specs.Stream.{messages, cost, issued, absolved}
+use Rattle.lc_frame.specs.Stream.{messages, cost, issued, absolved, finished}
 use Rattle.lc_book.specs.Server.{Server, outstanding, buffered, room}
 use Rattle.lc_credit.specs.declared.balance.Balance.{Balance}
 use Rattle.lc_outbox.specs.Outbox.{OutboxState}
@@ -21,12 +21,18 @@ under_way from to = drop (length to.heard) from.put
 abbrev pub in_flight : Channel → Trace → Trace → ℕ
 in_flight c client server = issued c (under_way server client) + cost c (under_way client server) + absolved c (under_way client server)
 
--- the balance is that of what the client put and heard, and no guarantee is lost or made up
+-- where the promises of a channel are: held by the client or waived by it, or under way; none stands once the client's Finish was heard
+abbrev pub promised : Channel → Trace → Trace → Balance → ℕ
+promised c client server balance = if finished c server.heard then 0 else balance.held + balance.waived + in_flight c client server
+
+-- the balance is that of what the client put and heard, and no guarantee is lost or made up; where the client finished nothing is held, and elsewhere nothing is waived
 pub record IsBalanceOf (c : Channel) (t : Trace) (b : Balance) : Type 0 where
   pub received_is : b.received ≡ issued c t.heard
   pub spent_is : b.spent ≡ cost c t.put
   pub absolved_is : b.absolved ≡ absolved c t.put
-  pub adds_up : b.held + b.spent + b.absolved ≡ b.received
+  pub held_is : finished c t.put ≡ true → b.held ≡ 0
+  pub waived_is : finished c t.put ≡ false → b.waived ≡ 0
+  pub adds_up : b.held + b.spent + b.absolved + b.waived ≡ b.received
 
 -- of a channel, where the first session is its client, and the second its server
 pub record KeepsBetween (c : Channel) (client server : Finished) (sent received : Trace) : Type 0 where
@@ -44,9 +50,9 @@ pub record KeepsBetween (c : Channel) (client server : Finished) (sent received 
   pub adds_up : IsBalanceOf c sent balance
   -- the ring holds what is buffered and all that may still come
   pub fits : FitsBuffer book.capacity book
-  -- what is outstanding is held by the client or under way, so every byte of the ring is in one place
-  pub somewhere : outstanding book ≡ balance.held + in_flight c sent received
-  pub conserved : balance.held + in_flight c sent received + buffered book + room book ≡ book.capacity
+  -- what is outstanding is where the promises are, so every byte of the ring is in one place
+  pub somewhere : outstanding book ≡ promised c sent received balance
+  pub conserved : promised c sent received balance + buffered book + room book ≡ book.capacity
 
 -- each session is the client of every channel, and the server of every channel
 pub record KeepPromises (a b : Finished) (fa : IsFinished a) (fb : IsFinished b) : Type 0 where

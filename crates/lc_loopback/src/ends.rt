@@ -4,6 +4,7 @@ ghost use Rattle.std.specs.List.{AllZip};
 ghost use Rattle.lc_inbox.specs.Sides.{IsSameSide};
 ghost use Rattle.lc_outbox.specs.Outbox.{IsSameOutbox};
 
+use crate::exchange::Exchange;
 use crate::hold::Hold;
 use crate::worker::{Outcome, Part, Work, Worker, join, start};
 use lc_inbox::apart;
@@ -47,7 +48,12 @@ fn join_all<R: Threads, W: Part>(rt: &R, works: [Work<W>; 7]) -> Back<W>
     }
 }
 
-fn start_senders<R>(rt: R, hold: &Hold, ends: [SendEnd; 7], count: u32) -> [Work<SendEnd>; 7]
+fn start_senders<R>(
+    rt: R,
+    hold: &Hold,
+    ends: [SendEnd; 7],
+    exchange: Exchange,
+) -> [Work<SendEnd>; 7]
 where
     R: Threads + Wait + Copy + Send + 'static,
     requires { length ends ≡ 7 }
@@ -55,17 +61,17 @@ where
 {
     let (a, b, c, d, e, f, g) = apart(ends);
     [
-        start(rt, hold, a, count),
-        start(rt, hold, b, count),
-        start(rt, hold, c, count),
-        start(rt, hold, d, count),
-        start(rt, hold, e, count),
-        start(rt, hold, f, count),
-        start(rt, hold, g, count),
+        start(rt, hold, a, exchange),
+        start(rt, hold, b, exchange),
+        start(rt, hold, c, exchange),
+        start(rt, hold, d, exchange),
+        start(rt, hold, e, exchange),
+        start(rt, hold, f, exchange),
+        start(rt, hold, g, exchange),
     ]
 }
 
-fn start_takers<R>(rt: R, hold: &Hold, ends: [RecvEnd; 7], count: u32) -> [Work<RecvEnd>; 7]
+fn start_takers<R>(rt: R, hold: &Hold, ends: [RecvEnd; 7], exchange: Exchange) -> [Work<RecvEnd>; 7]
 where
     R: Threads + Wait + Copy + Send + 'static,
     requires { length ends ≡ 7 }
@@ -73,30 +79,30 @@ where
 {
     let (a, b, c, d, e, f, g) = apart(ends);
     [
-        start(rt, hold, a, count),
-        start(rt, hold, b, count),
-        start(rt, hold, c, count),
-        start(rt, hold, d, count),
-        start(rt, hold, e, count),
-        start(rt, hold, f, count),
-        start(rt, hold, g, count),
+        start(rt, hold, a, exchange),
+        start(rt, hold, b, exchange),
+        start(rt, hold, c, exchange),
+        start(rt, hold, d, exchange),
+        start(rt, hold, e, exchange),
+        start(rt, hold, f, exchange),
+        start(rt, hold, g, exchange),
     ]
 }
 
-/// Each end sends or takes so many messages.
+/// Each end sends or takes its part of the exchange.
 pub(crate) fn start_ends<R>(
     rt: R,
     hold: &Hold,
     senders: [SendEnd; 7],
     takers: [RecvEnd; 7],
-    count: u32,
+    exchange: Exchange,
 ) -> Playing
 where
     R: Threads + Wait + Copy + Send + 'static,
     ensures { result ≡ record { senders = senders; takers = takers } }
 {
-    let senders = start_senders(rt, hold, senders, count);
-    let takers = start_takers(rt, hold, takers, count);
+    let senders = start_senders(rt, hold, senders, exchange);
+    let takers = start_takers(rt, hold, takers, exchange);
     Playing { senders, takers }
 }
 

@@ -6,6 +6,7 @@ mod bouncing;
 mod config;
 mod connection;
 mod ends;
+mod exchange;
 mod fault;
 mod hold;
 mod message;

@@ -8,15 +8,16 @@ pub struct LoopReport {
     pub messages: [[u64; 7]; 2],
     /// Their bytes.
     pub bytes: [[u64; 7]; 2],
-    /// Whether on each channel of both sides the guarantees held, spent and absolved add up to those
-    /// received, and those spent are the bytes.
+    /// Whether on each channel of both sides the guarantees held, spent, absolved and waived add up to
+    /// those received, and those spent are the bytes.
     pub balanced: bool,
 }
 
 // The balance of a channel agrees with the bytes that the other side took on it.
 fn agrees(balance: Balance, bytes: u64) -> bool {
     let used = balance.spent.saturating_add(balance.absolved);
-    balance.received == used.saturating_add(balance.held) && balance.spent == bytes
+    let left = balance.held.saturating_add(balance.waived);
+    balance.received == used.saturating_add(left) && balance.spent == bytes
 }
 
 /// Whether each balance agrees with the bytes.

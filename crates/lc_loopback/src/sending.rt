@@ -1,6 +1,7 @@
 //! What a sending end does.
 ghost use Rattle.lc_outbox.specs.Outbox.{IsSameOutbox};
 
+use crate::exchange::Exchange;
 use crate::fault::{LoopFault, judge};
 use crate::hold::Hold;
 use crate::message::Message;
@@ -32,13 +33,30 @@ pub(crate) fn send<R: Wait>(
     unreachable!()
 }
 
-/// Sends so many messages.
-impl Worker<u32> for SendEnd {
-    fn work<R: Wait>(&mut self, rt: &R, _hold: &Hold, count: u32) -> Outcome {
+// Finishes the channel as soon as there is a slot for that.
+fn finish<R: Wait>(rt: &R, end: &mut SendEnd) -> Result<(), LoopFault>
+    ensures same { IsSameOutbox end.old end.new }
+{
+    for _ in rt.forever() {
+        match end.finish(rt) {
+            Ok(()) => return Ok(()),
+            Err(refusal) => judge(refusal)?,
+        }
+        Patience::Sleeps.pause(rt, end)?;
+    }
+    unreachable!()
+}
+
+/// Sends all messages, and finishes where that is asked for.
+impl Worker<Exchange> for SendEnd {
+    fn work<R: Wait>(&mut self, rt: &R, _hold: &Hold, exchange: Exchange) -> Outcome {
         let channel = self.channel();
-        for number in 0..count {
+        for number in 0..exchange.messages {
             let message = Message::of(number, channel);
             send(rt, self, message.as_slice(), &mut Patience::Sleeps)?;
+        }
+        if exchange.finishes {
+            finish(rt, self)?;
         }
         Ok(0)
     }

@@ -5,6 +5,7 @@ ghost use Rattle.lc_session.specs.Report.{AreOfOneSession};
 
 use crate::connection::{Wires, connect_both};
 use crate::ends::{Back, join_ends, start_ends};
+use crate::exchange::Exchange;
 use crate::fault::{LoopFault, fault_among};
 use crate::hold::Hold;
 use crate::opening::{Opened, open};
@@ -83,14 +84,14 @@ impl Played {
     }
 }
 
-// Both sides exchange so many messages on each channel, until all threads are joined.
+// Both sides exchange this on each channel, until all threads are joined.
 fn play<R, S>(
     rt: R,
     hold: &Hold,
     a: Parts,
     b: Parts,
     wires: Wires<S>,
-    count: u32,
+    exchange: Exchange,
 ) -> (Played, Played)
 where
     R: Threads + Wait + Copy + Send + 'static,
@@ -103,8 +104,8 @@ where
     let a_pumps = (a.read_pump, a.write_pump);
     let b_pumps = (b.read_pump, b.write_pump);
     let (a_pumping, b_pumping) = start_pumps(rt, hold, a_pumps, b_pumps, wires);
-    let a_playing = start_ends(rt, hold, a.send_ends, a.recv_ends, count);
-    let b_playing = start_ends(rt, hold, b.send_ends, b.recv_ends, count);
+    let a_playing = start_ends(rt, hold, a.send_ends, a.recv_ends, exchange);
+    let b_playing = start_ends(rt, hold, b.send_ends, b.recv_ends, exchange);
     let a_ends = join_ends(&rt, a_playing);
     let b_ends = join_ends(&rt, b_playing);
     hold.stop();
@@ -150,7 +151,9 @@ where
     loopback_as(net, rt, alloc, count, [Version::One; 2])
 }
 
-/// As [`loopback`], where A writes in the first of these versions and B in the second.
+/// As [`loopback`], where A writes in the first of these versions and B in the second. Where both are
+/// Two each sending end finishes its channel behind its last message, and each receiving end goes on
+/// until the channel has ended.
 pub fn loopback_as<N, R>(
     net: &N,
     rt: R,
@@ -168,7 +171,8 @@ where
     match open(alloc, versions) {
         Ok(opened) => {
             let Opened { a, b, hold } = opened;
-            let (a, b) = play(rt, &hold, a, b, wires, count);
+            let exchange = Exchange::of(count, versions);
+            let (a, b) = play(rt, &hold, a, b, wires, exchange);
             conclude(&rt, a, b, count)
         }
         Err(fault) => Err(fault),

@@ -11,7 +11,7 @@ use Rattle.lc_credit.specs.declared.history.Entry.TheVariants.{Received, Used, R
 use Rattle.lc_credit.specs.declared.credit_out.Use.{Use}
 use Rattle.lc_credit.specs.declared.credit_out.Use.TheVariants.{Spend, Absolve}
 use Rattle.lc_credit.specs.History.{is_outgoing, Learns, Makes}
-use Rattle.lc_credit.specs.Sides.{Outgoing, IsUsed}
+use Rattle.lc_credit.specs.Sides.{Outgoing, IsUsed, IsWaived}
 use Rattle.lc_outbox.specs.Uses.{uses_after, uses, amount_of, amounts}
 use Rattle.lc_outbox.specs.Calls.{IsCounted, IsGivenBack}
 use Rattle.lc_outbox.specs.Honours.{LooksForTarget}
@@ -64,3 +64,7 @@ counted_uses Absolve n old new h = ap (λ (o : Outgoing). uses o.seen) h.after �
 pub given_back_uses : (kind : Use) (n : ℕ) (old new : Outgoing) → IsGivenBack kind n old new → uses new.seen ≡ uses old.seen
 given_back_uses kind n old new h =
     made_uses h.pending.seen new.seen (Returned n) h.makes ∙ (ap (λ (xs : List ℕ). take (length xs - 1) xs) (used_uses kind n old h.pending h.used) ∙ last_gone (uses old.seen) n)
+
+-- what is waived is used last
+pub waived_uses : (old new : Outgoing) (h : IsWaived old new) → uses new.seen ≡ uses old.seen ++ h.held ∷ []
+waived_uses old new h = made_uses h.between.seen new.seen (Used h.held) h.makes ∙ ap (λ (xs : List ℕ). xs ++ h.held ∷ []) (learned_uses old.seen h.between.seen h.loads.learns)

@@ -1,9 +1,11 @@
--- What a message, an absolving and a limit do to an outbox, and why they are refused. That they need guarantees, and what a limit bounds, is LCMUX's; the order of the refusals, and that a copy may get no memory and a frame no slot, is this project's own.
-use Rattle.std.specs.Prelude.{◌≡◌, ◌⊎◌, ℕ, ◌<◌, List, length, Option, Some, None}
+-- What a message, an absolving, a limit and a Finish do to an outbox, and why they are refused. That the first two need guarantees, and what a limit bounds, is LCMUX's; Finish, the order of the refusals, and that a copy may get no memory and a frame no slot, is this project's own.
+use Rattle.std.specs.Prelude.{◌≡◌, ◌⊎◌, ℕ, ◌<◌, true, false, List, length, Option, Some, None, IsSome, MatchOption}
 use Rattle.lc_frame.specs.declared.version.Version.{Version}
-use Rattle.lc_frame.specs.declared.frame.Frame.TheVariants.{Send, Absolve, LimitSending}
+use Rattle.lc_frame.specs.declared.frame.Frame.TheVariants.{Send, Absolve, LimitSending, Finish}
+use Rattle.lc_frame.specs.declared.kind.Kind.TheVariants as frames
+use Rattle.lc_frame.specs.Kind.{has}
 use Rattle.lc_book.specs.declared.fault.Refusal.{Refusal}
-use Rattle.lc_book.specs.declared.fault.Refusal.TheVariants.{NoGuarantee, ZeroAmount, NotHeld, QueueFull, OutOfMemory}
+use Rattle.lc_book.specs.declared.fault.Refusal.TheVariants.{NoGuarantee, ZeroAmount, NotHeld, QueueFull, OutOfMemory, ChannelFinished, WrongVersion}
 use Rattle.lc_book.specs.Limit.{less, limit_refusal}
 use Rattle.lc_book.specs.Client.{message_refusal}
 use Rattle.lc_credit.specs.declared.history.Entry.TheVariants.{Returned}
@@ -11,8 +13,12 @@ use Rattle.lc_credit.specs.declared.credit_out.Use.{Use}
 use Rattle.lc_credit.specs.declared.credit_out.Use.TheVariants as kinds
 use Rattle.lc_credit.specs.History.{is_outgoing, Makes}
 use Rattle.lc_credit.specs.Sides as sides
-use Rattle.lc_credit.specs.Sides.{Outgoing, IsUsed, IsNotSpent, counted_as, given_back}
+use Rattle.lc_credit.specs.Sides.{Outgoing, IsUnfinished, IsUsed, IsNotSpent, IsWaived, counted_as, given_back}
 use Rattle.lc_outbox.specs.Outbox.{OutboxState, put}
+
+-- a call is refused by 15 where the outbox is finished, which changes nothing; `Otherwise` says what else refuses it
+abbrev pub IsRefused : Refusal → OutboxState → OutboxState → Type 0 → Type 0
+IsRefused e old new Otherwise = MatchOption old.credit.waived Otherwise (λ _. (e ≡ ChannelFinished) × (new ≡ old))
 
 -- the credit, as it was loaded, had the amount, which was taken out and counted
 pub record IsCounted (kind : Use) (n : ℕ) (old new : Outgoing) : Type 0 where
@@ -69,4 +75,20 @@ pub record IsLimited (bound : ℕ) (old new : OutboxState) : Type 0 where
 -- why it was not: 7 and 8, or else 13
 pub record IsNotLimited (e : Refusal) (bound : ℕ) (old new : OutboxState) : Type 0 where
   pub reason : (limit_refusal old.send_left bound ≡ Some e) ⊎ ((limit_refusal old.send_left bound ≡ None) × (e ≡ QueueFull))
+  pub after : new ≡ old
+
+-- a Finish was put, what the credit had, as it was loaded after that, is waived, and no target is kept
+pub record IsFinished (old new : OutboxState) : Type 0 where
+  pub waived : IsWaived old.credit new.credit
+  pub after : new ≡ put (Finish old.channel) (record old { credit = new.credit; asked = None })
+
+-- why it was not: 17, or else 15, or else 13
+abbrev pub IsFinishReason : Refusal → OutboxState → Type 0
+IsFinishReason WrongVersion o = has o.lane.version frames.Finish ≡ false
+IsFinishReason ChannelFinished o = (has o.lane.version frames.Finish ≡ true) × IsSome o.credit.waived
+IsFinishReason QueueFull o = (has o.lane.version frames.Finish ≡ true) × IsUnfinished o.credit
+IsFinishReason e o = ⊥
+
+pub record IsNotFinished (e : Refusal) (old new : OutboxState) : Type 0 where
+  pub reason : IsFinishReason e old
   pub after : new ≡ old

@@ -1,16 +1,17 @@
 //! The sending end of one channel.
-ghost use Rattle.std.specs.Prelude.{◌≡◌, ◌<◌, ◌≤◌, [], ◌∷◌, ◌++◌, IfOk, IfErr, OnOk, OnErr, IfSome, IfNone, IsSome, Some, None};
+ghost use Rattle.std.specs.Prelude.{◌≡◌, ◌<◌, ◌≤◌, [], ◌∷◌, ◌++◌, IfOk, IfErr, OnOk, OnErr, IfSome, IfNone, IsSome, Some, None, true, is_some};
 ghost use Rattle.lc_frame.specs.Channel.{number_of};
 ghost use Rattle.lc_frame.specs.Frame.{IsValid, lane_of};
-ghost use Rattle.lc_frame.specs.Kind.{max_amount, max_total};
-ghost use Rattle.lc_book.specs.declared.fault.Refusal.TheVariants.{QueueFull};
+ghost use Rattle.lc_frame.specs.declared.kind.Kind.TheVariants.{Finish};
+ghost use Rattle.lc_frame.specs.Kind.{has, max_amount, max_total};
+ghost use Rattle.lc_book.specs.declared.fault.Refusal.TheVariants.{QueueFull, ChannelFinished};
 ghost use Rattle.lc_queue.specs.Parts.{IsSameEnd};
 ghost use Rattle.lc_credit.specs.declared.history.Entry.TheVariants.{Returned};
 ghost use Rattle.lc_credit.specs.History.{is_outgoing, Makes};
-ghost use Rattle.lc_credit.specs.Sides.{IsIdle, LoadsOut, new_outgoing, counted, given_back};
+ghost use Rattle.lc_credit.specs.Sides.{IsIdle, IsUnfinished, Holds, new_outgoing, counted, given_back};
 ghost use Rattle.lc_credit.specs.Channels.{SameCredit};
 ghost use Rattle.lc_outbox.specs.Outbox.{IsOutbox, IsSameOutbox, new_outbox};
-ghost use Rattle.lc_outbox.specs.Calls.{IsSent, IsNotSent, IsAbsolved, IsNotAbsolved, IsLimited, IsNotLimited};
+ghost use Rattle.lc_outbox.specs.Calls.{IsRefused, IsSent, IsNotSent, IsAbsolved, IsNotAbsolved, IsLimited, IsNotLimited, IsFinished, IsNotFinished};
 ghost use Rattle.lc_outbox.specs.Honours.{AnswersFor, IsMet, IsLowered, IsHonoured, IsPutOff};
 
 use lc_book::{Refusal, after_message, check_limit};
@@ -70,6 +71,17 @@ impl Debug for Outbox {
     }
 }
 
+// Whether there may be own events. Refused by 15.
+fn check_open(credit: &CreditOut) -> Result<(), Refusal>
+    ensures unfinished { OnOk result (IsUnfinished credit.now) }
+    ensures finished { IfErr result (λ e. (e ≡ ChannelFinished) × IsSome credit.now.waived) }
+{
+    if credit.is_finished() {
+        return Err(Refusal::ChannelFinished);
+    }
+    Ok(())
+}
+
 // Puts the frame of what is pending, and counts it; or gives it back where no slot is free.
 fn put_used<R: Wait>(
     rt: &R,
@@ -111,7 +123,8 @@ fn take_target(credit: &mut CreditOut, kept: Option<u32>) -> Option<u32>
 
 // Takes out what is held above the target, as far as one frame can carry it.
 fn lower_to(credit: &mut CreditOut, target: u32) -> Option<u32>
-    requires { IsIdle credit.old }
+    requires idle { IsIdle credit.old }
+    requires unfinished { IsUnfinished credit.old }
     ensures none { IfNone result (IsMet (Some target) credit.old credit.new) }
     ensures some { IfSome result (λ n. IsLowered target n credit.old credit.new) }
     ensures range { IfSome result (λ n. (0 < n) × (n ≤ max_amount)) }
@@ -162,9 +175,9 @@ impl Outbox {
     }
 
     /// The guarantees held, 0 to 2^62: the credit word as it is. More may come at any time, and
-    /// only this outbox uses them up.
+    /// only this outbox uses them up. A finished outbox holds nothing.
     pub fn held(&mut self) -> u64
-        ensures loads { LoadsOut result self.old.credit self.new.credit }
+        ensures holds { Holds result self.old.credit self.new.credit }
         ensures small { result ≤ max_total }
         ensures after { self.new ≡ record self.old { credit = self.new.credit } }
         ensures kept { IsOutbox self.new }
@@ -173,15 +186,25 @@ impl Outbox {
         self.credit.held()
     }
 
+    /// Whether the channel is finished: every further call that would put a frame is refused.
+    pub fn is_finished(&self) -> bool
+        ensures value { result ≡ is_some self.now.credit.waived }
+        ensures kept { IsOutbox self.now }
+    {
+        self.credit.is_finished()
+    }
+
     /// A message is sent, of 1 to 65,535 bytes in version One and to 1,048,576 in version Two.
-    /// Refused by 1, 2, 3 and 4, by 14 where the copy of the message gets no memory, and by 13 where
-    /// the queue gives its frame back, in this order.
+    /// Refused by 15, 1, 2, 3 and 4, by 14 where the copy of the message gets no memory, and by 13
+    /// where the queue gives its frame back, in this order.
     pub fn send<R: Wait>(&mut self, rt: &R, body: &[u8]) -> Result<(), Refusal>
         ensures ok { OnOk result (IsSent body.now self.old self.new) }
-        ensures err { IfErr result (λ e. IsNotSent e body.now self.old self.new) }
+        ensures unfinished { OnOk result (IsUnfinished self.old.credit) }
+        ensures err { IfErr result (λ e. IsRefused e self.old self.new (IsNotSent e body.now self.old self.new)) }
         ensures kept { IsOutbox self.new }
         ensures same { IsSameOutbox self.old self.new }
     {
+        check_open(&self.credit)?;
         let left = after_message(self.lane.version(), self.send_left, body.len())?;
         self.credit.spend(body.len() as u32)?;
         let Ok(bytes) = Vec::from_slice(self.alloc, body) else {
@@ -197,14 +220,16 @@ impl Outbox {
         Ok(())
     }
 
-    /// `n` guarantees are given up. Refused by 5, 6 and 13, in this order; by 6 also where `n` is
+    /// `n` guarantees are given up. Refused by 15, 5, 6 and 13, in this order; by 6 also where `n` is
     /// above 2^24.
     pub fn absolve<R: Wait>(&mut self, rt: &R, n: u32) -> Result<(), Refusal>
         ensures ok { OnOk result (IsAbsolved n self.old self.new) }
-        ensures err { IfErr result (λ e. IsNotAbsolved e n self.old self.new) }
+        ensures unfinished { OnOk result (IsUnfinished self.old.credit) }
+        ensures err { IfErr result (λ e. IsRefused e self.old self.new (IsNotAbsolved e n self.old self.new)) }
         ensures kept { IsOutbox self.new }
         ensures same { IsSameOutbox self.old self.new }
     {
+        check_open(&self.credit)?;
         let channel = self.channel;
         if n == 0 {
             return Err(Refusal::ZeroAmount);
@@ -215,14 +240,16 @@ impl Outbox {
     }
 
     /// The last plead is honoured: where more is held than its target, the rest is absolved, at most
-    /// 2^24, and the answer is that amount. Refused by 13 alone, and then the plead is kept for the
-    /// next call, unless a newer one comes.
+    /// 2^24, and the answer is that amount. Refused by 15, and by 13, and then the plead is kept for
+    /// the next call, unless a newer one comes.
     pub fn honour<R: Wait>(&mut self, rt: &R) -> Result<Option<u32>, Refusal>
         ensures ok { IfOk result (λ amount. IsHonoured amount self.old self.new) }
-        ensures err { IfErr result (λ e. IsPutOff e self.old self.new) }
+        ensures unfinished { OnOk result (IsUnfinished self.old.credit) }
+        ensures err { IfErr result (λ e. IsRefused e self.old self.new (IsPutOff e self.old self.new)) }
         ensures kept { IsOutbox self.new }
         ensures same { IsSameOutbox self.old self.new }
     {
+        check_open(&self.credit)?;
         self.asked = take_target(&mut self.credit, self.asked);
         let Some(target) = self.asked else {
             return Ok(None);
@@ -244,14 +271,16 @@ impl Outbox {
         }
     }
 
-    /// At most `bound` bytes are sent from here on; 0 ends the channel. Refused by 7, 8 and 13, in
-    /// this order.
+    /// At most `bound` bytes are sent from here on; 0 ends the channel. Refused by 15, 7, 8 and 13,
+    /// in this order.
     pub fn limit<R: Wait>(&mut self, rt: &R, bound: u64) -> Result<(), Refusal>
         ensures ok { OnOk result (IsLimited bound self.old self.new) }
-        ensures err { IfErr result (λ e. IsNotLimited e bound self.old self.new) }
+        ensures unfinished { OnOk result (IsUnfinished self.old.credit) }
+        ensures err { IfErr result (λ e. IsRefused e self.old self.new (IsNotLimited e bound self.old self.new)) }
         ensures kept { IsOutbox self.new }
         ensures same { IsSameOutbox self.old self.new }
     {
+        check_open(&self.credit)?;
         check_limit(self.send_left, bound)?;
         let frame = Frame::LimitSending {
             channel: self.channel,
@@ -260,6 +289,33 @@ impl Outbox {
         match self.lane.push(rt, frame) {
             Ok(()) => {
                 self.send_left = Some(bound);
+                Ok(())
+            }
+            Err(_) => Err(Refusal::QueueFull),
+        }
+    }
+
+    /// The channel is finished: nothing more is sent, and all guarantees are given up that are held
+    /// or that still come. A plead that is kept is forgotten. Refused by 17, 15 and 13, in this order.
+    pub fn finish<R: Wait>(&mut self, rt: &R) -> Result<(), Refusal>
+        ensures ok { OnOk result (IsFinished self.old self.new) }
+        ensures known { OnOk result (has self.old.lane.version Finish ≡ true) }
+        ensures unfinished { OnOk result (IsUnfinished self.old.credit) }
+        ensures err { IfErr result (λ e. IsNotFinished e self.old self.new) }
+        ensures kept { IsOutbox self.new }
+        ensures same { IsSameOutbox self.old self.new }
+    {
+        if !self.lane.version().has_finish() {
+            return Err(Refusal::WrongVersion);
+        }
+        check_open(&self.credit)?;
+        let frame = Frame::Finish {
+            channel: self.channel,
+        };
+        match self.lane.push(rt, frame) {
+            Ok(()) => {
+                self.credit.finish();
+                self.asked = None;
                 Ok(())
             }
             Err(_) => Err(Refusal::QueueFull),

@@ -1,5 +1,5 @@
 -- Whatever arrives, a channel keeps what every channel keeps.
-use Rattle.std.proofs.Common.{◌≡◌, ℕ, ◌+◌, ◌≤◌, Bool, true, false, List, [], ◌∷◌, ◌++◌, length, get_or, set, Option, Some, None, refl, sym, ◌∙◌, subst, inl, inr, arith, if◌then◌else◌}
+use Rattle.std.proofs.Common.{◌≡◌, ℕ, ◌+◌, ◌≤◌, Bool, true, false, List, [], ◌∷◌, ◌++◌, length, get_or, set, Option, Some, None, refl, sym, ap, ◌∙◌, subst, inl, inr, arith, if◌then◌else◌}
 use Rattle.std.specs.Prelude.{◌⊎◌, ◌-◌, nat_lt}
 use Rattle.std.specs.List.{AllByRecursion}
 use Rattle.std.specs.Option.{ForSome}
@@ -10,7 +10,7 @@ use Rattle.std.proofs.Math.ListN.{get_or-eq_default}
 use Rattle.std.proofs.lemmas.List.Sums.{sum_by_push}
 use Rattle.lc_frame.specs.declared.channel.Channel.{Channel}
 use Rattle.lc_frame.specs.declared.frame.Frame.{Frame}
-use Rattle.lc_frame.specs.declared.frame.Frame.TheVariants.{Send, Issue, Absolve, Plead, LimitSending, LimitReceiving}
+use Rattle.lc_frame.specs.declared.frame.Frame.TheVariants.{Send, Issue, Absolve, Plead, LimitSending, LimitReceiving, Finish}
 use Rattle.lc_frame.specs.Kind.{max_amount, max_total}
 use Rattle.lc_frame.specs.Channel.{number_of}
 use Rattle.lc_frame.specs.declared.version.Version.TheVariants.{Two}
@@ -18,7 +18,7 @@ use Rattle.lc_frame.specs.Frame.{channel_of, IsValid}
 use Rattle.lc_frame.proofs.Channels.{cases_same}
 use Rattle.lc_book.specs.declared.fault.Violation.{Violation}
 use Rattle.lc_book.specs.Limit.{is_past, less}
-use Rattle.lc_book.specs.Client.{Client, IsClient, held, issued_violation, add_received}
+use Rattle.lc_book.specs.Client.{Client, IsClient, held, kept, issued_violation, add_received}
 use Rattle.lc_book.specs.Server.{Server, IsServer, outstanding, message_violation, add_arrived, absolve_violation, add_absolved}
 use Rattle.lc_ring.specs.Ring.{IsLength, push}
 use Rattle.lc_peer.specs.declared.channel_state.ChannelState.{ChannelState}
@@ -45,6 +45,23 @@ less_bound : (left : Option ℕ) (n : ℕ) → ForSome left (λ m. m ≤ max_tot
 less_bound None n h = λ x e. absurd (let f = e in cc)
 less_bound (Some m) n h = λ x e. omega (arith, h m refl, some_is (m - n) x e)
 
+-- what is left over, before and after guarantees that come: it is waived where the client finished
+issued_paid : (finished : Bool) (r s a n : ℕ) → s + a + (if finished then r - s - a else 0) ≤ r → s + a + (if finished then r + n - s - a else 0) ≤ r + n
+issued_paid true r s a n h = omega (arith, h)
+issued_paid false r s a n h = omega (arith, h)
+
+issued_small : (finished : Bool) (r s a n : ℕ) → r - s - a - (if finished then r - s - a else 0) + n ≤ max_amount → r + n - s - a - (if finished then r + n - s - a else 0) ≤ max_amount
+issued_small true r s a n h = omega (arith, h)
+issued_small false r s a n h = omega (arith, h)
+
+-- where no Finish came, nothing is waived
+none_waived : (finished : Bool) (n : ℕ) → finished ≡ false → (if finished then n else 0) ≡ 0
+none_waived finished n e = rw e refl
+
+-- where one comes, all that is left over is
+all_waived : (issued arrived absolved : ℕ) → arrived + absolved ≤ issued → (arrived + absolved + (issued - arrived - absolved) ≤ issued) × (issued - arrived - absolved - (issued - arrived - absolved) ≡ 0)
+all_waived issued arrived absolved h = (omega (arith, h), omega arith)
+
 -- a client's book after lawful guarantees
 issued_keeps : (b : Client) (n : ℕ) → issued_violation b n ≡ None → IsClient b → IsClient (add_received b n)
 issued_keeps b n e h =
@@ -52,37 +69,50 @@ issued_keeps b n e h =
     let second = not_so (nat_lt max_amount (held b + n)) _ _ first.1 in
     let third = not_so (nat_lt max_total (b.received + n)) _ _ second.1 in
     record {
-      paid = omega (arith, h.paid);
+      paid = issued_paid b.finished b.received b.spent b.absolved n h.paid;
       total = at_most max_total (b.received + n) third.0;
-      small = omega (arith, at_most max_amount (held b + n) second.0, h.paid);
+      small = issued_small b.finished b.received b.spent b.absolved n (at_most max_amount (held b + n) second.0);
       send_bound = h.send_bound;
       receive_bound = less_bound b.receive_left n h.receive_bound;
       target = h.target;
+      finish = h.finish;
+      forgotten = h.forgotten;
     }
+
+-- the target of a plead that a client keeps
+kept_bound : (finished : Bool) (n : ℕ) → n ≤ max_amount → ForSome (kept finished (Some n)) (λ m. m ≤ max_amount)
+kept_bound true n le = λ x e. absurd (let f = e in cc)
+kept_bound false n le = bound_is n max_amount le
 
 -- a server's book after a lawful message, and after a lawful absolving
 message_keeps : (b : Server) (n : ℕ) → message_violation b n ≡ None → IsServer b → IsServer (add_arrived b n)
 message_keeps b n e h =
-    let covered = at_most (outstanding b) n (not_so (nat_lt (outstanding b) n) _ _ e).0 in
+    let first = not_so b.finished _ _ e in
+    let covered = at_most (outstanding b) n (not_so (nat_lt (outstanding b) n) _ _ first.1).0 in
+    let before = none_waived b.finished (b.issued - b.arrived - b.absolved) first.0 in
+    let after = none_waived b.finished (b.issued - (b.arrived + n) - b.absolved) first.0 in
     record {
       capacity = h.capacity;
-      used = omega (arith, h.used, covered);
+      used = omega (arith, h.used, covered, before, after);
       total = h.total;
       taken = omega (arith, h.taken);
-      fits = omega (arith, h.fits, h.used, h.taken, covered);
+      fits = omega (arith, h.fits, h.used, h.taken, covered, before, after);
       send_bound = less_bound b.send_left n h.send_bound;
       receive_bound = h.receive_bound;
     }
 
 absolved_keeps : (b : Server) (n : ℕ) → absolve_violation b n ≡ None → IsServer b → IsServer (add_absolved b n)
 absolved_keeps b n e h =
-    let covered = at_most (outstanding b) n (not_so (nat_lt (outstanding b) n) _ _ e).0 in
+    let first = not_so b.finished _ _ e in
+    let covered = at_most (outstanding b) n (not_so (nat_lt (outstanding b) n) _ _ first.1).0 in
+    let before = none_waived b.finished (b.issued - b.arrived - b.absolved) first.0 in
+    let after = none_waived b.finished (b.issued - b.arrived - (b.absolved + n)) first.0 in
     record {
       capacity = h.capacity;
-      used = omega (arith, h.used, covered);
+      used = omega (arith, h.used, covered, before, after);
       total = h.total;
       taken = h.taken;
-      fits = omega (arith, h.fits, h.used, covered);
+      fits = omega (arith, h.fits, h.used, covered, before, after);
       send_bound = h.send_bound;
       receive_bound = h.receive_bound;
     }
@@ -97,7 +127,7 @@ each_push (x ∷ ms) m h k = (h.0, each_push ms m h.1 k)
 -- an inbox after a lawful message
 inbox_keeps : (i : InboxState) (body : List ℕ) → IsLength (length body) → message_violation i.book (length body) ≡ None → IsInbox i → IsInbox (record { book = add_arrived i.book (length body); ring = push i.ring body })
 inbox_keeps i body is e h =
-    let covered = at_most (outstanding i.book) (length body) (not_so (nat_lt (outstanding i.book) (length body)) _ _ e).0 in
+    let covered = at_most (outstanding i.book) (length body) (not_so (nat_lt (outstanding i.book) (length body)) _ _ (not_so i.book.finished _ _ e).1).0 in
     let more = sum_by_push length i.ring.messages body in
     record {
       book = message_keeps i.book (length body) e h.book;
@@ -111,24 +141,29 @@ inbox_keeps i body is e h =
 
 -- a channel after a lawful frame
 pub channel_keeps : (f : Frame) (s : ChannelState) → IsValid Two f → violation s.client s.inbox.book f ≡ None → IsChannel s → IsChannel (channel_after_arrival f s)
-channel_keeps (Send c body) s valid e h = record { client = h.client; inbox = inbox_keeps s.inbox body (record { at_least = valid.0; at_most = valid.1 }) e h.inbox }
+channel_keeps (Send c body) s valid e h = record { client = h.client; inbox = inbox_keeps s.inbox body (record { at_least = valid.1.0; at_most = valid.1.1 }) e h.inbox }
 channel_keeps (Issue c n) s valid e h = record { client = issued_keeps s.client n e h.client; inbox = h.inbox }
 channel_keeps (Absolve c n) s valid e h = record { client = h.client; inbox = record { book = absolved_keeps s.inbox.book n e h.inbox.book; ring = h.inbox.ring; agrees = record { capacity = h.inbox.agrees.capacity; bytes = h.inbox.agrees.bytes } } }
 channel_keeps (Plead c n) s valid e h =
     let b = h.client in
-    record { client = record { paid = b.paid; total = b.total; small = b.small; send_bound = b.send_bound; receive_bound = b.receive_bound; target = bound_is n max_amount valid.1 }; inbox = h.inbox }
+    record { client = record { paid = b.paid; total = b.total; small = b.small; send_bound = b.send_bound; receive_bound = b.receive_bound; target = kept_bound s.client.finished n valid.1.1; finish = b.finish; forgotten = λ finished. ap (λ (x : Bool). kept x (Some n)) finished }; inbox = h.inbox }
 channel_keeps (LimitSending c n) s valid e h =
     let b = h.inbox.book in
-    record { client = h.client; inbox = record { book = record { capacity = b.capacity; used = b.used; total = b.total; taken = b.taken; fits = b.fits; send_bound = bound_is n max_total valid.1; receive_bound = b.receive_bound }; ring = h.inbox.ring; agrees = record { capacity = h.inbox.agrees.capacity; bytes = h.inbox.agrees.bytes } } }
+    record { client = h.client; inbox = record { book = record { capacity = b.capacity; used = b.used; total = b.total; taken = b.taken; fits = b.fits; send_bound = bound_is n max_total valid.1.1; receive_bound = b.receive_bound }; ring = h.inbox.ring; agrees = record { capacity = h.inbox.agrees.capacity; bytes = h.inbox.agrees.bytes } } }
 channel_keeps (LimitReceiving c n) s valid e h =
     let b = h.client in
-    record { client = record { paid = b.paid; total = b.total; small = b.small; send_bound = b.send_bound; receive_bound = bound_is n max_total valid.1; target = b.target }; inbox = h.inbox }
+    record { client = record { paid = b.paid; total = b.total; small = b.small; send_bound = b.send_bound; receive_bound = bound_is n max_total valid.1.1; target = b.target; finish = b.finish; forgotten = b.forgotten }; inbox = h.inbox }
+channel_keeps (Finish c) s valid e h =
+    let b = h.inbox.book in
+    let all = all_waived s.inbox.book.issued s.inbox.book.arrived s.inbox.book.absolved (omega (arith, b.used)) in
+    record { client = h.client; inbox = record { book = record { capacity = b.capacity; used = all.0; total = b.total; taken = b.taken; fits = omega (arith, all.1, b.fits); send_bound = b.send_bound; receive_bound = b.receive_bound }; ring = h.inbox.ring; agrees = record { capacity = h.inbox.agrees.capacity; bytes = h.inbox.agrees.bytes } } }
 
 -- no frame changes a capacity
 same_capacity : (f : Frame) (s : ChannelState) → (channel_after_arrival f s).inbox.book.capacity ≡ s.inbox.book.capacity
 same_capacity (Send c body) s = refl
 same_capacity (Absolve c n) s = refl
 same_capacity (LimitSending c n) s = refl
+same_capacity (Finish c) s = refl
 same_capacity f s = refl
 
 -- a place that is written, if it is there

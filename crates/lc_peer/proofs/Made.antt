@@ -1,5 +1,5 @@
 -- Seven channels that are made one by one.
-use Rattle.std.proofs.Common.{◌≡◌, ℕ, List, [], ◌∷◌, length, get_or, map, suc, arith}
+use Rattle.std.proofs.Common.{◌≡◌, List, [], ◌∷◌, length, get_or, map, arith}
 
 -- what is made of each of seven values is made of their list
 pub seven_made : {A B : Type 0} (f : A → B) (none : A) (xs : List A) (y0 y1 y2 y3 y4 y5 y6 : B) → length xs ≡ 7

@@ -1,11 +1,11 @@
 -- What frames that arrive at a peer leave, up to the first that violates the rules. The violations of guarantees and limits are this project's own.
 use Rattle.std.specs.Prelude.{ℕ, ◌+◌, List, [], ◌∷◌, length, Option, Some, None}
 use Rattle.lc_frame.specs.declared.frame.Frame.{Frame}
-use Rattle.lc_frame.specs.declared.frame.Frame.TheVariants.{Send, Issue, Absolve, Plead, LimitSending, LimitReceiving}
+use Rattle.lc_frame.specs.declared.frame.Frame.TheVariants.{Send, Issue, Absolve, Plead, LimitSending, LimitReceiving, Finish}
 use Rattle.lc_frame.specs.Frame.{channel_of}
 use Rattle.lc_book.specs.declared.fault.Violation.{Violation}
 use Rattle.lc_book.specs.Client.{Client, issued_violation, receive_limit_violation}
-use Rattle.lc_book.specs.Server.{Server, message_violation, absolve_violation, send_limit_violation}
+use Rattle.lc_book.specs.Server.{Server, message_violation, absolve_violation, send_limit_violation, finish_violation}
 use Rattle.lc_book.specs.Sums.{client_after_arrival, server_after_arrival}
 use Rattle.lc_ring.specs.Ring.{Ring, push}
 use Rattle.lc_peer.specs.declared.channel_state.ChannelState.{ChannelState}
@@ -19,6 +19,7 @@ violation client server (Absolve c amount) = absolve_violation server amount
 violation client server (Plead c target) = None
 violation client server (LimitSending c bound) = send_limit_violation server bound
 violation client server (LimitReceiving c bound) = receive_limit_violation client bound
+violation client server (Finish c) = finish_violation server
 
 abbrev pub violation_at : PeerState → Frame → Option Violation
 violation_at p f = violation (client p (channel_of f)) (server p (channel_of f)) f

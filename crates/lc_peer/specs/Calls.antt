@@ -3,14 +3,13 @@ use Rattle.std.specs.Prelude.{◌≡◌, ℕ, ◌⊎◌, nat_lt, false, if◌the
 use Rattle.std.specs.Option.{option_or}
 use Rattle.lc_frame.specs.declared.channel.Channel.{Channel}
 use Rattle.lc_frame.specs.declared.frame.Frame.{Frame}
-use Rattle.lc_frame.specs.declared.frame.Frame.TheVariants.{Send, Issue, Absolve, Plead, LimitSending, LimitReceiving}
+use Rattle.lc_frame.specs.declared.frame.Frame.TheVariants.{Send, Issue, Absolve, Plead, LimitSending, LimitReceiving, Finish}
 use Rattle.lc_frame.specs.Channel.{is_same}
 use Rattle.lc_frame.specs.Frame.{channel_of}
 use Rattle.lc_book.specs.declared.fault.Refusal.{Refusal}
 use Rattle.lc_book.specs.declared.fault.Refusal.TheVariants.{QueueFull, OutOfMemory}
-use Rattle.lc_book.specs.Limit.{limit_refusal}
-use Rattle.lc_book.specs.Client.{Client, spend_refusal, absolve_refusal, amount_to_absolve, honour}
-use Rattle.lc_book.specs.Server.{Server, issue_refusal, plead_refusal}
+use Rattle.lc_book.specs.Client.{Client, spend_refusal, absolve_refusal, amount_to_absolve, honour_refusal as book_honour_refusal, honour, limit_sending_refusal, finish_refusal}
+use Rattle.lc_book.specs.Server.{Server, issue_refusal, plead_refusal, limit_receiving_refusal}
 use Rattle.lc_book.specs.Sums.{client_after_put, server_after_put}
 use Rattle.lc_peer.specs.declared.channel_state.ChannelState.{ChannelState}
 use Rattle.lc_peer.specs.declared.inbox.Take.{Take}
@@ -23,8 +22,9 @@ book_refusal client server (Send c body) = spend_refusal client (length body)
 book_refusal client server (Issue c amount) = issue_refusal server amount
 book_refusal client server (Absolve c amount) = absolve_refusal client amount
 book_refusal client server (Plead c target) = plead_refusal server target
-book_refusal client server (LimitSending c bound) = limit_refusal client.send_left bound
-book_refusal client server (LimitReceiving c bound) = limit_refusal server.receive_left bound
+book_refusal client server (LimitSending c bound) = limit_sending_refusal client bound
+book_refusal client server (LimitReceiving c bound) = limit_receiving_refusal server bound
+book_refusal client server (Finish c) = finish_refusal client
 
 abbrev pub refusal_by_books : PeerState → Frame → Option Refusal
 refusal_by_books p f = book_refusal (client p (channel_of f)) (server p (channel_of f)) f
@@ -53,10 +53,14 @@ put p f = record (set_channel p (channel_of f) (channel_after_put f (channel p (
 abbrev pub due : PeerState → Channel → Option ℕ
 due p c = amount_to_absolve (client p c)
 
--- an honour is refused only where it would put a frame, and then keeps the plead
-abbrev pub honour_refusal : PeerState → Option ℕ → Option Refusal
-honour_refusal p None = None
-honour_refusal p (Some amount) = queue_refusal p
+-- no frame more can wait, where an honour would put one
+abbrev pub absolving_refusal : PeerState → Option ℕ → Option Refusal
+absolving_refusal p None = None
+absolving_refusal p (Some amount) = queue_refusal p
+
+-- why an honour on the channel is refused, which then keeps the plead: the book comes first
+abbrev pub honour_refusal : PeerState → Channel → Option Refusal
+honour_refusal p c = option_or (book_honour_refusal (client p c)) (absolving_refusal p (due p c))
 
 abbrev pub absolvings : Channel → Option ℕ → List Frame
 absolvings c None = []

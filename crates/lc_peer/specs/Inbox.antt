@@ -1,5 +1,5 @@
 -- The receiving end of one channel: its server's book, the messages that wait to be taken, and what a take answers and leaves. That a server buffers what its guarantees promised is LCMUX's; what a take answers is this project's own.
-use Rattle.std.specs.Prelude.{◌≡◌, ℕ, zero, ◌+◌, [], length, nat_lt, if◌then◌else◌, Option, Some, None}
+use Rattle.std.specs.Prelude.{◌≡◌, ℕ, zero, Bool, true, false, ◌+◌, [], length, nat_lt, if◌then◌else◌, Option, Some, None}
 use Rattle.std.specs.Option.{option_map}
 use Rattle.lc_book.specs.declared.fault.Refusal.{Refusal}
 use Rattle.lc_book.specs.declared.fault.Refusal.TheVariants.{BufferTooSmall}
@@ -26,14 +26,15 @@ pub record IsInbox (i : InboxState) : Type 0 where
   pub ring : IsRing i.ring
   pub agrees : IsRingOf i.book i.ring
 
--- where no message waits, the channel has ended or it has not, by what is left of the client's limit
-abbrev pub none_waiting : Option ℕ → Take
-none_waiting (Some zero) = Ended
-none_waiting left = Empty
+-- where no message waits, the channel has ended or it has not: by whether the client finished, and by what is left of its limit
+abbrev pub none_waiting : Bool → Option ℕ → Take
+none_waiting true left = Ended
+none_waiting false (Some zero) = Ended
+none_waiting false left = Empty
 
 -- what a take answers by the book and the length of the first message, where one waits
 abbrev pub answer_by_length : Server → Option ℕ → Take
-answer_by_length book None = none_waiting book.send_left
+answer_by_length book None = none_waiting book.finished book.send_left
 answer_by_length book (Some len) = Took len
 
 abbrev pub take_answer : InboxState → Take

@@ -19,7 +19,7 @@ use Rattle.lc_peer.specs.Calls.{put, due, absolvings, put_honour, take_on, witho
 use Rattle.lc_peer.specs.Arrivals.{violation_at, arrive, Arrival, arrivals}
 use Rattle.lc_peer.specs.Config.{new_peer}
 
--- a channel is that of two streams, where so many of its messages were taken, and this plead is kept
+-- a channel is that of two streams, where so many of its messages were taken, and this plead is kept unless its client finished
 pub record IsChannelOf (version : Version) (capacity : ℕ) (c : Channel) (put arrived : List Frame) (taken : ℕ) (asked : Option ℕ) (s : ChannelState) : Type 0 where
   pub client : s.client ≡ client_of version c put arrived asked
   pub server : s.inbox.book ≡ server_of capacity c put arrived (taken_cost c arrived taken)
@@ -31,7 +31,7 @@ pub record IsChannelOf (version : Version) (capacity : ℕ) (c : Channel) (put a
 abbrev pub IsEndOf : List Frame → List Frame → Type 0
 IsEndOf frames end = (before : List Frame) × (frames ≡ before ++ end)
 
--- what was done with two streams: the version of the one that the peer writes, the frames that the peer put, those that arrived at it, and of each channel the capacity of its ring, how many messages were taken, and the plead that is kept
+-- what was done with two streams: the version of the one that the peer writes, the frames that the peer put, those that arrived at it, and of each channel the capacity of its ring, how many messages were taken, and the plead that is kept unless its client finished
 pub record Streams : Type 0 where
   pub version : Version
   pub put : List Frame

@@ -47,6 +47,7 @@ impl ChannelState {
             }
             FrameRef::LimitSending { bound, .. } => self.inbox.sending_limited(bound),
             FrameRef::LimitReceiving { bound, .. } => self.client.receiving_limited(bound),
+            FrameRef::Finish { .. } => self.inbox.finished(),
         }
     }
 }

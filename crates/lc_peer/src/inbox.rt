@@ -5,7 +5,7 @@ ghost use Rattle.std.specs.Result.{result_err};
 ghost use Rattle.lc_frame.specs.Bounds.{IsCapacity};
 ghost use Rattle.lc_frame.specs.declared.version.Version.TheVariants.{Two};
 ghost use Rattle.lc_frame.specs.Kind.{max_body, max_amount, max_total};
-ghost use Rattle.lc_book.specs.Server.{buffered, AreFreed, message_violation, add_arrived, absolve_violation, add_absolved, send_limit_violation, note_send_limit};
+ghost use Rattle.lc_book.specs.Server.{buffered, AreFreed, message_violation, add_arrived, absolve_violation, add_absolved, send_limit_violation, note_send_limit, finish_violation, note_finish};
 ghost use Rattle.lc_ring.specs.Ring.{IsLength, push, front, with_front};
 ghost use Rattle.lc_peer.specs.Inbox.{new_inbox, IsInbox, IsTake, answer_by_length, note_front, take_answer, take_first, take_refusal, NamesLength, Takes};
 
@@ -22,7 +22,7 @@ pub enum Take {
     Took(usize),
     /// No message waits.
     Empty,
-    /// No message waits, and none will come: the client's limit on sending is used up.
+    /// No message waits, and none will come: the client's limit on sending is used up, or it finished.
     Ended,
 }
 
@@ -56,8 +56,8 @@ fn note(book: &mut ServerBook, len: Option<usize>) -> Take
             book.note_taken(len as u32);
             Take::Took(len)
         }
-        None => match book.send_left() {
-            Some(0) => Take::Ended,
+        None => match (book.is_finished(), book.send_left()) {
+            (true, _) | (_, Some(0)) => Take::Ended,
             _ => Take::Empty,
         },
     }
@@ -100,8 +100,8 @@ impl Inbox {
         self.book = book;
     }
 
-    /// A message arrives, of 1 to `MAX_BODY` bytes. Violations V1 and V2, in this order. The ring
-    /// has room for every other.
+    /// A message arrives, of 1 to `MAX_BODY` bytes. Violations V9, V1 and V2, in this order. The
+    /// ring has room for every other.
     #[inline]
     pub fn message(&mut self, body: &[u8]) -> Result<(), Violation>
         requires at_least { 1 ≤ length body.now }
@@ -121,7 +121,7 @@ impl Inbox {
         Ok(())
     }
 
-    /// The news arrives that the client absolved `n` guarantees. Violation V3.
+    /// The news arrives that the client absolved `n` guarantees. Violations V9 and V3, in this order.
     #[inline]
     pub fn was_absolved(&mut self, n: u32) -> Result<(), Violation>
         requires { n ≤ max_amount }
@@ -134,7 +134,8 @@ impl Inbox {
         Ok(())
     }
 
-    /// The client's limit arrives: it sends at most `bound` bytes from there on. Violation V4.
+    /// The client's limit arrives: it sends at most `bound` bytes from there on. Violations V9 and V4,
+    /// in this order.
     #[inline]
     pub fn sending_limited(&mut self, bound: u64) -> Result<(), Violation>
         requires { bound ≤ max_total }
@@ -143,6 +144,19 @@ impl Inbox {
     {
         let mut next = self.book;
         next.sending_limited(bound)?;
+        self.book = next;
+        Ok(())
+    }
+
+    /// The client's Finish arrives: it sends nothing more, and what is outstanding is waived.
+    /// Violation V9.
+    #[inline]
+    pub fn finished(&mut self) -> Result<(), Violation>
+        ensures answer { result_err result ≡ finish_violation self.old.book }
+        ensures after { self.new ≡ (if is_ok result then record self.old { book = note_finish self.old.book } else self.old) }
+    {
+        let mut next = self.book;
+        next.finished()?;
         self.book = next;
         Ok(())
     }

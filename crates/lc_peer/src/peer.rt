@@ -5,7 +5,7 @@ ghost use Rattle.lc_book.specs.declared.fault.Refusal.TheVariants.{QueueFull};
 ghost use Rattle.std.specs.Option.{option_map};
 ghost use Rattle.std.specs.Result.{result_err};
 ghost use Rattle.lc_frame.specs.Bounds.{max_slots};
-ghost use Rattle.lc_frame.specs.declared.frame.Frame.TheVariants.{Send, Issue, Absolve, Plead, LimitSending, LimitReceiving};
+ghost use Rattle.lc_frame.specs.declared.frame.Frame.TheVariants.{Send, Issue, Absolve, Plead, LimitSending, LimitReceiving, Finish};
 ghost use Rattle.lc_frame.specs.FrameRef.{frame_of};
 ghost use Rattle.lc_frame.specs.declared.version.Version.TheVariants.{Two};
 ghost use Rattle.lc_frame.specs.Frame.{channel_of, IsValid};
@@ -103,16 +103,15 @@ impl Peer {
     }
 
     /// A message is sent, of 1 to 65,535 bytes in version One and to 1,048,576 in version Two.
-    /// Refused by 1, 2, 3 and 4, by 14 where the copy of the body gets no memory, and by 13, in this
-    /// order: the copy is made before a place is looked for.
+    /// Refused by 15, 1, 2, 3 and 4, by 14 where the copy of the body gets no memory, and by 13, in
+    /// this order: the copy is made before a place is looked for.
     pub fn send(&mut self, channel: Channel, body: &[u8]) -> Result<(), Refusal>
         ensures answer { IsSendAnswer self.old (Send channel body.now) (result_err result) }
         ensures after { self.new ≡ (if is_ok result then put self.old (Send channel body.now) else self.old) }
     {
-        let Ok(len) = u32::try_from(body.len()) else {
-            return Err(Refusal::BodyTooLong);
-        };
         let mut book = self.client(channel);
+        // A length of more than 32 bits is too long as well.
+        let len = u32::try_from(body.len()).unwrap_or(u32::MAX);
         book.spend(len)?;
         let Ok(bytes) = Vec::from_slice(self.alloc, body) else {
             return Err(Refusal::OutOfMemory);
@@ -121,7 +120,7 @@ impl Peer {
         self.put(Frame::Send { channel, body }, book, self.server(channel))
     }
 
-    /// `n` guarantees are given up. Refused by 5, 6 and 13, in this order.
+    /// `n` guarantees are given up. Refused by 15, 5, 6 and 13, in this order.
     pub fn absolve(&mut self, channel: Channel, n: u32) -> Result<(), Refusal>
         ensures answer { result_err result ≡ refusal self.old (Absolve channel n) }
         ensures after { self.new ≡ (if is_ok result then put self.old (Absolve channel n) else self.old) }
@@ -135,14 +134,14 @@ impl Peer {
         )
     }
 
-    /// The plead that is kept is honoured.
+    /// The plead that is kept is honoured. Refused by 15, and by 13 where something would be absolved.
     pub fn honour(&mut self, channel: Channel) -> Result<Option<u32>, Refusal>
-        ensures answer { result_err result ≡ honour_refusal self.old (due self.old channel) }
+        ensures answer { result_err result ≡ honour_refusal self.old channel }
         ensures amount { IfOk result (λ amount. amount ≡ due self.old channel) }
         ensures after { self.new ≡ (if is_ok result then put_honour self.old channel else self.old) }
     {
         let mut book = self.client(channel);
-        let due = book.honour();
+        let due = book.honour()?;
         match due {
             Some(amount) => enqueue(&mut self.waiting, Frame::Absolve { channel, amount })?,
             None => {}
@@ -151,8 +150,8 @@ impl Peer {
         Ok(due)
     }
 
-    /// At most `bound` bytes are sent from here on; 0 ends the channel. Refused by 7, 8 and 13, in
-    /// this order.
+    /// At most `bound` bytes are sent from here on; 0 ends the channel. Refused by 15, 7, 8 and 13,
+    /// in this order.
     pub fn limit_sending(&mut self, channel: Channel, bound: u64) -> Result<(), Refusal>
         ensures answer { result_err result ≡ refusal self.old (LimitSending channel bound) }
         ensures after { self.new ≡ (if is_ok result then put self.old (LimitSending channel bound) else self.old) }
@@ -166,7 +165,18 @@ impl Peer {
         )
     }
 
-    /// `n` guarantees are issued. Refused by 5, 9, 10, 12 and 13, in this order.
+    /// The client sends nothing more on the channel, and gives up all guarantees that it holds or
+    /// that still come. Refused by 17, 15 and 13, in this order.
+    pub fn finish(&mut self, channel: Channel) -> Result<(), Refusal>
+        ensures answer { result_err result ≡ refusal self.old (Finish channel) }
+        ensures after { self.new ≡ (if is_ok result then put self.old (Finish channel) else self.old) }
+    {
+        let mut book = self.client(channel);
+        book.finish()?;
+        self.put(Frame::Finish { channel }, book, self.server(channel))
+    }
+
+    /// `n` guarantees are issued. Refused by 15, 5, 9, 10, 12 and 13, in this order.
     pub fn issue(&mut self, channel: Channel, n: u32) -> Result<(), Refusal>
         ensures answer { result_err result ≡ refusal self.old (Issue channel n) }
         ensures after { self.new ≡ (if is_ok result then put self.old (Issue channel n) else self.old) }
@@ -180,7 +190,7 @@ impl Peer {
         )
     }
 
-    /// The client is asked to absolve until it holds at most `target`. Refused by 11 and 13, in
+    /// The client is asked to absolve until it holds at most `target`. Refused by 15, 11 and 13, in
     /// this order.
     pub fn plead(&mut self, channel: Channel, target: u32) -> Result<(), Refusal>
         ensures answer { result_err result ≡ refusal self.old (Plead channel target) }
@@ -191,7 +201,7 @@ impl Peer {
         self.put(Frame::Plead { channel, target }, self.client(channel), book)
     }
 
-    /// At most `bound` guarantees are issued from here on. Refused by 7, 8 and 13, in this order.
+    /// At most `bound` guarantees are issued from here on. Refused by 15, 7, 8 and 13, in this order.
     pub fn limit_receiving(&mut self, channel: Channel, bound: u64) -> Result<(), Refusal>
         ensures answer { result_err result ≡ refusal self.old (LimitReceiving channel bound) }
         ensures after { self.new ≡ (if is_ok result then put self.old (LimitReceiving channel bound) else self.old) }

@@ -1,6 +1,7 @@
 //! One side of a session as a value, and the one loop that goes over every script.
 mod bounds;
 mod deliveries;
+mod finished;
 mod generated;
 mod inbox;
 mod script;

@@ -9,7 +9,7 @@ use Rattle.lc_history.specs.Places.{ChangesAt}
 use Rattle.lc_history.proofs.Histories.{learned_same, made_one}
 use Rattle.lc_frame.specs.declared.channel.Channel.{Channel}
 use Rattle.lc_frame.specs.declared.frame.Frame.{Frame}
-use Rattle.lc_frame.specs.declared.frame.Frame.TheVariants.{Send, Issue, Absolve, Plead, LimitSending, LimitReceiving}
+use Rattle.lc_frame.specs.declared.frame.Frame.TheVariants.{Send, Issue, Absolve, Plead, LimitSending, LimitReceiving, Finish}
 use Rattle.lc_frame.specs.Channel.{number_of, is_same}
 use Rattle.lc_frame.specs.Frame.{channel_of, lane_of}
 use Rattle.lc_frame.specs.Stream.{of_lane, target_of, issue_of, issued, pleads, receive_left}
@@ -18,7 +18,7 @@ use Rattle.lc_frame.proofs.Channels.{cases_same, same_is_same, number_below}
 use Rattle.lc_frame.proofs.Measures.{issued-append, issued-one, issued-other, pleads-append, on-here, on-other, receive_left_then, receive_left-push, receive_left-other}
 use Rattle.lc_book.specs.Limit.{less}
 use Rattle.lc_book.specs.declared.fault.Violation.{Violation}
-use Rattle.lc_book.specs.declared.fault.Violation.TheVariants.{NotGuaranteed, SentPastLimit, AbsolvedTooMuch, SendLimitRaised, IssuedPastLimit, TooManyGuarantees, ReceiveLimitRaised, TotalPassed}
+use Rattle.lc_book.specs.declared.fault.Violation.TheVariants.{NotGuaranteed, SentPastLimit, AbsolvedTooMuch, SendLimitRaised, IssuedPastLimit, TooManyGuarantees, ReceiveLimitRaised, TotalPassed, AfterFinish}
 use Rattle.lc_credit.specs.declared.history.Entry.{Entry}
 use Rattle.lc_credit.specs.declared.history.Entry.TheVariants.{Received, Used, Returned, Asked, Taken}
 use Rattle.lc_credit.specs.History.{asked_of, targets_asked, is_incoming, MayFollow}
@@ -79,6 +79,7 @@ apart_lane : (d : Channel) (f : Frame) → is_same d (channel_of f) ≡ false �
 apart_lane d (Send c body) apart = apart_of_client c d apart
 apart_lane d (Absolve c amount) apart = apart_of_client c d apart
 apart_lane d (LimitSending c bound) apart = apart_of_client c d apart
+apart_lane d (Finish c) apart = apart_of_client c d apart
 apart_lane d (Issue c amount) apart = apart_of_server c d
 apart_lane d (Plead c target) apart = apart_of_server c d
 apart_lane d (LimitReceiving c bound) apart = apart_of_server c d
@@ -162,6 +163,7 @@ here_heard : (old new : ReadingSide) (arrived : List Frame) (f : Frame) → Arri
 here_heard old new arrived (Send c body) change h = inbox_heard old new arrived (Send c body) (same_channel c) refl refl refl change h
 here_heard old new arrived (Absolve c amount) change h = inbox_heard old new arrived (Absolve c amount) (same_channel c) refl refl refl change h
 here_heard old new arrived (LimitSending c bound) change h = inbox_heard old new arrived (LimitSending c bound) (same_channel c) refl refl refl change h
+here_heard old new arrived (Finish c) change h = inbox_heard old new arrived (Finish c) (same_channel c) refl refl refl change h
 here_heard old new arrived (Issue c amount) change h =
     let f : Frame = Issue c amount in
     let one : issued c (f ∷ []) ≡ amount = issued-one f ∙ omega arith in
@@ -199,6 +201,7 @@ arrives_there : (d : Channel) (old new : ReadingSide) (f : Frame) → is_same d 
 arrives_there d old new (Send c body) apart change = inbox_there c d old new (Hears (Send c body)) apart change
 arrives_there d old new (Absolve c amount) apart change = inbox_there c d old new (Hears (Absolve c amount)) apart change
 arrives_there d old new (LimitSending c bound) apart change = inbox_there c d old new (Hears (LimitSending c bound)) apart change
+arrives_there d old new (Finish c) apart change = inbox_there c d old new (Hears (Finish c)) apart change
 arrives_there d old new (Issue c amount) apart change = credit_there c d old new (IsAdded amount) apart change
 arrives_there d old new (Plead c target) apart change = credit_there c d old new (IsAsked target) apart change
 arrives_there d old new (LimitReceiving c bound) apart change = credit_there c d old new (IsLimited bound) apart change
@@ -256,6 +259,7 @@ not_added SentPastLimit n was is h = absurd h
 not_added AbsolvedTooMuch n was is h = absurd h
 not_added SendLimitRaised n was is h = absurd h
 not_added ReceiveLimitRaised n was is h = absurd h
+not_added AfterFinish n was is h = absurd h
 
 credit_kept : (c : Channel) (Changes : Incoming → Incoming → Type 0) (old new : ReadingSide) (arrived : List Frame) → ((was is : Incoming) → Changes was is → SameCounts was is) → ToCredit c Changes old new → HasHeardAll old arrived → HasHeardAll new arrived
 credit_kept c Changes old new arrived same change all d =
@@ -281,6 +285,7 @@ violates_kept : (v : Violation) (old new : ReadingSide) (arrived : List Frame) (
 violates_kept v old new arrived (Send c body) is all = inbox_kept c v (Send c body) old new arrived is all
 violates_kept v old new arrived (Absolve c amount) is all = inbox_kept c v (Absolve c amount) old new arrived is all
 violates_kept v old new arrived (LimitSending c bound) is all = inbox_kept c v (LimitSending c bound) old new arrived is all
+violates_kept v old new arrived (Finish c) is all = inbox_kept c v (Finish c) old new arrived is all
 violates_kept v old new arrived (Issue c amount) is all = credit_kept c (IsNotAdded v amount) old new arrived (not_added v amount) is all
 violates_kept v old new arrived (Plead c target) is all = absurd is
 violates_kept v old new arrived (LimitReceiving c bound) is all = credit_kept c (IsPastLimit bound) old new arrived (λ was is past. unchanged was is past.after) is.1 all

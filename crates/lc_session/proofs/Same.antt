@@ -7,10 +7,10 @@ use Rattle.lc_frame.specs.Held.{Held}
 use Rattle.lc_history.specs.Places.{ChangesAt}
 use Rattle.lc_frame.specs.declared.channel.Channel.{Channel}
 use Rattle.lc_frame.specs.declared.frame.Frame.{Frame}
-use Rattle.lc_frame.specs.declared.frame.Frame.TheVariants.{Send, Issue, Absolve, Plead, LimitSending, LimitReceiving}
+use Rattle.lc_frame.specs.declared.frame.Frame.TheVariants.{Send, Issue, Absolve, Plead, LimitSending, LimitReceiving, Finish}
 use Rattle.lc_frame.specs.Channel.{number_of}
 use Rattle.lc_book.specs.declared.fault.Violation.{Violation}
-use Rattle.lc_book.specs.declared.fault.Violation.TheVariants.{NotGuaranteed, SentPastLimit, AbsolvedTooMuch, SendLimitRaised, IssuedPastLimit, TooManyGuarantees, ReceiveLimitRaised, TotalPassed}
+use Rattle.lc_book.specs.declared.fault.Violation.TheVariants.{NotGuaranteed, SentPastLimit, AbsolvedTooMuch, SendLimitRaised, IssuedPastLimit, TooManyGuarantees, ReceiveLimitRaised, TotalPassed, AfterFinish}
 use Rattle.lc_peer.specs.declared.delivery.Stop.{Stop}
 use Rattle.lc_peer.specs.Deliveries.{violation_of}
 use Rattle.lc_peer.specs.Sinks.{AllArrive, IsNext}
@@ -88,11 +88,13 @@ not_added_same SentPastLimit n was is h = absurd h
 not_added_same AbsolvedTooMuch n was is h = absurd h
 not_added_same SendLimitRaised n was is h = absurd h
 not_added_same ReceiveLimitRaised n was is h = absurd h
+not_added_same AfterFinish n was is h = absurd h
 
 arrives_same : (old new : ReadingSide) (f : Frame) → Arrives old f new → IsSameReading old new
 arrives_same old new (Send c body) is = inbox_same c (Hears (Send c body)) old new (λ was now h. h.same) is
 arrives_same old new (Absolve c amount) is = inbox_same c (Hears (Absolve c amount)) old new (λ was now h. h.same) is
 arrives_same old new (LimitSending c bound) is = inbox_same c (Hears (LimitSending c bound)) old new (λ was now h. h.same) is
+arrives_same old new (Finish c) is = inbox_same c (Hears (Finish c)) old new (λ was now h. h.same) is
 arrives_same old new (Issue c amount) is = credit_same c (IsAdded amount) old new (added_same amount) is
 arrives_same old new (Plead c target) is = credit_same c (IsAsked target) old new (λ was now h. ap credit_in h.after) is
 arrives_same old new (LimitReceiving c bound) is = credit_same c (IsLimited bound) old new (λ was now h. ap credit_in h.after) is
@@ -101,6 +103,7 @@ violates_same : (v : Violation) (old new : ReadingSide) (f : Frame) → Violates
 violates_same v old new (Send c body) is = inbox_same c (Refuses v (Send c body)) old new (λ was now h. h.same) is
 violates_same v old new (Absolve c amount) is = inbox_same c (Refuses v (Absolve c amount)) old new (λ was now h. h.same) is
 violates_same v old new (LimitSending c bound) is = inbox_same c (Refuses v (LimitSending c bound)) old new (λ was now h. h.same) is
+violates_same v old new (Finish c) is = inbox_same c (Refuses v (Finish c)) old new (λ was now h. h.same) is
 violates_same v old new (Issue c amount) is = credit_same c (IsNotAdded v amount) old new (not_added_same v amount) is
 violates_same v old new (Plead c target) is = absurd is
 violates_same v old new (LimitReceiving c bound) is = credit_same c (IsPastLimit bound) old new (λ was now h. ap credit_in h.after) is.1

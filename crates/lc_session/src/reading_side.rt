@@ -135,7 +135,8 @@ impl<R: Wait> FrameSink<R> for ReadingSide {
             }
             FrameRef::Send { channel, .. }
             | FrameRef::Absolve { channel, .. }
-            | FrameRef::LimitSending { channel, .. } => {
+            | FrameRef::LimitSending { channel, .. }
+            | FrameRef::Finish { channel } => {
                 self.hear(rt, channel, frame)?;
                 self.wakers.frame_came(End::Receiving(channel));
                 Ok(())

@@ -112,9 +112,9 @@ impl RecvEnd {
     }
 
     /// Sleeps until something came that concerns this end since its last wait ended, or since the
-    /// session began: a message, an absolving or a limit on its channel, a free slot where a call
-    /// since then was refused by 13, or the end of a pump's run. What calls have found meanwhile ends
-    /// it too: look again after each wait.
+    /// session began: a message, an absolving, a limit or a Finish on its channel, a free slot where a
+    /// call since then was refused by 13, or the end of a pump's run. What calls have found meanwhile
+    /// ends it too: look again after each wait.
     pub fn wait<R: Wait>(&mut self, rt: &R) -> Wake
         ensures same { self.new ≡ self.old }
     {

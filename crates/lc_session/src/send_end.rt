@@ -1,9 +1,10 @@
 //! The sending end of a channel.
-ghost use Rattle.std.specs.Prelude.{◌≡◌, ◌≤◌, IfOk, IfErr, OnOk};
-ghost use Rattle.lc_frame.specs.Kind.{max_total};
-ghost use Rattle.lc_credit.specs.Sides.{LoadsOut};
+ghost use Rattle.std.specs.Prelude.{◌≡◌, ◌≤◌, IfOk, IfErr, OnOk, true, is_some};
+ghost use Rattle.lc_frame.specs.declared.kind.Kind.TheVariants.{Finish};
+ghost use Rattle.lc_frame.specs.Kind.{has, max_total};
+ghost use Rattle.lc_credit.specs.Sides.{IsUnfinished, Holds};
 ghost use Rattle.lc_outbox.specs.Outbox.{IsOutbox, IsSameOutbox};
-ghost use Rattle.lc_outbox.specs.Calls.{IsSent, IsNotSent, IsAbsolved, IsNotAbsolved, IsLimited, IsNotLimited};
+ghost use Rattle.lc_outbox.specs.Calls.{IsRefused, IsSent, IsNotSent, IsAbsolved, IsNotAbsolved, IsLimited, IsNotLimited, IsFinished, IsNotFinished};
 ghost use Rattle.lc_outbox.specs.Honours.{IsHonoured, IsPutOff};
 
 use crate::heeding::heed;
@@ -48,7 +49,7 @@ impl SendEnd {
 
     /// As [`Outbox::held`].
     pub fn held(&mut self) -> u64
-        ensures loads { LoadsOut result self.old.credit self.new.credit }
+        ensures holds { Holds result self.old.credit self.new.credit }
         ensures small { result ≤ max_total }
         ensures after { self.new ≡ record self.old { credit = self.new.credit } }
         ensures kept { IsOutbox self.new }
@@ -60,7 +61,8 @@ impl SendEnd {
     /// As [`Outbox::send`].
     pub fn send<R: Wait>(&mut self, rt: &R, body: &[u8]) -> Result<(), Refusal>
         ensures ok { OnOk result (IsSent body.now self.old self.new) }
-        ensures err { IfErr result (λ e. IsNotSent e body.now self.old self.new) }
+        ensures unfinished { OnOk result (IsUnfinished self.old.credit) }
+        ensures err { IfErr result (λ e. IsRefused e self.old self.new (IsNotSent e body.now self.old self.new)) }
         ensures kept { IsOutbox self.new }
         ensures same { IsSameOutbox self.old self.new }
     {
@@ -72,7 +74,8 @@ impl SendEnd {
     /// As [`Outbox::absolve`].
     pub fn absolve<R: Wait>(&mut self, rt: &R, n: u32) -> Result<(), Refusal>
         ensures ok { OnOk result (IsAbsolved n self.old self.new) }
-        ensures err { IfErr result (λ e. IsNotAbsolved e n self.old self.new) }
+        ensures unfinished { OnOk result (IsUnfinished self.old.credit) }
+        ensures err { IfErr result (λ e. IsRefused e self.old self.new (IsNotAbsolved e n self.old self.new)) }
         ensures kept { IsOutbox self.new }
         ensures same { IsSameOutbox self.old self.new }
     {
@@ -84,7 +87,8 @@ impl SendEnd {
     /// As [`Outbox::honour`].
     pub fn honour<R: Wait>(&mut self, rt: &R) -> Result<Option<u32>, Refusal>
         ensures ok { IfOk result (λ amount. IsHonoured amount self.old self.new) }
-        ensures err { IfErr result (λ e. IsPutOff e self.old self.new) }
+        ensures unfinished { OnOk result (IsUnfinished self.old.credit) }
+        ensures err { IfErr result (λ e. IsRefused e self.old self.new (IsPutOff e self.old self.new)) }
         ensures kept { IsOutbox self.new }
         ensures same { IsSameOutbox self.old self.new }
     {
@@ -96,7 +100,8 @@ impl SendEnd {
     /// As [`Outbox::limit`].
     pub fn limit<R: Wait>(&mut self, rt: &R, bound: u64) -> Result<(), Refusal>
         ensures ok { OnOk result (IsLimited bound self.old self.new) }
-        ensures err { IfErr result (λ e. IsNotLimited e bound self.old self.new) }
+        ensures unfinished { OnOk result (IsUnfinished self.old.credit) }
+        ensures err { IfErr result (λ e. IsRefused e self.old self.new (IsNotLimited e bound self.old self.new)) }
         ensures kept { IsOutbox self.new }
         ensures same { IsSameOutbox self.old self.new }
     {
@@ -105,13 +110,40 @@ impl SendEnd {
         answer
     }
 
+    /// As [`Outbox::finish`].
+    pub fn finish<R: Wait>(&mut self, rt: &R) -> Result<(), Refusal>
+        ensures ok { OnOk result (IsFinished self.old self.new) }
+        ensures known { OnOk result (has self.old.lane.version Finish ≡ true) }
+        ensures unfinished { OnOk result (IsUnfinished self.old.credit) }
+        ensures err { IfErr result (λ e. IsNotFinished e self.old self.new) }
+        ensures kept { IsOutbox self.new }
+        ensures same { IsSameOutbox self.old self.new }
+    {
+        let answer = self.outbox.finish(rt);
+        heed(&mut self.waiter, &answer);
+        answer
+    }
+
+    /// As [`Outbox::is_finished`].
+    pub fn is_finished(&self) -> bool
+        ensures value { result ≡ is_some self.now.credit.waived }
+        ensures kept { IsOutbox self.now }
+    {
+        self.outbox.is_finished()
+    }
+
     /// Sleeps until something came that concerns this end since its last wait ended, or since the
     /// session began: guarantees or a plead on its channel, a free slot where a call since then was
     /// refused by 13, or the end of a pump's run. What calls have found meanwhile ends it too: look
     /// again after each wait.
+    ///
+    /// Nothing that comes concerns a finished end: it does not sleep, and the answer is `Over`.
     pub fn wait<R: Wait>(&mut self, rt: &R) -> Wake
         ensures same { self.new ≡ self.old }
     {
+        if self.outbox.is_finished() {
+            return Wake::Over;
+        }
         self.waiter.wait(rt)
     }
 
@@ -119,6 +151,9 @@ impl SendEnd {
     pub fn wait_timeout<R: Wait + Clock>(&mut self, rt: &R, timeout: Duration) -> Wake
         ensures same { self.new ≡ self.old }
     {
+        if self.outbox.is_finished() {
+            return Wake::Over;
+        }
         self.waiter.wait_timeout(rt, timeout)
     }
 

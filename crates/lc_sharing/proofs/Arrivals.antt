@@ -1,11 +1,14 @@
 -- What arrives at a side, frame by frame, and the first of a list.
-use Rattle.std.proofs.Common.{◌≡◌, ℕ, zero, suc, List, [], ◌∷◌, ◌++◌, length, take, refl, sym, ap, ◌∙◌, append-nil}
+use Rattle.std.proofs.Common.{◌≡◌, ℕ, zero, suc, List, [], ◌∷◌, ◌++◌, length, take, Result, Ok, Err, refl, sym, ap, ◌∙◌, append-nil}
+use Rattle.std.specs.Prelude.{OnOk, IfErr}
+use Rattle.lc_frame.specs.declared.channel.Channel.{Channel}
 use Rattle.lc_frame.specs.declared.frame.Frame.{Frame}
 use Rattle.lc_frame.specs.declared.frame.Frame.TheVariants.{Send, LimitSending}
 use Rattle.lc_frame.specs.Stream.{messages}
 use Rattle.lc_frame.proofs.Measures.{messages-append, messages-one}
+use Rattle.lc_book.specs.declared.fault.Violation.{Violation}
 use Rattle.lc_inbox.specs.History.{heard, took}
-use Rattle.lc_inbox.specs.Sides.{Side, IsSameSide, TookTheFirst}
+use Rattle.lc_inbox.specs.Sides.{Side, IsSameSide, IsHeard, IsViolated, TookTheFirst}
 use Rattle.lc_sharing.specs.Arrivals.{arrived, HeardTheFirst}
 
 -- nothing more was heard
@@ -19,8 +22,13 @@ one_heard old new f same hears = (λ i. messages (same.key i).channel (hears i))
 pub message_arrived : (old new : Side) (body : List ℕ) → IsSameSide old new → heard new.seen ≡ heard old.seen ++ Send old.key.channel body ∷ [] → arrived new ≡ arrived old ++ body ∷ []
 message_arrived old new body same hears = one_heard old new (Send old.key.channel body) same hears ∙ ap (λ (ms : List (List ℕ)). arrived old ++ ms) (messages-one (Send old.key.channel body))
 
-pub limit_arrived : (old new : Side) (bound : ℕ) → IsSameSide old new → heard new.seen ≡ heard old.seen ++ LimitSending old.key.channel bound ∷ [] → arrived new ≡ arrived old
+limit_arrived : (old new : Side) (bound : ℕ) → IsSameSide old new → heard new.seen ≡ heard old.seen ++ LimitSending old.key.channel bound ∷ [] → arrived new ≡ arrived old
 limit_arrived old new bound same hears = one_heard old new (LimitSending old.key.channel bound) same hears ∙ (ap (λ (ms : List (List ℕ)). arrived old ++ ms) (messages-one (LimitSending old.key.channel bound)) ∙ append-nil (arrived old))
+
+-- whether the limit is heard or refused, no message is
+pub limit_answered : (answer : Result (Unit {0}) Violation) (d : Channel) (bound : ℕ) (old new : Side) → d ≡ old.key.channel → IsSameSide old new → OnOk answer (IsHeard (LimitSending d bound) old new) → IfErr answer (λ v. IsViolated v (LimitSending d bound) old new) → arrived new ≡ arrived old
+limit_answered (Ok u) d bound old new on same ok err = limit_arrived old new bound same (ok.heard ∙ ap (λ (c : Channel). heard old.seen ++ LimitSending c bound ∷ []) on)
+limit_answered (Err v) d bound old new on same ok err = same_arrived old new same err.heard
 
 -- the first so many of a list are as many as they are
 take_again : {A : Type 0} (n : ℕ) (xs : List A) → take n xs ≡ take (length (take n xs)) xs

@@ -48,17 +48,15 @@ fn hear_each<R: Wait>(rt: &R, incoming: &mut InboxIn, drain: &mut Drain, given: 
     }
 }
 
-// The client's limit arrives, which raises none before it: no more messages come.
+// The client's limit arrives, which raises none before it: no more messages come. Only behind a
+// Finish it is refused, which has said so.
 fn hear_end<R: Wait>(rt: &R, incoming: &mut InboxIn)
     ensures same { IsSameSide incoming.old incoming.new }
     ensures arrived { arrived incoming.new ≡ arrived incoming.old }
 {
     let channel = incoming.channel();
     let frame = FrameRef::LimitSending { channel, bound: 0 };
-    match incoming.arrive(rt, frame) {
-        Ok(()) => {}
-        Err(_) => unreachable!(),
-    }
+    let _answer = incoming.arrive(rt, frame);
 }
 
 fn hear_all<R: Wait>(rt: &R, mut incoming: InboxIn, mut drain: Drain, given: Vec<Body>) -> InboxIn

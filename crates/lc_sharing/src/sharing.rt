@@ -1,6 +1,6 @@
 //! Eight threads that share seven credits.
 ghost use Rattle.std.specs.Prelude.{◌≡◌, ℕ, ◌<◌, map, length, slice_index_or, All};
-ghost use Rattle.lc_credit.specs.Sides.{Outgoing, IsIdle};
+ghost use Rattle.lc_credit.specs.Sides.{Outgoing, IsIdle, IsUnfinished};
 ghost use Rattle.lc_credit.specs.Channels.{credit_out, AreMatched, SameCredit, SameCredits};
 
 use lc_credit::{Balance, CreditIn, CreditOut, CreditParts, credits, settle};
@@ -32,6 +32,7 @@ pub fn balances_agree<R: Threads + Sync>(
         held: 0,
         spent: rounds * u64::from(SPENT),
         absolved: rounds * u64::from(ABSOLVED),
+        waived: 0,
     };
     let balances = settle(parts);
     Ok(balances.iter().all(|balance| *balance == want))
@@ -41,6 +42,7 @@ pub fn balances_agree<R: Threads + Sync>(
 fn meanwhile<R: Threads + Sync>(rt: &R, parts: CreditParts, rounds: u32) -> CreditParts
     requires matched { AreMatched parts.incoming parts.outgoing }
     requires idle { All IsIdle parts.outgoing }
+    requires unfinished { All IsUnfinished parts.outgoing }
     ensures matched { AreMatched result.incoming result.outgoing }
     ensures idle { All IsIdle result.outgoing }
 {
@@ -51,7 +53,7 @@ fn meanwhile<R: Threads + Sync>(rt: &R, parts: CreditParts, rounds: u32) -> Cred
             ensures { SameCredits incoming result }
         { receive_all(incoming, rounds) },
         || -> [CreditOut; 7]
-            requires { All IsIdle outgoing }
+            requires { All IsIdle outgoing × All IsUnfinished outgoing }
             ensures { (map credit_out result ≡ map credit_out outgoing) × All IsIdle result }
         { use_all(rt, outgoing, rounds) },
     );
@@ -86,7 +88,8 @@ fn receive(incoming: &mut CreditIn, channel: Channel, round: u32)
 }
 
 fn use_all<R: Threads + Sync>(rt: &R, mut outgoing: [CreditOut; 7], rounds: u32) -> [CreditOut; 7]
-    requires { All IsIdle outgoing }
+    requires idle { All IsIdle outgoing }
+    requires unfinished { All IsUnfinished outgoing }
     ensures same { map credit_out result ≡ map credit_out outgoing }
     ensures idle { All IsIdle result }
 {
@@ -96,7 +99,8 @@ fn use_all<R: Threads + Sync>(rt: &R, mut outgoing: [CreditOut; 7], rounds: u32)
 
 // Each end in a thread of its own.
 fn use_each<R: Threads + Sync>(rt: &R, ends: &mut [CreditOut; 7], rounds: u32)
-    requires { All IsIdle ends.old }
+    requires idle { All IsIdle ends.old }
+    requires unfinished { All IsUnfinished ends.old }
     ensures len { length ends.new ≡ length ends.old }
     ensures same { (k : ℕ) (d : Outgoing) → k < length ends.old → SameCredit (slice_index_or ends.old k d) (slice_index_or ends.new k d) }
     ensures idle { All IsIdle ends.new }
@@ -107,7 +111,8 @@ fn use_each<R: Threads + Sync>(rt: &R, ends: &mut [CreditOut; 7], rounds: u32)
 // Uses up what comes in so many rounds, and takes targets up to the last. Gives up on a target that
 // is not above the one before it.
 fn use_up(end: &mut CreditOut, rounds: u32)
-    requires { IsIdle end.old }
+    requires idle { IsIdle end.old }
+    requires unfinished { IsUnfinished end.old }
     ensures same { SameCredit end.old end.new }
     ensures idle { IsIdle end.new }
 {
@@ -136,9 +141,11 @@ fn use_up(end: &mut CreditOut, rounds: u32)
 
 // Spends what was given back once.
 fn spend(end: &mut CreditOut) -> bool
-    requires { IsIdle end.old }
+    requires idle { IsIdle end.old }
+    requires unfinished { IsUnfinished end.old }
     ensures same { SameCredit end.old end.new }
     ensures idle { IsIdle end.new }
+    ensures unfinished { IsUnfinished end.new }
 {
     if let Err(_) = end.spend(SPENT) {
         return false;
@@ -152,9 +159,11 @@ fn spend(end: &mut CreditOut) -> bool
 }
 
 fn absolve(end: &mut CreditOut) -> bool
-    requires { IsIdle end.old }
+    requires idle { IsIdle end.old }
+    requires unfinished { IsUnfinished end.old }
     ensures same { SameCredit end.old end.new }
     ensures idle { IsIdle end.new }
+    ensures unfinished { IsUnfinished end.new }
 {
     if let Err(_) = end.absolve(ABSOLVED) {
         return false;

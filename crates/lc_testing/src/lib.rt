@@ -7,5 +7,5 @@ mod streams;
 mod words;
 
 pub use devices::{Odd, Pipe, PipeReader, PipeWriter, Plan};
-pub use streams::{FAILED_WRITES, HOSTILE, Hostile, THREE_FRAMES};
+pub use streams::{FAILED_WRITES, FINISHED, HOSTILE, Hostile, THREE_FRAMES};
 pub use words::{channel, number, plan_of, text};

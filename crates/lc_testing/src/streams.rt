@@ -39,7 +39,7 @@ const NOTHING: Hostile = Hostile {
     taken: "Ok(Empty)",
 };
 
-/// One for each violation but the last and for each fault, one that is cut, and one that is lawful.
+/// One for each violation from V1 to V7 and for each fault, one that is cut, and one that is lawful.
 pub const HOSTILE: [Hostile; 13] = [
     Hostile {
         own: "issue 1 1 => Ok(())\n",
@@ -136,6 +136,64 @@ pub const HOSTILE: [Hostile; 13] = [
         in_two: "4c434d02604000000000000000",
         channel: 0,
         receive_left: Some(4_611_686_018_427_387_904),
+        ..NOTHING
+    },
+];
+
+/// Streams with a Finish, which version Two alone has: each frame of the client behind it, one that is
+/// cut behind it, one that is lawful, where frames of the server still come, and one where those of
+/// another channel do.
+pub const FINISHED: [Hostile; 7] = [
+    Hostile {
+        own: "issue 1 4 => Ok(())\n",
+        in_two: "4c434d0271110000000161",
+        end: "Violated(AfterFinish)",
+        taken: "Ok(Ended)",
+        ..NOTHING
+    },
+    Hostile {
+        own: "issue 1 4 => Ok(())\n",
+        in_two: "4c434d02713100000001",
+        end: "Violated(AfterFinish)",
+        taken: "Ok(Ended)",
+        ..NOTHING
+    },
+    Hostile {
+        in_two: "4c434d0251000000000000000171510000000000000002",
+        end: "Violated(AfterFinish)",
+        server: "outstanding 0 buffered 0 Some(1)",
+        taken: "Ok(Ended)",
+        ..NOTHING
+    },
+    Hostile {
+        in_two: "4c434d027171",
+        end: "Violated(AfterFinish)",
+        taken: "Ok(Ended)",
+        ..NOTHING
+    },
+    Hostile {
+        own: "issue 1 8 => Ok(())\n",
+        in_two: "4c434d0211000000026162711100",
+        end: "Truncated",
+        server: "outstanding 0 buffered 2 None",
+        taken: "6162",
+        ..NOTHING
+    },
+    Hostile {
+        own: "issue 1 8 => Ok(())\n",
+        in_two: "4c434d02110000000261627121000000054100000003610000000000000002",
+        server: "outstanding 0 buffered 2 None",
+        held: 5,
+        receive_left: Some(2),
+        taken: "6162",
+        ..NOTHING
+    },
+    Hostile {
+        own: "issue 1 8 => Ok(())\n",
+        in_two: "4c434d02721100000002616272",
+        end: "Violated(AfterFinish)",
+        server: "outstanding 6 buffered 2 None",
+        taken: "6162",
         ..NOTHING
     },
 ];

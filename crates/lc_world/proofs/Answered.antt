@@ -8,14 +8,15 @@ use Rattle.lc_frame.specs.declared.frame.Frame.{Frame}
 use Rattle.lc_frame.specs.declared.frame.Frame.TheVariants as frame
 use Rattle.lc_frame.proofs.Channels.{some_same}
 use Rattle.lc_book.specs.declared.fault.Refusal.{Refusal}
-use Rattle.lc_peer.specs.Peer.{PeerState}
-use Rattle.lc_peer.specs.Calls.{refusal_by_books, refusal, queue_refusal, IsSendAnswer, put, due, honour_refusal, put_honour}
+use Rattle.lc_book.specs.Client.{honour_refusal as book_honour_refusal}
+use Rattle.lc_peer.specs.Peer.{PeerState, client}
+use Rattle.lc_peer.specs.Calls.{refusal_by_books, refusal, queue_refusal, IsSendAnswer, put, due, absolving_refusal, honour_refusal, put_honour}
 use Rattle.lc_world.specs.declared.event.Act.{Act}
-use Rattle.lc_world.specs.declared.event.Act.TheVariants.{Send, Issue, Plead, Absolve, Honour, LimitSending, LimitReceiving}
+use Rattle.lc_world.specs.declared.event.Act.TheVariants.{Send, Issue, Plead, Absolve, Honour, LimitSending, LimitReceiving, Finish}
 use Rattle.lc_world.specs.declared.event.Answer.{Answer}
 use Rattle.lc_world.specs.declared.event.Answer.TheVariants.{Accepted, Refused}
-use Rattle.lc_world.specs.Answers.{judged, honoured}
-use Rattle.lc_world.specs.Calls.{own_channel, after_call, honour_answer, Called}
+use Rattle.lc_world.specs.Answers.{judged, honoured, honour_judged}
+use Rattle.lc_world.specs.Calls.{own_channel, after_call, honour_returned, Called}
 
 or_none : (o : Option Refusal) → option_or o None ≡ o
 or_none None = refl
@@ -56,6 +57,9 @@ module _ (p new : PeerState) (free : queue_refusal p ≡ None) (r : Result (Unit
   limits_receiving : (c : Channel) (n : ℕ) → result_err r ≡ refusal p (frame.LimitReceiving c n) → Leaves p new (frame.LimitReceiving c n) r → Calls (LimitReceiving c n)
   limits_receiving c n e l = record { right = inl (right_is (frame.LimitReceiving c n) e); after = left p new (LimitReceiving c n) (frame.LimitReceiving c n) refl (λ e. refl) r answer told l }
 
+  finishes : (c : Channel) → result_err r ≡ refusal p (frame.Finish c) → Leaves p new (frame.Finish c) r → Calls (Finish c)
+  finishes c e l = record { right = inl (right_is (frame.Finish c) e); after = left p new (Finish c) (frame.Finish c) refl (λ e. refl) r answer told l }
+
   sends : (c : Channel) (body : List ℕ) → IsSendAnswer p (frame.Send c body) (result_err r) → Leaves p new (frame.Send c body) r → Calls (Send c body)
   sends c body h l =
       record {
@@ -87,24 +91,33 @@ module _ (p new : PeerState) (free : queue_refusal p ≡ None) (r : Result (Unit
   pub limit_receiving_called : (act : Act) (c d : Channel) (n : ℕ) → act ≡ LimitReceiving d n → own_channel act ≡ Some c → result_err r ≡ refusal p (frame.LimitReceiving c n) → Leaves p new (frame.LimitReceiving c n) r → Calls act
   limit_receiving_called act c d n e own a l = at_channel (λ x. LimitReceiving x n) c act d e own refl (limits_receiving c n a l)
 
+  pub finish_called : (act : Act) (c d : Channel) → act ≡ Finish d → own_channel act ≡ Some c → result_err r ≡ refusal p (frame.Finish c) → Leaves p new (frame.Finish c) r → Calls act
+  finish_called act c d e own a l = at_channel (λ x. Finish x) c act d e own refl (finishes c a l)
+
   pub send_called : (act : Act) (c d : Channel) (body : List ℕ) → act ≡ Send d body → own_channel act ≡ Some c → IsSendAnswer p (frame.Send c body) (result_err r) → Leaves p new (frame.Send c body) r → Calls act
   send_called act c d body e own a l = at_channel (λ x. Send x body) c act d e own refl (sends c body a l)
 
 -- an honour
 module _ (p new : PeerState) (free : queue_refusal p ≡ None) (c : Channel) where
-  never_refused : (o : Option ℕ) → honour_refusal p o ≡ None
-  never_refused None = refl
-  never_refused (Some n) = free
+  has_a_slot : (o : Option ℕ) → absolving_refusal p o ≡ None
+  has_a_slot None = refl
+  has_a_slot (Some n) = free
+
+  by_book : honour_refusal p c ≡ book_honour_refusal (client p c)
+  by_book = ap (λ (o : Option Refusal). option_or (book_honour_refusal (client p c)) o) (has_a_slot (due p c)) ∙ or_none (book_honour_refusal (client p c))
 
   after_honour : (o : Option ℕ) (answer : Answer) → answer ≡ honoured o → new ≡ put_honour p c → new ≡ after_call (Honour c) answer p
   after_honour None answer ea en = en ∙ ap (λ (a : Answer). after_call (Honour c) a p) (sym ea)
   after_honour (Some n) answer ea en = en ∙ ap (λ (a : Answer). after_call (Honour c) a p) (sym ea)
 
-  honours : (r : Result (Option ℕ) Refusal) (answer : Answer) → answer ≡ honour_answer r → result_err r ≡ honour_refusal p (due p c) → IfOk r (λ amount. amount ≡ due p c) → new ≡ (if is_ok r then put_honour p c else p) → Called p new (Honour c) answer
-  honours (Ok o) answer told e amount l = record { right = inl (told ∙ ap honoured amount); after = after_honour o answer told l }
-  honours (Err r) answer told e amount l = absurd (let none : Some r ≡ None = e ∙ never_refused (due p c) in cc)
+  judged_by : (o : Option Refusal) → o ≡ honour_refusal p c → honour_judged o (due p c) ≡ honour_judged (book_honour_refusal (client p c)) (due p c)
+  judged_by o e = ap (λ (x : Option Refusal). honour_judged x (due p c)) (e ∙ by_book)
 
-  pub honour_called : (r : Result (Option ℕ) Refusal) (act : Act) (d : Channel) (answer : Answer) → act ≡ Honour d → own_channel act ≡ Some c → answer ≡ honour_answer r → result_err r ≡ honour_refusal p (due p c) → IfOk r (λ amount. amount ≡ due p c) → new ≡ (if is_ok r then put_honour p c else p) → Called p new act answer
+  honours : (r : Result (Option ℕ) Refusal) (answer : Answer) → answer ≡ honour_returned r → result_err r ≡ honour_refusal p c → IfOk r (λ amount. amount ≡ due p c) → new ≡ (if is_ok r then put_honour p c else p) → Called p new (Honour c) answer
+  honours (Ok o) answer told e amount l = record { right = inl (told ∙ (ap honoured amount ∙ judged_by None e)); after = after_honour o answer told l }
+  honours (Err r) answer told e amount l = record { right = inl (told ∙ judged_by (Some r) e); after = l ∙ ap (λ (a : Answer). after_call (Honour c) a p) (sym told) }
+
+  pub honour_called : (r : Result (Option ℕ) Refusal) (act : Act) (d : Channel) (answer : Answer) → act ≡ Honour d → own_channel act ≡ Some c → answer ≡ honour_returned r → result_err r ≡ honour_refusal p c → IfOk r (λ amount. amount ≡ due p c) → new ≡ (if is_ok r then put_honour p c else p) → Called p new act answer
   honour_called r act d answer ea own told e amount l =
       let same : d ≡ c = some_same d c (ap own_channel (sym ea) ∙ own) in
       subst (λ (a : Act). Called p new a answer) (sym (ea ∙ ap (λ (x : Channel). Honour x) same)) (honours r answer told e amount l)

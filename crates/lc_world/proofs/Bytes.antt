@@ -16,8 +16,8 @@ use Rattle.lc_world.specs.declared.event.Act.{Act}
 use Rattle.lc_world.specs.declared.event.Act.TheVariants.{Honour, Arrive, Deliver, Take}
 use Rattle.lc_world.specs.declared.event.Answer.{Answer}
 use Rattle.lc_world.specs.declared.event.Answer.TheVariants.{Absolved, NothingToAbsolve, Arrived, Delivered, Took}
-use Rattle.lc_world.specs.State.{State, Versions, opening, Line, new_line, line, stream, size, arrive_first, arrive_on, deliver_over, deliver_on}
-use Rattle.lc_world.specs.Answers.{bytes_in_flight, put_any, frame_put, theirs_after, state_after, after}
+use Rattle.lc_world.specs.State.{State, Versions, opening, Line, new_line, line, stream, size, arrive_first, arrive_on, deliver_over, deliver_on, forget_finished}
+use Rattle.lc_world.specs.Answers.{bytes_in_flight, put_any, frame_put, mine_after, theirs_after, state_after, after}
 use Rattle.lc_world.specs.Histories.{History, after_all}
 use Rattle.lc_world.specs.Guarantee.{state_of}
 use Rattle.lc_world.specs.Delivery.{bytes_of, text_of, delivered, HasBegun, IsInOrder, IsCutByBytes, EveryStreamIsCutByBytes, DeliveriesAddUp}
@@ -137,14 +137,17 @@ order_theirs mine l (Honour c) (Absolved n) h = record { begun = h.begun; part =
 order_theirs mine l (Honour c) NothingToAbsolve h = record { begun = h.begun; part = h.part; first = h.first }
 order_theirs mine l act a h = h
 
+order_forgets : (x l : Line) → IsInOrder l → IsInOrder (forget_finished x l)
+order_forgets x l h = record { begun = h.begun; part = h.part; first = h.first }
+
 abbrev BothAreInOrder : State → Type 0
 BothAreInOrder w = (s : Side) → IsInOrder (line w s)
 
 order_step : (w : State) (side : Side) (act : Act) (a : Answer) → BothAreInOrder w → BothAreInOrder (state_after w side act a)
-order_step w A act a h A = order_mine w.a (frame_put act a) (h A)
-order_step w A act a h B = order_theirs w.a w.b act a (h B)
-order_step w B act a h A = order_theirs w.b w.a act a (h A)
-order_step w B act a h B = order_mine w.b (frame_put act a) (h B)
+order_step w A act a h A = order_forgets (theirs_after w.a w.b act a) (mine_after w.a w.b act a) (order_mine w.a (frame_put act a) (h A))
+order_step w A act a h B = order_forgets (mine_after w.a w.b act a) (theirs_after w.a w.b act a) (order_theirs w.a w.b act a (h B))
+order_step w B act a h A = order_forgets (mine_after w.b w.a act a) (theirs_after w.b w.a act a) (order_theirs w.b w.a act a (h A))
+order_step w B act a h B = order_forgets (theirs_after w.b w.a act a) (mine_after w.b w.a act a) (order_mine w.b (frame_put act a) (h B))
 
 order_all : (w : State) (history : History) → BothAreInOrder w → BothAreInOrder (after_all w history)
 order_all w [] h = h

@@ -26,18 +26,17 @@ use Rattle.lc_peer.specs.Calls.{book_refusal, refusal_by_books, put, due, absolv
 use Rattle.lc_peer.specs.Streams.{IsChannelOf, IsEndOf, Streams, IsPeerOf, at, then_put, then_honours}
 use Rattle.lc_peer.proofs.StreamsKept.{calls_keep_streams}
 use Rattle.lc_world.specs.declared.endpoint.Endpoint.{Endpoint}
-use Rattle.lc_world.specs.declared.event.Side.TheVariants.{A}
 use Rattle.lc_world.specs.declared.event.Act.{Act}
-use Rattle.lc_world.specs.declared.event.Act.TheVariants.{Send, Issue, Plead, Absolve, Honour, LimitSending, LimitReceiving, Arrive, Deliver, Take}
+use Rattle.lc_world.specs.declared.event.Act.TheVariants.{Send, Issue, Plead, Absolve, Honour, LimitSending, LimitReceiving, Finish, Arrive, Deliver, Take}
 use Rattle.lc_world.specs.declared.event.Answer.{Answer}
 use Rattle.lc_world.specs.declared.event.Answer.TheVariants.{Accepted, Absolved, NothingToAbsolve, Refused}
 use Rattle.lc_world.specs.State.{Line, stream, client_book, server_book, put_on, forget_on, size}
-use Rattle.lc_world.specs.Answers.{judged, honoured, frame_put, MayWantMemory, IsUnlessMemory, IsAnswerOf, put_any, mine_after, theirs_after}
+use Rattle.lc_world.specs.Answers.{judged, honour_judged, honour_answer, frame_put, MayWantMemory, IsUnlessMemory, IsAnswerOf, put_any, mine_after, theirs_after}
 use Rattle.lc_world.specs.Delivery.{bytes_of, text_of, delivered, IsInOrder}
 use Rattle.lc_world.specs.Endpoint.{line_of, capacity_of, streams_of, of_lines, IsPeerBetween, IsEnd, IsLine, AreEnds, AreInStep, Acts, held_of}
 use Rattle.lc_world.specs.Calls.{with_next, own_channel, put_any_at, after_call, IsCallAnswer, Called}
 use Rattle.lc_world.proofs.Streams.{stream-put}
-use Rattle.lc_world.proofs.Steps.{sound_step}
+use Rattle.lc_world.proofs.Steps.{sound_lines}
 use Rattle.lc_world.proofs.Bytes.{none_or_some, begun_within, order_mine, bytes-append, text-length, within_it, behind_it}
 use Rattle.lc_world.proofs.Parts.{each_append}
 use Rattle.lc_world.proofs.Ends.{client_is, server_is}
@@ -83,13 +82,15 @@ text_put l f =
     ∙ sym (append_assoc (greeting v) (bytes_of v (stream l)) (encoding v f)))
 
 -- the answer to an honour says what is due
-absolved_due : (o : Option ℕ) (amount : ℕ) → (Absolved amount ≡ honoured o) ⊎ (Unit {0} × (Absolved amount ≡ Refused OutOfMemory)) → o ≡ Some amount
-absolved_due None amount h = elim h [ inl e ↦ cc | inr p ↦ let e = p.1 in cc ]
-absolved_due (Some n) amount h = elim h [ inl e ↦ cc | inr p ↦ let e = p.1 in cc ]
+absolved_due : (r : Option Refusal) (o : Option ℕ) (amount : ℕ) → (Absolved amount ≡ honour_judged r o) ⊎ (Unit {0} × (Absolved amount ≡ Refused OutOfMemory)) → o ≡ Some amount
+absolved_due (Some r) o amount h = elim h [ inl e ↦ cc | inr p ↦ let e = p.1 in cc ]
+absolved_due None None amount h = elim h [ inl e ↦ cc | inr p ↦ let e = p.1 in cc ]
+absolved_due None (Some n) amount h = elim h [ inl e ↦ cc | inr p ↦ let e = p.1 in cc ]
 
-nothing_due : (o : Option ℕ) → (NothingToAbsolve ≡ honoured o) ⊎ (Unit {0} × (NothingToAbsolve ≡ Refused OutOfMemory)) → o ≡ None
-nothing_due None h = refl
-nothing_due (Some n) h = elim h [ inl e ↦ cc | inr p ↦ let e = p.1 in cc ]
+nothing_due : (r : Option Refusal) (o : Option ℕ) → (NothingToAbsolve ≡ honour_judged r o) ⊎ (Unit {0} × (NothingToAbsolve ≡ Refused OutOfMemory)) → o ≡ None
+nothing_due (Some r) o h = elim h [ inl e ↦ cc | inr p ↦ let e = p.1 in cc ]
+nothing_due None None h = refl
+nothing_due None (Some n) h = elim h [ inl e ↦ cc | inr p ↦ let e = p.1 in cc ]
 
 -- the peer after the call, when what it put has gone out
 module _ (k : ℕ) (mine theirs : Line) (p : PeerState) (h : IsPeerBetween k mine theirs p) where
@@ -132,14 +133,15 @@ module _ (k : ℕ) (mine theirs : Line) (p : PeerState) (h : IsPeerBetween k min
   called Arrive answer d e places r = absurd (let f = e in cc)
   called (Deliver count) answer d e places r = absurd (let f = e in cc)
   called (Take c) answer d e places r = absurd (let f = e in cc)
-  called (Honour c) (Absolved n) d e places r = honours c (Some n) (put_on mine (frame.Absolve c n)) refl (omega (arith, places, number_below c)) (due_is c ∙ absolved_due _ n r) (sym (stream-put mine (frame.Absolve c n)))
-  called (Honour c) NothingToAbsolve d e places r = honours c None mine refl (omega (arith, places, number_below c)) (due_is c ∙ nothing_due _ r) (append-nil (stream mine))
+  called (Honour c) (Absolved n) d e places r = honours c (Some n) (put_on mine (frame.Absolve c n)) refl (omega (arith, places, number_below c)) (due_is c ∙ absolved_due _ _ n r) (sym (stream-put mine (frame.Absolve c n)))
+  called (Honour c) NothingToAbsolve d e places r = honours c None mine refl (omega (arith, places, number_below c)) (due_is c ∙ nothing_due _ _ r) (append-nil (stream mine))
   called (Send c body) Accepted d e places r = puts (frame.Send c body)
   called (Issue c n) Accepted d e places r = puts (frame.Issue c n)
   called (Plead c n) Accepted d e places r = puts (frame.Plead c n)
   called (Absolve c n) Accepted d e places r = puts (frame.Absolve c n)
   called (LimitSending c n) Accepted d e places r = puts (frame.LimitSending c n)
   called (LimitReceiving c n) Accepted d e places r = puts (frame.LimitReceiving c n)
+  called (Finish c) Accepted d e places r = puts (frame.Finish c)
   called act answer d e places r = stays
 
 -- what the two lines keep
@@ -223,14 +225,15 @@ module _ (k : ℕ) (mine theirs : Line) where
   next_is Arrive answer d p e h r = absurd (let f = e in cc)
   next_is (Deliver count) answer d p e h r = absurd (let f = e in cc)
   next_is (Take c) answer d p e h r = absurd (let f = e in cc)
-  next_is (Honour c) (Absolved n) d p e h r = ap (λ (fs : List Frame). slice_get (fs ++ absolvings c (due p c)) 0) h.none_waits ∙ ap (λ (o : Option ℕ). slice_get (absolvings c o) 0) (due_is k mine theirs p h c ∙ absolved_due _ n r)
-  next_is (Honour c) NothingToAbsolve d p e h r = ap (λ (fs : List Frame). slice_get (fs ++ absolvings c (due p c)) 0) h.none_waits ∙ ap (λ (o : Option ℕ). slice_get (absolvings c o) 0) (due_is k mine theirs p h c ∙ nothing_due _ r)
+  next_is (Honour c) (Absolved n) d p e h r = ap (λ (fs : List Frame). slice_get (fs ++ absolvings c (due p c)) 0) h.none_waits ∙ ap (λ (o : Option ℕ). slice_get (absolvings c o) 0) (due_is k mine theirs p h c ∙ absolved_due _ _ n r)
+  next_is (Honour c) NothingToAbsolve d p e h r = ap (λ (fs : List Frame). slice_get (fs ++ absolvings c (due p c)) 0) h.none_waits ∙ ap (λ (o : Option ℕ). slice_get (absolvings c o) 0) (due_is k mine theirs p h c ∙ nothing_due _ _ r)
   next_is (Send c body) Accepted d p e h r = ap (λ (fs : List Frame). slice_get (fs ++ frame.Send c body ∷ []) 0) h.none_waits
   next_is (Issue c n) Accepted d p e h r = ap (λ (fs : List Frame). slice_get (fs ++ frame.Issue c n ∷ []) 0) h.none_waits
   next_is (Plead c n) Accepted d p e h r = ap (λ (fs : List Frame). slice_get (fs ++ frame.Plead c n ∷ []) 0) h.none_waits
   next_is (Absolve c n) Accepted d p e h r = ap (λ (fs : List Frame). slice_get (fs ++ frame.Absolve c n ∷ []) 0) h.none_waits
   next_is (LimitSending c n) Accepted d p e h r = ap (λ (fs : List Frame). slice_get (fs ++ frame.LimitSending c n ∷ []) 0) h.none_waits
   next_is (LimitReceiving c n) Accepted d p e h r = ap (λ (fs : List Frame). slice_get (fs ++ frame.LimitReceiving c n ∷ []) 0) h.none_waits
+  next_is (Finish c) Accepted d p e h r = ap (λ (fs : List Frame). slice_get (fs ++ frame.Finish c ∷ []) 0) h.none_waits
   next_is act answer d p e h r = ap (λ (fs : List Frame). slice_get fs 0) h.none_waits
 
   held_same : (act : Act) (answer : Answer) (d : Channel) → own_channel act ≡ Some d → held_of theirs ≡ held_of (theirs_after mine theirs act answer)
@@ -274,7 +277,8 @@ module _ (k : ℕ) (mine theirs : Line) where
     right_by_books (Absolve c n) answer d e r = frame_right (Absolve c n) answer (frame.Absolve c n) r
     right_by_books (LimitSending c n) answer d e r = frame_right (LimitSending c n) answer (frame.LimitSending c n) r
     right_by_books (LimitReceiving c n) answer d e r = frame_right (LimitReceiving c n) answer (frame.LimitReceiving c n) r
-    right_by_books (Honour c) answer d e r = subst (λ (o : Option ℕ). IsUnlessMemory (Honour c) (honoured o) answer) (due_is k mine theirs p h c) r
+    right_by_books (Finish c) answer d e r = frame_right (Finish c) answer (frame.Finish c) r
+    right_by_books (Honour c) answer d e r = subst (λ (b : Client). IsUnlessMemory (Honour c) (honour_answer b) answer) (client_is k mine theirs p h c) r
     right_by_books Arrive answer d e r = absurd (let f = e in cc)
     right_by_books (Deliver count) answer d e r = absurd (let f = e in cc)
     right_by_books (Take c) answer d e r = absurd (let f = e in cc)
@@ -296,7 +300,7 @@ module _ (k : ℕ) (mine theirs : Line) (me peer : Endpoint) (h : AreEnds k mine
         their_end = their_end k mine theirs act answer d peer e h.my_line.order h.their_end;
         my_line = line_put mine o valid h.my_line;
         their_line = their_line k mine theirs act answer d e h.their_line;
-        sound = sound_step (of_lines k mine theirs) A act answer right h.sound;
+        sound = sound_lines (of_lines k mine theirs) act answer right h.sound;
       }
 
 module _ (me peer : Endpoint) (h : AreInStep me peer) where
@@ -348,6 +352,7 @@ module _ (me peer : Endpoint) (h : AreInStep me peer) where
   refused_leaves (Honour c) p = refl
   refused_leaves (LimitSending c n) p = refl
   refused_leaves (LimitReceiving c n) p = refl
+  refused_leaves (Finish c) p = refl
   refused_leaves Arrive p = refl
   refused_leaves (Deliver count) p = refl
   refused_leaves (Take c) p = refl
@@ -360,6 +365,7 @@ module _ (me peer : Endpoint) (h : AreInStep me peer) where
   may_want (Honour c) d right e = tt
   may_want (LimitSending c n) d right e = tt
   may_want (LimitReceiving c n) d right e = tt
+  may_want (Finish c) d right e = tt
   may_want Arrive d right e = absurd (let f = e in cc)
   may_want (Deliver count) d right e = absurd (let f = e in cc)
   may_want (Take c) d right e = absurd (let f = e in cc)

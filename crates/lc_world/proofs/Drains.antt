@@ -11,7 +11,7 @@ use Rattle.lc_frame.proofs.Channels.{cases_same}
 use Rattle.lc_world.specs.declared.event.Side.{Side}
 use Rattle.lc_world.specs.declared.event.Side.TheVariants.{A, B}
 use Rattle.lc_world.specs.declared.event.Act.{Act}
-use Rattle.lc_world.specs.declared.event.Act.TheVariants.{Send, Issue, Plead, Absolve, Honour, LimitSending, LimitReceiving, Arrive, Deliver, Take}
+use Rattle.lc_world.specs.declared.event.Act.TheVariants.{Send, Issue, Plead, Absolve, Honour, LimitSending, LimitReceiving, Finish, Arrive, Deliver, Take}
 use Rattle.lc_world.specs.declared.event.Event.{Event}
 use Rattle.lc_world.specs.declared.event.Answer.{Answer}
 use Rattle.lc_world.specs.declared.event.Answer.TheVariants.{Took}
@@ -28,7 +28,7 @@ use Rattle.lc_world.proofs.Ways.{Way, Good, good_step, here, step, behind, Still
 
 -- the first message that waits can be taken
 takes : (capacity : ℕ) (c : Channel) (mine theirs : Line) (body : List ℕ) (rest : List (List ℕ)) → waiting c theirs ≡ body ∷ rest → IsAnswerOf capacity mine theirs (Take c) (Took body)
-takes capacity c mine theirs body rest e = inl (sym (ap (take_answer (server_book capacity c mine theirs).send_left) e))
+takes capacity c mine theirs body rest e = inl (sym (ap (take_answer (server_book capacity c mine theirs)) e))
 
 -- and leaves the rest
 rest_is : (ms : List (List ℕ)) (t : ℕ) (body : List ℕ) (rest : List (List ℕ)) → drop t ms ≡ body ∷ rest → drop (t + 1) ms ≡ rest
@@ -139,6 +139,7 @@ accepts_none c (Absolve d n) a h = absurd h
 accepts_none c (Honour d) a h = absurd h
 accepts_none c (LimitSending d n) a h = absurd h
 accepts_none c (LimitReceiving d n) a h = absurd h
+accepts_none c (Finish d) a h = absurd h
 accepts_none c (Deliver n) a h = absurd h
 
 neither_side : (b : Bool) (o : Option (List ℕ)) → o ≡ None → (if b then o else None) ≡ None

@@ -2,7 +2,6 @@
 use Rattle.std.proofs.Common.{◌≡◌, ℕ, zero, suc, ◌+◌, ◌<◌, ◌≤◌, false, List, [], ◌∷◌, ◌++◌, length, take, drop, Some, None, refl, sym, ap, ap₂, subst, ◌∙◌, inl, inr, arith}
 use Rattle.std.specs.Prelude.{◌⊎◌, ◌==◌, All}
 use Rattle.std.specs.List.{flat_map}
-use Rattle.std.specs.Int.{to_be_bytes}
 use Rattle.std.proofs.lemmas.Bool.Decides.{nat_tests}
 use Rattle.std.proofs.lemmas.List.{length-drop, nil_from_length, append_cancel_left, take-append-drop}
 use Rattle.std.proofs.lemmas.List.Elements.{All-take}
@@ -11,12 +10,12 @@ use Rattle.std.proofs.Math.Seq.{take-add}
 use Rattle.lc_frame.specs.declared.version.Version.{Version}
 use Rattle.lc_frame.specs.declared.version.Version.TheVariants.{One, Two}
 use Rattle.lc_frame.specs.declared.frame.Frame.{Frame}
-use Rattle.lc_frame.specs.declared.frame.Frame.TheVariants.{Send, Issue, Absolve, Plead, LimitSending, LimitReceiving}
+use Rattle.lc_frame.specs.declared.frame.Frame.TheVariants.{Send, Issue, Absolve, Plead, LimitSending, LimitReceiving, Finish}
 use Rattle.lc_frame.specs.declared.frame_fault.FrameFault.{FrameFault}
 use Rattle.lc_frame.specs.Kind.{width_of}
 use Rattle.lc_frame.specs.Frame.{kind_of, channel_of, field_of, body_of}
 use Rattle.lc_frame.specs.Version.{greeting, version_of, IsGreetingPart}
-use Rattle.lc_frame.specs.Encoding.{tag_of, encoding, FaultStands}
+use Rattle.lc_frame.specs.Encoding.{tag_of, number_bytes, encoding, FaultStands}
 use Rattle.lc_frame.specs.Held.{Held, nothing_held, held_in, opened_as, opened, fed, before, HasFault}
 use Rattle.lc_frame.specs.Splits.{Splits, frames_of, rest_of}
 use Rattle.lc_frame.proofs.Bytes.{IsBytes}
@@ -39,6 +38,7 @@ no_mark (Absolve c n) = let small = number_below c in grind (arith, nat_tests)
 no_mark (Plead c n) = let small = number_below c in grind (arith, nat_tests)
 no_mark (LimitSending c n) = let small = number_below c in grind (arith, nat_tests)
 no_mark (LimitReceiving c n) = let small = number_below c in grind (arith, nat_tests)
+no_mark (Finish c) = let small = number_below c in grind (arith, nat_tests)
 
 tag_told : (f : Frame) (more : List ℕ) → version_of (tag_of (kind_of f) (channel_of f) ∷ more) ≡ Some One
 tag_told f more = let none = no_mark f in rw none refl
@@ -56,7 +56,7 @@ nothing_untold v = record { none = refl; part = nothing_is_part; short = omega a
 front_told : (v : Version) (frames : List Frame) (n : ℕ) → (version_of (take n (text_of v frames)) ≡ Some v) ⊎ IsUntold v (take n (text_of v frames))
 front_told One frames zero = inr (nothing_untold One)
 front_told One [] (suc n) = inr (nothing_untold One)
-front_told One (f ∷ frames) (suc n) = inl (ap (λ (x : List ℕ). version_of (take (suc n) x)) (flat_map-cons (encoding One) f frames) ∙ tag_told f (take n (to_be_bytes (width_of One (kind_of f)) (field_of f) ++ body_of f ++ flat_map (encoding One) frames)))
+front_told One (f ∷ frames) (suc n) = inl (ap (λ (x : List ℕ). version_of (take (suc n) x)) (flat_map-cons (encoding One) f frames) ∙ tag_told f (take n (number_bytes (width_of One (kind_of f)) (field_of f) ++ body_of f ++ flat_map (encoding One) frames)))
 front_told Two frames zero = inr (nothing_untold Two)
 front_told Two frames (suc zero) = inr (record { none = refl; part = record { rest = 67 ∷ 77 ∷ 2 ∷ []; some = omega arith; is = refl }; short = omega arith })
 front_told Two frames (suc (suc zero)) = inr (record { none = refl; part = record { rest = 77 ∷ 2 ∷ []; some = omega arith; is = refl }; short = omega arith })

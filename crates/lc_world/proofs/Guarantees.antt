@@ -1,17 +1,14 @@
 -- Every history keeps the guarantees.
-use Rattle.std.proofs.Common.{◌≡◌, ℕ, zero, suc, ◌+◌, ◌≤◌, [], ◌∷◌, take, subst, arith}
+use Rattle.std.proofs.Common.{ℕ, zero, suc, [], ◌∷◌, take, subst}
 use Rattle.lc_frame.specs.declared.channel.Channel.{Channel}
-use Rattle.lc_frame.specs.Stream.{cost, issued, absolved}
-use Rattle.lc_book.specs.Client.{held}
-use Rattle.lc_book.specs.Server.{outstanding}
 use Rattle.lc_world.specs.declared.event.Side.{Side}
 use Rattle.lc_world.specs.declared.event.Side.TheVariants.{A, B}
-use Rattle.lc_world.specs.State.{State, Versions, opening, Line, stream, client, server, client_book, server_book}
+use Rattle.lc_world.specs.State.{State, Versions, opening, client, server}
 use Rattle.lc_world.specs.Answers.{after}
 use Rattle.lc_world.specs.Histories.{History, IsLegal, IsHistory}
 use Rattle.lc_world.specs.Guarantee.{state_at, FitsBuffer, AddsUp, IsSomewhere, IsBalanced, EveryHistoryKeepsGuarantees}
-use Rattle.lc_world.specs.Sound.{Sound, IsSound}
-use Rattle.lc_world.proofs.Sound.{cost-cut, issued-cut, absolved-cut, taken_cost, paid}
+use Rattle.lc_world.specs.Sound.{IsSound}
+use Rattle.lc_world.proofs.Balances.{fits_buffer, adds_up, outstanding_is}
 use Rattle.lc_world.proofs.Steps.{sound_all, sound_opened}
 use Rattle.lc_world.proofs.Histories.{capacity_stays}
 use Rattle.lc_world.proofs.Lawful.{lawful_history}
@@ -19,19 +16,7 @@ use Rattle.lc_world.proofs.Order.{accepted_messages, taken_is_taken, takes_in_or
 use Rattle.lc_world.proofs.Pleads.{keeps_last_plead}
 use Rattle.lc_world.proofs.LimitsHold.{send_limit_holds, receive_limit_holds}
 
--- the balances of one channel direction
-fits_buffer : (capacity : ℕ) (c : Channel) (mine theirs : Line) → Sound capacity c mine theirs → FitsBuffer capacity (server_book capacity c theirs mine)
-fits_buffer capacity c mine theirs s =
-    let covered : cost c mine.arrived + absolved c mine.arrived ≤ issued c (stream theirs) = paid capacity c mine theirs s in
-    record { not_overdrawn = covered; taken_of_arrived = taken_cost c mine; fits = omega (arith, s.roomy, taken_cost c mine, covered) }
-
-adds_up : (capacity : ℕ) (c : Channel) (mine theirs : Line) → Sound capacity c mine theirs → AddsUp (client_book c mine theirs)
-adds_up capacity c mine theirs s = record { not_overspent = s.solvent; sum = omega (arith, s.solvent) }
-
-outstanding_is : (capacity : ℕ) (c : Channel) (mine theirs : Line) → Sound capacity c mine theirs → outstanding (server_book capacity c theirs mine) ≡ held (client_book c mine theirs) + issued c theirs.in_flight + cost c mine.in_flight + absolved c mine.in_flight
-outstanding_is capacity c mine theirs s = omega (arith, s.solvent, cost-cut c mine, absolved-cut c mine, issued-cut c theirs)
-
--- and of a state
+-- the balances of a state
 buffers : (w : State) → IsSound w → (s : Side) (c : Channel) → FitsBuffer w.capacity (server w s c)
 buffers w g A c = fits_buffer w.capacity c w.b w.a (g.sums B c)
 buffers w g B c = fits_buffer w.capacity c w.a w.b (g.sums A c)

@@ -9,28 +9,28 @@ use Rattle.lc_frame.specs.declared.frame.Frame.{Frame}
 use Rattle.lc_frame.specs.declared.frame.Frame.TheVariants as frame
 use Rattle.lc_frame.specs.Frame.{channel_of}
 use Rattle.lc_frame.specs.Kind.{max_amount, max_total}
-use Rattle.lc_frame.specs.Stream.{cost, issued, absolved}
+use Rattle.lc_frame.specs.Stream.{cost, issued, absolved, finished}
 use Rattle.lc_frame.proofs.Measures.{cost-append, issued-append, absolved-append, cost-one, issued-one, absolved-one}
 use Rattle.lc_book.specs.declared.fault.Refusal.{Refusal}
 use Rattle.lc_book.specs.declared.fault.Refusal.TheVariants.{OutOfMemory}
 use Rattle.lc_book.specs.declared.fault.Violation.{Violation}
 use Rattle.lc_book.specs.Limit.{is_past}
-use Rattle.lc_book.specs.Client.{Client, held, issued_violation}
+use Rattle.lc_book.specs.Client.{Client, held, honour_refusal, amount_to_absolve, issued_violation}
 use Rattle.lc_book.specs.Server.{Server, outstanding, message_violation}
 use Rattle.lc_peer.specs.Arrivals.{violation}
 use Rattle.lc_world.specs.declared.event.Side.{Side}
 use Rattle.lc_world.specs.declared.event.Side.TheVariants.{A, B}
 use Rattle.lc_world.specs.declared.event.Act.{Act}
-use Rattle.lc_world.specs.declared.event.Act.TheVariants.{Send, Issue, Plead, Absolve, Honour, LimitSending, LimitReceiving, Arrive, Deliver, Take}
+use Rattle.lc_world.specs.declared.event.Act.TheVariants.{Send, Issue, Plead, Absolve, Honour, LimitSending, LimitReceiving, Finish, Arrive, Deliver, Take}
 use Rattle.lc_world.specs.declared.event.Answer.{Answer}
 use Rattle.lc_world.specs.declared.event.Answer.TheVariants.{Refused}
 use Rattle.lc_world.specs.State.{State, Versions, opening, Line, stream, client_book, server_book, size, arrive_first, arrive_on}
-use Rattle.lc_world.specs.Answers.{judged, honoured, arrival, arrive_answer, bytes_in_flight, delivery_violation, delivery, deliver_answer, empty_or_ended, take_answer, waiting, answer_of, IsAnswer, after, refusal}
+use Rattle.lc_world.specs.Answers.{judged, honour_judged, arrival, arrive_answer, bytes_in_flight, delivery_violation, delivery, deliver_answer, empty_or_ended, take_answer, waiting, answer_of, IsAnswer, after, refusal}
 use Rattle.lc_world.specs.Histories.{History, IsLegal, IsHistory}
 use Rattle.lc_world.specs.Guarantee.{IsLawful}
 use Rattle.lc_world.specs.Sound.{FitsAfter, AllFit, Sound, IsSound}
 use Rattle.lc_world.proofs.Limits.{all_fit_rest}
-use Rattle.lc_world.proofs.Sound.{cost-cut, issued-cut, absolved-cut, taken_cost, sound_comes, sound_gets}
+use Rattle.lc_world.proofs.Sound.{none_waived, cost-cut, issued-cut, absolved-cut, taken_cost, sound_comes, sound_gets}
 use Rattle.lc_world.proofs.Streams.{stream-arrive}
 use Rattle.lc_world.proofs.Steps.{sound_step, sound_opened, same_capacity}
 
@@ -46,15 +46,15 @@ module _ (c : Channel) (l : Line) (f : Frame) (rest : List Frame) (e : l.in_flig
   absolved-first = omega (arith, absolved-cut c l, ap (absolved c) e, absolved-append c (f ∷ []) rest)
 
 -- a message or an absolving at the server, whose line is the second
-message_is_covered : (capacity : ℕ) (c : Channel) (mine theirs : Line) (body : List ℕ) (rest : List Frame) → mine.in_flight ≡ frame.Send c body ∷ rest → Sound capacity c mine theirs → length body ≤ outstanding (server_book capacity c theirs mine)
-message_is_covered capacity c mine theirs body rest e s =
+message_is_covered : (capacity : ℕ) (c : Channel) (mine theirs : Line) (body : List ℕ) (rest : List Frame) → mine.in_flight ≡ frame.Send c body ∷ rest → finished c mine.arrived ≡ false → Sound capacity c mine theirs → length body ≤ outstanding (server_book capacity c theirs mine)
+message_is_covered capacity c mine theirs body rest e unfinished s =
     let f : Frame = frame.Send c body in
-    omega (arith, s.solvent, cost-one f, cost-first c mine f rest e, absolved-cut c mine, issued-cut c theirs)
+    omega (arith, s.solvent, cost-one f, cost-first c mine f rest e, absolved-cut c mine, issued-cut c theirs, none_waived (finished c mine.arrived) (issued c (stream theirs) - cost c mine.arrived - absolved c mine.arrived) unfinished)
 
-absolving_is_covered : (capacity : ℕ) (c : Channel) (mine theirs : Line) (n : ℕ) (rest : List Frame) → mine.in_flight ≡ frame.Absolve c n ∷ rest → Sound capacity c mine theirs → n ≤ outstanding (server_book capacity c theirs mine)
-absolving_is_covered capacity c mine theirs n rest e s =
+absolving_is_covered : (capacity : ℕ) (c : Channel) (mine theirs : Line) (n : ℕ) (rest : List Frame) → mine.in_flight ≡ frame.Absolve c n ∷ rest → finished c mine.arrived ≡ false → Sound capacity c mine theirs → n ≤ outstanding (server_book capacity c theirs mine)
+absolving_is_covered capacity c mine theirs n rest e unfinished s =
     let f : Frame = frame.Absolve c n in
-    omega (arith, s.solvent, absolved-one f, absolved-first c mine f rest e, cost-cut c mine, issued-cut c theirs)
+    omega (arith, s.solvent, absolved-one f, absolved-first c mine f rest e, cost-cut c mine, issued-cut c theirs, none_waived (finished c mine.arrived) (issued c (stream theirs) - cost c mine.arrived - absolved c mine.arrived) unfinished)
 
 -- an issue at the client
 issue_is_small : (capacity : ℕ) (c : Channel) (mine theirs : Line) (n : ℕ) (rest : List Frame) → capacity ≤ max_amount → theirs.in_flight ≡ frame.Issue c n ∷ rest → Sound capacity c mine theirs → held (client_book c mine theirs) + n ≤ max_amount
@@ -72,8 +72,8 @@ not_this b v rest e h = ap (λ (d : Bool). if d then Some v else rest) e ∙ h
 not_below : (m n : ℕ) → n ≤ m → nat_lt m n ≡ false
 not_below m n le = grind (arith, nat_tests)
 
-message_passes : (b : Server) (n : ℕ) → n ≤ outstanding b → is_past b.send_left n ≡ false → message_violation b n ≡ None
-message_passes b n covered fits = not_this (nat_lt (outstanding b) n) _ _ (not_below (outstanding b) n covered) (not_this (is_past b.send_left n) _ _ fits refl)
+message_passes : (b : Server) (n : ℕ) → b.finished ≡ false → n ≤ outstanding b → is_past b.send_left n ≡ false → message_violation b n ≡ None
+message_passes b n unfinished covered fits = not_this b.finished _ _ unfinished (not_this (nat_lt (outstanding b) n) _ _ (not_below (outstanding b) n covered) (not_this (is_past b.send_left n) _ _ fits refl))
 
 issue_passes : (b : Client) (n : ℕ) → is_past b.receive_left n ≡ false → held b + n ≤ max_amount → b.received + n ≤ max_total → issued_violation b n ≡ None
 issue_passes b n fits small total = not_this (is_past b.receive_left n) _ _ fits (not_this (nat_lt max_amount (held b + n)) _ _ (not_below max_amount (held b + n) small) (not_this (nat_lt max_total (b.received + n)) _ _ (not_below max_total (b.received + n) total) refl))
@@ -83,18 +83,20 @@ lawful_judged : (refused : Option Refusal) → IsLawful (judged refused)
 lawful_judged None = tt
 lawful_judged (Some r) = tt
 
-lawful_honoured : (amount : Option ℕ) → IsLawful (honoured amount)
-lawful_honoured None = tt
-lawful_honoured (Some n) = tt
+lawful_honoured : (refused : Option Refusal) (amount : Option ℕ) → IsLawful (honour_judged refused amount)
+lawful_honoured (Some r) amount = tt
+lawful_honoured None None = tt
+lawful_honoured None (Some n) = tt
 
-lawful_empty_or_ended : (left : Option ℕ) → IsLawful (empty_or_ended left)
-lawful_empty_or_ended None = tt
-lawful_empty_or_ended (Some zero) = tt
-lawful_empty_or_ended (Some (suc n)) = tt
+lawful_empty_or_ended : (finished : Bool) (left : Option ℕ) → IsLawful (empty_or_ended finished left)
+lawful_empty_or_ended true left = tt
+lawful_empty_or_ended false None = tt
+lawful_empty_or_ended false (Some zero) = tt
+lawful_empty_or_ended false (Some (suc n)) = tt
 
-lawful_take : (left : Option ℕ) (bodies : List (List ℕ)) → IsLawful (take_answer left bodies)
-lawful_take left [] = lawful_empty_or_ended left
-lawful_take left (body ∷ bodies) = tt
+lawful_take : (book : Server) (bodies : List (List ℕ)) → IsLawful (take_answer book bodies)
+lawful_take book [] = lawful_empty_or_ended book.finished book.send_left
+lawful_take book (body ∷ bodies) = tt
 
 -- what is sound of two lines where the frames of the second arrive at the side whose line is the first
 pub record SoundTo (capacity : ℕ) (mine theirs : Line) : Type 0 where
@@ -115,12 +117,13 @@ module _ (capacity : ℕ) (small : capacity ≤ max_amount) (mine theirs : Line)
   next_fits f rest e = (subst (λ (fs : List Frame). AllFit theirs.arrived fs) e (all_fit_rest [] theirs.arrived theirs.in_flight s.fits)).0
 
   passes : (f : Frame) (rest : List Frame) → theirs.in_flight ≡ f ∷ rest → FitsAfter theirs.arrived f → violation (client_book (channel_of f) mine theirs) (server_book capacity (channel_of f) mine theirs) f ≡ None
-  passes (frame.Send c body) rest e fits = message_passes (server_book capacity c mine theirs) (length body) (message_is_covered capacity c theirs mine body rest e (s.as_server c)) fits
+  passes (frame.Send c body) rest e fits = message_passes (server_book capacity c mine theirs) (length body) fits.1 (message_is_covered capacity c theirs mine body rest e fits.1 (s.as_server c)) fits.0
   passes (frame.Issue c n) rest e fits = issue_passes (client_book c mine theirs) n fits (issue_is_small capacity c mine theirs n rest small e (s.as_client c)) (issue_is_in_total capacity c mine theirs n rest e (s.as_client c))
-  passes (frame.Absolve c n) rest e fits = let b : Server = server_book capacity c mine theirs in not_this (nat_lt (outstanding b) n) _ _ (not_below (outstanding b) n (absolving_is_covered capacity c theirs mine n rest e (s.as_server c))) refl
+  passes (frame.Absolve c n) rest e fits = let b : Server = server_book capacity c mine theirs in not_this b.finished _ _ fits (not_this (nat_lt (outstanding b) n) _ _ (not_below (outstanding b) n (absolving_is_covered capacity c theirs mine n rest e fits (s.as_server c))) refl)
   passes (frame.Plead c n) rest e fits = refl
-  passes (frame.LimitSending c bound) rest e fits = not_this (is_past (server_book capacity c mine theirs).send_left bound) _ _ fits refl
+  passes (frame.LimitSending c bound) rest e fits = not_this (finished c theirs.arrived) _ _ fits.1 (not_this (is_past (server_book capacity c mine theirs).send_left bound) _ _ fits.0 refl)
   passes (frame.LimitReceiving c bound) rest e fits = not_this (is_past (client_book c mine theirs).receive_left bound) _ _ fits refl
+  passes (frame.Finish c) rest e fits = not_this (finished c theirs.arrived) _ _ fits refl
 
   pub no_violation : (f : Frame) (rest : List Frame) → theirs.in_flight ≡ f ∷ rest → violation (client_book (channel_of f) mine theirs) (server_book capacity (channel_of f) mine theirs) f ≡ None
   no_violation f rest e = passes f rest e (next_fits f rest e)
@@ -159,12 +162,13 @@ module _ (capacity : ℕ) (small : capacity ≤ max_amount) (mine theirs : Line)
   lawful_answer (Issue c n) = lawful_judged (refusal (client_book c mine theirs) (server_book capacity c mine theirs) (Issue c n))
   lawful_answer (Plead c n) = lawful_judged (refusal (client_book c mine theirs) (server_book capacity c mine theirs) (Plead c n))
   lawful_answer (Absolve c n) = lawful_judged (refusal (client_book c mine theirs) (server_book capacity c mine theirs) (Absolve c n))
-  lawful_answer (Honour c) = lawful_honoured _
+  lawful_answer (Honour c) = lawful_honoured (honour_refusal (client_book c mine theirs)) (amount_to_absolve (client_book c mine theirs))
   lawful_answer (LimitSending c n) = lawful_judged (refusal (client_book c mine theirs) (server_book capacity c mine theirs) (LimitSending c n))
   lawful_answer (LimitReceiving c n) = lawful_judged (refusal (client_book c mine theirs) (server_book capacity c mine theirs) (LimitReceiving c n))
+  lawful_answer (Finish c) = lawful_judged (refusal (client_book c mine theirs) (server_book capacity c mine theirs) (Finish c))
   lawful_answer Arrive = arrives_lawfully theirs.in_flight refl
   lawful_answer (Deliver count) = delivers_lawfully count (bytes_in_flight theirs)
-  lawful_answer (Take c) = lawful_take _ (waiting c theirs)
+  lawful_answer (Take c) = lawful_take (server_book capacity c mine theirs) (waiting c theirs)
 
 -- and want of memory too
 lawful_unless : (right a : Answer) (M : Type 0) → (a ≡ right) ⊎ (M × (a ≡ Refused OutOfMemory)) → IsLawful right → IsLawful a

@@ -7,7 +7,7 @@ use Rattle.std.proofs.lemmas.Bool.Decides.{nat_tests}
 use Rattle.std.proofs.lemmas.List.{append-nil, append_assoc}
 use Rattle.lc_frame.specs.declared.channel.Channel.{Channel}
 use Rattle.lc_frame.specs.declared.frame.Frame.{Frame}
-use Rattle.lc_frame.specs.declared.frame.Frame.TheVariants.{Send, Issue, Absolve, Plead, LimitSending, LimitReceiving}
+use Rattle.lc_frame.specs.declared.frame.Frame.TheVariants.{Send, Issue, Absolve, Plead, LimitSending, LimitReceiving, Finish}
 use Rattle.lc_frame.specs.Channel.{is_same}
 use Rattle.lc_frame.specs.Frame.{channel_of}
 use Rattle.lc_frame.specs.Stream.{message_of, issue_of, cost, issued, send_left, receive_left}
@@ -40,12 +40,13 @@ record SendsWithin (c : Channel) (before : List Frame) (f : Frame) (m : ℕ) : T
   within : cost c (f ∷ []) + left ≤ m
 
 sends_within_here : (before : List Frame) (f : Frame) (m : ℕ) → FitsAfter before f → send_left (channel_of f) before ≡ Some m → SendsWithin (channel_of f) before f m
-sends_within_here before (Send c body) m fits e = let f : Frame = Send c body in record { left = m - length body; left_is = send_left-push before f ∙ ap (option_map (λ (k : ℕ). k - length body)) e; within = omega (arith, cost-one f, not_past (send_left c before) m (length body) e fits) }
+sends_within_here before (Send c body) m fits e = let f : Frame = Send c body in record { left = m - length body; left_is = send_left-push before f ∙ ap (option_map (λ (k : ℕ). k - length body)) e; within = omega (arith, cost-one f, not_past (send_left c before) m (length body) e fits.0) }
 sends_within_here before (Issue c n) m fits e = let f : Frame = Issue c n in record { left = m; left_is = send_left-push before f ∙ e; within = omega (arith, cost-one f) }
 sends_within_here before (Absolve c n) m fits e = let f : Frame = Absolve c n in record { left = m; left_is = send_left-push before f ∙ e; within = omega (arith, cost-one f) }
 sends_within_here before (Plead c n) m fits e = let f : Frame = Plead c n in record { left = m; left_is = send_left-push before f ∙ e; within = omega (arith, cost-one f) }
-sends_within_here before (LimitSending c bound) m fits e = let f : Frame = LimitSending c bound in record { left = bound; left_is = send_left-push before f; within = omega (arith, cost-one f, not_past (send_left c before) m bound e fits) }
+sends_within_here before (LimitSending c bound) m fits e = let f : Frame = LimitSending c bound in record { left = bound; left_is = send_left-push before f; within = omega (arith, cost-one f, not_past (send_left c before) m bound e fits.0) }
 sends_within_here before (LimitReceiving c n) m fits e = let f : Frame = LimitReceiving c n in record { left = m; left_is = send_left-push before f ∙ e; within = omega (arith, cost-one f) }
+sends_within_here before (Finish c) m fits e = let f : Frame = Finish c in record { left = m; left_is = send_left-push before f ∙ e; within = omega (arith, cost-one f) }
 
 -- a frame adds nothing on another channel
 pub no_cost_elsewhere : (c : Channel) (f : Frame) → is_same c (channel_of f) ≡ false → cost c (f ∷ []) ≡ 0
@@ -78,6 +79,7 @@ issues_within_here before (Absolve c n) m fits e = let f : Frame = Absolve c n i
 issues_within_here before (Plead c n) m fits e = let f : Frame = Plead c n in record { left = m; left_is = receive_left-push before f ∙ e; within = omega (arith, issued-one f) }
 issues_within_here before (LimitSending c n) m fits e = let f : Frame = LimitSending c n in record { left = m; left_is = receive_left-push before f ∙ e; within = omega (arith, issued-one f) }
 issues_within_here before (LimitReceiving c bound) m fits e = let f : Frame = LimitReceiving c bound in record { left = bound; left_is = receive_left-push before f; within = omega (arith, issued-one f, not_past (receive_left c before) m bound e fits) }
+issues_within_here before (Finish c) m fits e = let f : Frame = Finish c in record { left = m; left_is = receive_left-push before f ∙ e; within = omega (arith, issued-one f) }
 
 pub none_issued_elsewhere : (c : Channel) (f : Frame) → is_same c (channel_of f) ≡ false → issued c (f ∷ []) ≡ 0
 none_issued_elsewhere c f apart = ap (λ (fs : List Frame). sum (filter_map issue_of fs)) (on-elsewhere c f apart)

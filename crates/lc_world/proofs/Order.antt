@@ -10,13 +10,14 @@ use Rattle.lc_frame.specs.Channel.{number_of, is_same}
 use Rattle.lc_frame.specs.Stream.{messages}
 use Rattle.lc_frame.proofs.Channels.{cases_same, same_is_same}
 use Rattle.lc_frame.proofs.Measures.{messages-append}
+use Rattle.lc_book.specs.Server.{Server}
 use Rattle.lc_world.specs.declared.event.Side.{Side}
 use Rattle.lc_world.specs.declared.event.Side.TheVariants.{A, B}
 use Rattle.lc_world.specs.declared.event.Act.{Act}
 use Rattle.lc_world.specs.declared.event.Act.TheVariants.{Honour, Arrive, Deliver, Take}
 use Rattle.lc_world.specs.declared.event.Answer.{Answer}
 use Rattle.lc_world.specs.declared.event.Answer.TheVariants.{Absolved, NothingToAbsolve, Arrived, Delivered, Took}
-use Rattle.lc_world.specs.State.{State, Versions, opening, Line, line, other, stream, taken_count, taken_messages, arrive_on, deliver_on, take_on}
+use Rattle.lc_world.specs.State.{State, Versions, opening, Line, line, other, stream, taken_count, taken_messages, server_book, arrive_on, deliver_on, take_on}
 use Rattle.lc_world.specs.Answers.{put_any, frame_put, take_answer, waiting, IsAnswerOf, IsAnswer, theirs_after, state_after, after}
 use Rattle.lc_world.specs.Histories.{History, after_all, IsLegal, IsHistory, at_side, taken_body, accepted, taken}
 use Rattle.lc_world.specs.Guarantee.{state_of, IsPrefix}
@@ -61,9 +62,9 @@ taken-deliver capacity c count mine l s =
     }) count l (record { sound = s; same = refl })).same
 
 -- a take adds the first message that waits
-taken_one : (left : Option ℕ) (d : Channel) (l : Line) (body : List ℕ) → number_of d < length l.taken → Took body ≡ take_answer left (waiting d l) → taken_messages d (take_on d l) ≡ taken_messages d l ++ body ∷ []
-taken_one left d l body places e =
-    let w = took_waiting left (waiting d l) body e in
+taken_one : (book : Server) (d : Channel) (l : Line) (body : List ℕ) → number_of d < length l.taken → Took body ≡ take_answer book (waiting d l) → taken_messages d (take_on d l) ≡ taken_messages d l ++ body ∷ []
+taken_one book d l body places e =
+    let w = took_waiting book (waiting d l) body e in
     ap (λ (t : ℕ). take t (messages d l.arrived)) (count-here d l places)
     ∙ first_waiting (messages d l.arrived) (taken_count d l) body w.0 w.1
 
@@ -77,10 +78,10 @@ adds_none c l new e ys = ap (λ (ms : List (List ℕ)). ms ++ ys) e
 adds_one : (c : Channel) (l new : Line) (body : List ℕ) → taken_messages c new ≡ taken_messages c l ++ body ∷ [] → Adds c l new (Some body)
 adds_one c l new body e ys = ap (λ (ms : List (List ℕ)). ms ++ ys) e ∙ append_assoc (taken_messages c l) (body ∷ []) ys
 
-take_adds : (left : Option ℕ) (c d : Channel) (l : Line) (body : List ℕ) → number_of d < length l.taken → Took body ≡ take_answer left (waiting d l) → Adds c l (take_on d l) (if is_same c d then Some body else None)
-take_adds left c d l body places e =
+take_adds : (book : Server) (c d : Channel) (l : Line) (body : List ℕ) → number_of d < length l.taken → Took body ≡ take_answer book (waiting d l) → Adds c l (take_on d l) (if is_same c d then Some body else None)
+take_adds book c d l body places e =
     elim (cases_same c d) [
-      | inl same ↦ subst (λ (k : Channel). Adds k l (take_on d l) (if is_same k d then Some body else None)) (sym same) (subst (λ (b : Bool). Adds d l (take_on d l) (if b then Some body else None)) (sym (same_is_same d)) (adds_one d l (take_on d l) body (taken_one left d l body places e)))
+      | inl same ↦ subst (λ (k : Channel). Adds k l (take_on d l) (if is_same k d then Some body else None)) (sym same) (subst (λ (b : Bool). Adds d l (take_on d l) (if b then Some body else None)) (sym (same_is_same d)) (adds_one d l (take_on d l) body (taken_one book d l body places e)))
       | inr apart ↦ subst (λ (b : Bool). Adds c l (take_on d l) (if b then Some body else None)) (sym apart) (adds_none c l (take_on d l) (ap (λ (t : ℕ). take t (messages c l.arrived)) (count-elsewhere c d l apart)))
     ]
 
@@ -88,7 +89,7 @@ take_adds left c d l body places e =
 theirs_adds : (capacity : ℕ) (mine l : Line) (act : Act) (a : Answer) (c : Channel) → IsAnswerOf capacity mine l act a → ((d : Channel) → Sound capacity d l mine) → Adds c l (theirs_after mine l act a) (taken_body c act a)
 theirs_adds capacity mine l Arrive Arrived c h g = adds_none c l (arrive_on l) (taken-arrive c l (g c).taken_of_arrived)
 theirs_adds capacity mine l (Deliver count) (Delivered bytes frames) c h g = adds_none c l (deliver_on count l) (taken-deliver capacity c count mine l (g c))
-theirs_adds capacity mine l (Take d) (Took body) c h g = take_adds _ c d l body (g d).places (told _ _ _ h (λ e. cc))
+theirs_adds capacity mine l (Take d) (Took body) c h g = take_adds (server_book capacity d mine l) c d l body (g d).places (told _ _ _ h (λ e. cc))
 theirs_adds capacity mine l (Honour d) (Absolved n) c h g = λ ys. refl
 theirs_adds capacity mine l (Honour d) NothingToAbsolve c h g = λ ys. refl
 theirs_adds capacity mine l act a c h g = λ ys. refl

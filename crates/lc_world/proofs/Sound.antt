@@ -1,6 +1,6 @@
 -- What every legal history keeps of one channel direction: by its client's line and its server's.
-use Rattle.std.proofs.Common.{◌≡◌, ℕ, ◌+◌, ◌<◌, ◌≤◌, false, List, [], ◌∷◌, ◌++◌, length, get_or, take, Option, Some, None, refl, sym, ap, subst, ◌∙◌, inl, inr, arith}
-use Rattle.std.specs.Prelude.{◌-◌, sum, sum_by}
+use Rattle.std.proofs.Common.{◌≡◌, ℕ, ◌+◌, ◌<◌, ◌≤◌, Bool, false, List, [], ◌∷◌, ◌++◌, length, get_or, take, Option, Some, None, refl, sym, ap, subst, ◌∙◌, inl, inr, arith}
+use Rattle.std.specs.Prelude.{◌-◌, sum, sum_by, if◌then◌else◌}
 use Rattle.std.specs.List.{filter_map}
 use Rattle.std.proofs.lemmas.Bool.Decides.{nat_tests}
 use Rattle.std.proofs.lemmas.List.{append_assoc, take-append-le, length-append, length-drop, length-set, get_or-set_same, get_or-set_other}
@@ -9,7 +9,7 @@ use Rattle.lc_frame.specs.declared.version.Version.{Version}
 use Rattle.lc_frame.specs.declared.channel.Channel.{Channel}
 use Rattle.lc_frame.specs.declared.channel.Channel.TheVariants.{ReconciliationChannel, DataChannel, OverlapChannel, CapabilityChannel, AreaOfInterestChannel, PayloadRequestChannel, StaticTokenChannel}
 use Rattle.lc_frame.specs.declared.frame.Frame.{Frame}
-use Rattle.lc_frame.specs.declared.frame.Frame.TheVariants.{Send, Issue, Absolve, Plead, LimitSending, LimitReceiving}
+use Rattle.lc_frame.specs.declared.frame.Frame.TheVariants.{Send, Issue, Absolve, Plead, LimitSending, LimitReceiving, Finish}
 use Rattle.lc_frame.specs.Channel.{number_of, is_same}
 use Rattle.lc_frame.specs.Frame.{channel_of}
 use Rattle.lc_frame.specs.Kind.{max_total}
@@ -17,8 +17,8 @@ use Rattle.lc_frame.specs.Stream.{absolve_of, messages, cost, issued, absolved}
 use Rattle.lc_frame.proofs.Channels.{cases_same, number_below}
 use Rattle.lc_frame.proofs.Measures.{on-elsewhere, messages-append, cost-append, issued-append, absolved-append, cost-one, issued-one, absolved-one}
 use Rattle.lc_book.specs.Client.{Client, held}
-use Rattle.lc_book.specs.Server.{Server, room}
-use Rattle.lc_world.specs.State.{Line, new_line, stream, taken_count, taken_messages, client_book, server_book, put_on, arrive_on, deliver_on, take_on, forget_on}
+use Rattle.lc_book.specs.Server.{Server}
+use Rattle.lc_world.specs.State.{Line, new_line, stream, taken_count, taken_messages, client_book, server_book, put_on, arrive_on, deliver_on, take_on, forget_on, forget_finished}
 use Rattle.lc_world.specs.Answers.{waiting, put_any}
 use Rattle.lc_world.specs.Sound.{Sound}
 use Rattle.lc_world.proofs.Delivers.{deliver_keeps}
@@ -58,28 +58,34 @@ taken_cost c l = sum_by-take-le length (messages c l.arrived) (taken_count c l)
 used_is_held : (client : Client) (server : Server) (f : Frame) → IsAllowed client server f → cost (channel_of f) (f ∷ []) + absolved (channel_of f) (f ∷ []) ≤ held client
 used_is_held client server (Send c body) h = omega (arith, h.0, cost-one (Send c body), absolved-one (Send c body))
 used_is_held client server (Issue c n) h = omega (arith, cost-one (Issue c n), absolved-one (Issue c n))
-used_is_held client server (Absolve c n) h = omega (arith, h, cost-one (Absolve c n), absolved-one (Absolve c n))
+used_is_held client server (Absolve c n) h = omega (arith, h.0, cost-one (Absolve c n), absolved-one (Absolve c n))
 used_is_held client server (Plead c n) h = omega (arith, cost-one (Plead c n), absolved-one (Plead c n))
 used_is_held client server (LimitSending c n) h = omega (arith, cost-one (LimitSending c n), absolved-one (LimitSending c n))
 used_is_held client server (LimitReceiving c n) h = omega (arith, cost-one (LimitReceiving c n), absolved-one (LimitReceiving c n))
+used_is_held client server (Finish c) h = omega (arith, cost-one (Finish c), absolved-one (Finish c))
 
--- what it issues fits the room, and the total
+-- where there was no Finish, nothing is waived
+pub none_waived : (finished : Bool) (n : ℕ) → finished ≡ false → (if finished then n else 0) ≡ 0
+none_waived finished n e = rw e refl
+
+-- what it issues fits the room, of which nothing is waived, and the total
 record FitsRoom (server : Server) (n : ℕ) : Type 0 where
-  in_room : n ≤ room server
+  in_room : n ≤ server.capacity - (server.issued - server.arrived - server.absolved) - (server.arrived - server.taken)
   in_total : server.issued ≤ max_total → server.issued + n ≤ max_total
 
 nothing_fits : (server : Server) (n : ℕ) → n ≡ 0 → FitsRoom server n
-nothing_fits server n e = record { in_room = omega arith; in_total = λ le. omega arith }
+nothing_fits server n e = record { in_room = omega (arith, e); in_total = λ le. omega (arith, e) }
 
 issue_fits : (client : Client) (server : Server) (f : Frame) → IsAllowed client server f → FitsRoom server (issued (channel_of f) (f ∷ []))
 issue_fits client server (Send c body) h = nothing_fits server _ (issued-one (Send c body))
 issue_fits client server (Issue c n) h =
     let e : issued c (Issue c n ∷ []) ≡ n = issued-one (Issue c n) ∙ omega arith in
-    record { in_room = omega (arith, h.0, e); in_total = λ le. omega (arith, h.1, e) }
+    record { in_room = omega (arith, h.0, e, none_waived server.finished (server.issued - server.arrived - server.absolved) h.3); in_total = λ le. omega (arith, h.1, e) }
 issue_fits client server (Absolve c n) h = nothing_fits server _ (issued-one (Absolve c n))
 issue_fits client server (Plead c n) h = nothing_fits server _ (issued-one (Plead c n))
 issue_fits client server (LimitSending c n) h = nothing_fits server _ (issued-one (LimitSending c n))
 issue_fits client server (LimitReceiving c n) h = nothing_fits server _ (issued-one (LimitReceiving c n))
+issue_fits client server (Finish c) h = nothing_fits server _ (issued-one (Finish c))
 
 -- a frame that the client puts
 abbrev IsSolvent : Line → Line → Channel → Type 0
@@ -235,6 +241,9 @@ sound_forgets_theirs capacity c d mine theirs s = record { solvent = s.solvent; 
 
 pub sound_forgets : (capacity : ℕ) (c d : Channel) (mine theirs : Line) → Sound capacity c mine theirs → Sound capacity c (forget_on d mine) theirs
 sound_forgets capacity c d mine theirs s = record { solvent = s.solvent; roomy = s.roomy; total = s.total; taken_of_arrived = s.taken_of_arrived; places = s.places }
+
+pub sound_settles : (capacity : ℕ) (c : Channel) (mine theirs a b : Line) → Sound capacity c mine theirs → Sound capacity c (forget_finished a mine) (forget_finished b theirs)
+sound_settles capacity c mine theirs a b s = record { solvent = s.solvent; roomy = s.roomy; total = s.total; taken_of_arrived = s.taken_of_arrived; places = s.places }
 
 -- nothing has happened
 pub none_taken : (v : Version) (c : Channel) → taken_count c (new_line v) ≡ 0

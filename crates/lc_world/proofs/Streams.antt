@@ -12,7 +12,7 @@ use Rattle.lc_frame.specs.Stream.{on, message_of, issue_of, messages}
 use Rattle.lc_world.specs.declared.event.Side.{Side}
 use Rattle.lc_world.specs.declared.event.Side.TheVariants.{A, B}
 use Rattle.lc_world.specs.declared.event.Act.{Act}
-use Rattle.lc_world.specs.declared.event.Act.TheVariants.{Send, Issue, Plead, Absolve, Honour, LimitSending, LimitReceiving, Arrive, Deliver, Take}
+use Rattle.lc_world.specs.declared.event.Act.TheVariants.{Send, Issue, Plead, Absolve, Honour, LimitSending, LimitReceiving, Finish, Arrive, Deliver, Take}
 use Rattle.lc_world.specs.declared.event.Answer.{Answer}
 use Rattle.lc_world.specs.declared.event.Answer.TheVariants.{Accepted, Absolved, NothingToAbsolve, Arrived, Delivered, Took}
 use Rattle.lc_world.specs.State.{State, Versions, opening, Line, line, stream, put_on, arrive_first, arrive_on, deliver_on}
@@ -122,6 +122,7 @@ message_accepted c fs (Absolve d n) Accepted = keeps_none message_of (is_same c 
 message_accepted c fs (Honour d) (Absolved n) = keeps_none message_of (is_same c d) (frame.Absolve d n) (on c fs) refl
 message_accepted c fs (LimitSending d n) Accepted = keeps_none message_of (is_same c d) (frame.LimitSending d n) (on c fs) refl
 message_accepted c fs (LimitReceiving d n) Accepted = keeps_none message_of (is_same c d) (frame.LimitReceiving d n) (on c fs) refl
+message_accepted c fs (Finish d) Accepted = keeps_none message_of (is_same c d) (frame.Finish d) (on c fs) refl
 message_accepted c fs Arrive Accepted = refl
 message_accepted c fs (Deliver count) Accepted = refl
 message_accepted c fs (Take d) Accepted = refl
@@ -149,6 +150,7 @@ amount_issued c fs (Absolve d n) Accepted = keeps_none issue_of (is_same c d) (f
 amount_issued c fs (Honour d) (Absolved n) = keeps_none issue_of (is_same c d) (frame.Absolve d n) (on c fs) refl
 amount_issued c fs (LimitSending d n) Accepted = keeps_none issue_of (is_same c d) (frame.LimitSending d n) (on c fs) refl
 amount_issued c fs (LimitReceiving d n) Accepted = keeps_none issue_of (is_same c d) (frame.LimitReceiving d n) (on c fs) refl
+amount_issued c fs (Finish d) Accepted = keeps_none issue_of (is_same c d) (frame.Finish d) (on c fs) refl
 amount_issued c fs Arrive Accepted = refl
 amount_issued c fs (Deliver count) Accepted = refl
 amount_issued c fs (Take d) Accepted = refl

@@ -1,5 +1,5 @@
 -- Which answer to an event is right, and what the event leaves. Who may send, issue and absolve what is LCMUX's; the order of refusals, the answers and their names are this project's own.
-use Rattle.std.specs.Prelude.{◌≡◌, ℕ, zero, suc, ◌+◌, ◌-◌, min, nat_lt, if◌then◌else◌, ◌⊎◌, List, [], ◌∷◌, length, drop, Option, Some, None}
+use Rattle.std.specs.Prelude.{◌≡◌, ℕ, zero, suc, ◌+◌, ◌-◌, min, nat_lt, if◌then◌else◌, ◌⊎◌, Bool, true, false, List, [], ◌∷◌, length, drop, Option, Some, None}
 use Rattle.std.specs.List.{flat_map}
 use Rattle.std.specs.Option.{option_or, option_and_then}
 use Rattle.lc_frame.specs.declared.channel.Channel.{Channel}
@@ -11,18 +11,18 @@ use Rattle.lc_frame.specs.Stream.{messages}
 use Rattle.lc_book.specs.declared.fault.Refusal.{Refusal}
 use Rattle.lc_book.specs.declared.fault.Refusal.TheVariants.{OutOfMemory}
 use Rattle.lc_book.specs.declared.fault.Violation.{Violation}
-use Rattle.lc_book.specs.Client.{Client, amount_to_absolve}
+use Rattle.lc_book.specs.Client.{Client, amount_to_absolve, honour_refusal}
 use Rattle.lc_book.specs.Server.{Server}
 use Rattle.lc_peer.specs.Calls.{book_refusal}
 use Rattle.lc_peer.specs.Arrivals.{violation}
 use Rattle.lc_world.specs.declared.event.Side.{Side}
 use Rattle.lc_world.specs.declared.event.Side.TheVariants.{A, B}
 use Rattle.lc_world.specs.declared.event.Act.{Act}
-use Rattle.lc_world.specs.declared.event.Act.TheVariants.{Send, Issue, Plead, Absolve, Honour, LimitSending, LimitReceiving, Arrive, Deliver, Take}
+use Rattle.lc_world.specs.declared.event.Act.TheVariants.{Send, Issue, Plead, Absolve, Honour, LimitSending, LimitReceiving, Finish, Arrive, Deliver, Take}
 use Rattle.lc_world.specs.declared.event.Event.{Event}
 use Rattle.lc_world.specs.declared.event.Answer.{Answer}
 use Rattle.lc_world.specs.declared.event.Answer.TheVariants.{Accepted, Absolved, NothingToAbsolve, Arrived, Delivered, NothingInFlight, Violated, Took, Empty, Ended, Refused}
-use Rattle.lc_world.specs.State.{State, Line, line, other, client_book, server_book, taken_count, put_on, arrive_first, arrive_on, size, deliver_on, take_on, forget_on}
+use Rattle.lc_world.specs.State.{State, Line, line, other, client_book, server_book, taken_count, put_on, arrive_first, arrive_on, size, deliver_on, take_on, forget_on, settled}
 
 -- the frame that an event puts where it is accepted; an honour's says what it absolved, and an arrival, a delivery and a take put none
 abbrev pub own_frame : Act → Option Frame
@@ -32,6 +32,7 @@ own_frame (Plead c target) = Some (frame.Plead c target)
 own_frame (Absolve c amount) = Some (frame.Absolve c amount)
 own_frame (LimitSending c bound) = Some (frame.LimitSending c bound)
 own_frame (LimitReceiving c bound) = Some (frame.LimitReceiving c bound)
+own_frame (Finish c) = Some (frame.Finish c)
 own_frame (Honour c) = None
 own_frame Arrive = None
 own_frame (Deliver count) = None
@@ -49,6 +50,14 @@ judged (Some r) = Refused r
 abbrev pub honoured : Option ℕ → Answer
 honoured None = NothingToAbsolve
 honoured (Some amount) = Absolved amount
+
+-- an honour, by the refusal of the book and the amount that it absolves
+abbrev pub honour_judged : Option Refusal → Option ℕ → Answer
+honour_judged None amount = honoured amount
+honour_judged (Some r) amount = Refused r
+
+abbrev pub honour_answer : Client → Answer
+honour_answer client = honour_judged (honour_refusal client) (amount_to_absolve client)
 
 -- the frame that an answered event puts last on its side's stream
 abbrev pub frame_put : Act → Answer → Option Frame
@@ -89,14 +98,15 @@ deliver_answer capacity mine theirs count (suc n) = delivery (delivery_violation
 abbrev pub waiting : Channel → Line → List (List ℕ)
 waiting c l = drop (taken_count c l) (messages c l.arrived)
 
--- where no message waits, the channel has ended or it has not, by what is left of the client's limit as far as it has arrived
-abbrev pub empty_or_ended : Option ℕ → Answer
-empty_or_ended (Some zero) = Ended
-empty_or_ended left = Empty
+-- where no message waits, the channel has ended or it has not: by whether the client's Finish has arrived, and by what is left of its limit as far as it has arrived
+abbrev pub empty_or_ended : Bool → Option ℕ → Answer
+empty_or_ended true left = Ended
+empty_or_ended false (Some zero) = Ended
+empty_or_ended false left = Empty
 
-abbrev pub take_answer : Option ℕ → List (List ℕ) → Answer
-take_answer left [] = empty_or_ended left
-take_answer left (body ∷ bodies) = Took body
+abbrev pub take_answer : Server → List (List ℕ) → Answer
+take_answer book [] = empty_or_ended book.finished book.send_left
+take_answer book (body ∷ bodies) = Took body
 
 -- the answer where there is memory, at the side whose line is the first
 abbrev pub answer_of : ℕ → Line → Line → Act → Answer
@@ -104,12 +114,13 @@ answer_of capacity mine theirs (Send c body) = judged (refusal (client_book c mi
 answer_of capacity mine theirs (Issue c amount) = judged (refusal (client_book c mine theirs) (server_book capacity c mine theirs) (Issue c amount))
 answer_of capacity mine theirs (Plead c target) = judged (refusal (client_book c mine theirs) (server_book capacity c mine theirs) (Plead c target))
 answer_of capacity mine theirs (Absolve c amount) = judged (refusal (client_book c mine theirs) (server_book capacity c mine theirs) (Absolve c amount))
-answer_of capacity mine theirs (Honour c) = honoured (amount_to_absolve (client_book c mine theirs))
+answer_of capacity mine theirs (Honour c) = honour_answer (client_book c mine theirs)
 answer_of capacity mine theirs (LimitSending c bound) = judged (refusal (client_book c mine theirs) (server_book capacity c mine theirs) (LimitSending c bound))
 answer_of capacity mine theirs (LimitReceiving c bound) = judged (refusal (client_book c mine theirs) (server_book capacity c mine theirs) (LimitReceiving c bound))
+answer_of capacity mine theirs (Finish c) = judged (refusal (client_book c mine theirs) (server_book capacity c mine theirs) (Finish c))
 answer_of capacity mine theirs Arrive = arrive_answer capacity mine theirs theirs.in_flight
 answer_of capacity mine theirs (Deliver count) = deliver_answer capacity mine theirs count (bytes_in_flight theirs)
-answer_of capacity mine theirs (Take c) = take_answer (server_book capacity c mine theirs).send_left (waiting c theirs)
+answer_of capacity mine theirs (Take c) = take_answer (server_book capacity c mine theirs) (waiting c theirs)
 
 -- what may want memory: an event that can put a frame, and a take of a waiting message
 abbrev pub MayWantMemory : Act → Answer → Type 0
@@ -120,6 +131,7 @@ MayWantMemory (Absolve c amount) answer = Unit {0}
 MayWantMemory (Honour c) answer = Unit {0}
 MayWantMemory (LimitSending c bound) answer = Unit {0}
 MayWantMemory (LimitReceiving c bound) answer = Unit {0}
+MayWantMemory (Finish c) answer = Unit {0}
 MayWantMemory Arrive answer = ⊥
 MayWantMemory (Deliver count) answer = ⊥
 MayWantMemory (Take c) (Took body) = Unit {0}
@@ -157,13 +169,14 @@ theirs_after mine theirs (Absolve c amount) answer = theirs
 theirs_after mine theirs (Honour c) answer = theirs
 theirs_after mine theirs (LimitSending c bound) answer = theirs
 theirs_after mine theirs (LimitReceiving c bound) answer = theirs
+theirs_after mine theirs (Finish c) answer = theirs
 theirs_after mine theirs Arrive answer = theirs
 theirs_after mine theirs (Deliver count) answer = theirs
 theirs_after mine theirs (Take c) answer = theirs
 
 abbrev pub state_after : State → Side → Act → Answer → State
-state_after w A act answer = record { capacity = w.capacity; a = mine_after w.a w.b act answer; b = theirs_after w.a w.b act answer }
-state_after w B act answer = record { capacity = w.capacity; a = theirs_after w.b w.a act answer; b = mine_after w.b w.a act answer }
+state_after w A act answer = settled w.capacity (mine_after w.a w.b act answer) (theirs_after w.a w.b act answer)
+state_after w B act answer = settled w.capacity (theirs_after w.b w.a act answer) (mine_after w.b w.a act answer)
 
 abbrev pub after : State → Event → Answer → State
 after w event answer = state_after w event.side event.act answer

@@ -7,15 +7,15 @@ use Rattle.lc_frame.specs.declared.frame.Frame.{Frame}
 use Rattle.lc_frame.specs.Version.{greeting}
 use Rattle.lc_frame.specs.Encoding.{encoding}
 use Rattle.lc_book.specs.declared.fault.Refusal.{Refusal}
-use Rattle.lc_peer.specs.Peer.{PeerState}
-use Rattle.lc_peer.specs.Calls.{refusal_by_books, put, due, put_honour}
+use Rattle.lc_peer.specs.Peer.{PeerState, client}
+use Rattle.lc_peer.specs.Calls.{refusal_by_books, put, put_honour}
 use Rattle.lc_peer.specs.Config.{new_peer}
 use Rattle.lc_world.specs.declared.endpoint.Endpoint.{Endpoint}
 use Rattle.lc_world.specs.declared.event.Act.{Act}
-use Rattle.lc_world.specs.declared.event.Act.TheVariants.{Send, Issue, Plead, Absolve, Honour, LimitSending, LimitReceiving, Arrive, Deliver, Take}
+use Rattle.lc_world.specs.declared.event.Act.TheVariants.{Send, Issue, Plead, Absolve, Honour, LimitSending, LimitReceiving, Finish, Arrive, Deliver, Take}
 use Rattle.lc_world.specs.declared.event.Answer.{Answer}
 use Rattle.lc_world.specs.declared.event.Answer.TheVariants.{Absolved, NothingToAbsolve, Refused}
-use Rattle.lc_world.specs.Answers.{own_frame, judged, honoured, frame_put, IsUnlessMemory}
+use Rattle.lc_world.specs.Answers.{own_frame, judged, honoured, honour_answer, frame_put, IsUnlessMemory}
 
 -- an end at which nothing has happened
 pub record IsNewEnd (version : Version) (capacity : ℕ) (e : Endpoint) : Type 0 where
@@ -38,6 +38,7 @@ own_channel (Absolve c amount) = Some c
 own_channel (Honour c) = Some c
 own_channel (LimitSending c bound) = Some c
 own_channel (LimitReceiving c bound) = Some c
+own_channel (Finish c) = Some c
 own_channel Arrive = None
 own_channel (Deliver count) = None
 own_channel (Take c) = None
@@ -52,14 +53,14 @@ after_call (Honour c) (Absolved amount) p = put_honour p c
 after_call (Honour c) NothingToAbsolve p = put_honour p c
 after_call act answer p = put_any_at (frame_put act answer) p
 
--- the answer to an honour
-abbrev pub honour_answer : Result (Option ℕ) Refusal → Answer
-honour_answer (Ok amount) = honoured amount
-honour_answer (Err r) = Refused r
+-- the answer to an honour, by what the call returned
+abbrev pub honour_returned : Result (Option ℕ) Refusal → Answer
+honour_returned (Ok amount) = honoured amount
+honour_returned (Err r) = Refused r
 
--- a call is answered by the books of its channel: a frame as they judge it, and an honour by what it has to absolve
+-- a call is answered by the books of its channel: a frame as they judge it, and an honour by its book too
 abbrev pub IsCallAnswer : PeerState → Act → Answer → Type 0
-IsCallAnswer p (Honour c) answer = IsUnlessMemory (Honour c) (honoured (due p c)) answer
+IsCallAnswer p (Honour c) answer = IsUnlessMemory (Honour c) (honour_answer (client p c)) answer
 IsCallAnswer p act answer = IfSome (own_frame act) (λ f. IsUnlessMemory act (judged (refusal_by_books p f)) answer)
 
 pub record Called (p new : PeerState) (act : Act) (answer : Answer) : Type 0 where

@@ -2,7 +2,6 @@
 use Rattle.std.specs.Prelude.{◌≡◌, ℕ, ◌+◌, ◌≤◌, min, false, [], ◌∷◌, ◌++◌, None}
 use Rattle.lc_frame.specs.declared.channel.Channel.{Channel}
 use Rattle.lc_frame.specs.Kind.{max_body, max_total}
-use Rattle.lc_frame.specs.Stream.{cost, issued, absolved}
 use Rattle.lc_book.specs.Limit.{is_past}
 use Rattle.lc_book.specs.Client.{held, spend_refusal}
 use Rattle.lc_book.specs.Server.{room, buffered}
@@ -12,14 +11,13 @@ use Rattle.lc_world.specs.declared.event.Answer.TheVariants.{Accepted, Arrived}
 use Rattle.lc_world.specs.State.{State, Versions, line, other, client, server}
 use Rattle.lc_world.specs.Answers.{waiting}
 use Rattle.lc_world.specs.Histories.{History, IsHistory}
-use Rattle.lc_world.specs.Guarantee.{state_of}
+use Rattle.lc_world.specs.Guarantee.{state_of, promised}
 
--- the capacity is what the client holds, what is in flight to it as issues, what is in flight from it as messages and absolvings, what waits in the ring, and what may still be issued
+-- the capacity is what the client holds or waived, what is in flight to it as issues, what is in flight from it as messages and absolvings, what waits in the ring, and what may still be issued; of these the last two, once the client's Finish has arrived
 abbrev pub IsConserved : ℕ → State → Side → Channel → Type 0
 IsConserved capacity w s c =
-    let sent = (line w s).in_flight in
     let book = server w (other s) c in
-    held (client w s c) + issued c (line w (other s)).in_flight + cost c sent + absolved c sent + buffered book + room book ≡ capacity
+    promised w s c + buffered book + room book ≡ capacity
 
 abbrev pub CreditIsConserved : Type 0
 CreditIsConserved = (capacity : ℕ) (versions : Versions) (history : History) → IsHistory capacity versions history → (s : Side) (c : Channel) → IsConserved capacity (state_of capacity versions history) s c
@@ -44,11 +42,11 @@ pub record IsRestored (capacity : ℕ) (versions : Versions) (history : History)
   pub full : held (client (state_of capacity versions history) s c) ≡ capacity
   pub sends : (len : ℕ) → 1 ≤ len → len ≤ min capacity (max_body (versions s)) → is_past (client (state_of capacity versions history) s c).send_left len ≡ false → spend_refusal (client (state_of capacity versions history) s c) len ≡ None
 
--- so it is once there was room, neither a limit nor the greatest total forbade to issue it, and it has arrived
+-- so it is where the client has not finished, once there was room, neither a limit nor the greatest total forbade to issue it, and it has arrived
 abbrev pub CreditComesBack : Type 0
 CreditComesBack = (capacity : ℕ) (versions : Versions) (history : History) → IsHistory capacity versions history →
     let w = state_of capacity versions history in
     IsQuiet w → (s : Side) (c : Channel) → waiting c (line w s) ≡ [] →
     let book = server w (other s) c in
-    1 ≤ room book → is_past book.receive_left (room book) ≡ false → book.issued + room book ≤ max_total →
+    book.finished ≡ false → 1 ≤ room book → is_past book.receive_left (room book) ≡ false → book.issued + room book ≤ max_total →
     IsRestored capacity versions (history ++ reissue s c (room book)) s c

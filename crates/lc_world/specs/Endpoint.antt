@@ -1,11 +1,10 @@
 -- One end of a world as it is kept, the lines that two of them stand for, and what they keep. A device of the proofs: a world is seen as the lines alone.
-use Rattle.std.specs.Prelude.{◌≡◌, ℕ, ◌+◌, ◌-◌, ◌<◌, ◌≤◌, List, [], ◌∷◌, length, map, take, drop, All, Option, Some}
+use Rattle.std.specs.Prelude.{◌≡◌, ℕ, ◌+◌, ◌-◌, ◌<◌, ◌≤◌, List, [], length, map, take, drop, All, Option, Some}
 use Rattle.std.specs.List.{AllByRecursion}
 use Rattle.lc_frame.specs.Held.{Held, opened_as, opened}
 use Rattle.lc_frame.specs.declared.version.Version.{Version}
 use Rattle.lc_frame.specs.Version.{greeting}
-use Rattle.lc_frame.specs.declared.channel.Channel.{Channel}
-use Rattle.lc_frame.specs.declared.channel.Channel.TheVariants.{ReconciliationChannel, DataChannel, OverlapChannel, CapabilityChannel, AreaOfInterestChannel, PayloadRequestChannel, StaticTokenChannel}
+use Rattle.lc_frame.specs.declared.channel.Channel.TheVariants.{ReconciliationChannel}
 use Rattle.lc_frame.specs.declared.frame.Frame.{Frame}
 use Rattle.lc_frame.specs.Kind.{max_amount}
 use Rattle.lc_frame.specs.Frame.{IsValid}
@@ -16,14 +15,10 @@ use Rattle.lc_world.specs.declared.endpoint.Endpoint.{Endpoint}
 use Rattle.lc_world.specs.declared.event.Act.{Act}
 use Rattle.lc_world.specs.declared.event.Answer.{Answer}
 use Rattle.lc_frame.specs.Splits.{frames_of, rest_of}
-use Rattle.lc_world.specs.State.{Line, State, stream, taken_count, kept_plead, deliver_on}
+use Rattle.lc_world.specs.State.{Line, State, stream, taken_count, kept_plead, deliver_on, every_channel}
 use Rattle.lc_world.specs.Answers.{IsAnswerOf, mine_after, theirs_after}
 use Rattle.lc_world.specs.Sound.{IsSound}
 use Rattle.lc_world.specs.Delivery.{text_of, delivered, IsInOrder}
-
--- the channels by their numbers
-abbrev pub every_channel : List Channel
-every_channel = ReconciliationChannel ∷ DataChannel ∷ OverlapChannel ∷ CapabilityChannel ∷ AreaOfInterestChannel ∷ PayloadRequestChannel ∷ StaticTokenChannel ∷ []
 
 -- by channel, how many of the messages that arrived do not wait in the ring of the peer that they came to, and the plead that it keeps
 abbrev pub taken_by : PeerState → List Frame → List ℕ

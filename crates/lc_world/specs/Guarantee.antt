@@ -1,11 +1,11 @@
 -- What every history of two peers keeps: the headline. That a client that sends within its guarantees never has a message dropped is LCMUX's promise.
-use Rattle.std.specs.Prelude.{◌≡◌, ℕ, ◌+◌, ◌≤◌, List, [], ◌∷◌, ◌++◌, length, take, drop, sum, sum_by, Option, None}
+use Rattle.std.specs.Prelude.{◌≡◌, ℕ, ◌+◌, ◌≤◌, if◌then◌else◌, Bool, List, [], ◌∷◌, ◌++◌, length, take, drop, sum, sum_by, Option, None}
 use Rattle.std.specs.List.{AllByRecursion, last_or}
 use Rattle.lc_frame.specs.declared.channel.Channel.{Channel}
 use Rattle.lc_frame.specs.declared.frame.Frame.{Frame}
-use Rattle.lc_frame.specs.Stream.{messages, cost, issued, absolved, pleads}
-use Rattle.lc_book.specs.Client.{Client, held}
-use Rattle.lc_book.specs.Server.{Server, outstanding, buffered}
+use Rattle.lc_frame.specs.Stream.{messages, cost, issued, absolved, pleads, finished}
+use Rattle.lc_book.specs.Client.{Client, kept, waived, held}
+use Rattle.lc_book.specs.Server.{Server, waived as waived_by, outstanding, buffered}
 use Rattle.lc_world.specs.declared.event.Side.{Side}
 use Rattle.lc_world.specs.declared.event.Act.{Act}
 use Rattle.lc_world.specs.declared.event.Act.TheVariants.{Honour, LimitSending, LimitReceiving}
@@ -37,20 +37,26 @@ IsHonoured answer = ⊥
 
 -- no balance of a server is below 0, and its ring holds what is buffered and all that may still come
 pub record FitsBuffer (capacity : ℕ) (b : Server) : Type 0 where
-  pub not_overdrawn : b.arrived + b.absolved ≤ b.issued
+  pub not_overdrawn : b.arrived + b.absolved + waived_by b ≤ b.issued
   pub taken_of_arrived : b.taken ≤ b.arrived
   pub fits : buffered b + outstanding b ≤ capacity
 
 -- no balance of a client is below 0, and no guarantee is lost or made up
 pub record AddsUp (b : Client) : Type 0 where
-  pub not_overspent : b.spent + b.absolved ≤ b.received
-  pub sum : held b + b.spent + b.absolved ≡ b.received
+  pub not_overspent : b.spent + b.absolved + waived b ≤ b.received
+  pub sum : held b + b.spent + b.absolved + waived b ≡ b.received
 
--- what is outstanding is held by the client, or in flight as an issue, a message or an absolving
-abbrev pub IsSomewhere : State → Side → Channel → Type 0
-IsSomewhere w client_side c =
+-- where the promises of a channel are: held by the client or waived by it, or in flight as an issue, a message or an absolving; none stands once the client's Finish has arrived
+abbrev pub promised : State → Side → Channel → ℕ
+promised w client_side c =
     let sent = (line w client_side).in_flight in
-    outstanding (server w (other client_side) c) ≡ held (client w client_side c) + issued c (line w (other client_side)).in_flight + cost c sent + absolved c sent
+    let book = client w client_side c in
+    if finished c (line w client_side).arrived then 0
+    else held book + waived book + issued c (line w (other client_side)).in_flight + cost c sent + absolved c sent
+
+-- what is outstanding is there
+abbrev pub IsSomewhere : State → Side → Channel → Type 0
+IsSomewhere w client_side c = outstanding (server w (other client_side) c) ≡ promised w client_side c
 
 -- at one moment, in every channel direction
 pub record IsBalanced (capacity : ℕ) (w : State) : Type 0 where
@@ -78,10 +84,14 @@ last_plead c frames = last_or None (pleads c frames)
 abbrev pub IsCutAtHonour : History → Side → Channel → History → History → Type 0
 IsCutAtHonour history s c earlier later = (answer : Answer) × IsHonoured answer × (history ≡ earlier ++ (record { side = s; act = Honour c }, answer) ∷ later)
 
--- the plead that is kept is the last that arrived since the last honour that was answered, or since the beginning where there was none
+-- whether the side finished the channel
+abbrev pub has_finished : Side → Channel → State → Bool
+has_finished s c w = finished c (stream (line w s))
+
+-- the plead that is kept is the last that arrived since the last honour that was answered, or since the beginning where there was none; none is kept on a channel that the side finished
 pub record KeepsLastPlead (capacity : ℕ) (versions : Versions) (history : History) (s : Side) (c : Channel) : Type 0 where
-  pub never_honoured : honours c s history ≡ [] → plead_kept s c (state_of capacity versions history) ≡ last_plead c (heard s (state_of capacity versions history))
-  pub since_honour : (earlier later : History) → IsCutAtHonour history s c earlier later → honours c s later ≡ [] → plead_kept s c (state_of capacity versions history) ≡ last_plead c (drop (length (heard s (state_of capacity versions earlier))) (heard s (state_of capacity versions history)))
+  pub never_honoured : honours c s history ≡ [] → plead_kept s c (state_of capacity versions history) ≡ kept (has_finished s c (state_of capacity versions history)) (last_plead c (heard s (state_of capacity versions history)))
+  pub since_honour : (earlier later : History) → IsCutAtHonour history s c earlier later → honours c s later ≡ [] → plead_kept s c (state_of capacity versions history) ≡ kept (has_finished s c (state_of capacity versions history)) (last_plead c (drop (length (heard s (state_of capacity versions earlier))) (heard s (state_of capacity versions history))))
 
 pub record KeepsGuarantees (capacity : ℕ) (versions : Versions) (history : History) : Type 0 where
   -- on every channel the messages taken are a prefix of those that its client had accepted

@@ -7,7 +7,7 @@ use Rattle.lc_frame.specs.Channel.{is_same}
 use Rattle.lc_world.specs.declared.event.Side.{Side}
 use Rattle.lc_world.specs.declared.event.Side.TheVariants.{A, B}
 use Rattle.lc_world.specs.declared.event.Act.{Act}
-use Rattle.lc_world.specs.declared.event.Act.TheVariants.{Send, Issue, Plead, Absolve, Honour, LimitSending, LimitReceiving, Arrive, Deliver, Take}
+use Rattle.lc_world.specs.declared.event.Act.TheVariants.{Send, Issue, Plead, Absolve, Honour, LimitSending, LimitReceiving, Finish, Arrive, Deliver, Take}
 use Rattle.lc_world.specs.declared.event.Event.{Event}
 use Rattle.lc_world.specs.declared.event.Answer.{Answer}
 use Rattle.lc_world.specs.declared.event.Answer.TheVariants.{Accepted, Absolved, NothingToAbsolve, Took}
@@ -48,6 +48,7 @@ sent_body c (Absolve d amount) answer = None
 sent_body c (Honour d) answer = None
 sent_body c (LimitSending d bound) answer = None
 sent_body c (LimitReceiving d bound) answer = None
+sent_body c (Finish d) answer = None
 sent_body c Arrive answer = None
 sent_body c (Deliver count) answer = None
 sent_body c (Take d) answer = None
@@ -61,6 +62,7 @@ issued_amount c (Absolve d amount) answer = None
 issued_amount c (Honour d) answer = None
 issued_amount c (LimitSending d bound) answer = None
 issued_amount c (LimitReceiving d bound) answer = None
+issued_amount c (Finish d) answer = None
 issued_amount c Arrive answer = None
 issued_amount c (Deliver count) answer = None
 issued_amount c (Take d) answer = None
@@ -74,6 +76,7 @@ taken_body c (Absolve d amount) answer = None
 taken_body c (Honour d) answer = None
 taken_body c (LimitSending d bound) answer = None
 taken_body c (LimitReceiving d bound) answer = None
+taken_body c (Finish d) answer = None
 taken_body c Arrive answer = None
 taken_body c (Deliver count) answer = None
 taken_body c (Take d) answer = None
@@ -89,6 +92,7 @@ honoured_amount c (Absolve d amount) answer = None
 honoured_amount c (Honour d) answer = None
 honoured_amount c (LimitSending d bound) answer = None
 honoured_amount c (LimitReceiving d bound) answer = None
+honoured_amount c (Finish d) answer = None
 honoured_amount c Arrive answer = None
 honoured_amount c (Deliver count) answer = None
 honoured_amount c (Take d) answer = None

@@ -2,21 +2,26 @@
 use Rattle.std.specs.Prelude.{◌≡◌, ℕ, ◌+◌, ◌<◌, ◌≤◌, false, List, [], ◌∷◌, ◌++◌, length, sum_by}
 use Rattle.lc_frame.specs.declared.channel.Channel.{Channel}
 use Rattle.lc_frame.specs.declared.frame.Frame.{Frame}
-use Rattle.lc_frame.specs.declared.frame.Frame.TheVariants.{Send, Issue, Absolve, Plead, LimitSending, LimitReceiving}
+use Rattle.lc_frame.specs.declared.frame.Frame.TheVariants.{Send, Issue, Absolve, Plead, LimitSending, LimitReceiving, Finish}
 use Rattle.lc_frame.specs.Channel.{number_of}
 use Rattle.lc_frame.specs.Kind.{max_total}
-use Rattle.lc_frame.specs.Stream.{messages, cost, issued, absolved, send_left, receive_left}
+use Rattle.lc_frame.specs.Stream.{messages, cost, issued, absolved, send_left, receive_left, finished}
 use Rattle.lc_book.specs.Limit.{is_past}
 use Rattle.lc_world.specs.declared.event.Side.{Side}
 use Rattle.lc_world.specs.State.{State, Line, line, other, stream, taken_count, taken_messages}
 
--- a frame fits what is left after those before it
+-- no Finish of the channel is among the frames
+abbrev pub IsOpen : Channel → List Frame → Type 0
+IsOpen c before = finished c before ≡ false
+
+-- a frame fits what is left after those before it, and one of the client's comes behind no Finish
 abbrev pub FitsAfter : List Frame → Frame → Type 0
-FitsAfter before (Send c body) = is_past (send_left c before) (length body) ≡ false
+FitsAfter before (Send c body) = (is_past (send_left c before) (length body) ≡ false) × IsOpen c before
 FitsAfter before (Issue c amount) = is_past (receive_left c before) amount ≡ false
-FitsAfter before (LimitSending c bound) = is_past (send_left c before) bound ≡ false
+FitsAfter before (LimitSending c bound) = (is_past (send_left c before) bound ≡ false) × IsOpen c before
 FitsAfter before (LimitReceiving c bound) = is_past (receive_left c before) bound ≡ false
-FitsAfter before (Absolve c amount) = Unit {0}
+FitsAfter before (Absolve c amount) = IsOpen c before
+FitsAfter before (Finish c) = IsOpen c before
 FitsAfter before (Plead c target) = Unit {0}
 
 -- each frame of a list does, the first list being before it

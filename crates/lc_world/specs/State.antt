@@ -1,15 +1,16 @@
--- The state of two peers: the version of each stream, what each put on it, what of it has arrived, what of its messages was taken, and which pleads are kept. Streams that keep order, guarantees and their balances are LCMUX's; that one plead is kept for each channel is this project's own.
-use Rattle.std.specs.Prelude.{ℕ, ◌+◌, ◌-◌, nat_lt, if◌then◌else◌, List, [], ◌∷◌, ◌++◌, length, take, replicate, slice_index, slice_index_or, slice_set, sum_by, Option, Some, None}
+-- The state of two peers: the version of each stream, what each put on it, what of it has arrived, what of its messages was taken, and which pleads are kept. Streams that keep order, guarantees and their balances are LCMUX's; that one plead is kept for each channel, and none where it is finished, is this project's own.
+use Rattle.std.specs.Prelude.{ℕ, ◌+◌, ◌-◌, nat_lt, if◌then◌else◌, List, [], ◌∷◌, ◌++◌, length, map, take, replicate, slice_index, slice_index_or, slice_set, sum_by, Option, Some, None}
 use Rattle.lc_frame.specs.declared.version.Version.{Version}
 use Rattle.lc_frame.specs.declared.version.Version.TheVariants.{One}
 use Rattle.lc_frame.specs.declared.channel.Channel.{Channel}
+use Rattle.lc_frame.specs.declared.channel.Channel.TheVariants.{ReconciliationChannel, DataChannel, OverlapChannel, CapabilityChannel, AreaOfInterestChannel, PayloadRequestChannel, StaticTokenChannel}
 use Rattle.lc_frame.specs.declared.frame.Frame.{Frame}
 use Rattle.lc_frame.specs.declared.frame.Frame.TheVariants.{Plead}
 use Rattle.lc_frame.specs.Version.{greeting}
 use Rattle.lc_frame.specs.Channel.{number_of}
 use Rattle.lc_frame.specs.Encoding.{encoding}
-use Rattle.lc_frame.specs.Stream.{messages}
-use Rattle.lc_book.specs.Client.{Client}
+use Rattle.lc_frame.specs.Stream.{messages, finished}
+use Rattle.lc_book.specs.Client.{Client, kept}
 use Rattle.lc_book.specs.Server.{Server}
 use Rattle.lc_book.specs.Sums.{client_of, server_of}
 use Rattle.lc_world.specs.declared.event.Side.{Side}
@@ -113,6 +114,18 @@ deliver_over (f ∷ rest) n l = if nat_lt n (size l.version f) then record l { b
 -- so many bytes more are delivered, or as many as are in flight: those of the greeting, and then those of the frames
 abbrev pub deliver_on : ℕ → Line → Line
 deliver_on count l = deliver_over l.in_flight (l.begun + (count - l.greeting_left)) (record l { greeting_left = l.greeting_left - count })
+
+-- the channels by their numbers
+abbrev pub every_channel : List Channel
+every_channel = ReconciliationChannel ∷ DataChannel ∷ OverlapChannel ∷ CapabilityChannel ∷ AreaOfInterestChannel ∷ PayloadRequestChannel ∷ StaticTokenChannel ∷ []
+
+-- the second line, whose reader writes the first: it keeps no plead on a channel that it finished
+abbrev pub forget_finished : Line → Line → Line
+forget_finished mine theirs = record theirs { asked = map (λ c. kept (finished c (stream mine)) (kept_plead c theirs)) every_channel }
+
+-- two lines as a state, the first as that of side A, and no plead kept on a finished channel
+abbrev pub settled : ℕ → Line → Line → State
+settled capacity a b = record { capacity = capacity; a = forget_finished b a; b = forget_finished a b }
 
 -- one more message of the channel is taken
 abbrev pub take_on : Channel → Line → Line

@@ -11,7 +11,7 @@ ghost use Rattle.lc_world.specs.declared.event.Answer.{Answer};
 ghost use Rattle.lc_world.specs.declared.event.Act.TheVariants as acts;
 ghost use Rattle.lc_world.specs.State.{size};
 ghost use Rattle.lc_world.specs.Answers.{own_frame, judged, frame_put};
-ghost use Rattle.lc_world.specs.Calls.{own_channel, honour_answer, Called};
+ghost use Rattle.lc_world.specs.Calls.{own_channel, honour_returned, Called};
 ghost use Rattle.lc_world.specs.Delivery.{text_of};
 ghost use Rattle.lc_world.specs.Endpoint.{line_of, AreInStep, Acts, Brings};
 
@@ -36,6 +36,7 @@ fn own_frame(act: &Act) -> Option<FrameRef<'_>>
         Act::Absolve { channel, amount } => Some(FrameRef::Absolve { channel, amount }),
         Act::LimitSending { channel, bound } => Some(FrameRef::LimitSending { channel, bound }),
         Act::LimitReceiving { channel, bound } => Some(FrameRef::LimitReceiving { channel, bound }),
+        Act::Finish { channel } => Some(FrameRef::Finish { channel }),
         Act::Honour { .. } | Act::Arrive | Act::Deliver { .. } | Act::Take { .. } => None,
     }
 }
@@ -60,7 +61,7 @@ fn judged(judgement: Result<(), Refusal>) -> Answer
 }
 
 fn honoured(judgement: Result<Option<u32>, Refusal>) -> Answer
-    ensures { result ≡ honour_answer judgement }
+    ensures { result ≡ honour_returned judgement }
 {
     match judgement {
         Ok(Some(amount)) => Answer::Absolved(amount),
@@ -83,6 +84,7 @@ fn call(peer: &mut Peer, channel: Channel, act: &Act) -> Answer
         Act::Honour { .. } => honoured(peer.honour(channel)),
         Act::LimitSending { bound, .. } => judged(peer.limit_sending(channel, *bound)),
         Act::LimitReceiving { bound, .. } => judged(peer.limit_receiving(channel, *bound)),
+        Act::Finish { .. } => judged(peer.finish(channel)),
         Act::Arrive | Act::Deliver { .. } | Act::Take { .. } => unreachable!(),
     }
 }
@@ -218,7 +220,8 @@ pub(crate) fn act(alloc: Global, me: &mut Endpoint, peer: &mut Endpoint, act: &A
         | Act::Absolve { channel, .. }
         | Act::Honour { channel }
         | Act::LimitSending { channel, .. }
-        | Act::LimitReceiving { channel, .. } => own_event(me, peer, *channel, act),
+        | Act::LimitReceiving { channel, .. }
+        | Act::Finish { channel } => own_event(me, peer, *channel, act),
         Act::Arrive => arrive(me, peer),
         Act::Deliver { count } => deliver(me, peer, *count),
         Act::Take { channel } => take(alloc, me, peer, *channel),

@@ -26,6 +26,8 @@ pub enum Act {
     LimitSending { channel: Channel, bound: u64 },
     /// The server bounds what it issues from here on.
     LimitReceiving { channel: Channel, bound: u64 },
+    /// The client sends nothing more, and gives up all guarantees that it holds or that still come.
+    Finish { channel: Channel },
     /// The first frame of the other side's stream that has not arrived arrives, and what is in flight
     /// of the greeting with it.
     Arrive,
@@ -64,7 +66,7 @@ pub enum Answer {
     Took(Body),
     /// No message waits.
     Empty,
-    /// No message waits, and none will come.
+    /// No message waits, and none will come: the client's limit is used up, or it finished.
     Ended,
     /// An own event, or a take for want of memory, was refused and changed nothing.
     Refused(Refusal),

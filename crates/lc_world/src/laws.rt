@@ -5,7 +5,8 @@ ghost use Rattle.lc_world.specs.Credit.{CreditIsConserved, CreditNeverLeaks, Cre
 ghost use Rattle.lc_world.specs.Progress.{NothingWedges};
 
 /// On every channel the messages taken are a prefix of those accepted, no frame that arrives is
-/// refused, no ring is overrun, nothing passes a limit, and guarantees add up.
+/// refused, no ring is overrun, nothing passes a limit, and guarantees held, spent, absolved and
+/// waived add up to those received.
 pub fn every_history_keeps_guarantees()
     ensures { EveryHistoryKeepsGuarantees }
 {}
@@ -23,9 +24,9 @@ pub fn deliveries_add_up()
     ensures { DeliveriesAddUp }
 {}
 
-/// Credit is conserved: on every channel what the client holds, what is in flight as issues,
-/// messages and absolvings, what waits in the ring and what may still be issued are always the
-/// whole ring.
+/// Credit is conserved: on every channel what the client holds or waived, what is in flight as
+/// issues, messages and absolvings, what waits in the ring and what may still be issued are always
+/// the whole ring. Once the client's Finish has arrived, what waits and what may still be issued are.
 pub fn credit_is_conserved()
     ensures { CreditIsConserved }
 {}
@@ -36,8 +37,9 @@ pub fn credit_never_leaks()
     ensures { CreditNeverLeaks }
 {}
 
-/// Credit comes back: there, once what there is room for was issued and has arrived, the client
-/// holds the whole ring, and no message that fits it is refused but by the client's own limit.
+/// Credit comes back: there, where the client has not finished, once what there is room for was
+/// issued and has arrived, the client holds the whole ring, and no message that fits it is refused
+/// but by the client's own limit.
 pub fn credit_comes_back()
     ensures { CreditComesBack }
 {}

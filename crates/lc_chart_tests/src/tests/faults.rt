@@ -109,7 +109,7 @@ fn a_session_has_its_version(rt: HostRuntime) -> Result<(), Fail> {
 }
 
 // Streams, with lines of their pictures and how the runs end.
-const STREAMS: [(&str, &str); 6] = [
+const STREAMS: [(&str, &str); 8] = [
     (
         "\x21\0\0\0\x05\x11\0",
         "1. At byte 0: issue 5 on channel 1.
@@ -129,6 +129,21 @@ lcmux_chart: F4 in the frame at byte 5
         "1. At byte 4: issue 5 on channel 1.
 </svg>
 lcmux_chart: F4 in the frame at byte 9
+= 2",
+    ),
+    (
+        "LCM\x02\x71\x11\0\0\0\x02hi",
+        "1. At byte 4: finish on channel 1.
+2. At byte 5: send 2 bytes on channel 1.
+<text class=\"asked c1\" x=\"158\" y=\"96\">finish</text>
+</svg>
+= 0",
+    ),
+    (
+        "\x21\0\0\0\x05\x71",
+        "1. At byte 0: issue 5 on channel 1.
+</svg>
+lcmux_chart: F1 in the frame at byte 5
 = 2",
     ),
     (

@@ -1,5 +1,5 @@
 //! Where arrows, bars and labels stand.
-use super::{CUT, FULL, IDEAS, LONGEST, STREAM, WIDE, has_lines, shown};
+use super::{CUT, FINISHED, FULL, IDEAS, LONGEST, STREAM, WIDE, has_lines, shown};
 use std::test::Fail;
 
 // Event n stands at 210 + 44 n, A at 158 and B at 638; a bar that is full has a length of 84.
@@ -35,6 +35,23 @@ const CUT_LINES: &str = r#"<line class="arrow c1" x1="638" y1="254" x2="158" y2=
 The frame of event 1 arrives at event 4.
 The frame of event 11 is in flight at the end."#;
 
+// Where A finishes it holds no more, and where B hears of it nothing is outstanding.
+const FINISHED_LINES: &str = r#"<line class="arrow c1" x1="158" y1="342" x2="638" y2="474"/>
+<line class="arrow c1" x1="158" y1="386" x2="638" y2="474"/>
+<circle class="mark c1" cx="158" cy="386" r="10"/>
+<text class="asked c1" x="176" y="378">finish</text>
+<text class="bad" x="176" y="446">refused 15: the channel is finished</text>
+<rect class="held c1" x="20" y="298" width="84" height="44"/>
+<rect class="held c1" x="20" y="342" width="63" height="44"/>
+<rect class="room" x="20" y="386" width="84" height="220"/>
+<rect class="outstanding c1" x="692" y="254" width="84" height="220"/>
+<text class="sum" x="696" y="486">2+0+6</text>
+<text class="sum" x="696" y="530">0+0+8</text>
+<text class="soft end" x="620" y="578">ended: none will come</text>
+4. A: finish on channel 1: accepted.
+6. B: deliver 12 bytes: 12 bytes came, whole frames: 2.
+The frame of event 4 arrives at event 6."#;
+
 // Three numbers, below each other, that add up to 16,777,216.
 const FULL_LINES: &str = r#"<text class="sum" x="696" y="266">0</text>
 <text class="sum" x="696" y="278">16777216</text>
@@ -56,6 +73,7 @@ fn arrows_and_bars_end_where_the_answers_say(rt: HostRuntime) -> Result<(), Fail
     for &(command, script, lines) in &[
         ("lcmux_chart 8", IDEAS, IDEAS_LINES),
         ("lcmux_chart 8", CUT, CUT_LINES),
+        ("lcmux_chart 8 2", FINISHED, FINISHED_LINES),
         ("lcmux_chart 16777216", FULL, FULL_LINES),
         ("lcmux_chart 16777216", WIDE, WIDE_LINES),
     ] {
@@ -188,6 +206,7 @@ fn no_label_leaves_its_picture(rt: HostRuntime) -> Result<(), Fail> {
         ("lcmux_chart 8", ""),
         ("lcmux_chart 8", IDEAS),
         ("lcmux_chart 8", LONGEST),
+        ("lcmux_chart 8 2", FINISHED),
         ("lcmux_chart 16777216", FULL),
         ("lcmux_chart 16777216", WIDE),
         ("lcmux_chart frames", STREAM),

@@ -12,7 +12,7 @@ fn line(alloc: Global, answer: &Answer) -> Option<String> {
 
 const LARGEST: u64 = u64::MAX;
 
-const REFUSALS: [(Refusal, &str); 11] = [
+const REFUSALS: [(Refusal, &str); 13] = [
     (
         Refusal::PastSendLimit { left: LARGEST },
         "refused 3 left 18446744073709551615\n",
@@ -46,13 +46,15 @@ const REFUSALS: [(Refusal, &str); 11] = [
     (Refusal::TotalReached, "refused 12\n"),
     (Refusal::QueueFull, "refused 13\n"),
     (Refusal::OutOfMemory, "refused 14\n"),
+    (Refusal::ChannelFinished, "refused 15\n"),
     (
         Refusal::BufferTooSmall { need: usize::MAX },
         "refused 16 need 18446744073709551615\n",
     ),
+    (Refusal::WrongVersion, "refused 17\n"),
 ];
 
-const VIOLATIONS: [(Violation, &str); 8] = [
+const VIOLATIONS: [(Violation, &str); 9] = [
     (Violation::NotGuaranteed, "violation V1\n"),
     (Violation::SentPastLimit, "violation V2\n"),
     (Violation::AbsolvedTooMuch, "violation V3\n"),
@@ -61,6 +63,7 @@ const VIOLATIONS: [(Violation, &str); 8] = [
     (Violation::TooManyGuarantees, "violation V6\n"),
     (Violation::ReceiveLimitRaised, "violation V7\n"),
     (Violation::TotalPassed, "violation V8\n"),
+    (Violation::AfterFinish, "violation V9\n"),
 ];
 
 #[test]

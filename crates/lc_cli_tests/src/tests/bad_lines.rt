@@ -20,7 +20,6 @@ A arive
 A Arrive
 A ARRIVE
 A arrived
-A finish 1
  A arrive
 A  arrive
 A arrive\x20
@@ -123,6 +122,25 @@ A limit-receiving 1
 A limit-receiving 1 99999999999999999999999999
 A limit-receiving 1 +1
 A limit 1 1
+A finish
+A finish\x20
+A finish -
+A finish 7
+A finish 9
+A finish 71
+A finish 01
+A finish +1
+A finish a
+A finish 1 1
+A finish 1 -
+A finish 1\x20
+A Finish 1
+A FINISH 1
+A finished 1
+A finis 1
+A end 1
+A close 1
+C finish 1
 A deliver
 A deliver 01
 A deliver -1

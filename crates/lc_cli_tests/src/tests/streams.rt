@@ -114,6 +114,15 @@ x 70
 ! lcmux: F1 in the frame at byte 0
 = 2
 $ lcmux frames
+x 71
+! lcmux: F1 in the frame at byte 0
+= 2
+$ lcmux frames
+x 21 00 00 00 05 76
+> issue 1 5
+! lcmux: F1 in the frame at byte 5
+= 2
+$ lcmux frames
 x ff
 ! lcmux: F1 in the frame at byte 0
 = 2
@@ -242,9 +251,58 @@ x 21 00 00 00 05 4c 43 4d 02
 = 2
 ";
 
+// A Finish is its tag alone, in streams of version Two. No frame is judged by those before it.
+const FINISHES: &str = "$ lcmux frames
+x 4c 43 4d 02 71
+> finish 1
+= 0
+$ lcmux frames
+x 4c 43 4d 02 70 71 72 73 74 75 76
+> finish 0
+> finish 1
+> finish 2
+> finish 3
+> finish 4
+> finish 5
+> finish 6
+= 0
+$ lcmux frames
+x 4c 43 4d 02 21 00 00 00 05 71 71 11 00 00 00 02 68 69 51 00 00 00 00 00 00 00 03
+> issue 1 5
+> finish 1
+> finish 1
+> send 1 6869
+> limit-sending 1 3
+= 0
+$ lcmux frames
+x 4c 43 4d 02 76 77
+> finish 6
+! lcmux: F1 in the frame at byte 5
+= 2
+$ lcmux frames
+x 4c 43 4d 02 7f
+! lcmux: F1 in the frame at byte 4
+= 2
+$ lcmux frames
+x 4c 43 4d 02 70 81
+> finish 0
+! lcmux: F1 in the frame at byte 5
+= 2
+$ lcmux frames
+x 4c 43 4d 02 71 11 00 00 00
+> finish 1
+! lcmux: F4 in the frame at byte 5
+= 2
+$ lcmux frames
+x 4c 43 4d 02 71 11 00 00 00 00
+> finish 1
+! lcmux: F2 in the frame at byte 5
+= 2
+";
+
 #[test]
 fn lists_frames(rt: HostRuntime) -> Result<(), Fail> {
-    for cases in &[FRAMES, FAULTS, GREETINGS] {
+    for cases in &[FRAMES, FAULTS, GREETINGS, FINISHES] {
         run_as_shown(&rt, rt.alloc(), cases)?;
     }
     Ok(())

@@ -3,7 +3,7 @@ use crate::tests::script::run;
 use crate::tests::side::Side;
 use lc_frame::{Channel, Version};
 use lc_peer::{Peer, Take};
-use lc_testing::{HOSTILE, Hostile, Pipe, Plan};
+use lc_testing::{FINISHED, HOSTILE, Hostile, Pipe, Plan};
 use std::alloc::{AllocError, Global};
 use std::process::Abort;
 use std::test::Fail;
@@ -51,7 +51,7 @@ fn streams_cut_anywhere(rt: HostRuntime) -> Result<(), Fail> {
 
 #[test]
 fn streams_of_version_two_cut_anywhere(rt: HostRuntime) -> Result<(), Fail> {
-    for stream in &HOSTILE {
+    for stream in HOSTILE.iter().chain(&FINISHED) {
         let bytes = stream.in_two;
         cut_anywhere(&rt, rt.alloc(), &Hostile { bytes, ..*stream })?;
     }

@@ -31,6 +31,7 @@ fn own(alloc: Global, peer: &mut Peer, verb: &str, at: Channel, last: &str) -> O
     let answer = match verb {
         "issue" => peer.issue(at, last.parse::<u32>().ok()?),
         "send" => peer.send(at, &hex::decode(alloc, last).ok()?),
+        "finish" => peer.finish(at),
         _ => return None,
     };
     text(alloc, &answer)

@@ -10,7 +10,7 @@ use std::process::Abort;
 use std::test::Fail;
 
 /// Of each example: the bytes of the stream that comes, and the calls with what they answer.
-const WORKED: [(&str, &str); 8] = [
+const WORKED: [(&str, &str); 12] = [
     // A message beyond what was guaranteed ends the reading for good.
     (
         "11000261621100026364",
@@ -71,6 +71,36 @@ const WORKED: [(&str, &str); 8] = [
         count 4 1 => Clean calls 4
         take 1 => 6869",
     ),
+    // Behind a Finish no frame of the client may come.
+    (
+        "4c434d0271110000000161",
+        "issue 1 4 => Ok(())
+        count 10 all => Violated(AfterFinish) calls 1
+        server 1 => outstanding 0 buffered 0 None
+        take 1 => Ok(Ended)
+        issue 1 1 => Err(ChannelFinished)",
+    ),
+    (
+        "4c434d027171",
+        "issue 1 4 => Ok(())
+        count 10 all => Violated(AfterFinish) calls 1
+        count 10 all => Violated(AfterFinish) calls 0",
+    ),
+    // Version One has no such frame.
+    (
+        "71",
+        "issue 1 4 => Ok(())
+        count 10 all => Fault(BadTag) calls 1
+        server 1 => outstanding 4 buffered 0 None
+        take 1 => Ok(Empty)",
+    ),
+    (
+        "210000000571",
+        "count 10 all => Fault(BadTag) calls 1
+        client 1 => held 5 None
+        finish 1 => Err(WrongVersion)
+        client 1 => held 5 None",
+    ),
 ];
 
 #[test]
@@ -82,7 +112,7 @@ fn worked_calls(rt: HostRuntime) -> Result<(), Fail> {
 }
 
 /// Calls of a peer that writes version Two, with what they answer.
-const IN_TWO: [&str; 2] = [
+const IN_TWO: [&str; 4] = [
     // The greeting goes out with the first frame, and once.
     "issue 1 5 => Ok(())
     write all => Ok(9) 4c434d022100000005 calls 1 pending 0 waiting 0
@@ -92,6 +122,21 @@ const IN_TWO: [&str; 2] = [
     write all => Ok(0)  calls 0 pending 0 waiting 0
     issue 1 5 => Ok(())
     write all => Ok(5) 2100000005 calls 1 pending 0 waiting 0",
+    // A Finish is its tag alone.
+    "finish 1 => Ok(())
+    write all => Ok(5) 4c434d0271 calls 1 pending 0 waiting 0
+    finish 1 => Err(ChannelFinished)
+    send 1 61 => Err(ChannelFinished)
+    write all => Ok(0)  calls 0 pending 0 waiting 0",
+    // Where no frame more can wait, none is put.
+    "issue 0 1 => Ok(())
+    issue 1 1 => Ok(())
+    issue 2 1 => Ok(())
+    issue 3 1 => Ok(())
+    finish 6 => Err(QueueFull)
+    write all => Ok(24) 4c434d022000000001210000000122000000012300000001 calls 1 pending 0 waiting 0
+    finish 6 => Ok(())
+    write all => Ok(1) 76 calls 1 pending 0 waiting 0",
 ];
 
 #[test]

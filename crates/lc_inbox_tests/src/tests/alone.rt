@@ -8,9 +8,9 @@ use std::test::Fail;
 /// The receiving side begins, and goes on after the reading side is gone.
 const BEGINS: &str = "issue 8 => Ok(())";
 
-const HEARS: &str = "hear 11000161 => Ok(())
-    hear 1100026263 => Ok(())
-    hear 110006000000000000 => Err(NotGuaranteed)";
+const HEARS: &str = "hear 110000000161 => Ok(())
+    hear 11000000026263 => Ok(())
+    hear 1100000006000000000000 => Err(NotGuaranteed)";
 
 const GOES_ON: &str = "take 2 => (Ok(Took(1)), [97, 238])
     take 2 => (Ok(Took(2)), [98, 99])

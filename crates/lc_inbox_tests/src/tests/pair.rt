@@ -1,7 +1,8 @@
 //! Both sides of one inbox with the drain of its queue, each side in a thread of its own, and the
 //! calls of a script on them: a call a line, and after `=>` what it answers. `hear` is the reading
-//! side's and has the bytes of a frame; the others are the receiving side's. `take` has the room of
-//! its buffer, whose bytes were 238, `lend` takes without a buffer, and `pop` is the drain's.
+//! side's and has the bytes of a frame of version Two; the others are the receiving side's. `take` has
+//! the room of its buffer, whose bytes were 238, `lend` takes without a buffer, and `pop` is the
+//! drain's.
 ghost use Rattle.std.specs.Prelude.{◌≡◌};
 ghost use Rattle.lc_inbox.specs.Sides.{AreOfOne};
 
@@ -34,7 +35,7 @@ fn hear<R: Wait>(rt: &R, alloc: Global, incoming: &mut InboxIn, digits: &str) ->
     ensures { incoming.new.inbox ≡ incoming.old.inbox }
 {
     let bytes = hex::decode(alloc, digits).ok()?;
-    match decode(Version::One, &bytes) {
+    match decode(Version::Two, &bytes) {
         Decoded::Whole { frame, used: _ } => {
             if !frame.is_valid(Version::Two) || frame.lane() != incoming.channel().number() {
                 return None;

@@ -9,12 +9,12 @@ use std::thread::Threads;
 
 /// Of each example: the channel, the bytes of the ring, the calls with what they answer, and what
 /// is outstanding, buffered and free at the end.
-const WORKED: [(u8, u32, &str, &str); 14] = [
+const WORKED: [(u8, u32, &str, &str); 16] = [
     (
         1,
         8,
         "issue 5 => Ok(())
-        hear 1100026869 => Ok(())
+        hear 11000000026869 => Ok(())
         take 3 => (Ok(Took(2)), [104, 105, 238])",
         "(3, 0, 5)",
     ),
@@ -22,7 +22,7 @@ const WORKED: [(u8, u32, &str, &str); 14] = [
         1,
         1,
         "issue 1 => Ok(())
-        hear 11000161 => Ok(())
+        hear 110000000161 => Ok(())
         issue 1 => Err(NoRoom { room: 0 })
         take 1 => (Ok(Took(1)), [97])
         issue 1 => Ok(())",
@@ -32,10 +32,10 @@ const WORKED: [(u8, u32, &str, &str); 14] = [
         2,
         4,
         "issue 4 => Ok(())
-        hear 12000101 => Ok(())
-        hear 12000102 => Ok(())
-        hear 12000103 => Ok(())
-        hear 12000104 => Ok(())
+        hear 120000000101 => Ok(())
+        hear 120000000102 => Ok(())
+        hear 120000000103 => Ok(())
+        hear 120000000104 => Ok(())
         take 1 => (Ok(Took(1)), [1])
         take 1 => (Ok(Took(1)), [2])
         take 1 => (Ok(Took(1)), [3])
@@ -47,7 +47,7 @@ const WORKED: [(u8, u32, &str, &str); 14] = [
         1,
         16,
         "issue 10 => Ok(())
-        hear 1100050102030405 => Ok(())
+        hear 11000000050102030405 => Ok(())
         plead 0 => Ok(())
         hear 3100000005 => Ok(())
         plead 0 => Err(NothingToAsk { outstanding: 0 })
@@ -61,7 +61,7 @@ const WORKED: [(u8, u32, &str, &str); 14] = [
         "issue 8 => Ok(())
         hear 510000000000000003 => Ok(())
         take 3 => (Ok(Empty), [238, 238, 238])
-        hear 110003616263 => Ok(())
+        hear 1100000003616263 => Ok(())
         take 3 => (Ok(Took(3)), [97, 98, 99])
         take 3 => (Ok(Ended), [238, 238, 238])",
         "(5, 0, 3)",
@@ -71,7 +71,7 @@ const WORKED: [(u8, u32, &str, &str); 14] = [
         8,
         "issue 5 => Ok(())
         limit 0 => Ok(())
-        hear 1100056162636465 => Ok(())
+        hear 11000000056162636465 => Ok(())
         issue 1 => Err(PastReceiveLimit { left: 0 })",
         "(0, 5, 3)",
     ),
@@ -79,7 +79,7 @@ const WORKED: [(u8, u32, &str, &str); 14] = [
         1,
         8,
         "issue 2 => Ok(())
-        hear 1100026869 => Ok(())
+        hear 11000000026869 => Ok(())
         take 1 => (Err(BufferTooSmall { need: 2 }), [238])
         take 2 => (Ok(Took(2)), [104, 105])
         take 2 => (Ok(Empty), [238, 238])",
@@ -91,10 +91,10 @@ const WORKED: [(u8, u32, &str, &str); 14] = [
         4,
         "issue 4 => Ok(())
         lend => Empty
-        hear 110003010203 => Ok(())
+        hear 1100000003010203 => Ok(())
         lend => Read(Some([1, 2, 3]))
         issue 3 => Ok(())
-        hear 110003040506 => Ok(())
+        hear 1100000003040506 => Ok(())
         hear 510000000000000000 => Ok(())
         lend => Read(Some([4, 5, 6]))
         lend => Ended",
@@ -105,7 +105,7 @@ const WORKED: [(u8, u32, &str, &str); 14] = [
         1,
         8,
         "issue 1 => Ok(())
-        hear 1100026162 => Err(NotGuaranteed)
+        hear 11000000026162 => Err(NotGuaranteed)
         book => (1, 0, 7, None, None)
         take 2 => (Ok(Empty), [238, 238])",
         "(1, 0, 7)",
@@ -115,7 +115,7 @@ const WORKED: [(u8, u32, &str, &str); 14] = [
         8,
         "issue 4 => Ok(())
         hear 510000000000000001 => Ok(())
-        hear 1100026162 => Err(SentPastLimit)
+        hear 11000000026162 => Err(SentPastLimit)
         book => (4, 0, 4, Some(1), None)",
         "(4, 0, 4)",
     ),
@@ -140,7 +140,7 @@ const WORKED: [(u8, u32, &str, &str); 14] = [
         8,
         "issue 1 => Ok(())
         hear 510000000000000001 => Ok(())
-        hear 1100026162 => Err(NotGuaranteed)
+        hear 11000000026162 => Err(NotGuaranteed)
         book => (1, 0, 7, Some(1), None)",
         "(1, 0, 7)",
     ),
@@ -148,9 +148,40 @@ const WORKED: [(u8, u32, &str, &str); 14] = [
         1,
         8,
         "issue 8 => Ok(())
-        hear 1100026162 => Ok(())
+        hear 11000000026162 => Ok(())
         book => (6, 2, 0, None, None)",
         "(6, 2, 0)",
+    ),
+    // A Finish ends the channel behind what waits, and waives what is outstanding.
+    (
+        1,
+        8,
+        "issue 8 => Ok(())
+        hear 11000000026869 => Ok(())
+        hear 71 => Ok(())
+        book => (0, 2, 6, None, None)
+        issue 0 => Err(ChannelFinished)
+        plead 9 => Err(ChannelFinished)
+        limit 4611686018427387905 => Err(ChannelFinished)
+        take 2 => (Ok(Took(2)), [104, 105])
+        take 2 => (Ok(Ended), [238, 238])
+        lend => Ended
+        pop => Some(Issue { channel: DataChannel, amount: 8 })
+        pop => None",
+        "(0, 0, 8)",
+    ),
+    (
+        1,
+        8,
+        "issue 4 => Ok(())
+        hear 71 => Ok(())
+        hear 110000000161 => Err(AfterFinish)
+        hear 3100000001 => Err(AfterFinish)
+        hear 510000000000000000 => Err(AfterFinish)
+        hear 71 => Err(AfterFinish)
+        book => (0, 0, 8, None, None)
+        take 1 => (Ok(Ended), [238])",
+        "(0, 0, 8)",
     ),
 ];
 
@@ -194,7 +225,7 @@ fn accepted_calls_put_their_frames(rt: HostRuntime) {
     same(&rt, "finish", found, "(8, 0, 0)");
 }
 
-/// One slot: a frame that finds none changes nothing.
+/// One slot: a frame that finds none changes nothing. Behind a Finish none is looked for.
 const FULL: &str = "issue 1 => Ok(())
     issue 1 => Err(QueueFull)
     plead 0 => Err(QueueFull)
@@ -203,10 +234,12 @@ const FULL: &str = "issue 1 => Ok(())
     book => (1, 0, 7, None, None)
     pop => Some(Issue { channel: StaticTokenChannel, amount: 1 })
     limit 9 => Ok(())
-    book => (1, 0, 7, None, Some(9))";
+    book => (1, 0, 7, None, Some(9))
+    hear 76 => Ok(())
+    issue 1 => Err(ChannelFinished)";
 
 #[test]
 fn a_full_queue_takes_no_frame(rt: HostRuntime) {
     let found = left(&rt, rt.alloc(), (6, 8, 1), FULL);
-    same(&rt, "finish", found, "(1, 0, 7)");
+    same(&rt, "finish", found, "(0, 0, 8)");
 }

@@ -158,13 +158,15 @@ fn answer<R: Wait>(rt: &R, alloc: Global, desk: &mut Desk, call: &str) -> Option
     match verb {
         "send" => send(rt, alloc, &mut desk.outbox, word),
         "honour" => text(alloc, &desk.outbox.honour(rt)),
+        "finish" => text(alloc, &desk.outbox.finish(rt)),
         "held" => text(alloc, &desk.outbox.held()),
+        "finished" => text(alloc, &desk.outbox.is_finished()),
         "pop" => pop(rt, alloc, &mut desk.drain),
         _ => numbered(rt, alloc, desk, verb, word.parse::<u64>().ok()?),
     }
 }
 
-// What became of the channel's guarantees: those received, held, spent and absolved.
+// What became of the channel's guarantees: those received, held, spent, absolved and waived.
 fn settled(alloc: Global, desk: Desk, rest: [CreditOut; 7]) -> Option<String>
     requires { AreMatched desk.incoming (slice_set rest 1 desk.outbox.credit) }
 {
@@ -183,12 +185,13 @@ fn settled(alloc: Global, desk: Desk, rest: [CreditOut; 7]) -> Option<String>
             balance.held,
             balance.spent,
             balance.absolved,
+            balance.waived,
         ),
     )
 }
 
 /// Each call of a script, in turn, answers what stands after it. Then the credits are settled: what
-/// was received on the channel, and is held, spent and absolved.
+/// was received on the channel, and is held, spent, absolved and waived.
 pub fn works<R: Wait + Abort>(
     rt: &R,
     alloc: Global,

@@ -27,20 +27,21 @@ fn calls(rt: &(impl Wait + Abort), desk: &mut Desk) {
     let honoured = desk.outbox.honour(rt);
     let limited = desk.outbox.limit(rt, 0);
     let past = desk.outbox.send(rt, b"a");
+    let finished = desk.outbox.finish(rt);
     assert_eq!(rt;
         (refused, absolved, honoured),
         (Err(Refusal::NoGuarantee { held: 3 }), Ok(()), Ok(Some(1)))
     );
     assert_eq!(rt;
-        (limited, past),
-        (Ok(()), Err(Refusal::PastSendLimit { left: 0 }))
+        (limited, past, finished),
+        (Ok(()), Err(Refusal::PastSendLimit { left: 0 }), Ok(()))
     );
 }
 
 // Requests for memory can be refused here in turn; the last is the test's own.
 #[test]
 fn a_send_alone_asks_for_memory(rt: HostRuntime) -> Result<(), Fail> {
-    let (mut desk, _rest) = new_desk(rt.alloc(), Version::One, 8).ok_or("there is no desk")?;
+    let (mut desk, _rest) = new_desk(rt.alloc(), Version::Two, 8).ok_or("there is no desk")?;
     let added = desk.incoming.add(Channel::DataChannel, 5);
     desk.incoming.ask(Channel::DataChannel, 1);
     assert!(rt; added.is_ok());

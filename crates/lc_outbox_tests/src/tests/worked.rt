@@ -3,9 +3,9 @@ use crate::tests::desk::works;
 use crate::tests::same;
 use lc_frame::Version;
 
-/// Of each example: the slots, the calls with what they answer, and what was received, held, spent
-/// and absolved at the end.
-const WORKED: [(u32, &str, &str); 9] = [
+/// Of each example: the slots, the calls with what they answer, and what was received, held, spent,
+/// absolved and waived at the end.
+const WORKED: [(u32, &str, &str); 10] = [
     (
         4,
         "send 6869 => Err(NoGuarantee { held: 0 })
@@ -14,7 +14,7 @@ const WORKED: [(u32, &str, &str); 9] = [
         held => 3
         pop => 1100026869
         pop => nothing",
-        "(5, 3, 2, 0)",
+        "(5, 3, 2, 0, 0)",
     ),
     (
         4,
@@ -25,7 +25,7 @@ const WORKED: [(u32, &str, &str); 9] = [
         held => 2
         pop => 3100000003
         pop => nothing",
-        "(5, 2, 0, 3)",
+        "(5, 2, 0, 3, 0)",
     ),
     // A plead that finds no slot is kept until the next call, or until a newer one comes.
     (
@@ -39,7 +39,7 @@ const WORKED: [(u32, &str, &str); 9] = [
         honour => Ok(Some(3))
         pop => 3100000003
         honour => Ok(None)",
-        "(5, 2, 0, 3)",
+        "(5, 2, 0, 3, 0)",
     ),
     (
         1,
@@ -52,7 +52,7 @@ const WORKED: [(u32, &str, &str); 9] = [
         pop => 520000000000000009
         honour => Ok(Some(1))
         honour => Ok(None)",
-        "(5, 4, 0, 1)",
+        "(5, 4, 0, 1, 0)",
     ),
     // A plead that asks nothing is forgotten without a slot.
     (
@@ -63,7 +63,7 @@ const WORKED: [(u32, &str, &str); 9] = [
         honour => Ok(None)
         add 1 => Ok(())
         honour => Ok(None)",
-        "(6, 6, 0, 0)",
+        "(6, 6, 0, 0, 0)",
     ),
     (
         1,
@@ -76,7 +76,7 @@ const WORKED: [(u32, &str, &str); 9] = [
         pop => 520000000000000009
         send 616263 => Ok(())
         pop => 110003616263",
-        "(5, 2, 3, 0)",
+        "(5, 2, 3, 0, 0)",
     ),
     (
         4,
@@ -89,7 +89,7 @@ const WORKED: [(u32, &str, &str); 9] = [
         popped 65535 => true
         popped 1 => true
         pop => nothing",
-        "(65536, 0, 65536, 0)",
+        "(65536, 0, 65536, 0, 0)",
     ),
     (
         4,
@@ -106,7 +106,7 @@ const WORKED: [(u32, &str, &str); 9] = [
         pop => 510000000000000004
         popped 3 => true
         pop => 510000000000000000",
-        "(9, 6, 3, 0)",
+        "(9, 6, 3, 0, 0)",
     ),
     (
         4,
@@ -120,7 +120,20 @@ const WORKED: [(u32, &str, &str); 9] = [
         pop => 3100fffffa
         pop => 3100000006
         pop => nothing",
-        "(16777216, 0, 0, 16777216)",
+        "(16777216, 0, 0, 16777216, 0)",
+    ),
+    // Version One has no frame that finishes a channel, whether or not a slot is free.
+    (
+        1,
+        "add 5 => Ok(())
+        finish => Err(WrongVersion)
+        send 6869 => Ok(())
+        finish => Err(WrongVersion)
+        finished => false
+        held => 3
+        pop => 1100026869
+        pop => nothing",
+        "(5, 3, 2, 0, 0)",
     ),
 ];
 
@@ -144,5 +157,74 @@ const LONGER: &str = "add 1048577 => Ok(())
 #[test]
 fn messages_are_longer_in_version_two(rt: HostRuntime) {
     let found = works(&rt, rt.alloc(), Version::Two, 4, LONGER);
-    same(&rt, "settle", found, "(1048577, 0, 1048577, 0)");
+    same(&rt, "settle", found, "(1048577, 0, 1048577, 0, 0)");
+}
+
+/// Channels that are finished, in version Two.
+const FINISHED: [(u32, &str, &str); 3] = [
+    // Nothing is held or put after a Finish, and what still comes is waived.
+    (
+        4,
+        "add 10 => Ok(())
+        ask 2 => ()
+        limit 6 => Ok(())
+        send 6869 => Ok(())
+        finish => Ok(())
+        finished => true
+        held => 0
+        send 61 => Err(ChannelFinished)
+        long 0 => Err(ChannelFinished)
+        absolve 0 => Err(ChannelFinished)
+        honour => Err(ChannelFinished)
+        limit 7 => Err(ChannelFinished)
+        finish => Err(ChannelFinished)
+        add 2 => Ok(())
+        held => 0
+        send 61 => Err(ChannelFinished)
+        pop => 510000000000000006
+        pop => 11000000026869
+        pop => 71
+        pop => nothing",
+        "(12, 0, 2, 0, 10)",
+    ),
+    // A Finish that finds no slot changes nothing.
+    (
+        1,
+        "add 5 => Ok(())
+        ask 2 => ()
+        other 9 => Ok(())
+        honour => Err(QueueFull)
+        finish => Err(QueueFull)
+        finished => false
+        held => 5
+        pop => 520000000000000009
+        pop => nothing
+        honour => Ok(Some(3))
+        finish => Err(QueueFull)
+        pop => 3100000003
+        send 61 => Ok(())
+        pop => 110000000161
+        finish => Ok(())
+        finish => Err(ChannelFinished)
+        pop => 71
+        pop => nothing",
+        "(5, 0, 1, 3, 1)",
+    ),
+    // A channel on which nothing came.
+    (
+        1,
+        "finish => Ok(())
+        held => 0
+        pop => 71
+        pop => nothing",
+        "(0, 0, 0, 0, 0)",
+    ),
+];
+
+#[test]
+fn finished_channels(rt: HostRuntime) {
+    for &(slots, script, wanted) in &FINISHED {
+        let found = works(&rt, rt.alloc(), Version::Two, slots, script);
+        same(&rt, "settle", found, wanted);
+    }
 }

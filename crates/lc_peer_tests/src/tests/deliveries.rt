@@ -66,7 +66,7 @@ fn worked_deliveries(rt: HostRuntime) -> Result<(), Fail> {
 
 /// Streams of a hostile peer. After a fault a further delivery answers the same, and takes nothing;
 /// after a violation the frame that violates is judged anew.
-const HOSTILE: [&str; 13] = [
+const HOSTILE: [&str; 20] = [
     "issue 1 1 => Ok(())
     stream 1100026162 => taken 5 frames 0 Some(Violated(NotGuaranteed)) held 5
     server 1 => (1, 0, 7, None, None)
@@ -167,6 +167,37 @@ const HOSTILE: [&str; 13] = [
     deliver - => taken 0 frames 0 None held 0
     deliver 2000000001 => taken 5 frames 1 None held 0
     client 0 => (1, None, None, Some(4611686018427387903))",
+    // Behind a Finish, in streams of version Two.
+    "issue 1 4 => Ok(())
+    stream 4c434d0271110000000161 => taken 11 frames 1 Some(Violated(AfterFinish)) held 6
+    server 1 => (0, 0, 8, None, None)
+    pop 1 => Ended
+    deliver - => taken 0 frames 0 Some(Violated(AfterFinish)) held 6
+    deliver 2100000005 => taken 0 frames 0 Some(Violated(AfterFinish)) held 6
+    issue 1 1 => Err(ChannelFinished)",
+    "issue 1 4 => Ok(())
+    stream 4c434d027171 => taken 6 frames 1 Some(Violated(AfterFinish)) held 1
+    server 1 => (0, 0, 8, None, None)",
+    "issue 1 4 => Ok(())
+    stream 4c434d02713100000001 => taken 10 frames 1 Some(Violated(AfterFinish)) held 5
+    server 1 => (0, 0, 8, None, None)",
+    "stream 4c434d0271510000000000000000 => taken 14 frames 1 Some(Violated(AfterFinish)) held 9
+    server 1 => (0, 0, 8, None, None)",
+    // The other direction goes on.
+    "stream 4c434d02712100000005 => taken 10 frames 2 None held 0
+    client 1 => (5, None, None, None)",
+    // A Finish between a message and part of another.
+    "issue 1 8 => Ok(())
+    stream 4c434d0211000000026162711100 => taken 14 frames 2 None held 2
+    server 1 => (0, 2, 6, None, None)
+    take 1 3 => (Ok(Took(2)), [97, 98, 238])
+    pop 1 => Ended
+    deliver 00000161 => taken 4 frames 0 Some(Violated(AfterFinish)) held 6",
+    // Version One has no Finish.
+    "issue 1 4 => Ok(())
+    stream 71 => taken 1 frames 0 Some(Fault(BadTag)) held 1
+    server 1 => (4, 0, 4, None, None)
+    pop 1 => Empty",
 ];
 
 /// The same in version Two, where a greeting comes first and a length has four bytes: a message that is

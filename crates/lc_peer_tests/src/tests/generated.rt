@@ -11,7 +11,8 @@ use std::process::Abort;
 use std::test::Fail;
 
 // What was done on one channel, by the answers of the calls: bytes of the messages that were sent,
-// arrived and were taken, guarantees by what became of them, and the next message each way.
+// arrived and were taken, guarantees by what became of them, whether the client here and that of the
+// other side finished, and the next message each way.
 #[derive(Clone, Copy, Default)]
 struct Done {
     received: u64,
@@ -21,6 +22,8 @@ struct Done {
     arrived: u64,
     given_up: u64,
     taken: u64,
+    is_finished: bool,
+    is_ended: bool,
     coming: u8,
     going: u8,
 }
@@ -40,14 +43,15 @@ fn below(rng: &mut Pcg32, bound: u32) -> u32
 // An own call of the client.
 fn as_client(rng: &mut Pcg32, peer: &mut Peer, channel: Channel, done: &mut Done) {
     let n = below(rng, 12);
-    match below(rng, 4) {
-        0 | 1 => {
+    match below(rng, 32) {
+        0 => done.is_finished |= peer.finish(channel).is_ok(),
+        1..=15 => {
             let body = [0; 12];
             if peer.send(channel, &body[..n as usize]).is_ok() {
                 done.spent = done.spent.wrapping_add(u64::from(n));
             }
         }
-        2 => {
+        16..=23 => {
             if peer.absolve(channel, n).is_ok() {
                 done.absolved = done.absolved.wrapping_add(u64::from(n));
             }
@@ -104,12 +108,13 @@ fn at_client(rt: &impl Abort, rng: &mut Pcg32, peer: &mut Peer, channel: Channel
 // A frame for the channel's server arrives. All bytes of a message are its number.
 fn at_server(rt: &impl Abort, rng: &mut Pcg32, peer: &mut Peer, channel: Channel, done: &mut Done) {
     let n = below(rng, 9) + 1;
-    match below(rng, 8) {
-        0 => {
+    match below(rng, 32) {
+        0 => done.is_ended |= arrives(rt, peer, FrameRef::Finish { channel }),
+        1..=4 => {
             let bound = u64::from(n) * 4;
             arrives(rt, peer, FrameRef::LimitSending { channel, bound });
         }
-        1 => {
+        5..=8 => {
             if arrives(rt, peer, FrameRef::Absolve { channel, amount: n }) {
                 done.given_up = done.given_up.wrapping_add(u64::from(n));
             }
@@ -151,20 +156,28 @@ fn goes(rt: &impl Abort, rng: &mut Pcg32, peer: &mut Peer, channel: Channel, don
     }
 }
 
+// What stays of the guarantees that are left over, and what is waived of them.
+fn parted(is_waived: bool, unused: u64) -> (u64, u64) {
+    if is_waived { (0, unused) } else { (unused, 0) }
+}
+
 // The books are the sums of what was done, and the ring is never overrun.
 fn is_balanced(rt: &impl Abort, peer: &Peer, channel: Channel, done: &Done) {
     let (client, server) = (peer.client(channel), peer.server(channel));
-    let held = done
+    let unused = done
         .received
         .wrapping_sub(done.spent)
         .wrapping_sub(done.absolved);
-    let outstanding = done
+    let promised = done
         .issued
         .wrapping_sub(done.arrived)
         .wrapping_sub(done.given_up);
     let buffered = done.arrived.wrapping_sub(done.taken);
-    assert!(rt; client.held() == held && client.received() == done.received);
-    assert!(rt; server.outstanding() == outstanding && server.buffered() == buffered);
+    let (held, waived) = parted(done.is_finished, unused);
+    assert!(rt; client.held() == held && client.waived() == waived);
+    let (outstanding, waived) = parted(done.is_ended, promised);
+    assert!(rt; server.outstanding() == outstanding && server.waived() == waived);
+    assert!(rt; client.received() == done.received && server.buffered() == buffered);
     assert!(rt; server.outstanding() + server.buffered() <= 8 && peer.waiting() <= 4);
 }
 
@@ -191,7 +204,7 @@ fn goes_on(rt: &impl Abort, rng: &mut Pcg32, peer: &mut Peer) {
 fn calls_and_frames(rt: HostRuntime) -> Result<(), Fail> {
     let mut rng = Pcg32::new(42, 54);
     for _ in 0..10_000 {
-        let mut side = Side::new(rt.alloc(), 4)?;
+        let mut side = Side::new(rt.alloc(), Version::Two, 4)?;
         goes_on(&rt, &mut rng, &mut side.peer);
     }
     Ok(())
@@ -279,7 +292,7 @@ fn let_through(
 fn any_streams(rt: &impl Abort, alloc: Global, version: Version) -> Result<(), Fail> {
     let mut rng = Pcg32::new(42, 54);
     for number in 0..10_000 {
-        let mut side = Side::new(alloc, 7)?;
+        let mut side = Side::new(alloc, version, 7)?;
         let bytes = any_bytes(&mut rng);
         let (first, rest) = bytes.split_at(number % 65);
         let _came = let_through(rt, &mut side, version, first, rest);
@@ -302,7 +315,7 @@ fn changed_streams(rt: &impl Abort, alloc: Global, version: Version) -> Result<u
     let mut rng = Pcg32::new(42, 54);
     let mut came = 0u64;
     for number in 0..10_000 {
-        let mut side = Side::new(alloc, 7)?;
+        let mut side = Side::new(alloc, version, 7)?;
         let bytes = changed_messages(&mut rng, version);
         let (first, rest) = bytes.split_at(number % 65);
         came = came.saturating_add(let_through(rt, &mut side, version, first, rest));

@@ -7,10 +7,11 @@ use std::alloc::Global;
 use std::test::Fail;
 
 /// The calls on an inbox over a ring of 8 bytes, with what they answer.
-const CALLS: &str = "pop => Empty
+const CALLS: [&str; 2] = [
+    "pop => Empty
     issue 6 => Ok(())
-    arrive 1000026869 => Ok(())
-    arrive 10000568656c6c6f => Err(NotGuaranteed)
+    arrive 10000000026869 => Ok(())
+    arrive 100000000568656c6c6f => Err(NotGuaranteed)
     take 1 => (Err(BufferTooSmall { need: 2 }), [238])
     take 2 => (Ok(Took(2)), [104, 105])
     take 2 => (Ok(Empty), [238, 238])
@@ -18,16 +19,31 @@ const CALLS: &str = "pop => Empty
     arrive 3000000003 => Ok(())
     arrive 500000000000000001 => Ok(())
     arrive 500000000000000002 => Err(SendLimitRaised)
-    arrive 10000178 => Ok(())
+    arrive 100000000178 => Ok(())
     front => Some(([120], []))
     pop => Took(1)
     pop => Ended
-    book => (0, 0, 8)";
+    book => (0, 0, 8)",
+    // The client finishes, and one message waits.
+    "issue 6 => Ok(())
+    arrive 10000000026869 => Ok(())
+    arrive 70 => Ok(())
+    book => (0, 2, 6)
+    arrive 70 => Err(AfterFinish)
+    arrive 100000000178 => Err(AfterFinish)
+    arrive 3000000001 => Err(AfterFinish)
+    arrive 500000000000000000 => Err(AfterFinish)
+    issue 1 => Err(ChannelFinished)
+    take 2 => (Ok(Took(2)), [104, 105])
+    take 2 => (Ok(Ended), [238, 238])
+    pop => Ended
+    book => (0, 0, 8)",
+];
 
 // A frame for the server arrives.
 fn arrive(alloc: Global, inbox: &mut Inbox, digits: &str) -> Option<Result<(), Violation>> {
     let bytes = bytes(alloc, digits)?;
-    match decode(Version::One, &bytes) {
+    match decode(Version::Two, &bytes) {
         Decoded::Whole {
             frame: FrameRef::Send { body, .. },
             used: _,
@@ -40,6 +56,10 @@ fn arrive(alloc: Global, inbox: &mut Inbox, digits: &str) -> Option<Result<(), V
             frame: FrameRef::LimitSending { bound, .. },
             used: _,
         } => Some(inbox.sending_limited(bound)),
+        Decoded::Whole {
+            frame: FrameRef::Finish { .. },
+            used: _,
+        } => Some(inbox.finished()),
         _ => None,
     }
 }
@@ -105,7 +125,9 @@ fn no_inbox_has_these_capacities(rt: HostRuntime) {
 
 #[test]
 fn worked_calls(rt: HostRuntime) -> Result<(), Fail> {
-    let mut inbox = inbox(rt.alloc(), 8)?;
-    answers(&rt, rt.alloc(), &mut inbox, CALLS);
+    for script in &CALLS {
+        let mut inbox = inbox(rt.alloc(), 8)?;
+        answers(&rt, rt.alloc(), &mut inbox, script);
+    }
     Ok(())
 }

@@ -1,7 +1,7 @@
 //! Scripts of calls on one peer: a call a line, and behind `=>` what it answers. Bytes are in
 //! hexadecimal. `arrive` has a frame, `deliver` the pieces of a stream, `stream` one that is cut as
 //! the run says, `feed` bytes for the decoder alone, and `take` the room of its buffer, whose bytes
-//! were 238. `each` asks on every channel.
+//! were 238. `sums` shows what both books of a channel counted, and `each` asks on every channel.
 use crate::tests::{Subject, answers};
 use lc_frame::{Channel, Decoded, StreamDecoder, Version, decode};
 use lc_peer::{Config, Delivery, Peer};
@@ -48,10 +48,10 @@ pub struct Side {
 }
 
 impl Side {
-    /// A new peer with rings of 8 bytes.
-    pub fn new(alloc: Global, slots: u32) -> Result<Side, Fail> {
+    /// A new peer with rings of 8 bytes, which writes this version.
+    pub fn new(alloc: Global, version: Version, slots: u32) -> Result<Side, Fail> {
         let decoder = StreamDecoder::new(alloc)?;
-        let peer = peer(alloc, [8; 7], slots)?;
+        let peer = peer_of(alloc, version, [8; 7], slots)?;
         let cut = Cut::Everywhere;
         Ok(Side { peer, decoder, cut })
     }
@@ -73,7 +73,7 @@ fn channel(word: &str) -> Option<Channel> {
 
 fn arrive(alloc: Global, peer: &mut Peer, digits: &str) -> Option<String> {
     let bytes = bytes(alloc, digits)?;
-    match decode(Version::One, &bytes) {
+    match decode(peer.version(), &bytes) {
         Decoded::Whole { frame, used: _ } if frame.is_valid(Version::Two) => {
             text(alloc, &peer.arrive(frame))
         }
@@ -179,6 +179,17 @@ fn server(alloc: Global, peer: &Peer, channel: Channel) -> Option<String> {
     text(alloc, &(outstanding, buffered, room, sending, receiving))
 }
 
+// What the client received, spent, absolved and waived, and what the server issued and was waived;
+// of both whether the client finished.
+fn sums(alloc: Global, peer: &Peer, channel: Channel) -> Option<String> {
+    let (client, server) = (peer.client(channel), peer.server(channel));
+    let (spent, absolved) = (client.spent(), client.absolved());
+    let sent = (client.received(), spent, absolved, client.waived());
+    let issued = (server.issued(), server.waived());
+    let finished = (client.is_finished(), server.is_finished());
+    text(alloc, &(sent, issued, finished))
+}
+
 // What a call on a channel answers.
 fn on_channel(
     alloc: Global,
@@ -190,11 +201,13 @@ fn on_channel(
     match verb {
         "send" => send(alloc, peer, at, last),
         "honour" => text(alloc, &peer.honour(at)),
+        "finish" => text(alloc, &peer.finish(at)),
         "front" => text(alloc, &peer.front(at)),
         "pop" => text(alloc, &peer.pop(at)),
         "take" => take(alloc, peer, at, last),
         "client" => client(alloc, peer, at),
         "server" => server(alloc, peer, at),
+        "sums" => sums(alloc, peer, at),
         _ => own(alloc, peer, verb, at, last),
     }
 }
@@ -243,14 +256,25 @@ impl Subject for Side {
 
 /// A new peer answers each line of a script as it says.
 pub fn run(rt: &impl Abort, alloc: Global, slots: u32, script: &str) -> Result<(), Fail> {
-    let mut side = Side::new(alloc, slots)?;
+    run_in(rt, alloc, Version::One, slots, script)
+}
+
+/// The same with a peer that writes this version.
+pub fn run_in(
+    rt: &impl Abort,
+    alloc: Global,
+    version: Version,
+    slots: u32,
+    script: &str,
+) -> Result<(), Fail> {
+    let mut side = Side::new(alloc, version, slots)?;
     answers(rt, alloc, &mut side, script);
     Ok(())
 }
 
 /// The same, and streams are cut so.
 pub fn run_cut(rt: &impl Abort, alloc: Global, cut: Cut, script: &str) -> Result<(), Fail> {
-    let mut side = Side::new(alloc, 4)?;
+    let mut side = Side::new(alloc, Version::One, 4)?;
     side.cut = cut;
     answers(rt, alloc, &mut side, script);
     Ok(())

@@ -55,7 +55,10 @@ fn send<R: Wait>(rt: &R, alloc: Global, end: &mut SendEnd, verb: &str, word: &st
         "absolve" => text(alloc, &end.absolve(rt, word.parse::<u32>().ok()?)),
         "limit-sending" => text(alloc, &end.limit(rt, number(word)?)),
         "honour" => text(alloc, &end.honour(rt)),
+        "finish" => text(alloc, &end.finish(rt)),
+        "finished" => text(alloc, &end.is_finished()),
         "held" => text(alloc, &end.held()),
+        "wait" => text(alloc, &end.wait(rt)),
         _ => None,
     }
 }
@@ -140,10 +143,10 @@ fn end<R: Wait>(
     ensures { StaysOfOne parts.old parts.new }
 {
     match verb {
-        "send" | "absolve" | "limit-sending" | "honour" | "held" => {
-            at_sender(rt, alloc, &mut parts.send_ends, at, verb, word)
+        "issue" | "plead" | "limit-receiving" | "take" | "server" => {
+            at_receiver(rt, alloc, &mut parts.recv_ends, at, verb, word)
         }
-        _ => at_receiver(rt, alloc, &mut parts.recv_ends, at, verb, word),
+        _ => at_sender(rt, alloc, &mut parts.send_ends, at, verb, word),
     }
 }
 
@@ -207,7 +210,7 @@ fn answer<R: Wait>(rt: &R, alloc: Global, desk: &mut Desk, call: &str) -> Option
     }
 }
 
-// What a report says: of a client what it received, holds, spent and absolved.
+// What a report says: of a client what it received, holds, spent, absolved and waived.
 fn reported(alloc: Global, report: &Report, call: &str) -> Option<String> {
     let (verb, word) = call.split_once(' ').unwrap_or((call, ""));
     if verb == "left" {
@@ -219,7 +222,13 @@ fn reported(alloc: Global, report: &Report, call: &str) -> Option<String> {
     match verb {
         "client" => text(
             alloc,
-            &(client.received, client.held, client.spent, client.absolved),
+            &(
+                client.received,
+                client.held,
+                client.spent,
+                client.absolved,
+                client.waived,
+            ),
         ),
         "server" => text(
             alloc,

@@ -16,6 +16,8 @@ use std::sync::Wait;
 pub struct Load {
     pub messages: u32,
     pub ring: u32,
+    /// Whether each channel is finished behind its last message.
+    pub finishes: bool,
 }
 
 /// The longest message.
@@ -60,13 +62,30 @@ pub fn send<R: Wait + Abort>(rt: &R, end: &mut SendEnd, body: &[u8])
     unreachable!()
 }
 
-/// Issues an amount as soon as it can.
+// Finishes the channel as soon as it can. Nothing is left to wait for then.
+fn finish<R: Wait + Abort>(rt: &R, end: &mut SendEnd)
+    ensures { IsSameOutbox end.old end.new }
+{
+    for _ in rt.forever() {
+        match end.finish(rt) {
+            Ok(()) => {
+                assert_eq!(rt; end.wait(rt), Wake::Over);
+                return;
+            }
+            Err(refusal) => assert_eq!(rt; refusal, Refusal::QueueFull),
+        }
+        wait_to_send(rt, end);
+    }
+    unreachable!()
+}
+
+/// Issues an amount as soon as it can, unless the other side finished the channel.
 pub fn issue<R: Wait + Abort>(rt: &R, end: &mut RecvEnd, n: u32)
     ensures { IsSameSide end.old end.new }
 {
     for _ in rt.forever() {
         match end.issue(rt, n) {
-            Ok(()) => return,
+            Ok(()) | Err(Refusal::ChannelFinished) => return,
             Err(refusal) => assert_eq!(rt; refusal, Refusal::QueueFull),
         }
         wait_to_take(rt, end);
@@ -93,6 +112,20 @@ pub fn take<R: Wait + Abort>(rt: &R, end: &mut RecvEnd, due: &[u8])
     unreachable!()
 }
 
+/// Waits until the other side sends no more.
+pub fn await_end<R: Wait + Abort>(rt: &R, end: &mut RecvEnd)
+    ensures { IsSameSide end.old end.new }
+{
+    for _ in rt.forever() {
+        match end.take_into(rt, &mut []) {
+            Ok(Take::Ended) => return,
+            answer => assert_eq!(rt; answer, Ok(Take::Empty)),
+        }
+        wait_to_take(rt, end);
+    }
+    unreachable!()
+}
+
 /// Sends all messages.
 pub fn send_all<R: Wait + Abort>(rt: &R, end: &mut SendEnd, load: Load)
     ensures { IsSameOutbox end.old end.new }
@@ -100,6 +133,9 @@ pub fn send_all<R: Wait + Abort>(rt: &R, end: &mut SendEnd, load: Load)
     for k in 0..load.messages {
         let (bytes, len) = message(load, k, end.channel());
         send(rt, end, bytes.get(..len).unwrap_or(&[]));
+    }
+    if load.finishes {
+        finish(rt, end);
     }
 }
 
@@ -112,5 +148,8 @@ pub fn take_all<R: Wait + Abort>(rt: &R, end: &mut RecvEnd, load: Load)
         let (bytes, len) = message(load, k, end.channel());
         take(rt, end, bytes.get(..len).unwrap_or(&[]));
         issue(rt, end, u32::try_from(len).unwrap_or(0));
+    }
+    if load.finishes {
+        await_end(rt, end);
     }
 }

@@ -319,16 +319,23 @@ where
     (a, b)
 }
 
-// So many bytes went on each channel from one session to the other, and all adds up.
-fn is_balanced(rt: &impl Abort, client: &Report, server: &Report, bytes: u64) {
+// So many bytes went on each channel from one session to the other, and all adds up: what is left is
+// held, or waived where the channels were finished.
+fn is_balanced(rt: &impl Abort, client: &Report, server: &Report, bytes: u64, finished: bool) {
     assert_eq!(rt; (client.left, client.partly), (0, 0));
     for place in 0..7 {
         let balance = &client.clients[place];
         let book = &server.servers[place];
-        let held = balance.received.saturating_sub(bytes);
+        let left = balance.received.saturating_sub(bytes);
+        let (held, waived) = if finished { (0, left) } else { (left, 0) };
         assert_eq!(rt;
-            (balance.spent, balance.held, balance.absolved),
-            (bytes, held, 0)
+            (
+                balance.spent,
+                balance.held,
+                balance.absolved,
+                balance.waived
+            ),
+            (bytes, held, 0, waived)
         );
         assert_eq!(rt;
             (book.issued(), book.outstanding(), book.buffered()),
@@ -341,11 +348,12 @@ fn is_balanced(rt: &impl Abort, client: &Report, server: &Report, bytes: u64) {
 /// bytes of all messages of a channel.
 const EXCHANGES: [(u32, u32, u32, u64); 3] = [(250, 32, 4, 2485), (100, 4, 1, 400), (1, 32, 4, 4)];
 
-/// In which both sessions write.
-const VERSIONS: [[Version; 2]; 3] = [
-    [Version::One, Version::One],
-    [Version::One, Version::Two],
-    [Version::Two, Version::Two],
+/// In which both sessions write, and whether they finish their channels.
+const VERSIONS: [([Version; 2], bool); 4] = [
+    ([Version::One, Version::One], false),
+    ([Version::One, Version::Two], false),
+    ([Version::Two, Version::Two], false),
+    ([Version::Two, Version::Two], true),
 ];
 
 // By which both sessions are stopped, wherever their parts are.
@@ -371,16 +379,20 @@ where
     let sessions = clones(&a.session, &b.session)?;
     let (a, b) = exchange(rt, a, b, wires, sessions, load);
     let (a, b) = (finish(rt, a), finish(rt, b));
-    is_balanced(rt, &a, &b, bytes);
-    is_balanced(rt, &b, &a, bytes);
+    is_balanced(rt, &a, &b, bytes, load.finishes);
+    is_balanced(rt, &b, &a, bytes, load.finishes);
     Ok(())
 }
 
 #[test]
 fn sessions_exchange_messages_in_threads(rt: HostRuntime) -> Result<(), Fail> {
-    for &versions in &VERSIONS {
+    for &(versions, finishes) in &VERSIONS {
         for &(messages, ring, slots, bytes) in &EXCHANGES {
-            let load = Load { messages, ring };
+            let load = Load {
+                messages,
+                ring,
+                finishes,
+            };
             exchanges(&rt, rt.alloc(), versions, load, slots, bytes)?;
         }
     }

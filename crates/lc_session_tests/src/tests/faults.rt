@@ -51,7 +51,7 @@ fn a_read_fails_at_each_byte(rt: HostRuntime) -> Result<(), Fail> {
             held 1 => 5
             read 30 1 => Clean"
         )?;
-        let report = "client 1 => (5, 5, 0, 0)
+        let report = "client 1 => (5, 5, 0, 0, 0)
             server 1 => (0, 2, 2)
             left => (1, 0)";
         run(&rt, rt.alloc(), 4, THREE_FRAMES, script.as_str(), report)?;

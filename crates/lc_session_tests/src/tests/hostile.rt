@@ -1,6 +1,6 @@
 //! Streams of a hostile peer through the reading pump, whole and cut in two after each byte.
 use crate::tests::desk::run;
-use lc_testing::{HOSTILE, Hostile};
+use lc_testing::{FINISHED, HOSTILE, Hostile};
 use std::alloc::Global;
 use std::process::Abort;
 use std::sync::Wait;
@@ -14,11 +14,22 @@ fn without_reads(end: &str) -> &str {
     "TurnsSpent"
 }
 
-// A stream comes to a new session, and the first read gives so many bytes of it.
+// What a take answers once all messages of a stream with a Finish were taken: the Finish is on the
+// channel that is looked at, but in the stream that begins with another channel's.
+fn after_finish(stream: &Hostile) -> &'static str {
+    if stream.in_two.starts_with("4c434d0272") {
+        return "Ok(Empty)";
+    }
+    "Ok(Ended)"
+}
+
+// A stream comes to a new session, and the first read gives so many bytes of it. Then no more can be
+// taken than one message.
 fn cut_at<R: Wait + Abort>(
     rt: &R,
     alloc: Global,
     stream: &Hostile,
+    untaken: &str,
     cut: usize,
 ) -> Result<(), Fail> {
     let (own, end, at) = (stream.own, stream.end, stream.channel);
@@ -29,17 +40,22 @@ fn cut_at<R: Wait + Abort>(
         server {at} => {server}
         held {at} => {held}
         take {at} => {taken}
-        take {at} => Ok(Empty)
+        take {at} => {untaken}
         read 10 all => {end}
         read 0 all => {last}"
     )?;
-    let report = format!(in alloc; "client {at} => ({held}, {held}, 0, 0)")?;
+    let report = format!(in alloc; "client {at} => ({held}, {held}, 0, 0, 0)")?;
     run(rt, alloc, 4, stream.bytes, script.as_str(), report.as_str())
 }
 
-fn cut_anywhere<R: Wait + Abort>(rt: &R, alloc: Global, stream: &Hostile) -> Result<(), Fail> {
+fn cut_anywhere<R: Wait + Abort>(
+    rt: &R,
+    alloc: Global,
+    stream: &Hostile,
+    untaken: &str,
+) -> Result<(), Fail> {
     for before in 0..stream.bytes.len() / 2 {
-        cut_at(rt, alloc, stream, before + 1)?;
+        cut_at(rt, alloc, stream, untaken, before + 1)?;
     }
     Ok(())
 }
@@ -47,7 +63,7 @@ fn cut_anywhere<R: Wait + Abort>(rt: &R, alloc: Global, stream: &Hostile) -> Res
 #[test]
 fn streams_cut_anywhere(rt: HostRuntime) -> Result<(), Fail> {
     for stream in &HOSTILE {
-        cut_anywhere(&rt, rt.alloc(), stream)?;
+        cut_anywhere(&rt, rt.alloc(), stream, "Ok(Empty)")?;
     }
     Ok(())
 }
@@ -56,7 +72,17 @@ fn streams_cut_anywhere(rt: HostRuntime) -> Result<(), Fail> {
 fn streams_of_version_two_cut_anywhere(rt: HostRuntime) -> Result<(), Fail> {
     for stream in &HOSTILE {
         let bytes = stream.in_two;
-        cut_anywhere(&rt, rt.alloc(), &Hostile { bytes, ..*stream })?;
+        cut_anywhere(&rt, rt.alloc(), &Hostile { bytes, ..*stream }, "Ok(Empty)")?;
+    }
+    Ok(())
+}
+
+#[test]
+fn streams_with_a_finish_cut_anywhere(rt: HostRuntime) -> Result<(), Fail> {
+    for stream in &FINISHED {
+        let bytes = stream.in_two;
+        let untaken = after_finish(stream);
+        cut_anywhere(&rt, rt.alloc(), &Hostile { bytes, ..*stream }, untaken)?;
     }
     Ok(())
 }

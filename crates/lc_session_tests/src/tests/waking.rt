@@ -1,10 +1,9 @@
 //! Ends and pumps that wait, and what wakes each. One that nothing wakes would wait for ever.
 use crate::parted::Ends;
-use crate::tests::ends::{issue, send, take};
+use crate::tests::ends::{await_end, issue, send, take};
 use crate::tests::exchange::{connection, run_both, session, taken_apart, wires};
 use lc_driver::{Counted, ReadEnd};
 use lc_frame::Channel;
-use lc_peer::Take;
 use lc_session::{ReadPump, RecvEnd, SendEnd, Session, WriteEnd, WritePump};
 use lc_wake::Wake;
 use std::alloc::Global;
@@ -69,17 +68,6 @@ fn await_absolving<R: Wait + Abort>(rt: &R, receiving: &mut RecvEnd) {
     for _ in rt.forever() {
         if receiving.book(rt).outstanding() == 0 {
             return;
-        }
-        assert_eq!(rt; receiving.wait(rt), Wake::Again);
-    }
-}
-
-// Waits until the other side sends no more.
-fn await_end<R: Wait + Abort>(rt: &R, receiving: &mut RecvEnd) {
-    for _ in rt.forever() {
-        match receiving.take_into(rt, &mut []) {
-            Ok(Take::Ended) => return,
-            answer => assert_eq!(rt; answer, Ok(Take::Empty)),
         }
         assert_eq!(rt; receiving.wait(rt), Wake::Again);
     }

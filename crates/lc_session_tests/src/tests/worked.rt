@@ -5,7 +5,7 @@ use std::test::Fail;
 
 /// Of each: the slots of the queue, the bytes that come, the calls with what they answer, and what
 /// the report says then.
-const WORKED: [(u32, &str, &str, &str); 7] = [
+const WORKED: [(u32, &str, &str, &str); 8] = [
     // All that was put goes out in one write.
     (
         4,
@@ -21,9 +21,9 @@ const WORKED: [(u32, &str, &str, &str); 7] = [
         issue 1 1 => Err(PastReceiveLimit { left: 0 })
         stop => ()
         write all => Stopped 110002686921000000084100000003610000000000000000 calls 1 flushes 1",
-        "client 1 => (5, 3, 2, 0)
+        "client 1 => (5, 3, 2, 0, 0)
         server 1 => (8, 0, 8)
-        client 0 => (0, 0, 0, 0)
+        client 0 => (0, 0, 0, 0, 0)
         server 2 => (0, 0, 0)
         left => (0, 0)",
     ),
@@ -35,7 +35,7 @@ const WORKED: [(u32, &str, &str, &str); 7] = [
         honour 1 => Ok(Some(3))
         honour 1 => Ok(None)
         held 1 => 2",
-        "client 1 => (5, 2, 0, 3)
+        "client 1 => (5, 2, 0, 3, 0)
         left => (1, 0)",
     ),
     // A full queue keeps the plead.
@@ -49,7 +49,7 @@ const WORKED: [(u32, &str, &str, &str); 7] = [
         stop => ()
         write all => Stopped 500000000000000009 calls 1 flushes 1
         honour 1 => Ok(Some(3))",
-        "client 1 => (5, 2, 0, 3)
+        "client 1 => (5, 2, 0, 3, 0)
         left => (1, 0)",
     ),
     // What is refused for a full queue is given back, at both kinds of ends.
@@ -68,7 +68,7 @@ const WORKED: [(u32, &str, &str, &str); 7] = [
         write all => Stopped 2200000008 calls 1 flushes 1
         send 1 6869 => Ok(())
         held 1 => 3",
-        "client 1 => (5, 3, 2, 0)
+        "client 1 => (5, 3, 2, 0, 0)
         server 1 => (0, 0, 0)
         server 2 => (8, 0, 8)
         left => (1, 0)",
@@ -98,7 +98,7 @@ const WORKED: [(u32, &str, &str, &str); 7] = [
         read 10 all => Clean
         take 1 => 6869
         held 1 => 5",
-        "client 1 => (5, 5, 0, 0)
+        "client 1 => (5, 5, 0, 0, 0)
         server 1 => (0, 0, 2)
         left => (1, 0)",
     ),
@@ -109,7 +109,22 @@ const WORKED: [(u32, &str, &str, &str); 7] = [
         "read 2 1 => TurnsSpent
         read 1 1 => Fault(BadTag)
         read 10 all => Fault(BadTag)",
-        "client 1 => (0, 0, 0, 0)
+        "client 1 => (0, 0, 0, 0, 0)
+        left => (0, 0)",
+    ),
+    // A session of version One finishes no channel.
+    (
+        1,
+        "2100000005",
+        "read 10 all => Clean
+        finish 1 => Err(WrongVersion)
+        finished 1 => false
+        held 1 => 5
+        send 1 6869 => Ok(())
+        finish 1 => Err(WrongVersion)
+        stop => ()
+        write all => Stopped 1100026869 calls 1 flushes 1",
+        "client 1 => (5, 3, 2, 0, 0)
         left => (0, 0)",
     ),
 ];
@@ -144,7 +159,7 @@ const GREETED: [(u32, &str, &str, &str); 4] = [
         write all => Stopped 4c434d02110000000268692100000008 calls 1 flushes 1
         issue 2 3 => Ok(())
         write all => Stopped 2200000003 calls 1 flushes 1",
-        "client 1 => (5, 3, 2, 0)
+        "client 1 => (5, 3, 2, 0, 0)
         left => (0, 0)",
     ),
     // A greeting that was not written is left, and is no frame.
@@ -164,6 +179,106 @@ const GREETED: [(u32, &str, &str, &str); 4] = [
 #[test]
 fn worked_calls_of_version_two(rt: HostRuntime) -> Result<(), Fail> {
     for &(slots, digits, script, report) in &GREETED {
+        run_as(&rt, rt.alloc(), Version::Two, slots, digits, script, report)?;
+    }
+    Ok(())
+}
+
+/// Channels that are finished, in sessions of version Two.
+const FINISHED: [(u32, &str, &str, &str); 5] = [
+    // Nothing is held, sent or awaited on a channel that was finished, and the others go on.
+    (
+        4,
+        "210000000521000000034100000001",
+        "read 5 1 => TurnsSpent
+        send 1 6869 => Ok(())
+        finish 1 => Ok(())
+        finished 1 => true
+        finished 2 => false
+        held 1 => 0
+        send 1 61 => Err(ChannelFinished)
+        absolve 1 1 => Err(ChannelFinished)
+        honour 1 => Err(ChannelFinished)
+        limit-sending 1 0 => Err(ChannelFinished)
+        finish 1 => Err(ChannelFinished)
+        read 10 all => Clean
+        held 1 => 0
+        honour 1 => Err(ChannelFinished)
+        send 2 61 => Err(NoGuarantee { held: 0 })
+        issue 1 8 => Ok(())
+        stop => ()
+        write all => Stopped 4c434d0211000000026869712100000008 calls 1 flushes 1",
+        "client 1 => (8, 0, 2, 0, 6)
+        server 1 => (8, 0, 8)
+        left => (0, 0)",
+    ),
+    // A wait of a finished end is over before any run.
+    (
+        4,
+        "",
+        "finish 1 => Ok(())
+        wait 1 => Over",
+        "client 1 => (0, 0, 0, 0, 0)
+        left => (1, 4)",
+    ),
+    // A full queue keeps all as it was, and the plead.
+    (
+        1,
+        "21000000054100000002",
+        "read 10 all => Clean
+        issue 2 8 => Ok(())
+        finish 1 => Err(QueueFull)
+        finished 1 => false
+        held 1 => 5
+        stop => ()
+        write all => Stopped 4c434d022200000008 calls 1 flushes 1
+        honour 1 => Ok(Some(3))
+        finish 1 => Err(QueueFull)
+        write all => Stopped 3100000003 calls 1 flushes 1
+        finish 1 => Ok(())
+        finish 1 => Err(ChannelFinished)
+        write all => Stopped 71 calls 1 flushes 1
+        write all => Stopped  calls 0 flushes 1",
+        "client 1 => (5, 0, 0, 3, 2)
+        left => (0, 0)",
+    ),
+    // What came before the other side's Finish is taken, and nothing more is issued.
+    (
+        4,
+        "4c434d0211000000026869711200000001",
+        "issue 1 8 => Ok(())
+        read 10 all => Truncated
+        server 1 => outstanding 0 buffered 2 None
+        issue 1 1 => Err(ChannelFinished)
+        take 1 => 6869
+        take 1 => Ok(Ended)
+        take 2 => Ok(Empty)
+        plead 1 0 => Err(ChannelFinished)
+        limit-receiving 1 0 => Err(ChannelFinished)
+        issue 1 0 => Err(ChannelFinished)
+        take 1 => Ok(Ended)",
+        "server 1 => (0, 0, 8)
+        left => (1, 4)",
+    ),
+    // Both sides may finish the same channel.
+    (
+        4,
+        "4c434d0271",
+        "finish 1 => Ok(())
+        read 10 all => Clean
+        take 1 => Ok(Ended)
+        finish 1 => Err(ChannelFinished)
+        stop => ()
+        write all => Stopped 4c434d0271 calls 1 flushes 1",
+        "client 1 => (0, 0, 0, 0, 0)
+        server 1 => (0, 0, 0)
+        left => (0, 0)",
+    ),
+];
+
+#[test]
+fn finished_channels(rt: HostRuntime) -> Result<(), Fail> {
+    for &(slots, digits, script, report) in &FINISHED {
         run_as(&rt, rt.alloc(), Version::Two, slots, digits, script, report)?;
     }
     Ok(())

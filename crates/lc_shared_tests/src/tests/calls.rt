@@ -12,6 +12,7 @@ const NONE: Balance = Balance {
     held: 0,
     spent: 0,
     absolved: 0,
+    waived: 0,
 };
 
 // Makes the calls on one channel, and compares each answer, the channel's balance and that nothing
@@ -67,6 +68,7 @@ fn what_is_given_back_is_held_again(rt: HostRuntime) -> Result<(), Fail> {
             held: 5,
             spent: 4,
             absolved: 1,
+            waived: 0,
         },
     )
 }
@@ -96,6 +98,7 @@ fn all_guarantees_are_held_and_absolved(rt: HostRuntime) -> Result<(), Fail> {
             held: 1,
             spent: 0,
             absolved: 16_777_216,
+            waived: 0,
         },
     )
 }
@@ -121,6 +124,7 @@ fn a_plead_is_answered_by_absolving(rt: HostRuntime) -> Result<(), Fail> {
             held: 2,
             spent: 0,
             absolved: 3,
+            waived: 0,
         },
     )
 }
@@ -160,6 +164,31 @@ fn nothing_comes_past_a_limit(rt: HostRuntime) -> Result<(), Fail> {
             held: 3,
             spent: 0,
             absolved: 0,
+            waived: 0,
+        },
+    )
+}
+
+#[test]
+fn a_finished_end_waives_what_it_holds_and_what_comes(rt: HostRuntime) -> Result<(), Fail> {
+    works(
+        &rt,
+        rt.alloc(),
+        Channel::DataChannel,
+        &[
+            (Call::Add(10), Answer::Done),
+            (Call::Spend(4), Answer::Done),
+            (Call::Confirm, Answer::Done),
+            (Call::Finish, Answer::Done),
+            (Call::Held, Answer::Number(0)),
+            (Call::Add(2), Answer::Done),
+        ],
+        Balance {
+            received: 12,
+            held: 0,
+            spent: 4,
+            absolved: 0,
+            waived: 8,
         },
     )
 }

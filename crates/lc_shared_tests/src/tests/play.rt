@@ -17,6 +17,7 @@ pub enum Call {
     Absolve(u32),
     Confirm,
     GiveBack,
+    Finish,
     Pending,
     TakeAsked,
 }
@@ -59,18 +60,23 @@ fn play_at(end: &mut CreditOut, call: Call) -> Answer
     ensures { SameCredit end.old end.new }
 {
     let is_idle = end.pending().is_none();
+    let may_use = is_idle && !end.is_finished();
     match call {
         Call::Held => Answer::Number(end.held()),
         Call::Pending => number(end.pending()),
         Call::TakeAsked => number(end.take_asked()),
-        Call::Spend(n) if is_idle && n > 0 => used(end.spend(n)),
-        Call::Absolve(n) if is_idle && n > 0 => used(end.absolve(n)),
+        Call::Spend(n) if may_use && n > 0 => used(end.spend(n)),
+        Call::Absolve(n) if may_use && n > 0 => used(end.absolve(n)),
         Call::Confirm if !is_idle => {
             end.confirm();
             Answer::Done
         }
         Call::GiveBack if !is_idle => {
             end.give_back();
+            Answer::Done
+        }
+        Call::Finish if may_use => {
+            end.finish();
             Answer::Done
         }
         _ => Answer::NotMade,

@@ -18,6 +18,8 @@ const STREAMS: &str = " => Ok(()) None
 77 => Err(BadTag) Some(One)
 01 => Err(BadTag) Some(One)
 70 => Err(BadTag) Some(One)
+71 => Err(BadTag) Some(One)
+21 00 00 00 05 76 => Issue { channel: DataChannel, amount: 5 }, Err(BadTag) Some(One)
 21 01 00 00 01 => Err(BadNumber) Some(One)
 21 00 00 00 00 => Err(BadNumber) Some(One)
 41 01 00 00 01 => Err(BadNumber) Some(One)
@@ -40,6 +42,11 @@ const STREAMS: &str = " => Ok(()) None
 4c 43 4d 02 51 00 00 00 00 00 00 00 01 11 00 00 00 02 61 62 => LimitSending { channel: DataChannel, bound: 1 }, Send { channel: DataChannel, body: [97, 98] }, Ok(()) Some(Two)
 4c 43 4d 02 21 00 00 00 05 77 => Issue { channel: DataChannel, amount: 5 }, Err(BadTag) Some(Two)
 4c 43 4d 02 60 40 00 00 00 00 00 00 01 => Err(BadNumber) Some(Two)
+4c 43 4d 02 71 => Finish { channel: DataChannel }, Ok(()) Some(Two)
+4c 43 4d 02 71 71 => Finish { channel: DataChannel }, Finish { channel: DataChannel }, Ok(()) Some(Two)
+4c 43 4d 02 71 11 00 00 00 01 61 => Finish { channel: DataChannel }, Send { channel: DataChannel, body: [97] }, Ok(()) Some(Two)
+4c 43 4d 02 21 00 00 00 05 76 11 00 => Issue { channel: DataChannel, amount: 5 }, Finish { channel: StaticTokenChannel }, Err(Truncated) Some(Two)
+4c 43 4d 02 70 77 => Finish { channel: ReconciliationChannel }, Err(BadTag) Some(Two)
 4c 43 4d 02 11 00 00 00 02 61 62 11 00 => Send { channel: DataChannel, body: [97, 98] }, Err(Truncated) Some(Two)
 ";
 

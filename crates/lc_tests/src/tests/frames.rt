@@ -35,6 +35,7 @@ const FAULTS: &str = "11 00 00 => Fault(ZeroLength)
 77 => Fault(BadTag)
 01 => Fault(BadTag)
 70 => Fault(BadTag)
+76 => Fault(BadTag)
 ff => Fault(BadTag)
 21 01 00 00 01 => Fault(BadNumber)
 21 00 00 00 00 => Fault(BadNumber)
@@ -57,12 +58,17 @@ const FRAMES_IN_TWO: &str =
 16 00 00 00 01 21 => lane 6, StaticTokenChannel, 6 bytes, Send { channel: StaticTokenChannel, body: [33] }
 21 00 00 00 05 => lane 8, DataChannel, 5 bytes, Issue { channel: DataChannel, amount: 5 }
 60 40 00 00 00 00 00 00 00 => lane 7, ReconciliationChannel, 9 bytes, LimitReceiving { channel: ReconciliationChannel, bound: 4611686018427387904 }
+70 => lane 0, ReconciliationChannel, 1 bytes, Finish { channel: ReconciliationChannel }
+71 => lane 1, DataChannel, 1 bytes, Finish { channel: DataChannel }
+76 => lane 6, StaticTokenChannel, 1 bytes, Finish { channel: StaticTokenChannel }
 ";
 
 const FAULTS_IN_TWO: &str = "11 00 00 00 00 => Fault(ZeroLength)
 11 00 10 00 01 => Fault(BadNumber)
 11 ff ff ff ff => Fault(BadNumber)
 4c 43 4d 02 => Fault(BadTag)
+77 => Fault(BadTag)
+81 => Fault(BadTag)
 21 01 00 00 01 => Fault(BadNumber)
 11 00 00 => More
 11 00 00 00 => More

@@ -8,13 +8,13 @@ use std::process::Abort;
 use std::test::Fail;
 
 // Each channel by its number, and the lanes of a client's frames on it and of a server's.
-const CHANNELS: &str = "0: ReconciliationChannel 0 0 0 7
-1: DataChannel 1 1 1 8
-2: OverlapChannel 2 2 2 9
-3: CapabilityChannel 3 3 3 10
-4: AreaOfInterestChannel 4 4 4 11
-5: PayloadRequestChannel 5 5 5 12
-6: StaticTokenChannel 6 6 6 13
+const CHANNELS: &str = "0: ReconciliationChannel 0 (0, 0, 0, 7)
+1: DataChannel 1 (1, 1, 1, 8)
+2: OverlapChannel 2 (2, 2, 2, 9)
+3: CapabilityChannel 3 (3, 3, 3, 10)
+4: AreaOfInterestChannel 4 (4, 4, 4, 11)
+5: PayloadRequestChannel 5 (5, 5, 5, 12)
+6: StaticTokenChannel 6 (6, 6, 6, 13)
 ";
 
 fn shown(alloc: Global, channel: Channel) -> Result<String, AllocError> {
@@ -24,9 +24,10 @@ fn shown(alloc: Global, channel: Channel) -> Result<String, AllocError> {
         body: b"a",
     };
     let absolve = Frame::Absolve { channel, amount: 1 };
+    let finish = FrameRef::Finish { channel };
     let plead = FrameRef::Plead { channel, target: 0 };
-    let (send, absolve, plead) = (send.lane(), absolve.lane(), plead.lane());
-    format!(in alloc; "{channel:?} {number} {send} {absolve} {plead}")
+    let lanes = (send.lane(), absolve.lane(), finish.lane(), plead.lane());
+    format!(in alloc; "{channel:?} {number} {lanes:?}")
 }
 
 #[test]
@@ -65,7 +66,7 @@ fn is_not_valid(rt: &impl Abort, alloc: Global, what: &str, frame: FrameRef<'_>)
 }
 
 #[test]
-fn frames_out_of_range_are_not_valid(rt: HostRuntime) {
+fn other_frames_are_not_valid_in_version_one(rt: HostRuntime) {
     let channel = Channel::DataChannel;
     let (target, bound) = (16_777_217, 4_611_686_018_427_387_905);
     for frame in &[
@@ -73,6 +74,7 @@ fn frames_out_of_range_are_not_valid(rt: HostRuntime) {
         FrameRef::Plead { channel, target },
         FrameRef::LimitSending { channel, bound },
         FrameRef::LimitReceiving { channel, bound },
+        FrameRef::Finish { channel },
     ] {
         is_not_valid(&rt, rt.alloc(), "a frame", *frame);
     }

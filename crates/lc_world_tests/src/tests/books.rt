@@ -11,9 +11,11 @@ const OLD_CLIENT: ClientParts = ClientParts {
     received: 4_611_686_018_427_387_903,
     spent: 4_611_686_018_427_387_903,
     absolved: 0,
+    waived: 0,
     send_left: None,
     receive_left: None,
     asked: None,
+    finished: false,
 };
 
 const OLD_SERVER: ServerParts = ServerParts {
@@ -22,8 +24,10 @@ const OLD_SERVER: ServerParts = ServerParts {
     arrived: 4_611_686_018_427_387_903,
     taken: 4_611_686_018_427_387_903,
     absolved: 0,
+    waived: 0,
     send_left: None,
     receive_left: None,
+    finished: false,
 };
 
 // An own call of a side that takes a number.
@@ -92,6 +96,13 @@ pub fn shown_server(alloc: Global, server: &ServerBook) -> Option<String> {
     ).ok()
 }
 
+// What is waived at each side, and whether the client finished.
+fn waived(alloc: Global, client: &ClientBook, server: &ServerBook) -> Option<String> {
+    let (given_up, lost) = (client.waived(), server.waived());
+    let finished = (client.is_finished(), server.is_finished());
+    text(alloc, &(given_up, lost, finished))
+}
+
 // Both books of a channel.
 #[derive(Drop)]
 struct Books {
@@ -127,10 +138,13 @@ impl Books {
         text(alloc, &answer)
     }
 
-    // An honour, and what a side can see of its book.
+    // A call without a number, and what a side can see of its book.
     fn look(&mut self, alloc: Global, name: &str) -> Option<String> {
         match name {
             "honour" => text(alloc, &self.client.honour()),
+            "finish" => text(alloc, &self.client.finish()),
+            "finished" => text(alloc, &self.server.finished()),
+            "waived" => waived(alloc, &self.client, &self.server),
             "client" => shown_client(alloc, &self.client),
             "server" => shown_server(alloc, &self.server),
             _ => None,
@@ -183,7 +197,7 @@ spend 5 => Ok(())
 plead 0 => Ok(())
 pleaded 0 => Ok(())
 client => held 5 received 10 spent 5 absolved 0 send_left None receive_left None asked Some(0)
-honour => Some(5)
+honour => Ok(Some(5))
 client => held 0 received 10 spent 5 absolved 5 send_left None receive_left None asked None
 message 5 => Ok(())
 was_absolved 5 => Ok(())
@@ -198,11 +212,11 @@ server => outstanding 11 buffered 5 room 0 issued 21 of 16 send_left None receiv
 const MET: &str = "issued 10 => Ok(())
 spend 5 => Ok(())
 pleaded 7 => Ok(())
-honour => None
-honour => None
+honour => Ok(None)
+honour => Ok(None)
 pleaded 0 => Ok(())
 pleaded 5 => Ok(())
-honour => None
+honour => Ok(None)
 client => held 5 received 10 spent 5 absolved 0 send_left None receive_left None asked None
 ";
 
@@ -269,6 +283,65 @@ spend 5 => Ok(())
 issue 1 => Err(PastReceiveLimit { left: 0 })
 ";
 
+// A client finishes, and waives what it holds and what comes later.
+const FINISHED: &str = "issue 10 => Ok(())
+issue 2 => Ok(())
+issued 10 => Ok(())
+spend 4 => Ok(())
+pleaded 0 => Ok(())
+finish => Ok(())
+client => held 0 received 10 spent 4 absolved 0 send_left None receive_left None asked None
+issued 2 => Ok(())
+pleaded 0 => Ok(())
+client => held 0 received 12 spent 4 absolved 0 send_left None receive_left None asked None
+message 4 => Ok(())
+finished => Ok(())
+server => outstanding 0 buffered 4 room 12 issued 12 of 16 send_left None receive_left None ended true
+waived => (8, 8, (true, true))
+note_taken 4 => Ok(())
+server => outstanding 0 buffered 0 room 16 issued 12 of 16 send_left None receive_left None ended true
+";
+
+// That comes before all else.
+const AFTER_FINISH: &str = "limit_sending 0 => Ok(())
+limit_receiving 0 => Ok(())
+finish => Ok(())
+spend 0 => Err(ChannelFinished)
+spend 1048577 => Err(ChannelFinished)
+absolve 0 => Err(ChannelFinished)
+limit_sending 4611686018427387905 => Err(ChannelFinished)
+honour => Err(ChannelFinished)
+finish => Err(ChannelFinished)
+issue 0 => Err(ZeroAmount)
+finished => Ok(())
+issue 0 => Err(ChannelFinished)
+plead 0 => Err(ChannelFinished)
+limit_receiving 4611686018427387905 => Err(ChannelFinished)
+message 1 => Err(AfterFinish)
+was_absolved 1 => Err(AfterFinish)
+sending_limited 0 => Err(AfterFinish)
+finished => Err(AfterFinish)
+";
+
+// What comes later is judged, where nothing is held.
+const LATER: &str = "finish => Ok(())
+issued 16777216 => Ok(())
+issued 16777216 => Ok(())
+receiving_limited 3 => Ok(())
+issued 4 => Err(IssuedPastLimit)
+issued 3 => Ok(())
+receiving_limited 1 => Err(ReceiveLimitRaised)
+client => held 0 received 33554435 spent 0 absolved 0 send_left None receive_left Some(0) asked None
+waived => (33554435, 0, (true, false))
+";
+
+// Version One has no Finish.
+const NEVER_FINISHED: &str = "issued 3 => Ok(())
+finish => Err(WrongVersion)
+client => held 3 received 3 spent 0 absolved 0 send_left None receive_left None asked None
+waived => (0, 0, (false, false))
+";
+
 // 2^62 guarantees are issued, and received, in all.
 const TOTALS: &str = "issue 9 => Err(NoRoom { room: 8 })
 issue 2 => Err(TotalReached)
@@ -290,12 +363,15 @@ fn calls_have_their_answers(rt: HostRuntime) -> Result<(), Fail> {
         (8, ENDED),
         (8, NEVER_RAISED),
         (8, LIMITED),
+        (8, NEVER_FINISHED),
     ] {
         let mut books = Books::new(Version::One, *capacity)?;
         answers(&rt, rt.alloc(), &mut books, calls);
     }
-    let mut books = Books::new(Version::Two, 8)?;
-    answers(&rt, rt.alloc(), &mut books, LONGER);
+    for (capacity, calls) in &[(8, LONGER), (16, FINISHED), (8, AFTER_FINISH), (8, LATER)] {
+        let mut books = Books::new(Version::Two, *capacity)?;
+        answers(&rt, rt.alloc(), &mut books, calls);
+    }
     let mut books = Books::near_the_end()?;
     answers(&rt, rt.alloc(), &mut books, TOTALS);
     Ok(())

@@ -15,9 +15,24 @@ const FULL_CLIENT: ClientParts = ClientParts {
     received: TWO_62,
     spent: TWO_62 - 16_777_217,
     absolved: 1,
+    waived: 0,
     send_left: Some(TWO_62),
     receive_left: Some(TWO_62),
     asked: Some(TWO_24),
+    finished: false,
+};
+
+// One that finished.
+const FINISHED_CLIENT: ClientParts = ClientParts {
+    version: Version::Two,
+    received: 12,
+    spent: 4,
+    absolved: 3,
+    waived: 5,
+    send_left: None,
+    receive_left: None,
+    asked: None,
+    finished: true,
 };
 
 // A server at each of its bounds.
@@ -27,12 +42,27 @@ const FULL_SERVER: ServerParts = ServerParts {
     arrived: TWO_62 - 16_777_216,
     taken: TWO_62 - 16_777_217,
     absolved: 1,
+    waived: 0,
     send_left: Some(TWO_62),
     receive_left: Some(TWO_62),
+    finished: false,
+};
+
+// One whose client finished.
+const FINISHED_SERVER: ServerParts = ServerParts {
+    capacity: 8,
+    issued: 12,
+    arrived: 4,
+    taken: 1,
+    absolved: 3,
+    waived: 5,
+    send_left: None,
+    receive_left: None,
+    finished: true,
 };
 
 // What breaks a rule of a client, and nothing else.
-const BROKEN_CLIENTS: [(&str, ClientParts); 9] = [
+const BROKEN_CLIENTS: [(&str, ClientParts); 14] = [
     (
         "above 2^62 received",
         ClientParts {
@@ -105,10 +135,45 @@ const BROKEN_CLIENTS: [(&str, ClientParts); 9] = [
             ..FULL_CLIENT
         },
     ),
+    (
+        "waived before a Finish",
+        ClientParts {
+            waived: 1,
+            ..FULL_CLIENT
+        },
+    ),
+    (
+        "held behind a Finish",
+        ClientParts {
+            waived: 4,
+            ..FINISHED_CLIENT
+        },
+    ),
+    (
+        "more waived than received",
+        ClientParts {
+            waived: 6,
+            ..FINISHED_CLIENT
+        },
+    ),
+    (
+        "a plead kept behind a Finish",
+        ClientParts {
+            asked: Some(0),
+            ..FINISHED_CLIENT
+        },
+    ),
+    (
+        "finished in version One",
+        ClientParts {
+            version: Version::One,
+            ..FINISHED_CLIENT
+        },
+    ),
 ];
 
 // What breaks a rule of a server, and nothing else.
-const BROKEN_SERVERS: [(&str, ServerParts); 12] = [
+const BROKEN_SERVERS: [(&str, ServerParts); 15] = [
     (
         "no capacity",
         ServerParts {
@@ -213,6 +278,27 @@ const BROKEN_SERVERS: [(&str, ServerParts); 12] = [
             ..FULL_SERVER
         },
     ),
+    (
+        "waived before a Finish",
+        ServerParts {
+            waived: 1,
+            ..FULL_SERVER
+        },
+    ),
+    (
+        "outstanding behind a Finish",
+        ServerParts {
+            waived: 4,
+            ..FINISHED_SERVER
+        },
+    ),
+    (
+        "more waived than issued",
+        ServerParts {
+            waived: 6,
+            ..FINISHED_SERVER
+        },
+    ),
 ];
 
 #[test]
@@ -224,6 +310,19 @@ fn books_at_their_bounds_are_books(rt: HostRuntime) -> Result<(), Fail> {
     let server = ServerBook::restore(FULL_SERVER).ok_or("a server at its bounds")?;
     let wanted =
         "outstanding 16777215 buffered 1 room 0 issued 4611686018427387904 of 16777216 send_left Some(4611686018427387904) receive_left Some(4611686018427387904) ended false";
+    same(&rt, "a server", shown_server(rt.alloc(), &server), wanted);
+    Ok(())
+}
+
+#[test]
+fn finished_books_are_books(rt: HostRuntime) -> Result<(), Fail> {
+    let client = ClientBook::restore(FINISHED_CLIENT).ok_or("a client that finished")?;
+    let wanted =
+        "held 0 received 12 spent 4 absolved 3 send_left None receive_left None asked None";
+    same(&rt, "a client", shown_client(rt.alloc(), &client), wanted);
+    let server = ServerBook::restore(FINISHED_SERVER).ok_or("a server of one that finished")?;
+    let wanted =
+        "outstanding 0 buffered 3 room 5 issued 12 of 8 send_left None receive_left None ended true";
     same(&rt, "a server", shown_server(rt.alloc(), &server), wanted);
     Ok(())
 }

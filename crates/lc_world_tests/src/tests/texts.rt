@@ -5,7 +5,7 @@ use std::alloc::Global;
 use std::fmt::Display;
 use std::process::Abort;
 
-const REFUSALS: [(Refusal, &str); 15] = [
+const REFUSALS: [(Refusal, &str); 17] = [
     (Refusal::EmptyBody, "1 the message is empty"),
     (
         Refusal::BodyTooLong,
@@ -44,13 +44,18 @@ const REFUSALS: [(Refusal, &str); 15] = [
     ),
     (Refusal::QueueFull, "13 the outgoing queue is full"),
     (Refusal::OutOfMemory, "14 out of memory"),
+    (Refusal::ChannelFinished, "15 the channel is finished"),
     (
         Refusal::BufferTooSmall { need: 7 },
         "16 the buffer is too small: 7 bytes are needed",
     ),
+    (
+        Refusal::WrongVersion,
+        "17 version One of the format cannot finish a channel",
+    ),
 ];
 
-const VIOLATIONS: [(Violation, &str); 8] = [
+const VIOLATIONS: [(Violation, &str); 9] = [
     (
         Violation::NotGuaranteed,
         "1 a message longer than the guarantees outstanding",
@@ -82,6 +87,10 @@ const VIOLATIONS: [(Violation, &str); 8] = [
     (
         Violation::TotalPassed,
         "8 more than 2^62 guarantees on one channel",
+    ),
+    (
+        Violation::AfterFinish,
+        "9 a frame of the client behind its Finish",
     ),
 ];
 

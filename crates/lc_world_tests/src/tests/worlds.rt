@@ -114,6 +114,57 @@ B deliver 9 => Delivered { bytes: 5, frames: 1 }
 B take => Took(Body { bytes: [98, 99] })
 ";
 
+// A finishes the channel: the message that waits is still taken, and then none will come.
+const FINISHED: &str = "B issue 8 => Accepted
+A arrive => Arrived
+A send 6869 => Accepted
+A finish => Accepted
+A send => Refused(ChannelFinished)
+A finish => Refused(ChannelFinished)
+B plead 0 => Accepted
+A arrive => Arrived
+A honour => Refused(ChannelFinished)
+B arrive => Arrived
+B arrive => Arrived
+B issue 1 => Refused(ChannelFinished)
+B take => Took(Body { bytes: [104, 105] })
+B take => Ended
+";
+
+// What is still to come is waived too, and the other direction goes on.
+const WAIVED: &str = "B issue 3 => Accepted
+A finish => Accepted
+A arrive => Arrived
+A absolve 1 => Refused(ChannelFinished)
+B take => Empty
+B issue 6 => Refused(NoRoom { room: 5 })
+B limit-receiving 5 => Accepted
+B deliver 5 => Delivered { bytes: 5, frames: 1 }
+B take => Ended
+B plead 0 => Refused(ChannelFinished)
+B limit-receiving 4 => Refused(ChannelFinished)
+A arrive => Arrived
+A limit-sending 0 => Refused(ChannelFinished)
+A issue 1 => Accepted
+B arrive => Arrived
+B send 61 => Accepted
+A arrive => Arrived
+A take => Took(Body { bytes: [97] })
+";
+
+// Version One has no Finish.
+const NEVER_FINISHED: &str = "A finish => Refused(WrongVersion)
+B issue 1 => Accepted
+A arrive => Arrived
+A limit-sending 1 => Accepted
+A finish => Refused(WrongVersion)
+A send 61 => Accepted
+B deliver 13 => Delivered { bytes: 13, frames: 2 }
+B finish => Accepted
+A arrive => Arrived
+A take => Ended
+";
+
 // An event that counts bytes.
 fn counted(word: &str, amount: u32) -> Option<Act> {
     let channel = DATA;
@@ -144,6 +195,7 @@ fn act(alloc: Global, word: &str, rest: &str) -> Option<Act> {
     Some(match word {
         "arrive" => Act::Arrive,
         "honour" => Act::Honour { channel },
+        "finish" => Act::Finish { channel },
         "take" => Act::Take { channel },
         "send" => Act::Send {
             channel,
@@ -301,6 +353,13 @@ fn each_side_has_its_version(rt: HostRuntime) -> Result<(), Fail> {
     are_answered_as(&rt, rt.alloc(), 16, [TWO, TWO], HONOURED)
 }
 
+#[test]
+fn channels_are_finished(rt: HostRuntime) -> Result<(), Fail> {
+    are_answered_as(&rt, rt.alloc(), 8, [TWO, TWO], FINISHED)?;
+    are_answered_as(&rt, rt.alloc(), 8, [TWO, TWO], WAIVED)?;
+    are_answered_as(&rt, rt.alloc(), 8, [ONE, TWO], NEVER_FINISHED)
+}
+
 // What is held, spent and absolved, what is outstanding, buffered and free, and what A issued.
 fn books(alloc: Global, world: &World) -> Option<String> {
     let (client, server) = (world.client(Side::A, DATA), world.server(Side::B, DATA));
@@ -315,6 +374,23 @@ fn events_leave_their_books(rt: HostRuntime) -> Result<(), Fail> {
     let stepped = play(&rt, rt.alloc(), World::new(rt.alloc(), 16)?, HONOURED);
     let found = books(rt.alloc(), &stepped.world);
     same(&rt, "books", found, "2 5 3, 2 5 9, 0");
+    Ok(())
+}
+
+// What each side has waived.
+fn waived(alloc: Global, world: &World) -> Option<String> {
+    let (client, server) = (world.client(Side::A, DATA), world.server(Side::B, DATA));
+    text(alloc, &(client.waived(), server.waived()))
+}
+
+#[test]
+fn a_finish_waives_what_is_left(rt: HostRuntime) -> Result<(), Fail> {
+    let world = World::new_as(rt.alloc(), 8, [TWO, TWO])?;
+    let stepped = play(&rt, rt.alloc(), world, WAIVED);
+    let found = books(rt.alloc(), &stepped.world);
+    same(&rt, "books", found, "0 0 0, 0 0 8, 1");
+    let found = waived(rt.alloc(), &stepped.world);
+    same(&rt, "waived", found, "(3, 3)");
     Ok(())
 }
 

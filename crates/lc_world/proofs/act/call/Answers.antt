@@ -1,6 +1,6 @@
 use Rattle.std.proofs.Common.{ℕ, List, sym, ap, ◌∙◌}
 use Rattle.lc_world.specs.declared.event.Act.TheVariants.{Send}
-use Rattle.lc_world.proofs.Answered.{send_called, issue_called, plead_called, absolve_called, honour_called, limit_sending_called, limit_receiving_called}
+use Rattle.lc_world.proofs.Answered.{send_called, issue_called, plead_called, absolve_called, honour_called, limit_sending_called, limit_receiving_called, finish_called}
 use Rattle.lc_world.proofs.act.call.Goals as goal
 
 pub returns-in-Issue : goal.returns-in-Issue
@@ -17,6 +17,9 @@ returns-in-LimitSending c = limit_sending_called c.args.peer.now c.limit_sending
 
 pub returns-in-LimitReceiving : goal.returns-in-LimitReceiving
 returns-in-LimitReceiving c = limit_receiving_called c.args.peer.now c.limit_receiving.new.self c.requires.free c.limit_receiving.result c.judged-in-LimitReceiving.result c.judged-in-LimitReceiving.ensures c.args.act.now c.args.channel c.in-LimitReceiving.channel c.in-LimitReceiving.bound c.in-LimitReceiving.is c.requires.own c.limit_receiving.ensures.answer c.limit_receiving.ensures.after
+
+pub returns-in-Finish : goal.returns-in-Finish
+returns-in-Finish c = finish_called c.args.peer.now c.finish.new.self c.requires.free c.finish.result c.judged-in-Finish.result c.judged-in-Finish.ensures c.args.act.now c.args.channel c.in-Finish.channel c.in-Finish.is c.requires.own c.finish.ensures.answer c.finish.ensures.after
 
 pub returns-in-Send : goal.returns-in-Send
 returns-in-Send c = send_called c.args.peer.now c.send.new.self c.requires.free c.send.result c.judged.result c.judged.ensures c.args.act.now c.args.channel c.in-Send.channel c.as_slice.result.now (c.in-Send.is ∙ ap (λ (x : List ℕ). Send c.in-Send.channel x) (sym c.as_slice.ensures)) c.requires.own c.send.ensures.answer c.send.ensures.after

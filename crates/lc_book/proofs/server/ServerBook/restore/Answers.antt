@@ -1,5 +1,5 @@
 use Rattle.std.proofs.Common.{rules}
 use Rattle.lc_book.proofs.server.ServerBook.restore.Goals as goal
 
-pub returns-then-issued-arrived-clause-valid : goal.returns-then-issued-arrived-clause-valid
-returns-then-issued-arrived-clause-valid c = search rules
+pub returns-then-arrived-issued-clause-valid : goal.returns-then-arrived-issued-clause-valid
+returns-then-arrived-issued-clause-valid c = search rules

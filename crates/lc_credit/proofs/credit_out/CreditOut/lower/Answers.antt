@@ -14,10 +14,12 @@ pub invariant_of-self : goal.invariant_of-self
 invariant_of-self c =
     let e = c.fetch_sub.ensures.2 in
     let idle = ap (λ v. v.pending) c.self.view_is ∙ c.requires.idle in
-    (search rules, search rules, record { view = sending_is _ _ _ e.view; slots = e.slots ∙ c.self.invariant.2.slots }, uses _ _ _ _ _ c.self.invariant.3 _ _ _ c.from-amount.ensures idle e.makes e.covered)
+    let unfinished = ap (λ v. v.waived) c.self.view_is ∙ c.requires.unfinished in
+    (search rules, search rules, record { view = sending_is _ _ _ e.view; slots = e.slots ∙ c.self.invariant.2.slots }, uses _ _ _ _ _ c.self.invariant.3 _ _ _ c.from-amount.ensures idle unfinished e.makes e.covered)
 
 pub returns-clause-kept : goal.returns-clause-kept
 returns-clause-kept c =
     let e = c.fetch_sub.ensures.2 in
     let idle = ap (λ v. v.pending) c.self.view_is ∙ c.requires.idle in
-    uses _ _ _ _ _ c.self.invariant.3 _ _ _ c.from-amount.ensures idle e.makes e.covered
+    let unfinished = ap (λ v. v.waived) c.self.view_is ∙ c.requires.unfinished in
+    uses _ _ _ _ _ c.self.invariant.3 _ _ _ c.from-amount.ensures idle unfinished e.makes e.covered

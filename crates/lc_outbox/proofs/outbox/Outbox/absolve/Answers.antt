@@ -11,7 +11,7 @@ returns-in_err-absolve-clause-kept g c = invariant_of-self g c
 pub invariant_of-self-2 : goal.invariant_of-self-2
 invariant_of-self-2 g c =
     let e = c.put_used.ensures in
-    kept_either _ c.self.invariant c.put_used.result _ _ _ _ (omega arith) c.in_ok-absolve.ensures.small c.in_ok-absolve.ensures.ok e.put e.counted e.unput e.makes e.given_back
+    kept_either _ c.self.invariant c.put_used.result _ _ _ _ c.in_ok-check_open.ensures.unfinished (omega arith) c.in_ok-absolve.ensures.small c.in_ok-absolve.ensures.ok e.put e.counted e.unput e.makes e.given_back
 
 pub returns-clause-kept : goal.returns-clause-kept
 returns-clause-kept g c = invariant_of-self-2 g c

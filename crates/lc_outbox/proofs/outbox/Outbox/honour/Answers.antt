@@ -1,5 +1,5 @@
 use Rattle.std.proofs.Common.{rules}
-use Rattle.lc_outbox.proofs.Kept.{is_counted, is_given_back, kept_answers, kept_loads, kept_back, kept_absolved, kept_target}
+use Rattle.lc_outbox.proofs.Kept.{is_counted, is_given_back, kept_answers, answers_unfinished, kept_loads, loads_unfinished, kept_back, kept_absolved, kept_target}
 use Rattle.lc_outbox.proofs.outbox.Outbox.honour.Goals as goal
 
 pub invariant_of-self : goal.invariant_of-self
@@ -21,7 +21,8 @@ invariant_of-self-in-Ok g c =
     let low = c.in-Some-lower_to.ensures.some in
     let range = c.in-Some-lower_to.ensures.range in
     let e = c.in-Ok.ensures in
-    kept_target _ (kept_absolved _ (kept_loads _ (kept_answers _ c.self.invariant _ _ _ c.take_target-self-inside.ensures.answers) low.held low.loaded low.loads) _ _ _ range.0 range.1 e.put (is_counted _ _ _ _ _ low.used e.counted)) _
+    let unfinished = answers_unfinished _ _ _ _ c.take_target-self-inside.ensures.answers c.in_ok-check_open.ensures.unfinished in
+    kept_target _ (kept_absolved _ (kept_loads _ (kept_answers _ c.self.invariant _ _ _ c.take_target-self-inside.ensures.answers) low.held low.loaded low.loads) _ _ _ (loads_unfinished _ _ _ low.loads unfinished) range.0 range.1 e.put (is_counted _ _ _ _ _ low.used e.counted)) _
 
 pub returns-in-Ok-clause-kept : goal.returns-in-Ok-clause-kept
 returns-in-Ok-clause-kept g c = invariant_of-self-in-Ok g c

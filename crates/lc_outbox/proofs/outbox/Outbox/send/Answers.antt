@@ -28,7 +28,7 @@ returns-in_err-put_used-clause-kept g c = invariant_of-self-in_err-put_used g c
 pub invariant_of-self-2 : goal.invariant_of-self-2
 invariant_of-self-2 g c =
     let e = c.in_ok-put_used.ensures in
-    kept_sent _ c.self.invariant _ c.from_vec.result _ _ _ (search rules) (ap (λ (v : Version). message_refusal v c.self.inside.send_left (length c.args.body.now)) (sym c.version.ensures) ∙ sym c.in_ok-left.ensures.answer) e.put c.in_ok-left.ensures.value (is_counted _ _ _ _ _ c.in_ok-spend.ensures.ok e.counted)
+    kept_sent _ c.self.invariant _ c.from_vec.result _ _ _ c.in_ok-check_open.ensures.unfinished (search rules) (ap (λ (v : Version). message_refusal v c.self.inside.send_left (length c.args.body.now)) (sym c.version.ensures) ∙ sym c.in_ok-left.ensures.answer) e.put c.in_ok-left.ensures.value (is_counted _ _ _ _ _ c.in_ok-spend.ensures.ok e.counted)
 
 pub returns-clause-kept : goal.returns-clause-kept
 returns-clause-kept g c = invariant_of-self-2 g c

@@ -16,7 +16,7 @@ returns-in_err-enqueue-in-Some-clause-after c = search rules
 pub invariant_of-self-2 : goal.invariant_of-self-2
 invariant_of-self-2 c =
     let kept = c.self.invariant in
-    let book : c.honour-due.new.self.version ≡ c.self.inside.version = ap (λ (b : Client). b.version) c.honour-due.ensures.after ∙ (c.client-book.ensures.version ∙ sym (ap (λ (p : PeerState). p.version) c.self.view_is)) in
+    let book : c.honour.new.self.version ≡ c.self.inside.version = ap (λ (b : Client). b.version) c.in_ok-due.ensures.after ∙ (c.client-book.ensures.version ∙ sym (ap (λ (p : PeerState). p.version) c.self.view_is)) in
     let version : c.match-due.self-inside.version ≡ c.self.inside.version = search rules in
     let channels : c.match-due.self-inside.channels ≡ c.self.inside.channels = search rules in
     let versions : AllByRecursion (λ (s : ChannelState). s.client.version ≡ c.match-due.self-inside.version) c.match-due.self-inside.channels =

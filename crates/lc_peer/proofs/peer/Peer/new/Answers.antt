@@ -1,6 +1,5 @@
-use Rattle.std.proofs.Common.{rules, ◌≡◌, List, map, sym, subst, ap, ◌∙◌, length}
+use Rattle.std.proofs.Common.{rules, ◌≡◌, map, sym, subst}
 use Rattle.std.specs.List.{AllByRecursion}
-use Rattle.std.proofs.lemmas.List.{length-map}
 use Rattle.lc_peer.specs.declared.channel_state.ChannelState.{ChannelState}
 use Rattle.lc_peer.specs.Peer.{new_channel}
 use Rattle.lc_peer.proofs.Versions.{made_versions}
