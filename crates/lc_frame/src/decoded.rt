@@ -19,7 +19,7 @@ pub enum Decoded<'a> {
 
 /// Decodes the frame at the front of the bytes, which are those of frames of a version, behind any
 /// greeting. The answer is never `FrameFault::Truncated`.
-#[inline]
+#[inline(always)]
 pub fn decode(version: Version, bytes: &[u8]) -> Decoded<'_>
     ensures { Decodes version result bytes.now }
 {

@@ -167,7 +167,7 @@ impl FrameRef<'_> {
 
     /// Writes the bytes of a frame that is valid in the version at the front of a slice, and answers how many they are. On
     /// an error, which is a slice that is too short for them, the slice is unchanged.
-    #[inline]
+    #[inline(always)]
     pub fn encode_to_slice(&self, version: Version, out: &mut [u8]) -> Result<usize, BufferTooSmall>
         requires { IsValid version (frame_of self.now) }
         ensures count { IfOk result (λ n. n ≡ length (encoding version (frame_of self.now))) }
@@ -224,7 +224,7 @@ impl Frame {
 
     /// Writes the bytes of a frame that is valid in the version at the front of a slice, and answers how many they are. On
     /// an error, which is a slice that is too short for them, the slice is unchanged.
-    #[inline]
+    #[inline(always)]
     pub fn encode_to_slice(&self, version: Version, out: &mut [u8]) -> Result<usize, BufferTooSmall>
         requires { IsValid version self.now }
         ensures count { IfOk result (λ n. n ≡ length (encoding version self.now)) }

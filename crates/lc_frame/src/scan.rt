@@ -125,8 +125,9 @@ fn scan_other(version: Version, tag: u8, rest: &[u8]) -> Scan
     }
 }
 
-// A Send is tried first: one comparison tells its kind and its channel.
-#[inline]
+// A Send is tried first: one comparison tells its kind and its channel. Always inlined, so that what
+// is read of a frame stays in registers.
+#[inline(always)]
 #[tactic(auto, unfolding(crate::specs::Scan::scan_of, crate::specs::Scan::scan_tag))]
 fn scan_bytes(version: Version, bytes: &[u8]) -> Scan
     ensures { result ≡ scan_of version bytes.now }
@@ -141,7 +142,7 @@ fn scan_bytes(version: Version, bytes: &[u8]) -> Scan
 }
 
 /// What stands at the front of the bytes.
-#[inline]
+#[inline(always)]
 pub(crate) fn scan_front(version: Version, bytes: &[u8]) -> Scan
     ensures { Finds version result bytes.now }
 {

@@ -30,8 +30,9 @@ fn new_channel(alloc: Global, version: Version, capacity: u32) -> Result<Channel
 }
 
 impl ChannelState {
-    /// A frame arrives on the channel.
-    #[inline]
+    /// A frame arrives on the channel. Always inlined, so that what the scan has found of its kind is not
+    /// looked for again.
+    #[inline(always)]
     pub(crate) fn arrive(&mut self, frame: FrameRef<'_>) -> Result<(), Violation>
         requires { IsValid Two (frame_of frame) }
         ensures answer { result_err result ≡ violation self.old.client self.old.inbox.book (frame_of frame.entry) }

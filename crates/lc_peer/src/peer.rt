@@ -238,7 +238,7 @@ impl Peer {
     }
 
     /// A frame arrives, which has to be valid.
-    #[inline]
+    #[inline(always)]
     pub fn arrive(&mut self, frame: FrameRef<'_>) -> Result<(), Violation>
         requires { IsValid Two (frame_of frame) }
         ensures answer { result_err result ≡ (arrivals self.old (frame_of frame.entry ∷ [])).violation }

@@ -34,7 +34,7 @@ impl FrameSink<()> for Peer {
 
     ghost violated = { Violates };
 
-    #[inline]
+    #[inline(always)]
     fn arrive_in(&mut self, _context: &(), frame: FrameRef<'_>) -> Result<(), Violation> {
         self.arrive(frame)
     }

@@ -7,6 +7,9 @@
 //! for each other so often: an end for a pump, the writing pump for an end, all ends and the pump for
 //! each other, and an end for the end of a pump's run.
 //!
+//! `finishes MESSAGES` sends so many messages each way through each channel of two sessions, finishes
+//! all of them behind the last one, and takes until each has ended.
+//!
 //! `lanes SLOTS` makes a queue, and `inboxes SLOTS` seven inboxes over one, which then end: both say
 //! whether there was memory.
 #![tactic(auto)]
@@ -16,10 +19,12 @@ mod waking;
 use crate::waking::{Load, wakes_all, wakes_at_ends};
 use lc_frame::Version;
 use lc_inbox::{finish_all, share_all};
+use lc_loopback::loopback_as;
 use lc_queue::{LanesFault, lanes};
 use lc_sharing::{balances_agree, keeps_order, takes_what_arrives};
 use std::alloc::{AllocError, Global};
 use std::fs::Files;
+use std::net::Net;
 use std::sync::Wait;
 use std::thread::Threads;
 use std::{env, io};
@@ -84,6 +89,18 @@ fn waked(answer: Option<bool>) -> &'static str {
     }
 }
 
+fn finish_channels<N, R>(net: &N, rt: R, alloc: Global, messages: u32) -> &'static str
+where
+    N: Net,
+    N::Stream: Send + 'static,
+    R: Threads + Wait + Copy + Send + 'static,
+{
+    match loopback_as(net, rt, alloc, messages, [Version::Two; 2]) {
+        Ok(_) => "each channel ended",
+        Err(_) => "a channel did not end",
+    }
+}
+
 fn make_inboxes(alloc: Global, slots: u32) -> &'static str {
     let Ok(parts) = lanes(alloc, slots, Version::One) else {
         return "out of memory";
@@ -109,9 +126,11 @@ fn make_lanes(alloc: Global, slots: u32) -> &'static str {
 }
 
 // What the program says of so many rounds, if it knows the word.
-fn answer_to<R>(rt: R, files: &impl Files, alloc: Global, what: &str, count: u32) -> &'static str
+fn answer_to<R, H>(rt: R, host: &H, alloc: Global, what: &str, count: u32) -> &'static str
 where
     R: Threads + Wait + Copy + Send + Sync + 'static,
+    H: Files + Net,
+    H::Stream: Send + 'static,
 {
     match what {
         "queue" => run_queue(rt, alloc, count),
@@ -119,8 +138,9 @@ where
         "inbox" => run_inbox(&rt, alloc, count),
         "lanes" => make_lanes(alloc, count),
         "inboxes" => make_inboxes(alloc, count),
-        "ends" | "pump" | "both" => { waked(wakes_all(&rt, files, alloc, load_of(what, count))) }
-        "over" => waked(wakes_at_ends(&rt, files, alloc, count)),
+        "ends" | "pump" | "both" => { waked(wakes_all(&rt, host, alloc, load_of(what, count))) }
+        "over" => waked(wakes_at_ends(&rt, host, alloc, count)),
+        "finishes" => finish_channels(host, rt, alloc, count),
         _ => "not known",
     }
 }

@@ -15,7 +15,8 @@ const YIELDS: u32 = 1;
 pub enum Wake {
     /// Something may have changed: look again.
     Again,
-    /// A pump's run has ended: what a call answers now it may answer for good.
+    /// A pump's run has ended, or the end is finished: what a call answers now it may answer for
+    /// good.
     Over,
 }
 
