@@ -7,8 +7,8 @@ use crate::fault::ChartFault;
 use crate::picture::draw_session;
 use crate::session::{MAX_EVENTS, Session};
 use crate::stream::{Survey, draw_stream};
-use lc_cli::{Fault, Status, buffered, parse_decimal, parse_script, read_all};
-use lc_frame::{Version, is_capacity};
+use lc_cli::{Fault, Status, buffered, parse_capacity, parse_script, parse_version, read_all};
+use lc_frame::Version;
 use lc_world::Event;
 use std::alloc::Global;
 use std::env::Args;
@@ -89,16 +89,6 @@ impl Command {
             _ => None,
         }
     }
-}
-
-fn parse_capacity(text: &str) -> Option<u32> {
-    let capacity = u32::try_from(parse_decimal(text)?).ok()?;
-    is_capacity(capacity).then_some(capacity)
-}
-
-// Where a version is named it is 2.
-fn parse_version(text: &str) -> Option<Version> {
-    (text == "2").then_some(Version::Two)
 }
 
 fn chart_session<R: Read, W: Write>(

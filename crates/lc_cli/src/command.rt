@@ -1,10 +1,11 @@
 //! The command line, and what each command does.
+use crate::argument::{parse_capacity, parse_version};
 use crate::fault::Fault;
 use crate::listing::frames;
 use crate::looping::print_loopback;
 use crate::number::parse_decimal;
 use crate::replaying::replay_as;
-use lc_frame::{Version, is_capacity};
+use lc_frame::Version;
 use lc_loopback::{LoopFault, LoopReport};
 use std::alloc::Global;
 use std::env::Args;
@@ -79,16 +80,6 @@ impl Command {
             _ => None,
         }
     }
-}
-
-fn parse_capacity(text: &str) -> Option<u32> {
-    let capacity = u32::try_from(parse_decimal(text)?).ok()?;
-    is_capacity(capacity).then_some(capacity)
-}
-
-// Where a version is named it is 2.
-fn parse_version(text: &str) -> Option<Version> {
-    (text == "2").then_some(Version::Two)
 }
 
 fn parse_count(text: &str) -> Option<u32> {

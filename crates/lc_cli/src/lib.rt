@@ -3,6 +3,7 @@
 #![tactic(auto)]
 
 mod answer;
+mod argument;
 mod command;
 mod fault;
 mod input;
@@ -14,12 +15,12 @@ mod replaying;
 mod script;
 
 pub use answer::write_answer;
+pub use argument::{parse_capacity, parse_version};
 pub use command::run;
 pub use fault::{Fault, Status};
 pub use input::{MAX_INPUT, read_all};
 pub use listing::frames;
 pub use looping::print_loopback;
-pub use number::parse_decimal;
 pub use output::buffered;
 pub use replaying::{replay, replay_as};
 pub use script::parse_script;

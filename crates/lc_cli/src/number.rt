@@ -4,7 +4,7 @@ ghost use Rattle.std.specs.Fmt.{decimal};
 
 /// The number that a field writes: decimal digits without sign, separators or leading zeros.
 /// `None` for any other field, and above 2^64 - 1.
-pub fn parse_decimal(field: &str) -> Option<u64>
+pub(crate) fn parse_decimal(field: &str) -> Option<u64>
     ensures written { IfSome result (λ n. decimal n ≡ field.now) }
     ensures found { (n : ℕ) → n < 2 ^ 64 → decimal n ≡ field.now → result ≡ Some n }
 {
