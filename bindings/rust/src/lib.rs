@@ -25,7 +25,9 @@
 //!         match peer.take_into(Data, &mut message)? {
 //!             Take::Took(len) => {
 //!                 println!("{}", String::from_utf8_lossy(&message[..len]));
-//!                 peer.issue(Data, len as u32)?; // and anew once it was taken
+//!                 if !peer.server(Data).finished {
+//!                     peer.issue(Data, len as u32)?; // and anew once it was taken
+//!                 }
 //!             }
 //!             Take::Empty if peer.read_from(&mut stream)? > 0 => {}
 //!             Take::Empty | Take::Ended => return Ok(()),

@@ -35,11 +35,11 @@ pub fn end_sending<R: Wait>(rt: &R, end: &mut SendEnd) -> Result<(), Fault> {
     unreachable!()
 }
 
-/// Promises the other side room for so many bytes.
+/// Promises the other side room for so many bytes. On a channel that it finished it wants none.
 pub fn issue<R: Wait>(rt: &R, end: &mut RecvEnd, amount: u32) -> Result<(), Fault> {
     for _ in rt.forever() {
         match end.issue(rt, amount) {
-            Ok(()) => return Ok(()),
+            Ok(()) | Err(Refusal::ChannelFinished) => return Ok(()),
             Err(Refusal::QueueFull) => {}
             Err(refusal) => return Err(Fault::Refused(refusal)),
         }
