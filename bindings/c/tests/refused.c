@@ -83,9 +83,59 @@ static void empty_handle(lcmux_peer *peer) {
     must(!memcmp(buffer, "unused\0", 8), "nothing is written");
 }
 
-/* Every code has a sentence that fits 64 bytes, and no other number has one. */
+/* What the sentence of each code has to speak of. */
+static const struct {
+    uint32_t code;
+    const char *word;
+} subjects[] = {
+    {LCMUX_OK, "done"},
+    {LCMUX_EMPTY_BODY, "message is empty"},
+    {LCMUX_BODY_TOO_LONG, "message is too long"},
+    {LCMUX_PAST_SEND_LIMIT, "than the limit on sending"},
+    {LCMUX_NO_GUARANTEE, "guarantees that are held"},
+    {LCMUX_ZERO_AMOUNT, "amount is zero"},
+    {LCMUX_NOT_HELD, "absolved than is held"},
+    {LCMUX_BOUND_TOO_LARGE, "bound is above 2^62"},
+    {LCMUX_LIMIT_RAISED, "bound is above what an earlier limit"},
+    {LCMUX_PAST_RECEIVE_LIMIT, "issued than the limit on receiving"},
+    {LCMUX_NO_ROOM, "issued than the receiving ring"},
+    {LCMUX_NOTHING_TO_ASK, "target"},
+    {LCMUX_TOTAL_REACHED, "would pass 2^62"},
+    {LCMUX_QUEUE_FULL, "queue is full"},
+    {LCMUX_OUT_OF_MEMORY, "out of memory"},
+    {LCMUX_CHANNEL_FINISHED, "channel is finished"},
+    {LCMUX_BUFFER_TOO_SMALL, "buffer is too small"},
+    {LCMUX_WRONG_VERSION, "cannot finish"},
+    {LCMUX_NO_PEER, "handle is empty"},
+    {LCMUX_HAS_PEER, "has a peer already"},
+    {LCMUX_NO_CHANNEL, "no such channel"},
+    {LCMUX_BAD_VERSION, "no such version"},
+    {LCMUX_BAD_CAPACITY, "capacity is not 1 to 2^24"},
+    {LCMUX_BAD_SLOTS, "slots are not 1 to 65,536"},
+    {LCMUX_NO_CODE, "no such code"},
+    {LCMUX_EMPTY, "no message waits"},
+    {LCMUX_ENDED, "none will come"},
+    {LCMUX_V1_NOT_GUARANTEED, "longer than the guarantees outstanding"},
+    {LCMUX_V2_SENT_PAST_LIMIT, "message beyond the limit on sending"},
+    {LCMUX_V3_ABSOLVED_TOO_MUCH, "absolved than are outstanding"},
+    {LCMUX_V4_SEND_LIMIT_RAISED, "limit on sending that raises"},
+    {LCMUX_V5_ISSUED_PAST_LIMIT, "guarantees beyond the limit on receiving"},
+    {LCMUX_V6_TOO_MANY_GUARANTEES, "2^24 guarantees held"},
+    {LCMUX_V7_RECEIVE_LIMIT_RAISED, "limit on receiving that raises"},
+    {LCMUX_V8_TOTAL_PASSED, "2^62 guarantees on one channel"},
+    {LCMUX_V9_AFTER_FINISH, "behind its Finish"},
+    {LCMUX_F1_BAD_TAG, "no kind or channel"},
+    {LCMUX_F2_ZERO_LENGTH, "length 0"},
+    {LCMUX_F3_BAD_NUMBER, "out of its range"},
+    {LCMUX_F4_TRUNCATED, "stream ends within"},
+};
+
+#define SUBJECTS (sizeof subjects / sizeof *subjects)
+
+/* Each code has a sentence of its own that fits 64 bytes, and no other number has one. */
 static void sentences(void) {
-    int codes = 0;
+    size_t codes = 0;
+    char before[64] = "";
     for (uint32_t code = 0; code < 1000; code++) {
         char text[64];
         memset(text, '#', sizeof text);
@@ -93,12 +143,17 @@ static void sentences(void) {
         must(told.code == LCMUX_OK || (told.code == LCMUX_NO_CODE && text[0] == '#'), "text");
         if (told.code != LCMUX_OK)
             continue;
-        codes++;
         must(strlen(text) == told.number && told.number > 0, "its length");
+        must(codes < SUBJECTS && subjects[codes].code == code, "a code of the header");
+        must(strstr(text, subjects[codes].word) != NULL, "what its sentence speaks of");
+        must(strcmp(text, before) != 0, "and not what the one before it says");
+        strcpy(before, text);
+        codes++;
         must(lcmux_text(code, text, told.number).code == LCMUX_BUFFER_TOO_SMALL, "no room for the zero byte");
         must(lcmux_text(code, text, told.number).number == told.number + 1, "and the room that it needs");
     }
-    printf("%d sentences\n", codes);
+    must(codes == SUBJECTS, "each code of the header");
+    printf("%zu sentences\n", codes);
 }
 
 int main(void) {
