@@ -5,7 +5,7 @@ ghost use Rattle.lc_frame.specs.Version.{greeting, IsGreetingPart};
 ghost use Rattle.lc_frame.specs.Kind.{max_frame};
 ghost use Rattle.lc_frame.specs.Progress.{IsDue, OpensAs, Opens};
 
-use crate::progress::{Progress, Step, append, resume};
+use crate::progress::{Progress, append, resume};
 use crate::version::{GREETING, Version};
 
 /// What the first bytes of a stream are known to be, and how many of a piece were taken.
@@ -55,50 +55,47 @@ pub(crate) fn take_greeting(buffer: &mut Vec<u8>, piece: &[u8]) -> Opening
     Opening::Part
 }
 
-/// What a decoder knows of a stream, and how many bytes were taken.
+/// The version of a stream as far as it is known, and how many bytes were taken.
 #[derive(Clone, Copy, Debug)]
 pub(crate) struct Start {
     pub(crate) version: Version,
-    pub(crate) step: Step,
+    pub(crate) taken: usize,
 }
 
 /// Takes bytes at the start of a stream, past a greeting that becomes whole.
 #[inline(never)]
-pub(crate) fn open(buffer: &mut Vec<u8>, piece: &[u8]) -> Start
+pub(crate) fn open(buffer: &mut Vec<u8>, progress: &mut Progress, piece: &[u8]) -> Start
     requires part { IsGreetingPart buffer.old.items }
     requires room { max_frame Two ≤ vec_capacity buffer.old }
-    ensures opens { Opens buffer.old.items buffer.new.items piece.now result.version result.step.taken result.step.progress }
+    ensures opens { Opens buffer.old.items buffer.new.items piece.now result.version result.taken progress.new }
     ensures room { max_frame Two ≤ vec_capacity buffer.new }
 {
     match take_greeting(buffer, piece) {
         Opening::One => Start {
             version: Version::One,
-            step: resume(Version::One, buffer, 1, piece),
+            taken: resume(Version::One, buffer, progress, 1, piece),
         },
-        Opening::Part => Start {
-            version: Version::One,
-            step: Step {
-                taken: piece.len(),
-                progress: Progress::Greeted,
-            },
-        },
-        Opening::Whole(taken) => {
-            buffer.clear();
-            let step = resume(Version::Two, buffer, 1, piece.split_at(taken).1);
+        Opening::Part => {
+            *progress = Progress::Greeted;
             Start {
-                version: Version::Two,
-                step: Step {
-                    taken: taken + step.taken,
-                    progress: step.progress,
-                },
+                version: Version::One,
+                taken: piece.len(),
             }
         }
-        Opening::Broken(taken) => Start {
-            version: Version::One,
-            step: Step {
+        Opening::Whole(taken) => {
+            buffer.clear();
+            let more = resume(Version::Two, buffer, progress, 1, piece.split_at(taken).1);
+            Start {
+                version: Version::Two,
+                taken: taken + more,
+            }
+        }
+        Opening::Broken(taken) => {
+            *progress = Progress::Broken;
+            Start {
+                version: Version::One,
                 taken,
-                progress: Progress::Broken,
-            },
-        },
+            }
+        }
     }
 }

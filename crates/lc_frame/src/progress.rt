@@ -24,11 +24,11 @@ pub(crate) enum Progress {
     Broken,
 }
 
-/// How many bytes were taken, and what is known then.
+// How many bytes were taken, and what is known then.
 #[derive(Clone, Copy, Debug)]
-pub(crate) struct Step {
-    pub(crate) taken: usize,
-    pub(crate) progress: Progress,
+struct Step {
+    taken: usize,
+    progress: Progress,
 }
 
 /// Appends bytes for which there is room.
@@ -65,11 +65,19 @@ fn advance(version: Version, buffer: &mut Vec<u8>, need: usize, piece: &[u8]) ->
     Step { taken, progress }
 }
 
-/// Takes bytes where part of a frame may be held, up to where a frame or a fault stands.
-pub(crate) fn resume(version: Version, buffer: &mut Vec<u8>, wanted: usize, piece: &[u8]) -> Step
+/// Takes bytes where part of a frame may be held, up to where a frame or a fault stands. Answers how
+/// many, and puts what is known then into `progress`, as the others here do: in a result it would be
+/// copied on its way to the decoder.
+pub(crate) fn resume(
+    version: Version,
+    buffer: &mut Vec<u8>,
+    progress: &mut Progress,
+    wanted: usize,
+    piece: &[u8],
+) -> usize
     requires room { max_frame version ≤ vec_capacity buffer.old }
     requires wanted { NeedsMore version buffer.old.items wanted }
-    ensures step { Takes version buffer.old.items buffer.new.items piece.now result.taken result.progress }
+    ensures step { Takes version buffer.old.items buffer.new.items piece.now result progress.new }
     ensures capacity { vec_capacity buffer.old ≤ vec_capacity buffer.new }
 {
     let mut need = wanted;
@@ -79,16 +87,16 @@ pub(crate) fn resume(version: Version, buffer: &mut Vec<u8>, wanted: usize, piec
         let step = advance(version, buffer, need, rest);
         taken += step.taken;
         rest = rest.split_at(step.taken).1;
-        let progress = step.progress;
-        match progress {
+        *progress = step.progress;
+        match step.progress {
             Progress::Wants(more) => {
                 if rest.is_empty() {
-                    return Step { taken, progress };
+                    return taken;
                 }
                 need = more;
             }
-            Progress::Whole(_) => return Step { taken, progress },
-            Progress::Fault(_) => return Step { taken, progress },
+            Progress::Whole(_) => return taken,
+            Progress::Fault(_) => return taken,
             Progress::Greeted => unreachable!(),
             Progress::Broken => unreachable!(),
         }
@@ -96,44 +104,52 @@ pub(crate) fn resume(version: Version, buffer: &mut Vec<u8>, wanted: usize, piec
 }
 
 // Takes bytes where none are held: of a frame that lies whole in the piece all at once.
-#[inline]
-fn begin(version: Version, buffer: &mut Vec<u8>, need: usize, piece: &[u8]) -> Step
+#[inline(always)]
+fn begin(
+    version: Version,
+    buffer: &mut Vec<u8>,
+    progress: &mut Progress,
+    need: usize,
+    piece: &[u8],
+) -> usize
     requires room { max_frame version ≤ vec_capacity buffer.old }
     requires wanted { NeedsMore version buffer.old.items need }
     requires empty { buffer.old.items ≡ [] }
-    ensures step { Takes version buffer.old.items buffer.new.items piece.now result.taken result.progress }
+    ensures step { Takes version buffer.old.items buffer.new.items piece.now result progress.new }
     ensures capacity { vec_capacity buffer.old ≤ vec_capacity buffer.new }
 {
     match scan_front(version, piece) {
         Scan::Whole { head, used } => {
             append(buffer, piece.split_at(used).0);
-            Step {
-                taken: used,
-                progress: Progress::Whole(head),
-            }
+            *progress = Progress::Whole(head);
+            used
         }
         Scan::Needs(more) => {
             append(buffer, piece);
-            Step {
-                taken: piece.len(),
-                progress: Progress::Wants(more),
-            }
+            *progress = Progress::Wants(more);
+            piece.len()
         }
-        Scan::Fault(_) => resume(version, buffer, need, piece),
+        Scan::Fault(_) => resume(version, buffer, progress, need, piece),
     }
 }
 
 /// Takes the shortest front of the piece after which a frame or a fault stands, or all of it.
-#[inline]
-pub(crate) fn take_in(version: Version, buffer: &mut Vec<u8>, need: usize, piece: &[u8]) -> Step
+#[inline(always)]
+pub(crate) fn take_in(
+    version: Version,
+    buffer: &mut Vec<u8>,
+    progress: &mut Progress,
+    need: usize,
+    piece: &[u8],
+) -> usize
     requires room { max_frame version ≤ vec_capacity buffer.old }
     requires wanted { NeedsMore version buffer.old.items need }
-    ensures step { Takes version buffer.old.items buffer.new.items piece.now result.taken result.progress }
+    ensures step { Takes version buffer.old.items buffer.new.items piece.now result progress.new }
     ensures capacity { vec_capacity buffer.old ≤ vec_capacity buffer.new }
 {
     if buffer.is_empty() {
-        begin(version, buffer, need, piece)
+        begin(version, buffer, progress, need, piece)
     } else {
-        resume(version, buffer, need, piece)
+        resume(version, buffer, progress, need, piece)
     }
 }

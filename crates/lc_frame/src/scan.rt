@@ -104,7 +104,8 @@ fn scan_send(version: Version, channel: Channel, rest: &[u8]) -> Scan
     }
 }
 
-// Behind the tag of no Send. One arm for each width: what is inlined there has it as a constant.
+// Behind the tag of no Send. One arm for each width, and one for the Issue alone, which is the most
+// frequent: what is inlined there has it as a constant.
 #[inline]
 #[tactic(auto, unfolding(crate::specs::Scan::scan_tag))]
 fn scan_other(version: Version, tag: u8, rest: &[u8]) -> Scan
@@ -112,7 +113,8 @@ fn scan_other(version: Version, tag: u8, rest: &[u8]) -> Scan
     ensures { result ≡ scan_tag version (kind_at (tag / 16)) (channel_at (tag % 16)) rest.now }
 {
     match (Kind::from_code(tag / 16), Channel::from_number(tag % 16)) {
-        (Some(kind @ (Kind::Issue | Kind::Absolve | Kind::Plead)), Some(channel)) => {
+        (Some(Kind::Issue), Some(channel)) => scan_number(version, Kind::Issue, channel, rest),
+        (Some(kind @ (Kind::Absolve | Kind::Plead)), Some(channel)) => {
             scan_number(version, kind, channel, rest)
         }
         (Some(kind @ (Kind::LimitSending | Kind::LimitReceiving)), Some(channel)) => {

@@ -55,7 +55,7 @@ impl StreamDecoder {
     /// Takes the shortest front of the piece after which a frame or a fault stands, or all of it
     /// where none comes to stand, and answers how many bytes it took. It goes past a greeting. While
     /// a whole frame stands, and after a fault, it takes 0.
-    #[inline]
+    #[inline(always)]
     pub fn feed(&mut self, piece: &[u8]) -> usize
         ensures count { result ≤ length piece.now }
         ensures held { self.new ≡ fed self.old (take result piece.now) }
@@ -69,17 +69,20 @@ impl StreamDecoder {
                     append(&mut self.buffer, piece);
                     return piece.len();
                 }
-                let step = take_in(self.version, &mut self.buffer, need, piece);
-                self.progress = step.progress;
-                step.taken
+                take_in(
+                    self.version,
+                    &mut self.buffer,
+                    &mut self.progress,
+                    need,
+                    piece,
+                )
             }
             Progress::Whole(_) => 0,
             Progress::Fault(_) => 0,
             Progress::Greeted => {
-                let start = open(&mut self.buffer, piece);
+                let start = open(&mut self.buffer, &mut self.progress, piece);
                 self.version = start.version;
-                self.progress = start.step.progress;
-                start.step.taken
+                start.taken
             }
             Progress::Broken => 0,
         }

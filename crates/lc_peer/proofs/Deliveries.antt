@@ -15,7 +15,7 @@ use Rattle.lc_frame.specs.Held.{Held, held_in, fed, before, front, IsValidIn, en
 use Rattle.lc_frame.specs.Splits.{frames_of, rest_of}
 use Rattle.lc_frame.proofs.Bytes.{IsBytes}
 use Rattle.lc_frame.proofs.Fronts.{bytes_from}
-use Rattle.lc_frame.proofs.Held.{fed_fed, fed_nothing, fed_settled, fed_short, fed_fits, each_fed, before_fed, before_append, has_fault_goes_on, has_never_both}
+use Rattle.lc_frame.proofs.Held.{fed_fed, fed_nothing, fed_settled, fed_short, fed_fits, each_fed, nothing_in, before_fed, before_append, has_fault_goes_on, has_never_both}
 use Rattle.lc_frame.proofs.SplitLaws.{split_law}
 use Rattle.lc_frame.proofs.Frames.{computed_split, joined_law}
 use Rattle.lc_book.specs.declared.fault.Violation.{Violation}
@@ -117,6 +117,10 @@ one_more arrives p held piece p1 h1 taken frames p2 h2 count s a fits =
     few_more zero taken count held le none some = omega arith
     few_more (suc n) taken count held le none some = let none : held ≡ 0 = none (omega arith) in omega arith
 
+settled_in : (version : Option Version) (bytes : List ℕ) (f : Frame) → IsValidIn version f → IsSettled (record { version = version; bytes = bytes })
+settled_in None bytes f valid = absurd valid
+settled_in (Some v) bytes f valid = refl
+
 -- where it ends
 module _ {T : Type 0} (arrives : T → Frame → T → Type 0) (violates : Violation → T → Frame → T → Type 0) (p : T) (held : Held) (piece : List ℕ) (p1 : T) (h1 : Held) (taken frames : ℕ) (s : SoFar arrives p held piece p1 h1 taken frames) where
   -- the text is the frames that arrived, what is held and what is left of the piece
@@ -177,6 +181,18 @@ module _ {T : Type 0} (arrives : T → Frame → T → Type 0) (violates : Viola
         bytes = held_is h2 count same ∙ ap (λ (fs : List Frame). before fs h2) (sym (all_first p2 h2 fits e each none o.same));
         leaves = record { all = omega (arith, left); rest = rest_is p2 h2 fits e each none o.same; undecided = o.undecided };
       }
+
+  -- the last frame ends with the piece
+  pub ends_whole : (f : Frame) → IsValidIn h1.version f → h1.bytes ≡ [] → taken ≡ length piece → IsBytes (fed held piece).bytes → DeliversTo arrives violates p held piece p1 h1 (record { taken = taken; frames = frames; stop = None })
+  ends_whole f valid cleared all fits =
+      let none : drop taken piece ≡ [] = drop_all taken piece (omega (arith, all)) in
+      let still : StaysOpen p1 h1 (drop taken piece) p1 h1 0 = record {
+        same = refl;
+        all = omega (arith, ap length none);
+        grown = sym (ap (fed h1) none ∙ fed_nothing h1 (settled_in h1.version h1.bytes f valid));
+        undecided = subst (λ (x : List ℕ). IsUndecided (record { version = h1.version; bytes = x })) (sym cleared) (nothing_in h1.version);
+      } in
+      subst (λ (n : ℕ). DeliversTo arrives violates p held piece p1 h1 (record { taken = n; frames = frames; stop = None })) (omega arith) (ends_open p1 h1 0 fits still)
 
   ends_in_fault : (fault : FrameFault) (p2 : T) (h2 : Held) (count : ℕ) → IsBytes (fed held piece).bytes → FaultComes fault p1 h1 (drop taken piece) p2 h2 count → DeliversTo arrives violates p held piece p2 h2 (record { taken = taken + count; frames = frames; stop = Some (Fault fault) })
   ends_in_fault fault p2 h2 count fits o =

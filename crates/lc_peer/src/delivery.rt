@@ -1,6 +1,7 @@
 //! The bytes of a stream, delivered in pieces.
 ghost use Rattle.std.specs.Prelude.{◌≡◌, []};
 ghost use Rattle.lc_frame.specs.Held.{held_in};
+ghost use Rattle.lc_frame.specs.Progress.{Feeds};
 ghost use Rattle.lc_peer.specs.Deliveries.{Delivers, DeliversTo};
 ghost use Rattle.lc_peer.specs.Steps.{Steps};
 
@@ -39,6 +40,14 @@ pub(crate) enum Step {
     Stopped(Stop, usize),
 }
 
+// The decoder takes the piece. Not inlined, so that the loop over the frames of a piece stays short.
+#[inline(never)]
+fn feed(decoder: &mut StreamDecoder, piece: &[u8]) -> usize
+    ensures { Feeds decoder.old decoder.new piece.now result }
+{
+    decoder.feed(piece)
+}
+
 // Where the version is known and nothing is held: a frame that lies whole in the piece arrives from there.
 fn step_in_piece<C, S: FrameSink<C>>(
     sink: &mut S,
@@ -53,10 +62,10 @@ fn step_in_piece<C, S: FrameSink<C>>(
     match decode(version, piece) {
         Decoded::Whole { frame, used } => match sink.arrive_in(context, frame) {
             Ok(()) => Step::Arrived(used),
-            Err(violation) => Step::Stopped(Stop::Violated(violation), decoder.feed(piece)),
+            Err(violation) => Step::Stopped(Stop::Violated(violation), feed(decoder, piece)),
         },
-        Decoded::More => Step::Open(decoder.feed(piece)),
-        Decoded::Fault(fault) => Step::Stopped(Stop::Fault(fault), decoder.feed(piece)),
+        Decoded::More => Step::Open(feed(decoder, piece)),
+        Decoded::Fault(fault) => Step::Stopped(Stop::Fault(fault), feed(decoder, piece)),
     }
 }
 
@@ -69,7 +78,7 @@ fn step_in_decoder<C, S: FrameSink<C>>(
 ) -> Step
     ensures { Steps S.arrived S.violated result sink.old decoder.old piece.now sink.new decoder.new }
 {
-    let taken = decoder.feed(piece);
+    let taken = feed(decoder, piece);
     match decoder.frame() {
         Some(frame) => match sink.arrive_in(context, frame) {
             Ok(()) => {
@@ -120,6 +129,13 @@ pub fn deliver_to<C, S: FrameSink<C>>(
             Step::Arrived(count) => {
                 taken += count;
                 frames += 1;
+                if taken == piece.len() {
+                    return Delivery {
+                        taken,
+                        frames,
+                        stop: None,
+                    };
+                }
             }
             Step::Open(count) => {
                 return Delivery {

@@ -173,7 +173,7 @@ impl RecvRing {
     /// Takes the first message into the front of the buffer and answers its length, `None` where
     /// none waits. On an error, which is a buffer that is shorter than the message, ring and buffer
     /// stay as they are.
-    #[inline]
+    #[inline(always)]
     pub fn take_into(&mut self, buffer: &mut [u8]) -> Result<Option<usize>, BufferTooSmall>
         ensures answer { result ≡ take_answer (front self.old) (length buffer.old) }
         ensures after { self.new ≡ (if is_ok result then pop self.old else self.old) }

@@ -11,7 +11,7 @@ returns-in-Part-clause-opens c = opens_part _ _ _ c.in-Part.ensures.opens
 
 pub returns-in-Whole-clause-opens : goal.returns-in-Whole-clause-opens
 returns-in-Whole-clause-opens c =
-    opens_whole _ _ _ _ c.in-Whole.taken _ _ c.in-Whole.ensures.opens (from_cleared _ _ _ _ _ _ c.clear.ensures.items c.split_at.ensures.back c.resume-step.ensures.step)
+    opens_whole _ _ _ _ c.in-Whole.taken _ _ c.in-Whole.ensures.opens (from_cleared _ _ _ _ _ _ c.clear.ensures.items c.split_at.ensures.back c.resume-more.ensures.step)
 
 pub returns-in-Broken-clause-opens : goal.returns-in-Broken-clause-opens
 returns-in-Broken-clause-opens c = opens_broken _ _ _ _ c.in-Broken.ensures.opens

@@ -1,7 +1,7 @@
 use Rattle.std.proofs.Common.{rules, ◌≡◌, ◌+◌, sym, length, ap, subst, length-drop, arith}
 use Rattle.std.proofs.lemmas.Bool.{eqb-true}
 use Rattle.lc_frame.specs.declared.progress.Progress.{Progress}
-use Rattle.lc_frame.specs.Progress.{Holds, Takes}
+use Rattle.lc_frame.specs.Progress.{Holds}
 use Rattle.lc_frame.proofs.Pieces.{held_further, open_further, left_further, within_further, takes_further, known_frame, known_fault}
 use Rattle.lc_frame.proofs.progress.resume.Goals as goal
 
@@ -9,12 +9,10 @@ pub returns-then-is_empty-clause-step : goal.returns-then-is_empty-clause-step
 returns-then-is_empty-clause-step c =
     let at = c.steps.invariant in
     let step = c.advance-step.ensures.step in
-    let new = c.advance-step.new.buffer.items in
     let taken = c.steps.taken + c.advance-step.result.taken in
     let left = left_further _ _ _ _ _ at.held at.left _ _ c.split_at.ensures.back in
     let none : length c.split_at.result.1.now ≡ 0 = eqb-true _ _ (sym c.if-is_empty.ensures) in
-    subst (λ (p : Progress). Takes c.args.version c.args.buffer.now.items new c.args.piece.now taken p) c.in-Wants.is (
-    takes_further _ _ _ _ _ at.held at.left c.args.version _ _ _ at.within at.shortest step (λ lt. absurd (omega (arith, lt, ap length left, length-drop taken c.args.piece.now, none))))
+    takes_further _ _ _ _ _ at.held at.left c.args.version _ _ _ at.within at.shortest step (λ lt. absurd (omega (arith, lt, ap length left, length-drop taken c.args.piece.now, none)))
 
 pub steps-preserved : goal.steps-preserved
 steps-preserved c =

@@ -1,8 +1,8 @@
-use Rattle.std.proofs.Common.{ℕ, List, length, drop, subst, ap, arith}
+use Rattle.std.proofs.Common.{ℕ, ◌+◌, List, length, drop, subst, ap, arith}
 use Rattle.std.proofs.lemmas.List.{length-drop}
 use Rattle.lc_peer.specs.declared.delivery.Step.TheVariants.{Stopped}
 use Rattle.lc_peer.specs.Steps.{Steps, FrameArrives, StaysOpen}
-use Rattle.lc_peer.proofs.Deliveries.{nothing_yet, took_some, one_more, ends_open, ends_stopped, fed_bytes}
+use Rattle.lc_peer.proofs.Deliveries.{nothing_yet, took_some, one_more, ends_open, ends_whole, ends_stopped, fed_bytes}
 use Rattle.lc_peer.proofs.delivery.deliver_to.Goals as goal
 
 pub frames-init : goal.frames-init
@@ -18,6 +18,12 @@ pub frames-preserved : goal.frames-preserved
 frames-preserved g c =
     let a = subst (λ (xs : List ℕ). FrameArrives g.S.FrameSink.arrived c.frames.sink c.frames.decoder xs c.go_on.new.sink c.go_on.new.decoder c.in-Arrived.count) c.split_at.ensures.back c.in-Arrived.ensures in
     one_more g.S.FrameSink.arrived c.args.sink.now c.args.decoder.now c.args.piece.now c.frames.sink c.frames.decoder c.frames.taken c.frames.frames c.go_on.new.sink c.go_on.new.decoder c.in-Arrived.count c.frames.invariant a (omega (arith, a.within, length-drop c.frames.taken c.args.piece.now))
+
+pub returns-then-taken-piece : goal.returns-then-taken-piece
+returns-then-taken-piece g c =
+    let a = subst (λ (xs : List ℕ). FrameArrives g.S.FrameSink.arrived c.frames.sink c.frames.decoder xs c.go_on.new.sink c.go_on.new.decoder c.in-Arrived.count) c.split_at.ensures.back c.in-Arrived.ensures in
+    let soFar = one_more g.S.FrameSink.arrived c.args.sink.now c.args.decoder.now c.args.piece.now c.frames.sink c.frames.decoder c.frames.taken c.frames.frames c.go_on.new.sink c.go_on.new.decoder c.in-Arrived.count c.frames.invariant a (omega (arith, a.within, length-drop c.frames.taken c.args.piece.now)) in
+    ends_whole g.S.FrameSink.arrived g.S.FrameSink.violated c.args.sink.now c.args.decoder.now c.args.piece.now c.go_on.new.sink c.go_on.new.decoder (c.frames.taken + c.in-Arrived.count) (c.frames.frames + 1) soFar a.frame a.valid a.cleared (omega (arith, c.if-taken-piece.true)) (fed_bytes c.args.decoder.now c.args.piece.now c.held-held.ensures.bytes (λ i. omega (arith, c.type_inv.piece i)))
 
 pub returns-in-Open : goal.returns-in-Open
 returns-in-Open g c =

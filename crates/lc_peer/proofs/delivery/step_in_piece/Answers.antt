@@ -25,28 +25,26 @@ returns-in-Err g c =
     let f = frame_of c.in-Whole.frame in
     let found = c.in-Whole.ensures in
     let v = c.args.version in
-    let e = c.feed.ensures in
-    let feeds = from_nothing v c.args.decoder.now c.feed.new.self c.args.piece.now c.feed.result c.requires (record { count = e.count; held = e.held; shortest = e.shortest; stop = e.stop }) in
-    let is = holds_frame v c.feed.new.self c.args.piece.now c.feed.result feeds f found.0.stands in
+    let feeds = from_nothing v c.args.decoder.now c.feed.new.decoder c.args.piece.now c.feed.result c.requires c.feed.ensures in
+    let is = holds_frame v c.feed.new.decoder c.args.piece.now c.feed.result feeds f found.0.stands in
     record {
       frame = f;
       valid = subst (λ (h : Held). IsValidIn h.version f) (sym is) found.0.stands.valid;
       violated = c.in-Err.ensures.err;
-      within = e.count;
-      grown = e.held;
+      within = feeds.count;
+      grown = c.feed.ensures.held;
       whole = subst (λ (h : Held). h.bytes ≡ encoding_in h.version f) (sym is) refl;
     }
 
 pub returns-in-More : goal.returns-in-More
 returns-in-More g c =
     let v = c.args.version in
-    let e = c.feed-in-More.ensures in
-    let feeds = from_nothing v c.args.decoder.now c.feed-in-More.new.self c.args.piece.now c.feed-in-More.result c.requires (record { count = e.count; held = e.held; shortest = e.shortest; stop = e.stop }) in
+    let feeds = from_nothing v c.args.decoder.now c.feed-in-More.new.decoder c.args.piece.now c.feed-in-More.result c.requires c.feed-in-More.ensures in
     let undecided = undecided_of v c.args.piece.now c.in-More.ensures in
-    let same : c.feed-in-More.new.self ≡ held_in v c.args.piece.now = grown (held_in v []) c.feed-in-More.new.self c.args.piece.now c.feed-in-More.result feeds undecided in
+    let same : c.feed-in-More.new.decoder ≡ held_in v c.args.piece.now = grown (held_in v []) c.feed-in-More.new.decoder c.args.piece.now c.feed-in-More.result feeds undecided in
     record {
       same = refl;
-      all = takes_all (held_in v []) c.feed-in-More.new.self c.args.piece.now c.feed-in-More.result feeds undecided;
+      all = takes_all (held_in v []) c.feed-in-More.new.decoder c.args.piece.now c.feed-in-More.result feeds undecided;
       grown = same ∙ ap (λ (h : Held). fed h c.args.piece.now) (sym c.requires);
       undecided = subst IsUndecided (sym same) undecided;
     }
@@ -54,12 +52,11 @@ returns-in-More g c =
 pub returns-in-Fault : goal.returns-in-Fault
 returns-in-Fault g c =
     let v = c.args.version in
-    let e = c.feed-in-Fault.ensures in
-    let feeds = from_nothing v c.args.decoder.now c.feed-in-Fault.new.self c.args.piece.now c.feed-in-Fault.result c.requires (record { count = e.count; held = e.held; shortest = e.shortest; stop = e.stop }) in
+    let feeds = from_nothing v c.args.decoder.now c.feed-in-Fault.new.decoder c.args.piece.now c.feed-in-Fault.result c.requires c.feed-in-Fault.ensures in
     record {
       same = refl;
-      within = e.count;
-      grown = e.held;
-      known = holds_fault (held_in v []) c.feed-in-Fault.new.self c.args.piece.now c.feed-in-Fault.result feeds c.in-Fault.fault c.in-Fault.ensures.stands;
-      shortest = shortest_fault (held_in v []) c.feed-in-Fault.new.self c.args.piece.now c.feed-in-Fault.result feeds;
+      within = feeds.count;
+      grown = c.feed-in-Fault.ensures.held;
+      known = holds_fault (held_in v []) c.feed-in-Fault.new.decoder c.args.piece.now c.feed-in-Fault.result feeds c.in-Fault.fault c.in-Fault.ensures.stands;
+      shortest = shortest_fault (held_in v []) c.feed-in-Fault.new.decoder c.args.piece.now c.feed-in-Fault.result feeds;
     }
