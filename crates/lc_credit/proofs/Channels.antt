@@ -2,8 +2,10 @@
 use Rattle.std.proofs.Common.{◌≡◌, ℕ, zero, suc, ◌+◌, ◌<◌, List, [], ◌∷◌, ◌++◌, map, length, set, get_or, refl, sym, ap, ◌∙◌, subst, arith, length-append}
 use Rattle.std.specs.Prelude.{IfSome, IsSomeAnd, slice_get}
 use Rattle.lc_credit.specs.declared.balance.Balance.{Balance}
-use Rattle.lc_credit.specs.Sides.{CreditId, Incoming, Outgoing, IsSettled}
-use Rattle.lc_credit.specs.Channels.{credit_in, credit_out, SameCredits, AreMatched, AreSettled}
+use Rattle.std.specs.List.{All}
+use Rattle.std.proofs.lemmas.List.Elements.{All-map}
+use Rattle.lc_credit.specs.Sides.{CreditId, Incoming, Outgoing, new_incoming, new_outgoing, IsSettled}
+use Rattle.lc_credit.specs.Channels.{credit_in, credit_out, SameCredits, AreMatched, IsNewPair, AreNew, AreSettled}
 
 -- the next end is of the credit at its place
 pub credit_at : (ends : List Outgoing) (o : Outgoing) (rest : List Outgoing) (sides : List Incoming) → map credit_in sides ≡ map credit_out (ends ++ o ∷ rest) → IfSome (slice_get sides (length ends)) (λ i. i.credit ≡ o.credit)
@@ -84,3 +86,26 @@ matched_in old new ends same matched = same ∙ matched
 
 pub matched_out : (sides : List Incoming) (ends : List Outgoing) → AreMatched sides ends → (at : ℕ) (other now : Outgoing) → now.credit ≡ (get_or ends at other).credit → AreMatched sides (set ends at now)
 matched_out sides ends matched at other now same = matched ∙ sym (ends_keep ends at other now same)
+
+-- new sides, by channel, from the pairs that they come in
+from_pairs : (pairs : List (Incoming × Outgoing)) → All IsNewPair pairs → AreNew (map (λ pair. pair.0) pairs) (map (λ pair. pair.1) pairs)
+from_pairs [] all = record { incoming_new = refl; outgoing_new = refl }
+from_pairs (pair ∷ pairs) all =
+    let this : IsNewPair pair = all 0 pair (omega arith) in
+    let rest = from_pairs pairs (λ k d few. all (suc k) d (omega arith)) in
+    let same : pair.0.credit ≡ pair.1.credit = cc in
+    record { incoming_new = cc; outgoing_new = cc }
+
+pub new_from : (incoming : List Incoming) (outgoing : List Outgoing) (pairs : List (Incoming × Outgoing)) → incoming ≡ map (λ pair. pair.0) pairs → outgoing ≡ map (λ pair. pair.1) pairs → All IsNewPair pairs → AreNew incoming outgoing
+new_from incoming outgoing pairs first second all = subst (λ (sides : List Incoming × List Outgoing). AreNew sides.0 sides.1) (λ i. (sym first i, sym second i)) (from_pairs pairs all)
+
+-- what follows of new sides
+credits_of : (credits : List CreditId) → map credit_in (map new_incoming credits) ≡ credits
+credits_of [] = refl
+credits_of (c ∷ credits) = ap (λ cs. c ∷ cs) (credits_of credits)
+
+pub new_are_matched : (incoming : List Incoming) (outgoing : List Outgoing) → AreNew incoming outgoing → AreMatched incoming outgoing
+new_are_matched incoming outgoing new = ap (map credit_in) new.incoming_new ∙ credits_of (map credit_out outgoing)
+
+pub new_are_all : (P : Outgoing → Type 0) → ((c : CreditId) → P (new_outgoing c)) → (incoming : List Incoming) (outgoing : List Outgoing) → AreNew incoming outgoing → All P outgoing
+new_are_all P each incoming outgoing new = subst (All P) (sym new.outgoing_new) (All-map P new_outgoing (map credit_out outgoing) (λ k d lt. each _))

@@ -26,6 +26,10 @@ pub record AreNew (incoming : List Incoming) (outgoing : List Outgoing) : Type 0
   pub incoming_new : incoming ≡ map new_incoming (map credit_out outgoing)
   pub outgoing_new : outgoing ≡ map new_outgoing (map credit_out outgoing)
 
+-- the same of the two sides of one channel
+abbrev pub IsNewPair : Incoming × Outgoing → Type 0
+IsNewPair sides = (sides.0 ≡ new_incoming sides.0.credit) × (sides.1 ≡ new_outgoing sides.0.credit)
+
 -- each channel is settled, by its number, and there are as many of one as of the other
 abbrev pub AreSettled : List Incoming → List Outgoing → List Balance → Type 0
 AreSettled [] [] [] = Unit {0}

@@ -1,12 +1,13 @@
 //! The parts that threads share the credits by.
-ghost use Rattle.std.specs.Prelude.{◌≡◌, IfOk, All};
-ghost use Rattle.lc_credit.specs.Sides.{IsIdle, IsUnfinished, new_incoming, new_outgoing};
-ghost use Rattle.lc_credit.specs.Channels.{AreMatched, AreNew};
+ghost use Rattle.std.specs.Prelude.{◌≡◌, IfOk, All, length, map};
+ghost use Rattle.lc_credit.specs.Sides.{IsIdle, IsUnfinished};
+ghost use Rattle.lc_credit.specs.Channels.{AreMatched, AreNew, IsNewPair};
 
 use crate::channel_in::{ChannelIn, Words};
 use crate::credit_in::CreditIn;
 use crate::credit_out::CreditOut;
 use crate::rule::TwoSides;
+use lc_frame::Channel;
 use std::alloc::{AllocError, Global};
 use std::sync::Arc;
 
@@ -27,38 +28,36 @@ pub fn credits(alloc: Global) -> Result<CreditParts, AllocError>
     ensures idle { IfOk result (λ parts. All IsIdle parts.outgoing) }
     ensures unfinished { IfOk result (λ parts. All IsUnfinished parts.outgoing) }
 {
-    let (reconciliation, reconciliation_out) = credit(alloc)?;
-    let (data, data_out) = credit(alloc)?;
-    let (overlap, overlap_out) = credit(alloc)?;
-    let (capability, capability_out) = credit(alloc)?;
-    let (area_of_interest, area_of_interest_out) = credit(alloc)?;
-    let (payload_request, payload_request_out) = credit(alloc)?;
-    let (static_token, static_token_out) = credit(alloc)?;
-    let channels = [
-        reconciliation,
-        data,
-        overlap,
-        capability,
-        area_of_interest,
-        payload_request,
-        static_token,
-    ];
-    let outgoing = [
-        reconciliation_out,
-        data_out,
-        overlap_out,
-        capability_out,
-        area_of_interest_out,
-        payload_request_out,
-        static_token_out,
-    ];
+    let (channels, outgoing) = parted(Channel::ALL.try_map(|_| credit(alloc))?);
     let incoming = CreditIn { channels };
     Ok(CreditParts { incoming, outgoing })
 }
 
+// The first of each pair, and the second.
+fn parted<A, B>(pairs: [(A, B); 7]) -> ([A; 7], [B; 7])
+    requires { length pairs ≡ 7 }
+    ensures { (result.0 ≡ map (λ pair. pair.0) pairs) × (result.1 ≡ map (λ pair. pair.1) pairs) }
+{
+    let [
+        (a, a_second),
+        (b, b_second),
+        (c, c_second),
+        (d, d_second),
+        (e, e_second),
+        (f, f_second),
+        (g, g_second),
+    ] = pairs;
+    (
+        [a, b, c, d, e, f, g],
+        [
+            a_second, b_second, c_second, d_second, e_second, f_second, g_second,
+        ],
+    )
+}
+
 // Both sides of one channel's credit.
 fn credit(alloc: Global) -> Result<(ChannelIn, CreditOut), AllocError>
-    ensures { IfOk result (λ sides. (sides.0 ≡ new_incoming sides.0.credit) × (sides.1 ≡ new_outgoing sides.0.credit)) }
+    ensures { IfOk result IsNewPair }
 {
     let (table, mut seat) = Words::of_words(alloc, &[0, 0], &())?;
     let Ok(words) = Arc::new(alloc, table) else {

@@ -1,17 +1,20 @@
 //! The exchange by turns on one channel.
+ghost use Rattle.std.specs.Prelude.{◌≡◌, length};
+
 use crate::config::RING;
 use crate::connection::{Wires, connect_both};
-use crate::fault::{LoopFault, fault_among};
+use crate::fault::fault_among;
 use crate::hold::Hold;
 use crate::opening::{Opened, open};
 use crate::patience::Patience;
-use crate::pumping::{join_pumps, start_pumps};
+use crate::pumping::{join_pump_outcomes, start_pumps};
 use crate::sending::send;
 use crate::taking::{issue, take};
-use crate::worker::{Outcome, Part, Worker, join, start};
+use crate::worker::{Outcome, Part, Worker, join_outcome, start};
 use lc_frame::Version;
 use lc_inbox::apart;
-use lc_session::{RecvEnd, SendEnd};
+use lc_report::LoopFault;
+use lc_session::{Parts, ReadPump, RecvEnd, SendEnd, WritePump};
 use std::alloc::Global;
 use std::io::{Read, Write};
 use std::net::Net;
@@ -50,40 +53,80 @@ impl Worker<Game> for Player {
     }
 }
 
-// The ends of a side's first channel.
-fn first_ends(sending: [SendEnd; 7], receiving: [RecvEnd; 7]) -> Player {
-    Player {
-        sending: apart(sending).0,
-        receiving: apart(receiving).0,
-    }
+// The first of seven ends. The others are let go.
+fn first<E: Drop>(ends: [E; 7]) -> E
+    requires { length ends ≡ 7 }
+{
+    apart(ends).0
 }
 
-// Both sides play, until all threads are joined.
-fn bounce<R, S>(rt: R, opened: Opened, wires: Wires<S>, game: Game) -> Result<u32, LoopFault>
+// What a side needs here: its player, and its pumps.
+type Side = (Player, (ReadPump, WritePump));
+
+// The parts that are not needed are let go.
+fn side_of(parts: Parts) -> Side {
+    let Parts {
+        session: _,
+        send_ends,
+        recv_ends,
+        read_pump,
+        write_pump,
+    } = parts;
+    let player = Player {
+        sending: first(send_ends),
+        receiving: first(recv_ends),
+    };
+    (player, (read_pump, write_pump))
+}
+
+// Both players play, until both are joined.
+fn play<R>(rt: R, hold: &Hold, a: Player, b: Player, game: Game) -> [Outcome; 2]
+where
+    R: Threads + Wait + Copy + Send + 'static,
+{
+    let a_playing = start(rt, hold, a, game);
+    let b_playing = start(rt, hold, b, game);
+    let a_played = join_outcome(&rt, a_playing);
+    let b_played = join_outcome(&rt, b_playing);
+    [a_played, b_played]
+}
+
+// Both sides play, until all threads are joined. It answers the rounds.
+fn play_all<R, S>(
+    rt: R,
+    hold: &Hold,
+    a: Side,
+    b: Side,
+    wires: Wires<S>,
+    game: Game,
+) -> Result<u32, LoopFault>
 where
     R: Threads + Wait + Copy + Send + 'static,
     S: Read + Write + Send + Drop + 'static,
 {
-    let Opened { a, b, hold } = opened;
-    let a_pumps = (a.read_pump, a.write_pump);
-    let b_pumps = (b.read_pump, b.write_pump);
-    let (a_pumping, b_pumping) = start_pumps(rt, &hold, a_pumps, b_pumps, wires);
-    let a_playing = start(rt, &hold, first_ends(a.send_ends, a.recv_ends), game);
-    let b_playing = start(rt, &hold, first_ends(b.send_ends, b.recv_ends), game);
-    let a_played = join(&rt, a_playing).outcome;
-    let b_played = join(&rt, b_playing).outcome;
+    let (a_player, a_pumps) = a;
+    let (b_player, b_pumps) = b;
+    let (a_pumping, b_pumping) = start_pumps(rt, hold, a_pumps, b_pumps, wires);
+    let played = play(rt, hold, a_player, b_player, game);
     hold.stop();
-    let (a_read, a_wrote) = join_pumps(&rt, a_pumping);
-    let (b_read, b_wrote) = join_pumps(&rt, b_pumping);
-    let pumped = [
-        a_read.outcome,
-        a_wrote.outcome,
-        b_read.outcome,
-        b_wrote.outcome,
-    ];
-    let fault = fault_among(Ok(()), &[a_played, b_played]);
-    fault_among(fault, &pumped)?;
+    let a_pumped = join_pump_outcomes(&rt, a_pumping);
+    let b_pumped = join_pump_outcomes(&rt, b_pumping);
+    let fault = fault_among(Ok(()), &played);
+    let fault = fault_among(fault, &a_pumped);
+    fault_among(fault, &b_pumped)?;
     Ok(game.rounds)
+}
+
+// Both sessions are new, and play over these connections.
+fn bounce<R, S>(rt: R, alloc: Global, wires: Wires<S>, game: Game) -> Result<u32, LoopFault>
+where
+    R: Threads + Wait + Copy + Send + 'static,
+    S: Read + Write + Send + Drop + 'static,
+{
+    match open(alloc, [Version::One; 2]) {
+        Ok(Opened { a, b, hold }) => play_all(rt, &hold, side_of(a), side_of(b), wires, game),
+        Err(fault) => Err(fault),
+    }
 }
 
 /// Exchanges so many rounds on the first channel between two sessions: in each, both sides send its
@@ -102,8 +145,5 @@ where
     R: Threads + Wait + Copy + Send + 'static,
 {
     let wires = connect_both(net)?;
-    match open(alloc, [Version::One; 2]) {
-        Ok(opened) => bounce(rt, opened, wires, Game { rounds, turns }),
-        Err(fault) => Err(fault),
-    }
+    bounce(rt, alloc, wires, Game { rounds, turns })
 }

@@ -2,6 +2,7 @@
 //! every message compared with the one that was due.
 #![tactic(auto)]
 
+mod balance;
 mod bouncing;
 mod config;
 mod connection;
@@ -13,13 +14,11 @@ mod message;
 mod opening;
 mod patience;
 mod pumping;
-mod report;
 mod sending;
 mod stage;
 mod taking;
 mod worker;
 
 pub use bouncing::ping_pong;
-pub use fault::LoopFault;
-pub use report::LoopReport;
+pub use lc_report::{LoopFault, LoopReport};
 pub use stage::{loopback, loopback_as};

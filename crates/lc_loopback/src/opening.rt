@@ -4,9 +4,9 @@ ghost use Rattle.lc_session.specs.Parts.{state_of};
 ghost use Rattle.lc_session.specs.Report.{AreOfOneSession};
 
 use crate::config::config;
-use crate::fault::LoopFault;
 use crate::hold::Hold;
 use lc_frame::Version;
+use lc_report::LoopFault;
 use lc_session::{Parts, Session};
 use std::alloc::Global;
 

@@ -1,8 +1,8 @@
 //! How an end passes the time while there is nothing for it to do.
 ghost use Rattle.std.specs.Prelude.{◌≡◌};
 
-use crate::fault::LoopFault;
 use crate::hold::Hold;
+use lc_report::LoopFault;
 use lc_session::{RecvEnd, SendEnd};
 use lc_wake::Wake;
 use std::sync::Wait;

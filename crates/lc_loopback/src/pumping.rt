@@ -4,10 +4,10 @@ ghost use Rattle.lc_session.specs.Reading.{IsSameReading};
 ghost use Rattle.lc_session.specs.Pumping.{IsSamePump};
 
 use crate::connection::{Wire, Wires};
-use crate::fault::LoopFault;
 use crate::hold::Hold;
-use crate::worker::{Done, Outcome, Part, Work, Worker, join, start};
+use crate::worker::{Done, Outcome, Part, Work, Worker, join, join_outcome, start};
 use lc_driver::{Counted, ReadEnd};
+use lc_report::LoopFault;
 use lc_session::{ReadPump, WriteEnd, WritePump};
 use std::io::{Read, Write};
 use std::sync::Wait;
@@ -99,4 +99,12 @@ pub(crate) fn join_pumps<R: Threads>(rt: &R, pumping: Pumping) -> (Done<ReadPump
     let writing = join(rt, pumping.writing);
     let reading = join(rt, pumping.reading);
     (reading, writing)
+}
+
+/// Waits for both pumps of a side, and lets them go: what their work came to.
+pub(crate) fn join_pump_outcomes<R: Threads>(rt: &R, pumping: Pumping) -> [Outcome; 2] {
+    let Pumping { reading, writing } = pumping;
+    let wrote = join_outcome(rt, writing);
+    let read = join_outcome(rt, reading);
+    [read, wrote]
 }

@@ -2,11 +2,12 @@
 ghost use Rattle.lc_outbox.specs.Outbox.{IsSameOutbox};
 
 use crate::exchange::Exchange;
-use crate::fault::{LoopFault, judge};
+use crate::fault::judge;
 use crate::hold::Hold;
 use crate::message::Message;
 use crate::patience::Patience;
 use crate::worker::{Outcome, Part, Worker};
+use lc_report::LoopFault;
 use lc_session::SendEnd;
 use std::sync::Wait;
 

@@ -6,13 +6,14 @@ ghost use Rattle.lc_inbox.specs.Sides.{IsSameSide};
 
 use crate::config::RING;
 use crate::exchange::Exchange;
-use crate::fault::{LoopFault, judge};
+use crate::fault::judge;
 use crate::hold::Hold;
 use crate::message::{LONGEST, Message};
 use crate::patience::Patience;
 use crate::worker::{Outcome, Part, Worker};
 use lc_book::Refusal;
 use lc_peer::Take;
+use lc_report::LoopFault;
 use lc_session::RecvEnd;
 use std::sync::Wait;
 

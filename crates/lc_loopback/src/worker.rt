@@ -1,8 +1,8 @@
 //! A part of a session at work in a thread of its own.
 ghost use Rattle.std.specs.Prelude.{◌≡◌};
 
-use crate::fault::LoopFault;
 use crate::hold::Hold;
+use lc_report::LoopFault;
 use std::marker::Model;
 use std::snapshot::Snapshot;
 use std::sync::Wait;
@@ -121,4 +121,9 @@ pub(crate) fn join<R: Threads, W: Part>(rt: &R, work: Work<W>) -> Done<W>
         Ok(handle) => handle.join(rt),
         Err(done) => done,
     }
+}
+
+/// Waits until the part is back, and lets it go: what its work came to.
+pub(crate) fn join_outcome<R: Threads, W: Part>(rt: &R, work: Work<W>) -> Outcome {
+    join(rt, work).outcome
 }

@@ -1,4 +1,4 @@
-pub mod Made
+pub mod Mapped
 pub mod Versions
 pub mod Feeds
 pub mod Sinks

@@ -19,16 +19,6 @@ pub(crate) struct ChannelState {
     pub inbox: Inbox,
 }
 
-// A channel on which nothing has happened.
-fn new_channel(alloc: Global, version: Version, capacity: u32) -> Result<ChannelState, NewFault>
-    ensures { IfOk result (λ state. state ≡ new_channel version capacity) }
-{
-    Ok(ChannelState {
-        client: ClientBook::new(version),
-        inbox: Inbox::new(alloc, capacity)?,
-    })
-}
-
 impl ChannelState {
     /// A frame arrives on the channel. Always inlined, so that what the scan has found of its kind is not
     /// looked for again.
@@ -53,7 +43,7 @@ impl ChannelState {
     }
 }
 
-/// Seven such channels.
+/// Seven channels on which nothing has happened.
 pub(crate) fn new_channels(
     alloc: Global,
     version: Version,
@@ -62,14 +52,9 @@ pub(crate) fn new_channels(
     requires { length capacities ≡ 7 }
     ensures { IfOk result (λ states. states ≡ map (new_channel version) capacities) }
 {
-    let [a, b, c, d, e, f, g] = capacities;
-    Ok([
-        new_channel(alloc, version, a)?,
-        new_channel(alloc, version, b)?,
-        new_channel(alloc, version, c)?,
-        new_channel(alloc, version, d)?,
-        new_channel(alloc, version, e)?,
-        new_channel(alloc, version, f)?,
-        new_channel(alloc, version, g)?,
-    ])
+    let inboxes = capacities.try_map(|capacity| Inbox::new(alloc, capacity))?;
+    Ok(inboxes.map(|inbox| ChannelState {
+        client: ClientBook::new(version),
+        inbox,
+    }))
 }

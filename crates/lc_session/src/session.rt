@@ -139,6 +139,11 @@ fn put_together(
 fn make(alloc: Global, config: Config) -> Result<Parts, AllocError>
     ensures { IfOk result (λ parts. IsNewSession config (state_of parts)) }
 {
+    let batch = Batch::new(alloc, config.version)?;
+    let waking = Waking::new(alloc)?;
+    let wakers = Arc::try_clone(&waking.wakers)?;
+    let credits = credits(alloc)?;
+    let intake = Intake::new(alloc)?;
     let Ok(lanes) = lanes(alloc, config.slots, config.version) else {
         return Err(AllocError);
     };
@@ -146,11 +151,7 @@ fn make(alloc: Global, config: Config) -> Result<Parts, AllocError>
     let Ok(inboxes) = share_all(alloc, capacities, ends) else {
         return Err(AllocError);
     };
-    let credits = credits(alloc)?;
-    let intake = Intake::new(alloc)?;
-    let outgo = (lanes.drain, Batch::new(alloc, config.version)?);
-    let waking = Waking::new(alloc)?;
-    let wakers = Arc::try_clone(&waking.wakers)?;
+    let outgo = (lanes.drain, batch);
     Ok(put_together(alloc, inboxes, credits, waking, intake, outgo, wakers))
 }
 
