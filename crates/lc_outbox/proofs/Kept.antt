@@ -20,28 +20,30 @@ use Rattle.lc_credit.specs.declared.credit_out.Use.{Use}
 use Rattle.lc_credit.specs.declared.credit_out.Use.TheVariants as kinds
 use Rattle.lc_credit.specs.declared.credit_out.Pending.{Pending}
 use Rattle.lc_credit.specs.History.{is_outgoing, Makes}
-use Rattle.lc_credit.specs.Sides.{Outgoing, IsIdle, IsUnfinished, LoadsOut, Holds, IsUsed, IsNotSpent, IsNotAbsolved, IsWaived, counted, given_back}
+use Rattle.lc_credit.specs.Sides.{Outgoing, IsIdle, IsUnfinished, LoadsOut, Holds, IsUsed, IsNotSpent, IsNotAbsolved, IsWaived, counted, counted_as, given_back}
 use Rattle.lc_outbox.specs.Uses.{uses, amounts}
 use Rattle.lc_outbox.specs.Outbox.{OutboxState, IsAllowed, MayPut, IsOutbox}
 use Rattle.lc_outbox.specs.Calls.{IsCounted, IsGivenBack}
 use Rattle.lc_outbox.specs.Honours.{AnswersFor}
 use Rattle.lc_outbox.proofs.Uses.{amounts-push, learned_uses, looked_uses, counted_uses, given_back_uses, waived_uses}
 
+-- what is pending is what was used
+pub used_counts : (kind : Use) (n : ℕ) (old between new : Outgoing) → IsUsed kind n old between → IfSome between.pending (λ p. new ≡ counted p between) → new ≡ counted_as kind n between
+used_counts kind n old between new used counts = subst (λ (o : Option Pending). IfSome o (λ p. new ≡ counted p between)) (ap (λ (o : Outgoing). o.pending) used.after) counts
+
+pub used_returns : (kind : Use) (n : ℕ) (old between new : Outgoing) → IsUsed kind n old between → IfSome between.pending (λ p. Makes is_outgoing between.seen (Returned p.amount) new.seen) → Makes is_outgoing between.seen (Returned n) new.seen
+used_returns kind n old between new used makes = subst (λ (o : Option Pending). IfSome o (λ p. Makes is_outgoing between.seen (Returned p.amount) new.seen)) (ap (λ (o : Outgoing). o.pending) used.after) makes
+
+pub used_given_back : (kind : Use) (n : ℕ) (old between new : Outgoing) → IsUsed kind n old between → IfSome between.pending (λ p. new ≡ given_back p new.seen between) → new ≡ given_back (record { kind = kind; amount = n }) new.seen between
+used_given_back kind n old between new used gives = subst (λ (o : Option Pending). IfSome o (λ p. new ≡ given_back p new.seen between)) (ap (λ (o : Outgoing). o.pending) used.after) gives
+
 -- what was pending was counted, or came back
 pub is_counted : (kind : Use) (n : ℕ) (old between new : Outgoing) → IsUsed kind n old between → IfSome between.pending (λ p. new ≡ counted p between) → IsCounted kind n old new
-is_counted kind n old between new used counts =
-    record { pending = between; used = used; after = subst (λ (o : Option Pending). IfSome o (λ p. new ≡ counted p between)) (ap (λ (o : Outgoing). o.pending) used.after) counts }
+is_counted kind n old between new used counts = record { pending = between; used = used; after = used_counts kind n old between new used counts }
 
 pub is_given_back : (kind : Use) (n : ℕ) (old between new : Outgoing) → IsUsed kind n old between → IfSome between.pending (λ p. Makes is_outgoing between.seen (Returned p.amount) new.seen) → IfSome between.pending (λ p. new ≡ given_back p new.seen between)
     → IsGivenBack kind n old new
-is_given_back kind n old between new used makes gives =
-    let is = ap (λ (o : Outgoing). o.pending) used.after in
-    record {
-      pending = between;
-      used = used;
-      makes = subst (λ (o : Option Pending). IfSome o (λ p. Makes is_outgoing between.seen (Returned p.amount) new.seen)) is makes;
-      after = subst (λ (o : Option Pending). IfSome o (λ p. new ≡ given_back p new.seen between)) is gives;
-    }
+is_given_back kind n old between new used makes gives = record { pending = between; used = used; makes = used_returns kind n old between new used makes; after = used_given_back kind n old between new used gives }
 
 -- a refusal by what is held comes from a look
 pub not_spent_loads : (e : Refusal) (n : ℕ) (old new : Outgoing) → IsNotSpent e n old new → (held : ℕ) × LoadsOut held old new

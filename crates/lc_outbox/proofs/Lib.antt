@@ -1,2 +1,3 @@
 pub mod Uses
 mod Kept
+mod Honoured

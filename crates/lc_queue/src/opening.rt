@@ -84,32 +84,20 @@ impl Opening {
         })
     }
 
-    // The ends of the next four lanes.
-    fn four_lanes(&mut self, lane: u8) -> Result<(LaneEnd, LaneEnd, LaneEnd, LaneEnd), AllocError>
-        requires { (self.old.next ≡ lane) × (lane < 11) }
-        ensures ends { IfOk result (λ ends. (ends.0 ≡ new_end self.old.queue self.old.version lane) × (ends.1 ≡ new_end self.old.queue self.old.version (lane + 1)) × (ends.2 ≡ new_end self.old.queue self.old.version (lane + 2)) × (ends.3 ≡ new_end self.old.queue self.old.version (lane + 3))) }
-        ensures next { IfOk result (λ _. self.new ≡ record self.old { next = lane + 4 }) }
-    {
-        Ok((
-            self.next_lane(lane)?,
-            self.next_lane(lane + 1)?,
-            self.next_lane(lane + 2)?,
-            self.next_lane(lane + 3)?,
-        ))
-    }
-
     // The ends of all lanes.
-    fn ends(&mut self, first: LaneEnd) -> Result<[LaneEnd; 14], AllocError>
+    fn ends(&mut self, alloc: Global, first: LaneEnd) -> Result<[LaneEnd; 14], AllocError>
         requires { (self.old.next ≡ 1) × (first ≡ new_end self.old.queue self.old.version 0) }
         ensures { IfOk result (λ ends. (ends ≡ new_ends self.old.queue self.old.version) × (self.new ≡ record self.old { next = 14 })) }
     {
-        let (e1, e2, e3, e4) = self.four_lanes(1)?;
-        let (e5, e6, e7, e8) = self.four_lanes(5)?;
-        let (e9, e10, e11, e12) = self.four_lanes(9)?;
-        let last = self.next_lane(13)?;
-        Ok([
-            first, e1, e2, e3, e4, e5, e6, e7, e8, e9, e10, e11, e12, last,
-        ])
+        let mut ends = Vec::with_capacity(alloc, 14)?;
+        ends.push(first)?;
+        for lane in 1..14 {
+            ends.push(self.next_lane(lane)?)?;
+        }
+        let Ok(ends) = <[LaneEnd; 14]>::try_from(ends) else {
+            unreachable!()
+        };
+        Ok(ends)
     }
 
     // The drain of a queue whose lanes all have their ends.
@@ -144,7 +132,7 @@ pub fn lanes(alloc: Global, slots: u32, version: Version) -> Result<Lanes, Lanes
         return Err(LanesFault::BadSlots);
     }
     let (mut opening, first) = Opening::new::<Brand>(alloc, slots as usize, version)?;
-    let ends = opening.ends(first)?;
+    let ends = opening.ends(alloc, first)?;
     let drain = opening.drain();
     Ok(Lanes { ends, drain })
 }

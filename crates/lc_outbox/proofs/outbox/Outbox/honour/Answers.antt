@@ -1,5 +1,5 @@
-use Rattle.std.proofs.Common.{rules}
 use Rattle.lc_outbox.proofs.Kept.{is_counted, is_given_back, kept_answers, answers_unfinished, kept_loads, loads_unfinished, kept_back, kept_absolved, kept_target}
+use Rattle.lc_outbox.proofs.Honoured.{unasked, met, honoured, put_off}
 use Rattle.lc_outbox.proofs.outbox.Outbox.honour.Goals as goal
 
 pub invariant_of-self : goal.invariant_of-self
@@ -36,5 +36,18 @@ invariant_of-self-in-Err g c =
 pub returns-in-Err-clause-kept : goal.returns-in-Err-clause-kept
 returns-in-Err-clause-kept g c = invariant_of-self-in-Err g c
 
+pub returns-in_default-clause-ok : goal.returns-in_default-clause-ok
+returns-in_default-clause-ok g c = unasked _ _ c.self.view_is _ _ c.take_target-self-inside.ensures.answers c.in_default.is
+
+pub returns-in_default-lower_to-clause-ok : goal.returns-in_default-lower_to-clause-ok
+returns-in_default-lower_to-clause-ok g c = met _ _ c.self.view_is _ _ c.take_target-self-inside.ensures.answers _ c.in-Some.is _ c.in_default-lower_to.ensures.none
+
+pub returns-in-Ok-clause-ok : goal.returns-in-Ok-clause-ok
+returns-in-Ok-clause-ok g c =
+    let e = c.in-Ok.ensures in
+    honoured _ _ c.self.view_is _ _ c.take_target-self-inside.ensures.answers _ c.in-Some.is _ _ _ _ c.in-Some-lower_to.ensures.some e.put e.counted
+
 pub returns-in-Err-clause-err : goal.returns-in-Err-clause-err
-returns-in-Err-clause-err g c = search rules
+returns-in-Err-clause-err g c =
+    let e = c.in-Err.ensures in
+    put_off _ _ c.self.view_is _ _ c.take_target-self-inside.ensures.answers _ c.in-Some.is _ _ _ _ c.in-Some-lower_to.ensures.some _ c.in_ok-check_open.ensures.unfinished e.full e.unput e.makes e.given_back
