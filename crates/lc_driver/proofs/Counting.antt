@@ -10,7 +10,7 @@ use Rattle.lc_peer.specs.declared.delivery.Stop.TheVariants as stops
 use Rattle.lc_driver.specs.declared.counts.Counts.{Counts}
 use Rattle.lc_driver.specs.declared.reading.ReadEnd.{ReadEnd}
 use Rattle.lc_driver.specs.declared.reading.ReadEnd.TheVariants.{Clean, Truncated, Fault, Violated, ReadFailed, TurnsSpent}
-use Rattle.lc_driver.specs.Counts.{count_up, CountsCall}
+use Rattle.lc_driver.specs.Counts.{count_up, count_on, CountsCall}
 use Rattle.lc_driver.specs.Intake.{EndsHere}
 use Rattle.lc_driver.specs.Reading.{CountsReads, EndsInput, end_of}
 
@@ -69,6 +69,13 @@ call_counts old now new n asked k few call = omega (arith, few, ap (λ (c : Coun
 
 pub failure_counts : (old now new : Counts) (e : Error) (asked k : ℕ) → now.calls ≤ old.calls + k → CountsCall (Err e) asked now new → new.calls ≤ old.calls + (k + 1)
 failure_counts old now new e asked k few call = omega (arith, few, ap (λ (c : Counts). c.calls) call, one_more now.calls)
+
+one_more_on : (k n : ℕ) → count_up (count_on k n) ≡ count_on (k + 1) n
+one_more_on k n = grind (arith, nat_tests)
+
+-- the same, exactly
+pub calls_count_on : (old now new : Counts) (n asked k : ℕ) → now.calls ≡ count_on k old.calls → CountsCall (Ok n) asked now new → new.calls ≡ count_on (k + 1) old.calls
+calls_count_on old now new n asked k so_many call = ap (λ (c : Counts). c.calls) call ∙ ap count_up so_many ∙ one_more_on k old.calls
 
 -- a read that gave nothing: the input ended
 pub counts_end : (end : ReadEnd) (held : Held) (old new : Counts) → EndsHere end held → new ≡ record old { calls = new.calls; ends = count_up old.ends } → CountsReads end old new

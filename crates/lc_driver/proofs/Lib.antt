@@ -1,4 +1,5 @@
 pub mod Counting
+pub mod Tries
 pub mod Frames
 pub mod Written
 pub mod Arrived

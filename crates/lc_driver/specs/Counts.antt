@@ -1,5 +1,5 @@
 -- What a device counts. That a device tells its calls, failures and ends by counts is this project's own.
-use Rattle.std.specs.Prelude.{◌≡◌, ℕ, ◌+◌, ◌-◌, ◌^◌, ◌==◌, ◌&&◌, nat_lt, if◌then◌else◌, Result, Ok, Err, Some}
+use Rattle.std.specs.Prelude.{◌≡◌, ℕ, ◌+◌, ◌-◌, ◌^◌, ◌==◌, ◌&&◌, min, nat_lt, if◌then◌else◌, Result, Ok, Err, Some}
 use Rattle.std.specs.IoError.{error_kind}
 use Rattle.std.specs.declared.io.Error.{Error}
 use Rattle.lc_driver.specs.declared.counts.Counts.{Counts}
@@ -7,6 +7,10 @@ use Rattle.lc_driver.specs.declared.counts.Counts.{Counts}
 -- one more, up to the greatest number
 abbrev pub count_up : ℕ → ℕ
 count_up n = if nat_lt n (2 ^ 64 - 1) then n + 1 else n
+
+-- so many more, up to the greatest number
+abbrev pub count_on : ℕ → ℕ → ℕ
+count_on more n = min (n + more) (2 ^ 64 - 1)
 
 -- one failure more, of this kind
 abbrev pub with_failure : Counts → Error → Counts

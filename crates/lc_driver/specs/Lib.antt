@@ -1,4 +1,5 @@
 pub mod Counts
+pub mod Tries
 pub mod Outgo
 pub mod Writing
 pub mod Intake

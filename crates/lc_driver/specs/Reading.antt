@@ -15,7 +15,7 @@ use Rattle.lc_peer.specs.Deliveries.{violation_of}
 use Rattle.lc_driver.specs.declared.reading.ReadEnd.{ReadEnd}
 use Rattle.lc_driver.specs.declared.reading.ReadEnd.TheVariants.{Clean, Truncated, Fault, Violated, ReadFailed, TurnsSpent}
 use Rattle.lc_driver.specs.declared.counts.Counts.{Counts}
-use Rattle.lc_driver.specs.Counts.{count_up}
+use Rattle.lc_driver.specs.Counts.{count_up, count_on}
 use Rattle.lc_driver.specs.Intake.{IntakeState}
 
 -- the bytes asked for per read
@@ -97,3 +97,8 @@ CountsReads Clean old new = new ≡ record old { calls = new.calls; ends = count
 CountsReads Truncated old new = new ≡ record old { calls = new.calls; ends = count_up old.ends }
 CountsReads ReadFailed old new = (new ≡ record old { calls = new.calls; failures = count_up old.failures; last_failure = new.last_failure }) × IsSome new.last_failure
 CountsReads end old new = new ≡ record old { calls = new.calls }
+
+-- where the answer says that all reads were made that were allowed, the reader counted each
+abbrev pub CountsAll : ReadEnd → ℕ → Counts → Counts → Type 0
+CountsAll TurnsSpent max_reads old new = new.calls ≡ count_on max_reads old.calls
+CountsAll end max_reads old new = ⊤

@@ -6,6 +6,7 @@ ghost use Rattle.lc_driver.specs.declared.counts.Counts.{Counts};
 ghost use Rattle.lc_driver.specs.Counts.{CountsCall, CountsFlush};
 
 use crate::counts::Counts;
+use crate::device::{ReadDevice, WriteDevice};
 use std::io;
 use std::io::{ErrorKind, Read, Write};
 
@@ -56,9 +57,8 @@ pub trait CountedWrite: Write + Failures {
 
 /// Any reader or writer, with its calls handed on unchanged and counted.
 ///
-/// What is counted are the answers of the device below. They are handed on as they come, and no
-/// clause ties them to what that device really did beyond what its own `read`, `write` and `flush`
-/// promise.
+/// Each call makes one call of the device below and answers what that answered, which is what is
+/// counted. What the device really did, its own contract says and no other.
 #[derive(Debug, Drop)]
 pub struct Counted<T> {
     inner: T,
@@ -110,34 +110,41 @@ impl<T> Failures for Counted<T> {
     }
 }
 
-impl<T: Read> Read for Counted<T> {
+impl<T: ReadDevice> Read for Counted<T> {
     ghost remaining = { λ device. T.remaining device.inner };
 
     fn read(&mut self, buf: &mut [u8]) -> io::Result<usize>
         ensures bound { ReadsAtMost result buf.new }
         ensures bytes { ReadConsumes (T.remaining self.old.inner) (T.remaining self.new.inner) result buf.new }
         ensures counts { CountsCall result (length buf.old) self.old.counts self.new.counts }
+        ensures reads { T.reads (self.old.inner, buf.old) result (self.new.inner, buf.new) }
     {
         self.read_counted(buf)
     }
 }
 
-impl<T: Read> CountedRead for Counted<T> {
-    fn read_counted(&mut self, buf: &mut [u8]) -> io::Result<usize> {
+impl<T: ReadDevice> CountedRead for Counted<T> {
+    fn read_counted(&mut self, buf: &mut [u8]) -> io::Result<usize>
+        ensures bound { ReadsAtMost result buf.new }
+        ensures bytes { ReadConsumes (T.remaining self.old.inner) (T.remaining self.new.inner) result buf.new }
+        ensures counts { CountsCall result (length buf.old) self.old.counts self.new.counts }
+        ensures reads { T.reads (self.old.inner, buf.old) result (self.new.inner, buf.new) }
+    {
         let asked = buf.len();
-        let answer = self.inner.read(buf);
+        let answer = self.inner.read_once(buf);
         self.counts.note_call(&answer, asked);
         answer
     }
 }
 
-impl<T: Write> Write for Counted<T> {
+impl<T: WriteDevice> Write for Counted<T> {
     ghost contents = { λ device. T.contents device.inner };
 
     fn write(&mut self, buf: &[u8]) -> io::Result<usize>
         ensures bound { WritesAtMost result buf.now }
         ensures bytes { WriteAppends (T.contents self.old.inner) (T.contents self.new.inner) result buf.now }
         ensures counts { CountsCall result (length buf.now) self.old.counts self.new.counts }
+        ensures writes { T.writes buf.now self.old.inner result self.new.inner }
     {
         self.write_counted(buf)
     }
@@ -145,20 +152,30 @@ impl<T: Write> Write for Counted<T> {
     fn flush(&mut self) -> io::Result<()>
         ensures bytes { Keeps (T.contents self.old.inner) (T.contents self.new.inner) }
         ensures counts { CountsFlush result self.old.counts self.new.counts }
+        ensures flushes { T.flushes self.old.inner result self.new.inner }
     {
         self.flush_counted()
     }
 }
 
-impl<T: Write> CountedWrite for Counted<T> {
-    fn write_counted(&mut self, buf: &[u8]) -> io::Result<usize> {
-        let answer = self.inner.write(buf);
+impl<T: WriteDevice> CountedWrite for Counted<T> {
+    fn write_counted(&mut self, buf: &[u8]) -> io::Result<usize>
+        ensures bound { WritesAtMost result buf.now }
+        ensures bytes { WriteAppends (T.contents self.old.inner) (T.contents self.new.inner) result buf.now }
+        ensures counts { CountsCall result (length buf.now) self.old.counts self.new.counts }
+        ensures writes { T.writes buf.now self.old.inner result self.new.inner }
+    {
+        let answer = self.inner.write_once(buf);
         self.counts.note_call(&answer, buf.len());
         answer
     }
 
-    fn flush_counted(&mut self) -> io::Result<()> {
-        let answer = self.inner.flush();
+    fn flush_counted(&mut self) -> io::Result<()>
+        ensures bytes { Keeps (T.contents self.old.inner) (T.contents self.new.inner) }
+        ensures counts { CountsFlush result self.old.counts self.new.counts }
+        ensures flushes { T.flushes self.old.inner result self.new.inner }
+    {
+        let answer = self.inner.flush_once();
         match &answer {
             Ok(()) => {}
             Err(error) => self.counts.note_failure(error),

@@ -1,6 +1,6 @@
 //! Reading what comes to a peer, or to another sink.
 ghost use Rattle.std.specs.Prelude.{◌≡◌, ◌+◌, ◌≤◌, None, IfSome};
-ghost use Rattle.lc_driver.specs.Reading.{Reads, ReadsInto, CountsReads, EndsInput, end_of};
+ghost use Rattle.lc_driver.specs.Reading.{Reads, ReadsInto, CountsReads, CountsAll, EndsInput, end_of};
 
 use crate::counted::CountedRead;
 use crate::intake::Intake;
@@ -25,7 +25,7 @@ pub enum ReadEnd {
     Violated(Violation),
     /// A read failed.
     ReadFailed,
-    /// As many reads were made as were allowed.
+    /// As many reads were made as were allowed, and each gave bytes.
     TurnsSpent,
 }
 
@@ -53,11 +53,14 @@ pub fn read_into<C, S: FrameSink<C>, R: CountedRead>(
     ensures at_end { EndsInput result (R.remaining reader.new) }
     ensures counts { CountsReads result (R.counts reader.old) (R.counts reader.new) }
     ensures calls { (R.counts reader.new).calls ≤ (R.counts reader.old).calls + max_reads }
+    ensures spent { CountsAll result max_reads (R.counts reader.old) (R.counts reader.new) }
 {
     match intake.stop() {
         Some(stop) => return ReadEnd::from(stop),
         None => {}
     }
+    // What was counted fits a count.
+    let _calls = reader.calls();
     let mut buffer = [0; READ_LEN];
     'reads: for _ in 0..max_reads {
         match reader.read_counted(&mut buffer) {
@@ -72,7 +75,7 @@ pub fn read_into<C, S: FrameSink<C>, R: CountedRead>(
     ReadEnd::TurnsSpent
 }
 
-/// Reads up to `max_reads` times, at most 512 bytes each, and lets each whole frame arrive.
+/// Reads up to `max_reads` times, at most 512 bytes for each, and lets each whole frame arrive.
 ///
 /// After `Fault` and `Violated` the stream is given up: the bytes that follow are lost, every further
 /// call answers the same without a read, and the peer may still be taken from. After every other
@@ -89,6 +92,7 @@ pub fn read_in<R: CountedRead>(
     ensures at_end { EndsInput result (R.remaining reader.new) }
     ensures counts { CountsReads result (R.counts reader.old) (R.counts reader.new) }
     ensures calls { (R.counts reader.new).calls ≤ (R.counts reader.old).calls + max_reads }
+    ensures spent { CountsAll result max_reads (R.counts reader.old) (R.counts reader.new) }
 {
     read_into(peer, &(), reader, intake, max_reads)
 }

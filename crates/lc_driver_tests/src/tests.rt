@@ -2,6 +2,7 @@
 mod counted;
 mod failing;
 mod hostile;
+mod interrupted;
 mod script;
 mod side;
 mod worked;

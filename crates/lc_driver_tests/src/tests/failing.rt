@@ -5,6 +5,7 @@ use lc_frame::{Channel, Version};
 use lc_peer::{Peer, Take};
 use lc_testing::{Odd, Pipe, Plan};
 use std::alloc::Global;
+use std::io::ErrorKind;
 use std::process::Abort;
 use std::test::Fail;
 
@@ -112,11 +113,13 @@ fn session(
     rt: &impl Abort,
     alloc: Global,
     version: Version,
-    writing: Plan,
-    reading: Plan,
+    kind: ErrorKind,
+    (writing, reading): (Plan, Plan),
 ) -> Result<Link, Fail> {
     let mut client = Side::new(alloc, version, 32, 32)?;
     let mut server = Side::new(alloc, version, 32, 32)?;
+    client.kind = kind;
+    server.kind = kind;
     let link = Link {
         writing,
         reading,
@@ -127,15 +130,22 @@ fn session(
     Ok(messages_go(rt, &mut client, &mut server, link))
 }
 
-/// Of each device and what it does at one call: how many calls tell of a failure and of a write that
-/// took nothing.
-const ODD_CALLS: [(&str, Odd, (u32, u32)); 6] = [
-    ("write", Odd::Fails, (1, 0)),
-    ("write", Odd::Moves(1), (0, 0)),
-    ("write", Odd::Moves(0), (0, 1)),
-    ("read", Odd::Fails, (1, 0)),
-    ("read", Odd::Moves(1), (0, 0)),
-    ("read", Odd::Moves(0), (0, 0)),
+/// A device, what it does at one call and how it fails there; and how many calls tell of a failure and
+/// of a write that took nothing.
+type OddCall = (&'static str, Odd, ErrorKind, (u32, u32));
+
+/// Of a call that a signal interrupted none tells.
+const ODD_CALLS: [OddCall; 10] = [
+    ("write", Odd::Fails, ErrorKind::Other, (1, 0)),
+    ("write", Odd::Fails, ErrorKind::WouldBlock, (1, 0)),
+    ("write", Odd::Fails, ErrorKind::Interrupted, (0, 0)),
+    ("write", Odd::Moves(1), ErrorKind::Other, (0, 0)),
+    ("write", Odd::Moves(0), ErrorKind::Other, (0, 1)),
+    ("read", Odd::Fails, ErrorKind::Other, (1, 0)),
+    ("read", Odd::Fails, ErrorKind::WouldBlock, (1, 0)),
+    ("read", Odd::Fails, ErrorKind::Interrupted, (0, 0)),
+    ("read", Odd::Moves(1), ErrorKind::Other, (0, 0)),
+    ("read", Odd::Moves(0), ErrorKind::Other, (0, 0)),
 ];
 
 // The plans of a session whose writer or reader does something else at one call.
@@ -165,13 +175,11 @@ fn each_is_odd(
     rt: &impl Abort,
     alloc: Global,
     version: Version,
-    device: &str,
-    odd: Odd,
-    wanted: (u32, u32),
+    (device, odd, kind, wanted): OddCall,
 ) -> Result<(), Fail> {
     for at in 1..100 {
-        let (writing, reading) = plans(device, Plan::odd(odd, at));
-        let link = session(rt, alloc, version, writing, reading)?;
+        let plans = plans(device, Plan::odd(odd, at));
+        let link = session(rt, alloc, version, kind, plans)?;
         if !was_odd(rt, &link, device, at, wanted) {
             break;
         }
@@ -181,8 +189,8 @@ fn each_is_odd(
 
 #[test]
 fn each_call_fails_in_turn(rt: HostRuntime) -> Result<(), Fail> {
-    for &(device, odd, wanted) in &ODD_CALLS {
-        each_is_odd(&rt, rt.alloc(), Version::One, device, odd, wanted)?;
+    for &odd_call in &ODD_CALLS {
+        each_is_odd(&rt, rt.alloc(), Version::One, odd_call)?;
     }
     Ok(())
 }
@@ -190,8 +198,8 @@ fn each_call_fails_in_turn(rt: HostRuntime) -> Result<(), Fail> {
 // The first calls move the greeting.
 #[test]
 fn each_call_fails_in_turn_in_version_two(rt: HostRuntime) -> Result<(), Fail> {
-    for &(device, odd, wanted) in &ODD_CALLS {
-        each_is_odd(&rt, rt.alloc(), Version::Two, device, odd, wanted)?;
+    for &odd_call in &ODD_CALLS {
+        each_is_odd(&rt, rt.alloc(), Version::Two, odd_call)?;
     }
     Ok(())
 }

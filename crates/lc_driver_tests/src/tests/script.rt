@@ -101,8 +101,8 @@ fn read(
     }
 }
 
-// Fails where there is no text, or not the one that is wanted, and names what was compared.
-fn same(rt: &impl Abort, what: &str, found: Option<String>, wanted: &str) {
+/// Fails where there is no text, or not the one that is wanted, and names what was compared.
+pub fn same(rt: &impl Abort, what: &str, found: Option<String>, wanted: &str) {
     let found = found.as_deref().unwrap_or("nothing");
     assert!(rt; found == wanted, "{what}: {found}, not {wanted}");
 }

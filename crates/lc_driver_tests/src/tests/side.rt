@@ -1,16 +1,46 @@
 //! One side of a session with its pipes.
-use lc_driver::{Counted, Intake, Outgo, ReadEnd, WriteFault, read_in, write_out};
+use lc_driver::{Counted, Intake, Outgo, ReadEnd, Uninterrupted, WriteFault, read_in, write_out};
 use lc_frame::Version;
 use lc_peer::{Config, Peer};
 use lc_testing::{Odd, Pipe, PipeReader, PipeWriter, Plan};
 use std::alloc::Global;
+use std::io;
+use std::io::{ErrorKind, Read, Write};
 use std::test::Fail;
+
+/// A device that says of each failure of the one below that it was of this kind.
+#[derive(Drop)]
+struct Failing<D> {
+    device: D,
+    kind: ErrorKind,
+}
+
+impl<D: Read> Read for Failing<D> {
+    fn read(&mut self, buf: &mut [u8]) -> io::Result<usize> {
+        let kind = self.kind;
+        self.device.read(buf).map_err(|_| io::Error::from(kind))
+    }
+}
+
+impl<D: Write> Write for Failing<D> {
+    fn write(&mut self, buf: &[u8]) -> io::Result<usize> {
+        let kind = self.kind;
+        self.device.write(buf).map_err(|_| io::Error::from(kind))
+    }
+
+    fn flush(&mut self) -> io::Result<()> {
+        let kind = self.kind;
+        self.device.flush().map_err(|_| io::Error::from(kind))
+    }
+}
 
 /// One side of a session, with what it holds for its two streams.
 pub struct Side {
     pub peer: Peer,
     pub outgo: Outgo,
     pub intake: Intake,
+    /// How its devices fail.
+    pub kind: ErrorKind,
 }
 
 // One call, wherever a side is dropped.
@@ -20,6 +50,7 @@ impl Drop for Side {
             peer: _,
             outgo: _,
             intake: _,
+            kind: _,
         } = self;
     }
 }
@@ -39,27 +70,33 @@ impl Side {
             peer,
             outgo,
             intake,
+            kind: ErrorKind::Other,
         })
     }
 
     /// Writes what waits into the pipe.
     pub fn write(&mut self, plan: Plan, pipe: Pipe) -> (Result<u64, WriteFault>, PipeWriter) {
-        let mut writer = Counted::new(unflushed(plan, pipe));
+        let mut writer = uninterrupted(unflushed(plan, pipe), self.kind);
         // Both have the version that the side was made with.
         let answer = if self.outgo.version() == self.peer.version() {
             write_out(&mut self.peer, &mut self.outgo, &mut writer)
         } else {
             Err(WriteFault::Zero { written: u64::MAX })
         };
-        (answer, writer.into_inner())
+        (answer, writer.into_inner().into_inner().device)
     }
 
     /// Reads what is in the pipe.
     pub fn read(&mut self, plan: Plan, pipe: Pipe, max_reads: u64) -> (ReadEnd, PipeReader) {
-        let mut reader = Counted::new(PipeReader { plan, pipe });
+        let mut reader = uninterrupted(PipeReader { plan, pipe }, self.kind);
         let end = read_in(&mut self.peer, &mut reader, &mut self.intake, max_reads);
-        (end, reader.into_inner())
+        (end, reader.into_inner().into_inner().device)
     }
+}
+
+// A device that fails so, and is asked again where a signal interrupted it.
+fn uninterrupted<D>(device: D, kind: ErrorKind) -> Counted<Uninterrupted<Failing<D>>> {
+    Counted::new(Uninterrupted::new(Failing { device, kind }))
 }
 
 /// A writer whose first flush fails: no writing flushes.

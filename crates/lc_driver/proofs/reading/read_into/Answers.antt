@@ -2,7 +2,7 @@ use Rattle.std.proofs.Common.{rules, ◌∙◌, sym, refl, subst, arith, take, �
 use Rattle.std.specs.Io.KnownBytes.{Consumes}
 use Rattle.lc_driver.specs.declared.reading.ReadEnd.{ReadEnd}
 use Rattle.lc_driver.specs.Reading.{ReadsInto}
-use Rattle.lc_driver.proofs.Counting.{call_goes_on, call_ends, call_fails, call_counts, counts_end, ends_input}
+use Rattle.lc_driver.proofs.Counting.{call_goes_on, call_ends, call_fails, calls_count_on, counts_end, ends_input}
 use Rattle.lc_driver.proofs.Arrived.{nothing_read, reads_on, reads_stop, reads_end, reads_failed, reads_spent}
 use Rattle.lc_driver.proofs.reading.read_into.Goals as goal
 
@@ -26,7 +26,7 @@ reads-preserved g c =
     record {
       so_far = reads_on g.S.FrameSink.arrived g.S.FrameSink.violated c.deliver.new.self (take c.in-Ok.n c.read_counted.new.buf) _ c.deliver.result at.so_far c.in-Ok.ensures.bytes.0 c.split_at.ensures.front (omega (arith, c.in-Ok.ensures.bound.1, c.in-Ok.n-test.1)) (omega (arith, c.in-Ok.ensures.bound)) c.deliver.ensures.bytes c.deliver.ensures.delivers c.in-None-stop.is c.deliver.ensures.stop;
       counts = call_goes_on (g.R.Failures.counts c.args.reader.now) (g.R.Failures.counts c.reads.reader) (g.R.Failures.counts c.read_counted.new.self) c.in-Ok.n _ c.in-Ok.n-test.1 at.counts c.in-Ok.ensures.counts;
-      calls = call_counts (g.R.Failures.counts c.args.reader.now) (g.R.Failures.counts c.reads.reader) (g.R.Failures.counts c.read_counted.new.self) c.in-Ok.n _ _ at.calls c.in-Ok.ensures.counts;
+      calls = calls_count_on (g.R.Failures.counts c.args.reader.now) (g.R.Failures.counts c.reads.reader) (g.R.Failures.counts c.read_counted.new.self) c.in-Ok.n _ _ at.calls c.in-Ok.ensures.counts;
     }
 
 pub returns-in-Ok-eq0-clause-reads : goal.returns-in-Ok-eq0-clause-reads

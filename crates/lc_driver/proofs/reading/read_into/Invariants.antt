@@ -1,4 +1,5 @@
-use Rattle.std.proofs.Common.{◌+◌, ◌≤◌}
+use Rattle.std.proofs.Common.{◌≡◌}
+use Rattle.lc_driver.specs.Counts.{count_on}
 use Rattle.lc_driver.proofs.Counting.{NoneTold}
 use Rattle.lc_driver.proofs.Arrived.{SoFar}
 use Rattle.lc_driver.proofs.reading.read_into.Given as goal
@@ -7,5 +8,5 @@ abbrev pub invariant-reads : goal.invariant-reads
 invariant-reads g l = record {
   so_far : SoFar g.S.FrameSink.arrived (g.R.Read.remaining l.fn.reader) (g.R.Read.remaining l.reader) l.fn.intake.held l.fn.sink l.intake l.sink l.counter;
   counts : NoneTold (g.R.Failures.counts l.fn.reader) (g.R.Failures.counts l.reader);
-  calls : (g.R.Failures.counts l.reader).calls ≤ (g.R.Failures.counts l.fn.reader).calls + l.counter;
+  calls : (g.R.Failures.counts l.reader).calls ≡ count_on l.counter (g.R.Failures.counts l.fn.reader).calls;
 }
