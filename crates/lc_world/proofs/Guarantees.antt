@@ -14,6 +14,7 @@ use Rattle.lc_world.proofs.Histories.{capacity_stays}
 use Rattle.lc_world.proofs.Lawful.{lawful_history}
 use Rattle.lc_world.proofs.Order.{accepted_messages, taken_is_taken, takes_in_order}
 use Rattle.lc_world.proofs.Pleads.{keeps_last_plead}
+use Rattle.lc_world.proofs.Finishes.{keeps_finish}
 use Rattle.lc_world.proofs.LimitsHold.{send_limit_holds, receive_limit_holds}
 
 -- the balances of a state
@@ -54,4 +55,5 @@ keeps_guarantees capacity versions history h = record {
   accepted_is = accepted_messages capacity versions history;
   taken_is = taken_is_taken capacity versions history h;
   plead_is = keeps_last_plead capacity versions history;
+  finish_is = λ n. keeps_finish capacity versions (take n history) (record { is_capacity = h.is_capacity; legal = legal_take (opening capacity versions) n history h.legal });
 }

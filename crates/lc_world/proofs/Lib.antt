@@ -10,6 +10,7 @@ pub mod Lawful
 pub mod Order
 pub mod LimitsHold
 pub mod Pleads
+pub mod Finishes
 pub mod Balances
 pub mod Guarantees
 pub mod Bytes

@@ -27,7 +27,7 @@ puts_fit : (capacity : ℕ) (versions : Versions) (history : History) → IsHist
 puts_fit capacity versions history h s =
     subst (λ (fs : List Frame). AllFit [] fs) (stream-history capacity versions history s) ((sound_all (opening capacity versions) history h.legal (sound_opened capacity versions)).limits s)
 
-own_side : (s : Side) → is_side s s ≡ true
+pub own_side : (s : Side) → is_side s s ≡ true
 own_side A = refl
 own_side B = refl
 

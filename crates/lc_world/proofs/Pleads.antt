@@ -175,7 +175,7 @@ keeps_both s c w v new x y =
           ∙ ap (λ (o : Option ℕ). kept (has_finished s c new) o) (sym (last_or-append (plead_kept s c w) (pleads c x.came) (pleads c y.came)) ∙ ap (λ (ts : List ℕ). last_or (plead_kept s c w) ts) (sym (pleads-append c x.came y.came)))));
     }
 
-stays_finished : (c : Channel) (frames more all : List Frame) → all ≡ frames ++ more → finished c frames ≡ true → finished c all ≡ true
+pub stays_finished : (c : Channel) (frames more all : List Frame) → all ≡ frames ++ more → finished c frames ≡ true → finished c all ≡ true
 stays_finished c frames more all same e = ap (finished c) same ∙ (finished-append c frames more ∙ ap (λ (b : Bool). b || finished c more) e)
 
 finish_stays : (w : State) (side : Side) (act : Act) (a : Answer) (s : Side) (c : Channel) → has_finished s c w ≡ true → has_finished s c (state_after w side act a) ≡ true

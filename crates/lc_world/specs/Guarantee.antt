@@ -3,12 +3,14 @@ use Rattle.std.specs.Prelude.{◌≡◌, ℕ, ◌+◌, ◌≤◌, if◌then◌el
 use Rattle.std.specs.List.{AllByRecursion, last_or}
 use Rattle.lc_frame.specs.declared.channel.Channel.{Channel}
 use Rattle.lc_frame.specs.declared.frame.Frame.{Frame}
-use Rattle.lc_frame.specs.Stream.{messages, cost, issued, absolved, pleads, finished}
+use Rattle.lc_frame.specs.declared.frame.Frame.TheVariants as frame
+use Rattle.lc_frame.specs.Channel.{number_of}
+use Rattle.lc_frame.specs.Stream.{of_lane, messages, cost, issued, absolved, pleads, finished}
 use Rattle.lc_book.specs.Client.{Client, kept, waived, held}
 use Rattle.lc_book.specs.Server.{Server, waived as waived_by, outstanding, buffered}
 use Rattle.lc_world.specs.declared.event.Side.{Side}
 use Rattle.lc_world.specs.declared.event.Act.{Act}
-use Rattle.lc_world.specs.declared.event.Act.TheVariants.{Honour, LimitSending, LimitReceiving}
+use Rattle.lc_world.specs.declared.event.Act.TheVariants.{Honour, LimitSending, LimitReceiving, Finish}
 use Rattle.lc_world.specs.declared.event.Answer.{Answer}
 use Rattle.lc_world.specs.declared.event.Answer.TheVariants.{Accepted, Absolved, NothingToAbsolve, Violated}
 use Rattle.lc_world.specs.State.{State, Versions, opening, line, other, client, server, stream, kept_plead, taken_messages}
@@ -93,6 +95,29 @@ pub record KeepsLastPlead (capacity : ℕ) (versions : Versions) (history : Hist
   pub never_honoured : honours c s history ≡ [] → plead_kept s c (state_of capacity versions history) ≡ kept (has_finished s c (state_of capacity versions history)) (last_plead c (heard s (state_of capacity versions history)))
   pub since_honour : (earlier later : History) → IsCutAtHonour history s c earlier later → honours c s later ≡ [] → plead_kept s c (state_of capacity versions history) ≡ kept (has_finished s c (state_of capacity versions history)) (last_plead c (drop (length (heard s (state_of capacity versions earlier))) (heard s (state_of capacity versions history))))
 
+-- in the first state the side finished the channel, and the second is a later one
+pub record IsFinishedSince (s : Side) (c : Channel) (before w : State) : Type 0 where
+  -- the frames that have arrived at the side since
+  pub came : List Frame
+  pub heard_is : heard s w ≡ heard s before ++ came
+  -- those that it has put behind its Finish
+  pub behind : List Frame
+  pub put_is : stream (line w s) ≡ stream (line before s) ++ frame.Finish c ∷ behind
+  -- of these none is of its lane as client: behind its Finish it sends nothing on the channel, absolves nothing, limits nothing, and finishes no second time
+  pub is_last : of_lane (number_of c) behind ≡ []
+  -- what is waived is what was held just before the Finish, and every Issue that has arrived since
+  pub waived_is : waived (client w s c) ≡ held (client before s c) + issued c came
+
+-- once the client's Finish has arrived, its server has as waived what the client has, and the issues that are in flight to it; before that, nothing
+abbrev pub ServerWaives : State → Side → Channel → Type 0
+ServerWaives w client_side c = waived_by (server w (other client_side) c) ≡ (if finished c (line w client_side).arrived then waived (client w client_side c) + issued c (line w (other client_side)).in_flight else 0)
+
+-- what a Finish of the side on the channel leaves; where there was none, nothing is waived
+pub record KeepsFinish (capacity : ℕ) (versions : Versions) (history : History) (s : Side) (c : Channel) : Type 0 where
+  pub never_finished : ((later : History) → IsCut history s (Finish c) later → ⊥) → waived (client (state_of capacity versions history) s c) ≡ 0
+  pub since_finish : (later : History) (cut : IsCut history s (Finish c) later) → IsFinishedSince s c (state_of capacity versions cut.0) (state_of capacity versions history)
+  pub server_waives : ServerWaives (state_of capacity versions history) s c
+
 pub record KeepsGuarantees (capacity : ℕ) (versions : Versions) (history : History) : Type 0 where
   -- on every channel the messages taken are a prefix of those that its client had accepted
   pub in_order : (s : Side) (c : Channel) → IsPrefix (taken c (other s) history) (accepted c s history)
@@ -108,6 +133,8 @@ pub record KeepsGuarantees (capacity : ℕ) (versions : Versions) (history : His
   pub taken_is : (s : Side) (c : Channel) → taken c (other s) history ≡ taken_messages c (line (state_of capacity versions history) s)
   -- the plead that is kept is the last that arrived since the last honour that was answered
   pub plead_is : (s : Side) (c : Channel) → KeepsLastPlead capacity versions history s c
+  -- after every event, what a Finish waives is what its client held, and what still came
+  pub finish_is : (n : ℕ) (s : Side) (c : Channel) → KeepsFinish capacity versions (take n history) s c
 
 abbrev pub EveryHistoryKeepsGuarantees : Type 0
 EveryHistoryKeepsGuarantees = (capacity : ℕ) (versions : Versions) (history : History) → IsHistory capacity versions history → KeepsGuarantees capacity versions history

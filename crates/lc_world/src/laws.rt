@@ -6,7 +6,8 @@ ghost use Rattle.lc_world.specs.Progress.{NothingWedges};
 
 /// On every channel the messages taken are a prefix of those accepted, no frame that arrives is
 /// refused, no ring is overrun, nothing passes a limit, and guarantees held, spent, absolved and
-/// waived add up to those received.
+/// waived add up to those received. Waived are those that a client held when it finished the
+/// channel, and those that still came; nothing of its own follows its Finish there.
 pub fn every_history_keeps_guarantees()
     ensures { EveryHistoryKeepsGuarantees }
 {}

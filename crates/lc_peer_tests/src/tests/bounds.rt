@@ -106,9 +106,9 @@ fn arrives(rt: &impl Abort, peer: &mut Peer, frame: FrameRef<'_>) {
     assert!(rt; frame.is_valid(Version::Two) && peer.arrive(frame).is_ok());
 }
 
-// The book refuses a message. Then nine guarantees come, and the wish that four are left of them.
+// The book refuses a message. Then five guarantees come, and the wish that four are left.
 fn invites(rt: &impl Abort, peer: &mut Peer) {
-    let (channel, amount, target) = (CHANNEL, 9, 4);
+    let (channel, amount, target) = (CHANNEL, 5, 4);
     let refused = peer.send(channel, b"hi");
     assert!(rt; refused == Err(Refusal::NoGuarantee { held: 0 }));
     arrives(rt, peer, FrameRef::Issue { channel, amount });
@@ -125,13 +125,15 @@ fn sends(rt: &impl Abort, peer: &mut Peer) -> bool {
     let again = peer.send(CHANNEL, b"hi");
     assert_eq!(rt;
         (sent, left, again),
-        (Err(Refusal::OutOfMemory), (9, 0), Ok(()))
+        (Err(Refusal::OutOfMemory), (5, 0), Ok(()))
     );
     false
 }
 
-// Every other own call puts its frame, and as many wait then as may.
+// Four guarantees more come. Every other own call puts its frame, and as many wait then as may.
 fn calls(rt: &impl Abort, peer: &mut Peer) {
+    let (channel, amount) = (CHANNEL, 4);
+    arrives(rt, peer, FrameRef::Issue { channel, amount });
     let honoured = peer.honour(CHANNEL);
     let absolved = peer.absolve(CHANNEL, 1);
     let limited = peer.limit_sending(CHANNEL, 2);

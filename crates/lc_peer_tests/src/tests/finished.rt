@@ -18,6 +18,7 @@ const FINISHED: [(u32, &str); 7] = [
     (
         4,
         "issue 1 3 => Ok(())
+        out => Some(Issue { channel: DataChannel, amount: 3 })
         arrive 71 => Ok(())
         server 1 => (0, 0, 8, None, None)
         sums 1 => ((0, 0, 0, 0), (3, 3), (false, true))

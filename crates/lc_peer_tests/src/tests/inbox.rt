@@ -7,7 +7,12 @@ use std::alloc::Global;
 use std::test::Fail;
 
 /// The calls on an inbox over a ring of 8 bytes, with what they answer.
-const CALLS: [&str; 2] = [
+const CALLS: [&str; 3] = [
+    "issue 2 => Ok(())
+    arrive 11000000026869 => Ok(())
+    take 1 => (Err(BufferTooSmall { need: 2 }), [238])
+    take 2 => (Ok(Took(2)), [104, 105])
+    take 2 => (Ok(Empty), [238, 238])",
     "pop => Empty
     issue 6 => Ok(())
     arrive 10000000026869 => Ok(())

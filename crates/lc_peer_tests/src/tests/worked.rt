@@ -11,7 +11,7 @@ const WORKED: [(u32, &str); 6] = [
         arrive 1100026869 => Ok(())
         front 1 => Some(([104, 105], []))
         take 1 1 => (Err(BufferTooSmall { need: 2 }), [238])
-        take 1 3 => (Ok(Took(2)), [104, 105, 238])
+        take 1 2 => (Ok(Took(2)), [104, 105])
         take 1 2 => (Ok(Empty), [238, 238])",
     ),
     (

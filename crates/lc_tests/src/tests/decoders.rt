@@ -50,8 +50,22 @@ const STREAMS: &str = " => Ok(()) None
 4c 43 4d 02 11 00 00 00 02 61 62 11 00 => Send { channel: DataChannel, body: [97, 98] }, Err(Truncated) Some(Two)
 ";
 
+// Writes a frame down, unless its owned form is another.
+fn show(alloc: Global, frame: FrameRef<'_>, seen: &mut String) -> Option<()> {
+    let owned = frame.to_frame(alloc).ok()?;
+    if owned.view() != frame {
+        return None;
+    }
+    write!(seen, "{frame:?}, ").ok()
+}
+
 // Feeds a piece, writes each of its frames down, and drops it.
-fn drain(decoder: &mut StreamDecoder, piece: &[u8], seen: &mut String) -> Option<()> {
+fn drain(
+    alloc: Global,
+    decoder: &mut StreamDecoder,
+    piece: &[u8],
+    seen: &mut String,
+) -> Option<()> {
     let mut rest = piece;
     for _ in 0..=piece.len() {
         let taken = decoder.feed(rest);
@@ -59,7 +73,7 @@ fn drain(decoder: &mut StreamDecoder, piece: &[u8], seen: &mut String) -> Option
         let Some(frame) = decoder.frame() else {
             break;
         };
-        write!(seen, "{frame:?}, ").ok()?;
+        show(alloc, frame, seen)?;
         decoder.clear();
     }
     Some(())
@@ -75,8 +89,8 @@ impl Subject for Cut {
         let (first, second) = bytes.split_at(self.0.min(bytes.len()));
         let mut decoder = StreamDecoder::new(alloc).ok()?;
         let mut seen = String::new(alloc);
-        drain(&mut decoder, first, &mut seen)?;
-        drain(&mut decoder, second, &mut seen)?;
+        drain(alloc, &mut decoder, first, &mut seen)?;
+        drain(alloc, &mut decoder, second, &mut seen)?;
         write!(seen, "{:?} {:?}", decoder.end(), decoder.version()).ok()?;
         Some(seen)
     }
@@ -90,24 +104,30 @@ fn streams_are_read_however_they_are_cut(rt: HostRuntime) {
     }
 }
 
-// How much is taken of a piece, and how much then while the frame stands, and the fault.
-const STOPS: &str = "21 00 00 00 05 17 => 5 0 None
-17 => 1 0 Some(BadTag)
-21 => 0 0 Some(BadTag)
-21 => 0 0 Some(BadTag)
+// Calls of one decoder: it takes nothing while a frame stands, and nothing ever again after a fault.
+const STOPS: &str = "feed 21 00 00 00 05 17 => 5
+feed 17 => 0
+fault => None
+clear => ()
+feed 17 => 1
+fault => Some(BadTag)
+feed 21 => 0
+clear => ()
+feed 21 => 0
+fault => Some(BadTag)
 ";
 
 impl Subject for StreamDecoder {
-    fn answer(&mut self, alloc: Global, digits: &str) -> Option<String> {
-        let piece = bytes_of(alloc, digits)?;
-        let (first, second) = (self.feed(piece.as_slice()), self.feed(piece.as_slice()));
-        let answer = format!(in alloc; "{first} {second} {:?}", self.fault());
-        self.clear();
-        answer.ok()
+    fn answer(&mut self, alloc: Global, call: &str) -> Option<String> {
+        let (verb, digits) = call.split_once(' ').unwrap_or((call, ""));
+        match verb {
+            "feed" => text(alloc, &self.feed(&bytes_of(alloc, digits)?)),
+            "clear" => text(alloc, &self.clear()),
+            _ => text(alloc, &self.fault()),
+        }
     }
 }
 
-// A decoder takes nothing while a frame stands, and nothing ever again after a fault.
 #[test]
 fn what_stands_stops_the_feed(rt: HostRuntime) -> Result<(), Fail> {
     let mut decoder = StreamDecoder::new(rt.alloc())?;
