@@ -17,11 +17,12 @@ use Rattle.lc_inbox.specs.declared.history.Entry.{Entry}
 use Rattle.lc_inbox.specs.declared.history.Entry.TheVariants.{Heard, Refused, Put, Took}
 use Rattle.lc_inbox.specs.declared.rule.Key.{Key}
 use Rattle.lc_inbox.specs.Ends.{Held, violation_of, refusal_of, IsPut}
-use Rattle.lc_inbox.specs.History.{heard_of, put_of, took_of, heard, put, took, book_after, inbox_after, held_after, MayFollow, IsLeftBy, is_of, is_reading, is_receiving}
+use Rattle.lc_inbox.specs.History.{heard_of, put_of, took_of, heard, put, took, book_after, inbox_after, held_after, MayFollow, IsLeftBy, Loan, is_of, is_reading, is_receiving}
 use Rattle.lc_inbox.specs.declared.lent.Lent.{Lent}
 use Rattle.lc_inbox.specs.declared.lent.Lent.TheVariants.{Read, Empty, Ended}
 use Rattle.lc_inbox.specs.Lends.{Reader, first_taken, taken_entry, IsLent, IsLentBy}
-use Rattle.lc_inbox.specs.Sides.{Half, Side, side_of, IsHeard, IsViolated, HasLooked, IsPutBy, IsTaken, IsTakeAnswer, IsFinished}
+use Rattle.lc_inbox.specs.Sides.{Half, HasTaken, Side, side_of, IsHeard, IsViolated, HasLooked, IsPutBy, IsTaken, IsTakeAnswer, IsFinished}
+use Rattle.lc_inbox.specs.Loans.{loan_with}
 use Rattle.lc_inbox.proofs.Histories.{in_order, left_took}
 use Rattle.lc_inbox.proofs.Takes.{IsNone, nothing_taken, unlent_left, took_front, length_front, filled_is, none_filled}
 
@@ -44,9 +45,17 @@ took_by (Refused f) not = refl
 took_by (Put f) not = refl
 took_by (Took body) not = absurd (cc)
 
--- a half took the inbox, and gave it back with entries more
-pub gave : (old took new : Half) (log more : List Entry) → took ≡ record old { turns = old.turns + 1; lent = Some log } → IfSome took.lent (λ history. new ≡ record took { seen = history ++ more; lent = None }) → new ≡ record old { seen = log ++ more; turns = old.turns + 1; lent = None }
-gave old took new log more is h = subst (λ (v : Half). IfSome v.lent (λ history. new ≡ record v { seen = history ++ more; lent = None })) is h
+-- a half took the inbox, worked on it in its place, and gave it back with entries more
+pub gave : (old took new : Half) (t : HasTaken old took) (w : Held) (more : List Entry) → IfSome (loan_with took.lent w) (λ loan. new ≡ record took { seen = loan.history ++ more; lent = None }) → new ≡ record old { seen = t.loan.history ++ more; turns = old.turns + 1; lent = None }
+gave old took new t w more h = subst (λ (v : Half). IfSome (loan_with v.lent w) (λ loan. new ≡ record v { seen = loan.history ++ more; lent = None })) t.is h
+
+-- the inbox in its place is the one that was taken
+pub found : (old took : Half) (t : HasTaken old took) (r : Held) → IfSome took.lent (λ loan. r ≡ loan.held) → IsLeftBy old.key r t.loan.history
+found old took t r value = subst (λ (h : Held). IsLeftBy old.key h t.loan.history) (sym (subst (λ (v : Half). IfSome v.lent (λ loan. r ≡ loan.held)) t.is value)) t.left
+
+-- what was made of it may be given back
+pub fits : (old took : Half) (t : HasTaken old took) (w : Held) (more : List Entry) → IsLeftBy old.key w (t.loan.history ++ more) → (x : Loan) × (loan_with took.lent w ≡ Some x) × IsLeftBy took.key x.held (x.history ++ more)
+fits old took t w more left = (record { history = t.loan.history; held = w }, ap (λ (v : Half). loan_with v.lent w) t.is, subst (λ (v : Half). IsLeftBy v.key w (t.loan.history ++ more)) (sym t.is) left)
 
 makes_one : (side : Bool) (old new : Half) (log : List Entry) (e : Entry) → old.side ≡ side → Knows (is_of old.side) old.seen log → IsHistory (MayFollow old.key) (log ++ e ∷ []) → new ≡ record old { seen = log ++ e ∷ []; turns = old.turns + 1; lent = None } → Makes (MayFollow old.key) (is_of side) old.seen e new.seen
 makes_one side old new log e side_is knows legal is =
@@ -58,8 +67,8 @@ makes_one side old new log e side_is knows legal is =
     }
 
 -- a half took the inbox, and gave it back as it was
-given_same : (old took new : Half) (log : List Entry) → took ≡ record old { turns = old.turns + 1; lent = Some log } → IfSome took.lent (λ history. new ≡ record took { seen = history; lent = None }) → new ≡ record old { seen = log; turns = old.turns + 1; lent = None }
-given_same old took new log is gives = subst (λ (v : Half). IfSome v.lent (λ history. new ≡ record v { seen = history; lent = None })) is gives
+given_same : (old took new : Half) (t : HasTaken old took) (w : Held) → IfSome (loan_with took.lent w) (λ loan. new ≡ record took { seen = loan.history; lent = None }) → new ≡ record old { seen = t.loan.history; turns = old.turns + 1; lent = None }
+given_same old took new t w gives = subst (λ (v : Half). IfSome (loan_with v.lent w) (λ loan. new ≡ record v { seen = loan.history; lent = None })) t.is gives
 
 looked_up : (old new : Half) (log : List Entry) → old.side ≡ false → Knows (is_of old.side) old.seen log → IsHistory (MayFollow old.key) log → new ≡ record old { seen = log; turns = old.turns + 1; lent = None } → HasLooked (side_of old) (side_of new)
 looked_up old new log side_is knows legal now =
@@ -71,14 +80,14 @@ looked_up old new log side_is knows legal now =
       took = learned_same is_receiving took_of took_by (MayFollow old.key) old.seen new.seen learns;
     }
 
-pub looked : (old took new : Half) (log : List Entry) → old.side ≡ false → Knows (is_of old.side) old.seen log → IsHistory (MayFollow old.key) log → took ≡ record old { turns = old.turns + 1; lent = Some log } → IfSome took.lent (λ history. new ≡ record took { seen = history; lent = None }) → HasLooked (side_of old) (side_of new)
-looked old took new log side_is knows legal is gives = looked_up old new log side_is knows legal (given_same old took new log is gives)
+pub looked : (old took new : Half) (t : HasTaken old took) (w : Held) → old.side ≡ false → IfSome (loan_with took.lent w) (λ loan. new ≡ record took { seen = loan.history; lent = None }) → HasLooked (side_of old) (side_of new)
+looked old took new t w side_is gives = looked_up old new t.loan.history side_is t.knows t.left.legal (given_same old took new t w gives)
 
 -- what the inbox said when it was taken is said of the one that the history leaves
-pub says : (X : Held → Type 0) (old took new : Half) (log : List Entry) (held : Held) → IsLeftBy old.key held log → took ≡ record old { turns = old.turns + 1; lent = Some log } → IfSome took.lent (λ history. new ≡ record took { seen = history; lent = None }) → X held → X (held_after old.key new.seen)
-says X old took new log held left is gives x =
-    let now = given_same old took new log is gives in
-    subst X (left.is ∙ (λ i. held_after old.key (sym now i).seen)) x
+pub says : (X : Held → Type 0) (old took new : Half) (t : HasTaken old took) (w r : Held) → IfSome took.lent (λ loan. r ≡ loan.held) → IfSome (loan_with took.lent w) (λ loan. new ≡ record took { seen = loan.history; lent = None }) → X r → X (held_after old.key new.seen)
+says X old took new t w r value gives x =
+    let now = given_same old took new t w gives in
+    subst X ((found old took t r value).is ∙ (λ i. held_after old.key (sym now i).seen)) x
 
 pub may_hear : (key : Key) (log : List Entry) (held : Held) (f : Frame) → IsLeftBy key held log → lane_of f ≡ number_of key.channel → None ≡ violation_of f held.inbox.book → MayFollow key log (Heard f)
 may_hear key log held f left on lawful = (on, ap (λ (h : Held). violation_of f h.inbox.book) (sym left.is) ∙ sym lawful)

@@ -4,7 +4,7 @@ use Rattle.std.specs.Prelude.{filter}
 use mathlib.Core.Option.{some, some-ne-none, some-injective}
 use lib.ListN.{get_elem?}
 use prog.Atomic.{either}
-use Rattle.atomic_table.specs.Table.{State, Act, Valid, opening, keeps, takes, gives, stepped, carried_after, rest, Allows, Splits, Joins}
+use Rattle.atomic_table.specs.Table.{State, Act, Valid, opening, keeps, takes, gives, stepped, carried_after, Allows, Splits, Joins}
 use Rattle.atomic_table.proofs.Lists.{at_set, set_here, exchanged}
 use Rattle.lc_inbox.specs.declared.history.Entry.{Entry}
 use Rattle.lc_inbox.specs.declared.rule.Key.{Key}
@@ -13,8 +13,9 @@ use Rattle.lc_inbox.specs.declared.rule.View.TheVariants.{Idle, Has, Both, Close
 use Rattle.lc_inbox.specs.Ends.{Held}
 use Rattle.lc_history.specs.History.{Knows}
 use Rattle.lc_history.proofs.Histories.{knows_more, knows_all}
-use Rattle.lc_inbox.specs.History.{is_of, IsLeftBy}
-use Rattle.lc_inbox.specs.Rule.{word_of, other, view_of, reading_of, receiving_of, both_of, IsTrueOf, IsHome, KeepsInbox, Seated, carried_of, Takes, Seized, Returned, TakesLast, SeizedLast}
+use Rattle.lc_inbox.specs.History.{is_of, IsLeftBy, Loan}
+use Rattle.lc_inbox.specs.Sides.{InboxId, Half, HasTaken}
+use Rattle.lc_inbox.specs.Rule.{seen_of, turns_of, loan_of, word_of, other, reading_of, receiving_of, both_of, IsTrueOf, IsHome, KeepsInbox, Seated, seated_of, Takes, Seized, Returned, TakesLast, SeizedLast}
 
 abbrev Each : (ℕ → View → Type 0) → List View → Type 0
 Each F views = (j : ℕ) (u : View) → get_elem? views j ≡ some u → F j u
@@ -226,21 +227,29 @@ may_return key slots id k b x y entries m t me one is alien f = subst (λ (p : �
 pub may_split : (key : Key) (id : ℕ) (k : Key) (x y : List Entry) (v : View) → v ≡ Both k x y → Splits (KeepsInbox key) id v (reading_of v) (receiving_of v)
 may_split key id k x y v is = subst (λ (u : View). Splits (KeepsInbox key) id u (reading_of u) (receiving_of u)) (sym is) (splits key id k x y)
 
-pub idle_me : (k : Key) (b : Bool) (x : List Entry) (m : ℕ) (l : Option (List Entry)) (me : Seated) → l ≡ None → me ≡ (view_of k b x m l, carried_of l) → me ≡ (Idle k b x m, [])
-idle_me k b x m l me e is = is ∙ ap (λ (o : Option (List Entry)). (view_of k b x m o, carried_of o)) e
+pub idle_me : (k : Key) (b : Bool) (x : List Entry) (m : ℕ) (l : Option Loan) (me : Seated) → l ≡ None → me ≡ seated_of k b x m l → me ≡ (Idle k b x m, [])
+idle_me k b x m l me e is = is ∙ ap (λ (o : Option Loan). seated_of k b x m o) e
 
-pub idle_as : (k : Key) (side b : Bool) (x : List Entry) (m : ℕ) (l : Option (List Entry)) (me : Seated) → side ≡ b → l ≡ None → me ≡ (view_of k side x m l, carried_of l) → me ≡ (Idle k b x m, [])
+pub idle_as : (k : Key) (side b : Bool) (x : List Entry) (m : ℕ) (l : Option Loan) (me : Seated) → side ≡ b → l ≡ None → me ≡ seated_of k side x m l → me ≡ (Idle k b x m, [])
 idle_as k side b x m l me is e at = idle_me k side x m l me e at ∙ ap (λ (c : Bool). (Idle k c x m, [])) is
 
-pub has_me : (k : Key) (b : Bool) (x y : List Entry) (m : ℕ) (l : Option (List Entry)) (me : Seated) → l ≡ Some y → me ≡ (view_of k b x m l, carried_of l) → me ≡ (Has k b x m y, (0, None) ∷ [])
-has_me k b x y m l me e is = is ∙ ap (λ (o : Option (List Entry)). (view_of k b x m o, carried_of o)) e
-
--- the inbox was put in its place
-pub filled_me : (v : View) (t : Held) (me me' : Seated) → me ≡ (v, (0, None) ∷ []) → me' ≡ (me.0, (0, Some t) ∷ rest me.1) → me' ≡ (v, (0, Some t) ∷ [])
-filled_me v t me me' was is = is ∙ ap (λ (m : Seated). (m.0, (0, Some t) ∷ rest m.1)) was
+pub has_me : (k : Key) (b : Bool) (x : List Entry) (m : ℕ) (t : Loan) (l : Option Loan) (me : Seated) → l ≡ Some t → me ≡ seated_of k b x m l → me ≡ (Has k b x m t.history, (0, Some t.held) ∷ [])
+has_me k b x m t l me e is = is ∙ ap (λ (o : Option Loan). seated_of k b x m o) e
 
 pub seized : (k : Key) (b : Bool) (x : List Entry) (m : ℕ) (me w : Seated) (n : ℕ) → me ≡ (Idle k b x m, []) → Seized me n w → (n ≡ 0 → Takes k b x m w) × (n ≢ 0 → w ≡ (Idle k b x m, []))
 seized k b x m me w n is h = subst (λ (v : Seated). Seized v n w) is h
+
+-- a half whose seat has taken the inbox
+pub has_taken : (i j : InboxId) (k : Key) (b : Bool) (me w : Seated) (old : Half) → record { inbox = i; key = k; side = b; seen = seen_of me.0; turns = turns_of me.0; lent = loan_of me } ≡ old → j ≡ i → Takes k b (seen_of me.0) (turns_of me.0) w
+    → HasTaken old record { inbox = j; key = k; side = b; seen = seen_of w.0; turns = turns_of w.0; lent = loan_of w }
+has_taken i j k b me w old was same t =
+    let new : Half = record { inbox = j; key = k; side = b; seen = seen_of w.0; turns = turns_of w.0; lent = loan_of w } in
+    subst (λ (h : Half). HasTaken h new) was record {
+      loan = record { history = t.history; held = t.held };
+      is = λ n. record { inbox = same n; key = k; side = b; seen = seen_of (t.is n).0; turns = turns_of (t.is n).0; lent = loan_of (t.is n) };
+      knows = t.knows;
+      left = t.left;
+    }
 
 pub may_join : (key : Key) (id : ℕ) (k : Key) (x : List Entry) (m theirs : ℕ) (l : Key) (y : List Entry) (m' : ℕ) (v w : View) → v ≡ Idle k true x m → w ≡ Idle l false y m' → Joins (KeepsInbox key) id v theirs w (both_of v w) Closed
 may_join key id k x m theirs l y m' v w is is' = subst (λ (u : View × View). Joins (KeepsInbox key) id u.0 theirs u.1 (both_of u.0 u.1) Closed) (λ i. (sym is i, sym is' i)) (joins key id k x m theirs l y m')

@@ -87,6 +87,11 @@ pub record IsLeftBy (key : Key) (held : Held) (history : List Entry) : Type 0 wh
   pub legal : IsHistory (MayFollow key) history
   pub is : held ≡ held_after key history
 
+-- the inbox while a side has it: the whole history when it was taken, and the inbox as it is by now
+pub record Loan : Type 0 where
+  pub history : List Entry
+  pub held : Held
+
 -- what every history keeps, as one fact
 abbrev pub EveryHistoryIsInOrder : Type 0
 EveryHistoryIsInOrder = (key : Key) (history : List Entry) → IsHistory (MayFollow key) history → IsInOrder key history

@@ -9,7 +9,7 @@ use Rattle.lc_inbox.specs.declared.rule.Key.{Key}
 use Rattle.lc_inbox.specs.declared.rule.View.{View}
 use Rattle.lc_inbox.specs.declared.rule.View.TheVariants.{Idle, Has, Both, Closed}
 use Rattle.lc_inbox.specs.Ends.{Held}
-use Rattle.lc_inbox.specs.History.{is_of, IsLeftBy}
+use Rattle.lc_inbox.specs.History.{is_of, IsLeftBy, Loan}
 
 -- the word while this side has the inbox; it is 0 while no side has it
 abbrev pub word_of : Bool → ℕ
@@ -40,10 +40,6 @@ abbrev pub turns_of : View → ℕ
 turns_of (Idle k side x n) = n
 turns_of (Has k side x n y) = n
 turns_of v = 0
-
-abbrev pub view_of : Key → Bool → List Entry → ℕ → Option (List Entry) → View
-view_of k side x n None = Idle k side x n
-view_of k side x n (Some y) = Has k side x n y
 
 -- the views of both sides when they part, and when they come together
 abbrev pub reading_of : View → View
@@ -83,10 +79,23 @@ pub record KeepsInbox (key : Key) (s : State (Option Held) View) : Type 0 where
 abbrev pub Seated : Type 0
 Seated = Me (Option Held) View
 
--- the place of the inbox is out with the side that has it, and empty
-abbrev pub carried_of : Option (List Entry) → List (ℕ × Option Held)
-carried_of None = []
-carried_of (Some y) = (0, None) ∷ []
+-- what a seat has: while its side has the inbox, the place of the inbox is out with it
+abbrev pub loan_in : List Entry → Option Held → Option Loan
+loan_in y None = None
+loan_in y (Some t) = Some (record { history = y; held = t })
+
+abbrev pub loan_at : Option (List Entry) → List (ℕ × Option Held) → Option Loan
+loan_at None c = None
+loan_at (Some y) [] = None
+loan_at (Some y) (p ∷ c) = loan_in y p.1
+
+abbrev pub loan_of : Seated → Option Loan
+loan_of me = loan_at (lent_of me.0) me.1
+
+-- the seat of a side
+abbrev pub seated_of : Key → Bool → List Entry → ℕ → Option Loan → Seated
+seated_of k side x n None = (Idle k side x n, [])
+seated_of k side x n (Some l) = (Has k side x n l.history, (0, Some l.held) ∷ [])
 
 -- a side that was free has the inbox now, and had one turn more
 pub record Takes (k : Key) (side : Bool) (x : List Entry) (n : ℕ) (new : Seated) : Type 0 where

@@ -17,20 +17,20 @@ use Rattle.lc_inbox.specs.declared.history.Entry.{Entry}
 use Rattle.lc_inbox.specs.declared.history.Entry.TheVariants.{Heard, Refused, Put, Took}
 use Rattle.lc_inbox.specs.declared.rule.Key.{Key}
 use Rattle.lc_inbox.specs.Ends.{violation_of, IsReason}
-use Rattle.lc_inbox.specs.History.{heard, put, took, book_after, inbox_after, lane_after, held_after, MayFollow, IsInOrder, is_reading, is_receiving}
+use Rattle.lc_inbox.specs.History.{heard, put, took, book_after, inbox_after, lane_after, held_after, MayFollow, IsInOrder, IsLeftBy, Loan, is_of, is_reading, is_receiving}
 
 -- which inbox it is: no two have the same
 abbrev pub InboxId : Type 0
 InboxId = TableId
 
--- one half of the lock, with the whole history while it has the inbox. It serves `src/half.rt`
+-- one half of the lock, with the inbox while it has it. It serves `src/half.rt`
 pub record Half : Type 0 where
   pub inbox : InboxId
   pub key : Key
   pub side : Bool
   pub seen : List Entry
   pub turns : ℕ
-  pub lent : Option (List Entry)
+  pub lent : Option Loan
 
 -- one side: which inbox it is of, what that was made of, how its history begins, and how many turns it had: how often it took the inbox, of which each call is one
 pub record Side : Type 0 where
@@ -46,6 +46,13 @@ side_of h = record { inbox = h.inbox; key = h.key; seen = h.seen; turns = h.turn
 pub record IsIdle (side : Bool) (h : Half) : Type 0 where
   pub side_is : h.side ≡ side
   pub lent : h.lent ≡ None
+
+-- a half took the inbox, which is as its whole history leaves it
+pub record HasTaken (old new : Half) : Type 0 where
+  pub loan : Loan
+  pub is : new ≡ record old { turns = old.turns + 1; lent = Some loan }
+  pub knows : Knows (is_of old.side) old.seen loan.history
+  pub left : IsLeftBy old.key loan.held loan.history
 
 -- it is still a side of the same inbox
 pub record IsSameSide (old new : Side) : Type 0 where

@@ -1,12 +1,13 @@
 //! The lock on an inbox: each of the two sides has one half.
-ghost use Rattle.std.specs.Prelude.{◌≡◌, ◌+◌, [], ◌∷◌, ◌++◌, filter, Bool, true, false, List, IfSome, IfOk, MatchOption, None, Some};
+ghost use Rattle.std.specs.Prelude.{◌≡◌, ◌+◌, [], ◌∷◌, ◌++◌, filter, true, false, List, IfSome, IfOk, None, Some};
+ghost use Rattle.std.specs.Borrow.{sem};
 ghost use Rattle.lc_inbox.specs.declared.history.Entry.{Entry as AnyEntry};
 ghost use Rattle.lc_inbox.specs.declared.rule.View.TheVariants.{Both};
-ghost use Rattle.lc_inbox.specs.Ends.{Held};
 ghost use Rattle.lc_history.specs.History.{Knows};
-ghost use Rattle.lc_inbox.specs.History.{is_of, IsLeftBy};
+ghost use Rattle.lc_inbox.specs.History.{is_of, IsLeftBy, Loan};
 ghost use Rattle.lc_inbox.specs.Rule.{word_of, other};
-ghost use Rattle.lc_inbox.specs.Sides.{IsIdle};
+ghost use Rattle.lc_inbox.specs.Sides.{IsIdle, HasTaken};
+ghost use Rattle.lc_inbox.specs.Loans.{LendsInbox};
 
 use crate::inbox_end::InboxEnd;
 use crate::rule::{InboxRule, Key, Return, Seize, SeizeLast, Told, TwoSides, View};
@@ -31,14 +32,14 @@ pub(crate) struct Half {
 impl Model for Half {
     ghost use Rattle.std.specs.Prelude.{◌≡◌};
     ghost use Rattle.std.specs.Arc.{arc_value};
-    ghost use Rattle.lc_inbox.specs.Rule.{seen_of, turns_of, lent_of, view_of, carried_of};
+    ghost use Rattle.lc_inbox.specs.Rule.{seen_of, turns_of, loan_of, seated_of};
     ghost use Rattle.lc_inbox.specs.Sides.{Half};
 
     ghost Value = { Half };
 
-    ghost view = { λ h. record { inbox = h.seat.table_id; key = (arc_value h.table).shared.key; side = h.side; seen = seen_of h.seat.me.0; turns = turns_of h.seat.me.0; lent = lent_of h.seat.me.0 } };
+    ghost view = { λ h. record { inbox = h.seat.table_id; key = (arc_value h.table).shared.key; side = h.side; seen = seen_of h.seat.me.0; turns = turns_of h.seat.me.0; lent = loan_of h.seat.me } };
 
-    ghost invariant = { λ h. (h.seat.table_id ≡ (arc_value h.table).shared.table_id) × (h.seat.table_id.words ≡ 1) × (h.seat.table_id.slots ≡ 1) × (h.seat.me ≡ (view_of (arc_value h.table).shared.key h.side (seen_of h.seat.me.0) (turns_of h.seat.me.0) (lent_of h.seat.me.0), carried_of (lent_of h.seat.me.0))) };
+    ghost invariant = { λ h. (h.seat.table_id ≡ (arc_value h.table).shared.table_id) × (h.seat.table_id.words ≡ 1) × (h.seat.table_id.slots ≡ 1) × (h.seat.me ≡ seated_of (arc_value h.table).shared.key h.side (seen_of h.seat.me.0) (turns_of h.seat.me.0) (loan_of h.seat.me)) };
 }
 
 // The table with the inbox in its slot.
@@ -99,56 +100,62 @@ fn word_of_side(side: bool) -> u64
 
 impl Half {
     /// Takes the inbox, as soon as the other half has not got it.
-    pub(crate) fn take<R: Wait>(&mut self, rt: &R) -> InboxEnd
+    pub(crate) fn take<R: Wait>(&mut self, rt: &R)
         requires { self.old.lent ≡ None }
-        ensures { (history : List AnyEntry) × (self.new ≡ record self.old { turns = self.old.turns + 1; lent = Some history }) × Knows (is_of self.old.side) self.old.seen history × IsLeftBy self.old.key result history }
+        ensures { HasTaken self.old self.new }
     {
         for _ in rt.forever() {
-            match self.try_take() {
-                None => thread::yield_now(),
-                Some(end) => return end,
+            if self.try_take() {
+                return;
             }
+            thread::yield_now();
         }
         unreachable!()
     }
 
     // Takes the inbox, if the other half has not got it.
-    fn try_take(&mut self) -> Option<InboxEnd>
+    fn try_take(&mut self) -> bool
         requires { self.old.lent ≡ None }
-        ensures { MatchOption result (self.new ≡ self.old) (λ end. (history : List AnyEntry) × (self.new ≡ record self.old { turns = self.old.turns + 1; lent = Some history }) × Knows (is_of self.old.side) self.old.seen history × IsLeftBy self.old.key end history) }
+        ensures taken { result ≡ true → HasTaken self.old self.new }
+        ensures not { result ≡ false → self.new ≡ self.old }
     {
         let word = word_of_side(self.side);
         let found = self
             .table
             .shared
             .compare_exchange::<Seize>(&mut self.seat, WORD, 0, word);
-        if found != 0 {
-            return None;
-        }
-        match self.table.shared.exchange(&mut self.seat, 0, None) {
+        found == 0
+    }
+
+    /// The inbox, in its place, while this half has it.
+    pub(crate) fn inbox(&mut self) -> &mut InboxEnd
+        requires { (loan : Loan) × (self.old.lent ≡ Some loan) }
+        ensures* writes_back { sem 𝓛 (LendsInbox self.entry result) }
+        ensures value { IfSome self.old.lent (λ loan. result.now ≡ loan.held) }
+    {
+        match self.seat.slot_mut(&self.table.shared, 0) {
+            Some(end) => end,
             None => unreachable!(),
-            Some(end) => Some(end),
         }
     }
 
     /// Gives the inbox back, as it is after what this half did with it.
-    pub(crate) fn give<N: Told, G>(&mut self, end: InboxEnd, _told: &G)
+    pub(crate) fn give<N: Told, G>(&mut self, _told: &G)
         requires own { filter (is_of (other self.old.side)) N.entries ≡ [] }
-        requires fits { (history : List AnyEntry) × (self.old.lent ≡ Some history) × IsLeftBy self.old.key end (history ++ N.entries) }
-        ensures { IfSome self.old.lent (λ history. self.new ≡ record self.old { seen = history ++ N.entries; lent = None }) }
+        requires fits { (loan : Loan) × (self.old.lent ≡ Some loan) × IsLeftBy self.old.key loan.held (loan.history ++ N.entries) }
+        ensures { IfSome self.old.lent (λ loan. self.new ≡ record self.old { seen = loan.history ++ N.entries; lent = None }) }
     {
-        drop(self.table.shared.exchange(&mut self.seat, 0, Some(end)));
         self.table
             .shared
             .store::<Return<N>>(&mut self.seat, WORD, 0);
     }
 
     /// Gives the inbox back as it was.
-    pub(crate) fn give_same(&mut self, end: InboxEnd)
-        requires fits { (history : List AnyEntry) × (self.old.lent ≡ Some history) × IsLeftBy self.old.key end history }
-        ensures { IfSome self.old.lent (λ history. self.new ≡ record self.old { seen = history; lent = None }) }
+    pub(crate) fn give_same(&mut self)
+        requires fits { (loan : Loan) × (self.old.lent ≡ Some loan) × IsLeftBy self.old.key loan.held loan.history }
+        ensures { IfSome self.old.lent (λ loan. self.new ≡ record self.old { seen = loan.history; lent = None }) }
     {
-        self.give::<Brand, ()>(end, &());
+        self.give::<Brand, ()>(&());
     }
 
     /// Takes the inbox for good, from the reading half and the receiving half of its lock. It is

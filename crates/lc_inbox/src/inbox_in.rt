@@ -1,16 +1,14 @@
 //! The reading side of a shared inbox.
-ghost use Rattle.std.specs.Prelude.{◌≡◌, [], ◌∷◌, ◌++◌, List, OnOk, IfErr, IfSome, true, None, Some};
+ghost use Rattle.std.specs.Prelude.{◌≡◌, [], ◌∷◌, ◌++◌, OnOk, IfErr, IfSome, true, None, Some};
 ghost use Rattle.lc_frame.specs.declared.version.Version.TheVariants.{Two};
 ghost use Rattle.lc_frame.specs.Channel.{number_of};
 ghost use Rattle.lc_frame.specs.Frame.{IsValid, lane_of};
 ghost use Rattle.lc_frame.specs.FrameRef.{frame_of};
-ghost use Rattle.lc_inbox.specs.declared.history.Entry.{Entry as AnyEntry};
 ghost use Rattle.lc_inbox.specs.declared.history.Entry.TheVariants.{Heard, Refused};
-ghost use Rattle.lc_inbox.specs.History.{IsLeftBy};
+ghost use Rattle.lc_inbox.specs.History.{IsLeftBy, Loan};
 ghost use Rattle.lc_inbox.specs.Sides.{IsIdle, side_of, IsSameSide, HadOneTurn, IsHeard, IsViolated};
 
 use crate::half::Half;
-use crate::inbox_end::InboxEnd;
 use lc_book::Violation;
 use lc_frame::{Channel, FrameRef};
 use std::alloc::Global;
@@ -37,21 +35,21 @@ impl Model for InboxIn {
 }
 
 // Gives the inbox back, where the frame arrived.
-fn give_heard(half: &mut Half, end: InboxEnd, frame: FrameRef<'_>)
+fn give_heard(half: &mut Half, frame: FrameRef<'_>)
     requires side { half.old.side ≡ true }
-    requires fits { (history : List AnyEntry) × (half.old.lent ≡ Some history) × IsLeftBy half.old.key end (history ++ Heard (frame_of frame) ∷ []) }
-    ensures { IfSome half.old.lent (λ history. half.new ≡ record half.old { seen = history ++ Heard (frame_of frame.entry) ∷ []; lent = None }) }
+    requires fits { (loan : Loan) × (half.old.lent ≡ Some loan) × IsLeftBy half.old.key loan.held (loan.history ++ Heard (frame_of frame) ∷ []) }
+    ensures { IfSome half.old.lent (λ loan. half.new ≡ record half.old { seen = loan.history ++ Heard (frame_of frame.entry) ∷ []; lent = None }) }
 {
-    half.give::<Brand, FrameRef<'_>>(end, &frame);
+    half.give::<Brand, FrameRef<'_>>(&frame);
 }
 
 // Gives the inbox back, where the frame was refused.
-fn give_refused(half: &mut Half, end: InboxEnd, frame: FrameRef<'_>)
+fn give_refused(half: &mut Half, frame: FrameRef<'_>)
     requires side { half.old.side ≡ true }
-    requires fits { (history : List AnyEntry) × (half.old.lent ≡ Some history) × IsLeftBy half.old.key end (history ++ Refused (frame_of frame) ∷ []) }
-    ensures { IfSome half.old.lent (λ history. half.new ≡ record half.old { seen = history ++ Refused (frame_of frame.entry) ∷ []; lent = None }) }
+    requires fits { (loan : Loan) × (half.old.lent ≡ Some loan) × IsLeftBy half.old.key loan.held (loan.history ++ Refused (frame_of frame) ∷ []) }
+    ensures { IfSome half.old.lent (λ loan. half.new ≡ record half.old { seen = loan.history ++ Refused (frame_of frame.entry) ∷ []; lent = None }) }
 {
-    half.give::<Brand, FrameRef<'_>>(end, &frame);
+    half.give::<Brand, FrameRef<'_>>(&frame);
 }
 
 // A frame arrives at the inbox.
@@ -65,14 +63,14 @@ fn arrive<R: Wait>(half: &mut Half, rt: &R, frame: FrameRef<'_>) -> Result<(), V
     ensures ok { OnOk result (IsHeard (frame_of frame.entry) (side_of half.old) (side_of half.new)) }
     ensures err { IfErr result (λ v. IsViolated v (frame_of frame.entry) (side_of half.old) (side_of half.new)) }
 {
-    let mut end = half.take(rt);
-    match end.arrive(frame) {
+    half.take(rt);
+    match half.inbox().arrive(frame) {
         Ok(()) => {
-            give_heard(half, end, frame);
+            give_heard(half, frame);
             Ok(())
         }
         Err(violation) => {
-            give_refused(half, end, frame);
+            give_refused(half, frame);
             Err(violation)
         }
     }

@@ -1,12 +1,11 @@
 //! The receiving side of a shared inbox.
-ghost use Rattle.std.specs.Prelude.{◌≡◌, ◌+◌, [], ◌∷◌, ◌++◌, List, length, take, IfOk, OnOk, IfErr, IfSome, false, None, Some};
+ghost use Rattle.std.specs.Prelude.{◌≡◌, ◌+◌, [], ◌∷◌, ◌++◌, length, take, IfOk, OnOk, IfErr, IfSome, false, None, Some};
 ghost use Rattle.lc_frame.specs.Channel.{number_of};
 ghost use Rattle.lc_frame.specs.Frame.{lane_of, channel_of};
 ghost use Rattle.lc_frame.specs.declared.frame.Frame.TheVariants.{Issue, Plead, LimitReceiving};
 ghost use Rattle.lc_peer.specs.Inbox.{IsTake};
-ghost use Rattle.lc_inbox.specs.declared.history.Entry.{Entry as AnyEntry};
 ghost use Rattle.lc_inbox.specs.declared.history.Entry.TheVariants.{Put, Took};
-ghost use Rattle.lc_inbox.specs.History.{IsLeftBy, book_after};
+ghost use Rattle.lc_inbox.specs.History.{IsLeftBy, Loan, book_after};
 ghost use Rattle.lc_inbox.specs.Lends.{first_taken, IsLentBy};
 ghost use Rattle.lc_inbox.specs.Sides.{IsIdle, side_of, IsSameSide, HadOneTurn, IsPutBy, IsNotPutBy, IsTakeAnswer, IsNotTaken, HasLooked};
 
@@ -22,6 +21,9 @@ use std::snapshot::Snapshot;
 use std::sync::{Arc, Mutex, Wait};
 
 /// A shared inbox, as the channel's receiving end has it.
+///
+/// That 13 comes only where the book has no refusal, clauses say; that it comes only from a full
+/// queue none does, as of [`LaneEnd::push`](lc_queue::LaneEnd::push).
 #[derive(Drop)]
 pub struct InboxOut {
     pub(crate) channel: Channel,
@@ -41,21 +43,21 @@ impl Model for InboxOut {
 }
 
 // Gives the inbox back, where the frame was put.
-fn give_put(half: &mut Half, end: InboxEnd, frame: &Frame)
+fn give_put(half: &mut Half, frame: &Frame)
     requires side { half.old.side ≡ false }
-    requires fits { (history : List AnyEntry) × (half.old.lent ≡ Some history) × IsLeftBy half.old.key end (history ++ Put frame.now ∷ []) }
-    ensures { IfSome half.old.lent (λ history. half.new ≡ record half.old { seen = history ++ Put frame.now ∷ []; lent = None }) }
+    requires fits { (loan : Loan) × (half.old.lent ≡ Some loan) × IsLeftBy half.old.key loan.held (loan.history ++ Put frame.now ∷ []) }
+    ensures { IfSome half.old.lent (λ loan. half.new ≡ record half.old { seen = loan.history ++ Put frame.now ∷ []; lent = None }) }
 {
-    half.give::<Brand, Frame>(end, frame);
+    half.give::<Brand, Frame>(frame);
 }
 
 // Gives the inbox back, out of which the first message was taken, if there was one.
-fn give_first(half: &mut Half, end: InboxEnd, before: &Snapshot<InboxEnd>)
+fn give_first(half: &mut Half, before: &Snapshot<InboxEnd>)
     requires side { half.old.side ≡ false }
-    requires fits { (history : List AnyEntry) × (half.old.lent ≡ Some history) × IsLeftBy half.old.key end (history ++ first_taken before.now.value) }
-    ensures { IfSome half.old.lent (λ history. half.new ≡ record half.old { seen = history ++ first_taken before.now.value; lent = None }) }
+    requires fits { (loan : Loan) × (half.old.lent ≡ Some loan) × IsLeftBy half.old.key loan.held (loan.history ++ first_taken before.now.value) }
+    ensures { IfSome half.old.lent (λ loan. half.new ≡ record half.old { seen = loan.history ++ first_taken before.now.value; lent = None }) }
 {
-    half.give::<Brand, Snapshot<InboxEnd>>(end, before);
+    half.give::<Brand, Snapshot<InboxEnd>>(before);
 }
 
 // The call that would put this frame.
@@ -69,14 +71,14 @@ fn put<R: Wait>(half: &mut Half, rt: &R, frame: &Frame) -> Result<(), Refusal>
     ensures ok { OnOk result (IsPutBy frame.now (side_of half.old) (side_of half.new)) }
     ensures err { IfErr result (λ e. IsNotPutBy e frame.now (side_of half.old) (side_of half.new)) }
 {
-    let mut end = half.take(rt);
-    match end.own(rt, frame) {
+    half.take(rt);
+    match half.inbox().own(rt, frame) {
         Ok(()) => {
-            give_put(half, end, frame);
+            give_put(half, frame);
             Ok(())
         }
         Err(refusal) => {
-            half.give_same(end);
+            half.give_same();
             Err(refusal)
         }
     }
@@ -92,15 +94,16 @@ fn take_into<R: Wait>(half: &mut Half, rt: &R, buffer: &mut [u8]) -> Result<Take
     ensures range { IfOk result (λ take. IsTake take) }
     ensures err { IfErr result (λ e. IsNotTaken e buffer.old buffer.new (side_of half.old) (side_of half.new)) }
 {
-    let mut end = half.take(rt);
-    let before = Snapshot::of(&end);
+    half.take(rt);
+    let end = half.inbox();
+    let before = Snapshot::of(end);
     match end.take_into(buffer) {
         Ok(take) => {
-            give_first(half, end, &before);
+            give_first(half, &before);
             Ok(take)
         }
         Err(refusal) => {
-            half.give_same(end);
+            half.give_same();
             Err(refusal)
         }
     }
@@ -115,10 +118,11 @@ fn take_with<R: Wait, T, F: FnOnce(&[u8], &[u8]) -> T>(half: &mut Half, rt: &R, 
     ensures turn { HadOneTurn (side_of half.old) (side_of half.new) }
     ensures answer { IsLentBy F.FnOnce read result (side_of half.old) (side_of half.new) }
 {
-    let mut end = half.take(rt);
-    let before = Snapshot::of(&end);
+    half.take(rt);
+    let end = half.inbox();
+    let before = Snapshot::of(end);
     let lent = end.take_with(read);
-    give_first(half, end, &before);
+    give_first(half, &before);
     lent
 }
 
@@ -131,9 +135,9 @@ fn book<R: Wait>(half: &mut Half, rt: &R) -> ServerBook
     ensures looks { HasLooked (side_of half.old) (side_of half.new) }
     ensures book { result ≡ book_after half.new.key half.new.seen }
 {
-    let end = half.take(rt);
-    let book = end.book();
-    half.give_same(end);
+    half.take(rt);
+    let book = half.inbox().book();
+    half.give_same();
     book
 }
 

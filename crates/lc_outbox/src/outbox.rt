@@ -27,6 +27,9 @@ use std::sync::Wait;
 /// The sending end of a channel, which one thread at a time has: the end of the lane on which the
 /// channel's client puts, its credit, and what else its client has to know. All numbers count bytes
 /// of messages.
+///
+/// That 13 comes only where nothing before it refuses, clauses say; that it comes only from a full
+/// queue none does, as of [`LaneEnd::push`].
 pub struct Outbox {
     alloc: Global,
     channel: Channel,
@@ -196,7 +199,8 @@ impl Outbox {
 
     /// A message is sent, of 1 to 65,535 bytes in version One and to 1,048,576 in version Two.
     /// Refused by 15, 1, 2, 3 and 4, by 14 where the copy of the message gets no memory, and by 13
-    /// where the queue gives its frame back, in this order.
+    /// where the queue gives its frame back, in this order. After 14 and after 13 what was taken out
+    /// is given back, and no clause tells the two apart.
     pub fn send<R: Wait>(&mut self, rt: &R, body: &[u8]) -> Result<(), Refusal>
         ensures ok { OnOk result (IsSent body.now self.old self.new) }
         ensures unfinished { OnOk result (IsUnfinished self.old.credit) }

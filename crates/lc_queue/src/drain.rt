@@ -51,10 +51,12 @@ impl Drain {
         self.version
     }
 
-    /// Takes the frame that has been queued longest; it is valid in the version. Of each lane that
-    /// ended, what was popped is then the beginning of what was put there. `None` comes only where the
-    /// queue was empty at a step of the call, so that all which was put in the lanes that ended was
-    /// popped. It does not try again.
+    /// Takes the frame that has been queued longest; it is valid in the version. `None` comes only
+    /// where the queue was empty at a step of the call. It does not try again.
+    ///
+    /// Clauses say this of the lanes that ended: of each, what was popped is the beginning of what
+    /// was put there, and where `None` comes it is all of it. While no lane has ended they say nothing
+    /// of what is queued, so not even that the queue was looked at.
     pub fn pop<R: Wait>(&mut self, rt: &R) -> Option<Frame>
         ensures same { IsSame self.new.queue self.old.queue }
         ensures after { MatchOption result (self.new ≡ self.old) (λ frame. self.new ≡ record self.old { popped = self.old.popped ++ frame ∷ [] }) }
@@ -63,11 +65,12 @@ impl Drain {
         ensures empty { IfNone result (AllPopped self.old) }
     {
         // Its contract says that the frame is the one at the front, and that `None` comes only if
-        // the queue was empty at one moment of the call: then the pass learns what `empty` says.
+        // the queue was empty at one moment of the call. A pass that finds nothing stays as it is: so
+        // it can learn what `empty` says of that moment, and no more.
         self.queue.pop_as::<Pop, R>(rt, &mut self.pass)
     }
 
-    /// Ends a lane of the same queue. What its end has put and is still queued will be popped.
+    /// Ends a lane of the same queue. What its end has put and is still queued stays to be popped.
     pub fn join(&mut self, end: LaneEnd)
         requires one { IsSame self.old.queue end.queue }
         ensures same { IsSame self.new.queue self.old.queue }

@@ -123,7 +123,7 @@ fn take_all<R: Wait>(
 
 /// The messages that one thread takes out of a ring of 32 bytes while another reads the given ones
 /// into it, up to the first that no frame or no ring of this length can carry: they are the first of
-/// those that were given.
+/// those that were given, of which the clause does not say how many.
 pub fn carries<R>(rt: R, alloc: Global, given: Vec<Body>) -> Result<Vec<Body>, AllocError>
 where
     R: Threads + Wait + Copy + Send + 'static,

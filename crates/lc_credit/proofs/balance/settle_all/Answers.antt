@@ -23,7 +23,7 @@ loop-end-preserved c =
     record {
       at = omega (arith, i.at, length-append c.loop-end.yielded (c.in-Some.end ∷ []));
       channels = c.settle_at.ensures.same ∙ i.channels;
-      size = length-set c.loop-end.balances c.loop-end.channel c.settle_at.result ∙ i.size;
+      size = length-set _ _ _ ∙ i.size;
       settled = rw i.at (settled_push c.loop-end.yielded c.args.channels c.loop-end.balances c.in-Some.end c.settle_at.result (omega arith) (omega arith) i.settled this);
       rest = append_assoc c.loop-end.yielded (c.in-Some.end ∷ []) _ ∙ whole;
     }

@@ -13,3 +13,6 @@ invariant_of-self c =
     let was = c.self.invariant.3 in
     let counted = was.counted in
     (search rules, search rules, record { view = reading_is _ _ e.view; slots = e.slots ∙ c.self.invariant.2.slots }, record { counted = omega arith; total = was.total; bound = was.bound })
+
+pub returns-clause-asked : goal.returns-clause-asked
+returns-clause-asked c = search rules

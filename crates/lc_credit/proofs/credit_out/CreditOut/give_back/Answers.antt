@@ -10,3 +10,6 @@ pub invariant_of-self : goal.invariant_of-self
 invariant_of-self c =
     let e = c.fetch_add.ensures.2 in
     (search rules, search rules, record { view = sending_is _ _ _ e.view; slots = e.slots ∙ c.self.invariant.2.slots }, gives_back _ _ _ _ _ c.self.invariant.3 _ _ c.from.ensures c.in-Some.is e.makes)
+
+pub returns-clause-after : goal.returns-clause-after
+returns-clause-after c = search rules

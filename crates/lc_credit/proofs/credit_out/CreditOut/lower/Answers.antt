@@ -23,3 +23,6 @@ returns-clause-kept c =
     let idle = ap (λ v. v.pending) c.self.view_is ∙ c.requires.idle in
     let unfinished = ap (λ v. v.waived) c.self.view_is ∙ c.requires.unfinished in
     uses _ _ _ _ _ c.self.invariant.3 _ _ _ c.from-amount.ensures idle unfinished e.makes e.covered
+
+pub returns-clause-after : goal.returns-clause-after
+returns-clause-after c = search rules
