@@ -1,5 +1,5 @@
 -- There are two finished sessions and an order of their steps of which the laws speak. Session B limits what it issues to 9, issues 5 and pleads for 1; session A limits what it sends to 10, takes 4 out of its credit and gives them back, sends three bytes, and honours the plead by absolving 1, and finishes the channel, which waives 1; B takes the message, issues 2 more, which are under way at the end, and hears the Finish. Nothing was written: the frames were left in the queues, and A's greeting, since A writes in version Two and B in version One.
-use Rattle.std.proofs.Common.{◌≡◌, ℕ, zero, suc, ◌+◌, ◌≤◌, List, [], ◌∷◌, Option, Some, None, refl, arith}
+use Rattle.std.proofs.Common.{◌≡◌, ℕ, zero, suc, ◌+◌, ◌≤◌, List, [], ◌∷◌, ◌++◌, Option, Some, None, refl, arith}
 use Rattle.std.specs.Prelude.{All}
 use Rattle.std.specs.List.{AllByRecursion}
 use Rattle.atomic_table.specs.Seated.{TableId}
@@ -7,6 +7,7 @@ use Rattle.lc_frame.specs.declared.version.Version.{Version}
 use Rattle.lc_frame.specs.declared.version.Version.TheVariants.{One, Two}
 use Rattle.lc_frame.specs.declared.channel.Channel.{Channel}
 use Rattle.lc_frame.specs.declared.channel.Channel.TheVariants.{ReconciliationChannel, DataChannel, OverlapChannel, CapabilityChannel, AreaOfInterestChannel, PayloadRequestChannel, StaticTokenChannel}
+use Rattle.lc_frame.specs.declared.kind.Kind.TheVariants as kinds
 use Rattle.lc_frame.specs.declared.frame.Frame.{Frame}
 use Rattle.lc_frame.specs.declared.frame.Frame.TheVariants.{Send, Issue, Absolve, Plead, LimitSending, LimitReceiving, Finish}
 use Rattle.lc_frame.specs.Held.{nothing_held}
@@ -32,7 +33,7 @@ use Rattle.lc_interleaving.specs.Steps.Step.{puts, hears, takes}
 use Rattle.lc_interleaving.specs.Interleaving.{Joint, of_a, of_b, IsInterleaving}
 use Rattle.lc_interleaving.specs.Interleaving.Joint.{at_a, at_b}
 use Rattle.lc_interleaving.specs.Finished.{Finished, IsFinished, trace}
-use Rattle.lc_interleaving.specs.Sessions.{WereOne, PremisesCanBeMet}
+use Rattle.lc_interleaving.specs.Sessions.{WereOne, HasEveryKind, HasEntry, PremisesCanBeMet}
 
 pub all_of : {X : Type 0} (P : X → Type 0) (xs : List X) → AllByRecursion P xs → All P xs
 all_of P [] h k d below = absurd (omega (arith, below))
@@ -314,6 +315,25 @@ module _ (id : TableId) (base : Side) where
     interleaving = interleaving;
   }
 
+  -- what the laws speak of happens in them
+  every_kind : HasEveryKind ((trace a a_finished).put ++ (trace b b_finished).put)
+  unfolding a_finished a_report b_finished b_report
+  every_kind kinds.LimitSending = (0, omega arith, refl)
+  every_kind kinds.Send = (1, omega arith, refl)
+  every_kind kinds.Absolve = (2, omega arith, refl)
+  every_kind kinds.Finish = (3, omega arith, refl)
+  every_kind kinds.LimitReceiving = (4, omega arith, refl)
+  every_kind kinds.Issue = (5, omega arith, refl)
+  every_kind kinds.Plead = (6, omega arith, refl)
+
+  came_back : HasEntry (trace a a_finished) Returned
+  unfolding a_finished a_report a_settled unused
+  came_back = (DataChannel, 4, (2, omega arith, refl))
+
+  honoured : HasEntry (trace a a_finished) Taken
+  unfolding a_finished a_report a_settled unused
+  honoured = (DataChannel, 1, (5, omega arith, refl))
+
 pub premises_can_be_met : PremisesCanBeMet
 premises_can_be_met id base = record {
   capacity = 6;
@@ -323,4 +343,7 @@ premises_can_be_met id base = record {
   b_finished = b_finished id base;
   order = order;
   were_one = were_one id base;
+  every_kind = every_kind id base;
+  came_back = came_back id base;
+  honoured = honoured id base;
 }

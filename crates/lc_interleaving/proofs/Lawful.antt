@@ -1,9 +1,10 @@
 -- The next frame of a stream is lawful where it arrives, and a frame that was refused is not the next.
 use Rattle.std.proofs.Common.{◌≡◌, ℕ, ◌+◌, ◌<◌, ◌≤◌, Bool, true, false, List, [], ◌∷◌, ◌++◌, Option, Some, None, refl, sym, ap, subst, ◌∙◌, arith}
-use Rattle.std.specs.Prelude.{nat_lt, if◌then◌else◌}
+use Rattle.std.specs.Prelude.{◌==◌, nat_lt, if◌then◌else◌, sum}
 use Rattle.std.proofs.lemmas.Bool.Decides.{nat_tests}
-use Rattle.std.proofs.lemmas.List.Elements.{filter_map-append}
-use Rattle.lc_history.specs.History.{IsHistoryAfter}
+use Rattle.std.proofs.lemmas.List.Elements.{filter-append, filter_map-append}
+use Rattle.std.proofs.lemmas.List.Sums.{sum_by-append}
+use Rattle.lc_history.specs.History.{IsHistoryAfter, IsHistory}
 use Rattle.lc_history.proofs.Histories.{follows_each}
 use Rattle.lc_frame.specs.declared.version.Version.{Version}
 use Rattle.lc_frame.specs.declared.channel.Channel.{Channel}
@@ -12,16 +13,23 @@ use Rattle.lc_frame.specs.declared.frame.Frame.TheVariants.{Send, Issue, Absolve
 use Rattle.lc_frame.specs.Channel.{number_of}
 use Rattle.lc_frame.specs.Frame.{channel_of, lane_of}
 use Rattle.lc_frame.specs.Kind.{max_amount, max_total}
-use Rattle.lc_frame.specs.Stream.{cost, issued, absolved}
+use Rattle.lc_frame.specs.Stream.{of_lane, cost, issued, absolved}
 use Rattle.lc_frame.proofs.Channels.{same_from_number}
 use Rattle.lc_frame.proofs.Measures.{issued-one, issued-append}
 use Rattle.lc_book.specs.declared.fault.Violation.{Violation}
 use Rattle.lc_book.specs.declared.fault.Violation.TheVariants.{IssuedPastLimit, TooManyGuarantees, TotalPassed, ReceiveLimitRaised}
 use Rattle.lc_book.specs.Limit.{is_past}
 use Rattle.lc_book.specs.Client.{held, issued_violation}
-use Rattle.lc_credit.specs.Sides.{Incoming, IsNotAdded}
 use Rattle.lc_book.specs.Server.{Server}
-use Rattle.lc_book.specs.Sums.{client_of}
+use Rattle.lc_book.specs.Sums.{client_of, SumsAreOfLanes}
+use Rattle.lc_book.proofs.Lanes.{every_sum_is_of_its_lane}
+use Rattle.lc_credit.specs.declared.history.Entry as credit
+use Rattle.lc_credit.specs.History as credits
+use Rattle.lc_credit.specs.History.{used, returned}
+use Rattle.lc_credit.specs.Sides.{Incoming, IsNotAdded}
+use Rattle.lc_credit.proofs.Histories.{learned_received}
+use Rattle.lc_outbox.specs.Uses.{uses, amounts}
+use Rattle.lc_outbox.specs.Outbox.{MayPut}
 use Rattle.lc_peer.specs.Arrivals.{violation}
 use Rattle.lc_inbox.specs.declared.history.Entry.TheVariants.{Refused}
 use Rattle.lc_inbox.specs.Ends.{violation_of}
@@ -44,7 +52,8 @@ use Rattle.lc_interleaving.specs.Lawful.{NextIsLawful, IsLawfulAfter, RefusedIsN
 use Rattle.lc_interleaving.proofs.Books.{later_reason}
 use Rattle.lc_interleaving.proofs.Cuts.{begins_after}
 use Rattle.lc_interleaving.proofs.Lines.{MayStep, IsLineOf, StandsFor, MayStepAll, first_in_flight, server_is, whole}
-use Rattle.lc_interleaving.proofs.Sides.{KeepsReceiving, book_is, book_lasting}
+use Rattle.lc_interleaving.proofs.Paid.{uses_stand}
+use Rattle.lc_interleaving.proofs.Sides.{KeepsSending, KeepsReceiving, sums_to, book_is, book_lasting}
 
 -- which plead is kept does not matter
 no_plead : (version : Version) (c : Channel) (put heard : List Frame) (asked : Option ℕ) (server : Server) (f : Frame) → violation (client_of version c put heard None) server f ≡ violation (client_of version c put heard asked) server f
@@ -155,19 +164,31 @@ no_reason false r x is e = cc
 beyond : (most n : ℕ) → most < n → nat_lt most n ≡ true
 beyond most n more = grind (arith, nat_tests, more)
 
-issue_refused : (capacity : ℕ) (version : Version) (c : Channel) (n : ℕ) (v : Violation) (here : List Step) (old new : Incoming) → capacity ≤ max_amount → issued c (heard here) + n ≤ capacity + cost c (put here) + absolved c (put here) → IsNotAdded v n old new → IsCreditThen c here old new → issued_violation (client_then version c here) n ≡ None → ⊥
-issue_refused capacity version c n IssuedPastLimit here old new small covered refused is none = no_reason (is_past (client_then version c here).receive_left n) IssuedPastLimit _ (ap (λ (o : Option ℕ). is_past o n) (sym is.left_is) ∙ refused.past) none
-issue_refused capacity version c n TooManyGuarantees here old new small covered refused is none =
-    let room = refused.1 in
-    omega (arith, small, covered, room.loads.held, room.over, is.counted, is.received_is, is.paid)
-issue_refused capacity version c n TotalPassed here old new small covered refused is none =
-    let over = refused.2 in
-    no_reason (nat_lt max_total ((client_then version c here).received + n)) TotalPassed _ (beyond max_total ((client_then version c here).received + n) (omega (arith, over, is.received_is)))
-    (later_reason (nat_lt max_amount (held (client_then version c here) + n)) TooManyGuarantees _ (later_reason (is_past (client_then version c here).receive_left n) IssuedPastLimit _ none))
-issue_refused capacity version c n v here old new small covered refused is none = absurd refused
+-- what a client had put by a moment had been paid by then
+paid_then : (t : Trace) (c : Channel) (here : List Step) (behind : List Frame) (old new : Incoming) → KeepsSending t.version c (t.credit c) (of_lane (number_of c) t.put) → t.put ≡ put here ++ behind → IsCreditThen t c here old new → cost c (put here) + absolved c (put here) + returned new.seen ≤ used new.seen
+paid_then t c here behind old new s cut is =
+    let mine : List Frame = of_lane (number_of c) (put here) in
+    let later : List Frame = of_lane (number_of c) behind in
+    let lane_cut : of_lane (number_of c) t.put ≡ mine ++ later = ap (of_lane (number_of c)) cut ∙ filter-append (λ (f : Frame). lane_of f == number_of c) (put here) behind in
+    let begun : IsHistory (MayPut t.version c) mine = begins_after (MayPut t.version c) [] mine later (subst (λ (fs : List Frame). IsHistory (MayPut t.version c) fs) lane_cut s.rules) in
+    let legal : credits.IsHistory new.seen = begins_after credits.MayFollow [] new.seen is.begins.0 (subst (λ (h : List credit.Entry). credits.IsHistory h) is.begins.1 s.legal) in
+    let p : SumsAreOfLanes c (put here) = every_sum_is_of_its_lane c (put here) in
+    let stand : sum (uses new.seen) ≡ sum (amounts mine) + sum is.paid.0 = ap sum is.paid.1 ∙ sum_by-append (λ n. n) (amounts mine) is.paid.0 in
+    omega (arith, sums_to t.version c [] mine begun, p.cost_is, p.absolved_is, stand, uses_stand new.seen legal)
 
-pub refused_by_credit : (capacity : ℕ) (version : Version) (here there : List Step) → capacity ≤ max_amount → NextIsCovered capacity here there → NextIsLawful capacity version here there → RefusedByCredit here there
-refused_by_credit capacity version here there small covered next = record {
-  issue = λ c n v old new refused is first. issue_refused capacity version c n v here old new small (covered c n first) refused is (next (Issue c n) first);
-  limit = λ c bound old new refused left first. no_reason (is_past (client_then version c here).receive_left bound) ReceiveLimitRaised None (ap (λ (o : Option ℕ). is_past o bound) (sym left) ∙ refused.past) (next (LimitReceiving c bound) first);
+issue_refused : (capacity : ℕ) (t : Trace) (c : Channel) (n : ℕ) (v : Violation) (here : List Step) (behind : List Frame) (old new : Incoming) → capacity ≤ max_amount → KeepsSending t.version c (t.credit c) (of_lane (number_of c) t.put) → t.put ≡ put here ++ behind → issued c (heard here) + n ≤ capacity + cost c (put here) + absolved c (put here) → IsNotAdded v n old new → IsCreditThen t c here old new → issued_violation (client_then t.version c here) n ≡ None → ⊥
+issue_refused capacity t c n IssuedPastLimit here behind old new small s cut covered refused is none = no_reason (is_past (client_then t.version c here).receive_left n) IssuedPastLimit _ (ap (λ (o : Option ℕ). is_past o n) (sym is.left_is) ∙ refused.past) none
+issue_refused capacity t c n TooManyGuarantees here behind old new small s cut covered refused is none =
+    let room = refused.1 in
+    omega (arith, small, covered, room.loads.held, room.over, learned_received old.seen new.seen room.loads.learns, is.is_incoming.counted, is.received_is, paid_then t c here behind old new s cut is)
+issue_refused capacity t c n TotalPassed here behind old new small s cut covered refused is none =
+    let over = refused.2 in
+    no_reason (nat_lt max_total ((client_then t.version c here).received + n)) TotalPassed _ (beyond max_total ((client_then t.version c here).received + n) (omega (arith, over, is.received_is)))
+    (later_reason (nat_lt max_amount (held (client_then t.version c here) + n)) TooManyGuarantees _ (later_reason (is_past (client_then t.version c here).receive_left n) IssuedPastLimit _ none))
+issue_refused capacity t c n v here behind old new small s cut covered refused is none = absurd refused
+
+pub refused_by_credit : (capacity : ℕ) (t : Trace) (here there : List Step) (behind : List Frame) → capacity ≤ max_amount → ((c : Channel) → KeepsSending t.version c (t.credit c) (of_lane (number_of c) t.put)) → t.put ≡ put here ++ behind → NextIsCovered capacity here there → NextIsLawful capacity t.version here there → RefusedByCredit t here there
+refused_by_credit capacity t here there behind small sending cut covered next = record {
+  issue = λ c n v old new refused is first. issue_refused capacity t c n v here behind old new small (sending c) cut (covered c n first) refused is (next (Issue c n) first);
+  limit = λ c bound old new refused left first. no_reason (is_past (client_then t.version c here).receive_left bound) ReceiveLimitRaised None (ap (λ (o : Option ℕ). is_past o bound) (sym left) ∙ refused.past) (next (LimitReceiving c bound) first);
 }

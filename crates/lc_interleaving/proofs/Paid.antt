@@ -1,5 +1,5 @@
 -- Each use of a credit that did not come back is covered, with those before it, by what had been received before it.
-use Rattle.std.proofs.Common.{◌≡◌, ℕ, suc, ◌+◌, ◌-◌, ◌≤◌, List, [], ◌∷◌, ◌++◌, length, take, Option, Some, None, refl, sym, ap, subst, ◌∙◌, arith, length-append}
+use Rattle.std.proofs.Common.{◌≡◌, ℕ, suc, ◌+◌, ◌-◌, ◌≤◌, List, [], ◌∷◌, ◌++◌, length, take, Option, Some, None, refl, sym, ap, subst, ◌∙◌, arith, length-append, append_assoc, append-nil}
 use Rattle.std.specs.Prelude.{sum, slice_index_or, unwrap_or, IfSome}
 use Rattle.std.specs.List.{fold, filter_map, cons_option}
 use Rattle.std.proofs.lemmas.List.Elements.{filter_map-append}
@@ -152,18 +152,27 @@ returned_leaves before standing funds (Some m) n may h =
     subst (λ (k : ℕ). Leaves (before ++ Returned n ∷ []) (uses_after standing (Returned n)) (record { received = funds.received; before_uses = take k funds.before_uses }) None) fewer
     (subst (λ (ys : List ℕ). Leaves (before ++ Returned n ∷ []) ys (record { received = funds.received; before_uses = take (length xs) funds.before_uses }) None) gone left)
 
-goes_on : (before later : List Entry) (standing : List ℕ) (funds : Funds) (last : Option ℕ) → IsHistoryAfter MayFollow before later → Leaves before standing funds last → AreCovered 0 (fold uses_after standing later) (fold funds_after funds later).before_uses
-goes_on before [] standing funds last h s = s.covered
-goes_on before (Received n ∷ later) standing funds last h s = goes_on (before ++ Received n ∷ []) later standing (record funds { received = funds.received + n }) last h.1 (leaves_received before standing funds last s n)
-goes_on before (Used n ∷ later) standing funds last h s = goes_on (before ++ Used n ∷ []) later (standing ++ n ∷ []) (record funds { before_uses = funds.before_uses ++ funds.received ∷ [] }) (Some n) h.1 (leaves_used before standing funds last s n h.0)
-goes_on before (Returned n ∷ later) standing funds last h s = goes_on (before ++ Returned n ∷ []) later (uses_after standing (Returned n)) (funds_after funds (Returned n)) None h.1 (returned_leaves before standing funds last n h.0 s)
-goes_on before (Asked n ∷ later) standing funds last h s = goes_on (before ++ Asked n ∷ []) later standing funds last h.1 (leaves_asked before standing funds last s n)
-goes_on before (Taken n ∷ later) standing funds last h s = goes_on (before ++ Taken n ∷ []) later standing funds last h.1 (leaves_taken before standing funds last s n)
+-- at the end of a history each use that stands is covered, and they are what was used and did not come back
+record Ends (history : List Entry) (standing : List ℕ) (funds : Funds) : Type 0 where
+  covered : AreCovered 0 standing funds.before_uses
+  all_used : sum standing + returned history ≡ used history
+
+goes_on : (history before later : List Entry) (standing : List ℕ) (funds : Funds) (last : Option ℕ) → before ++ later ≡ history → IsHistoryAfter MayFollow before later → Leaves before standing funds last → Ends history (fold uses_after standing later) (fold funds_after funds later)
+goes_on history before [] standing funds last is h s = subst (λ (xs : List Entry). Ends xs standing funds) (sym (append-nil before) ∙ is) (record { covered = s.covered; all_used = s.all_used })
+goes_on history before (Received n ∷ later) standing funds last is h s = goes_on history (before ++ Received n ∷ []) later standing (record funds { received = funds.received + n }) last (append_assoc before (Received n ∷ []) later ∙ is) h.1 (leaves_received before standing funds last s n)
+goes_on history before (Used n ∷ later) standing funds last is h s = goes_on history (before ++ Used n ∷ []) later (standing ++ n ∷ []) (record funds { before_uses = funds.before_uses ++ funds.received ∷ [] }) (Some n) (append_assoc before (Used n ∷ []) later ∙ is) h.1 (leaves_used before standing funds last s n h.0)
+goes_on history before (Returned n ∷ later) standing funds last is h s = goes_on history (before ++ Returned n ∷ []) later (uses_after standing (Returned n)) (funds_after funds (Returned n)) None (append_assoc before (Returned n ∷ []) later ∙ is) h.1 (returned_leaves before standing funds last n h.0 s)
+goes_on history before (Asked n ∷ later) standing funds last is h s = goes_on history (before ++ Asked n ∷ []) later standing funds last (append_assoc before (Asked n ∷ []) later ∙ is) h.1 (leaves_asked before standing funds last s n)
+goes_on history before (Taken n ∷ later) standing funds last is h s = goes_on history (before ++ Taken n ∷ []) later standing funds last (append_assoc before (Taken n ∷ []) later ∙ is) h.1 (leaves_taken before standing funds last s n)
+
+ends : (history : List Entry) → IsHistory history → Ends history (uses history) (fold funds_after (record { received = 0; before_uses = [] }) history)
+ends history legal = goes_on history [] history [] (record { received = 0; before_uses = [] }) None refl legal (record { all_received = refl; all_used = refl; covered = tt; last_is = refl; ends = tt })
+
+pub uses_stand : (history : List Entry) → IsHistory history → sum (uses history) + returned history ≡ used history
+uses_stand history legal = (ends history legal).all_used
 
 -- so the use at each place is covered, with those before it
 pub paid_at : (history : List Entry) (xs : List ℕ) (n : ℕ) (ys : List ℕ) → IsHistory history → uses history ≡ xs ++ n ∷ ys → sum xs + n ≤ slice_index_or (before_uses history) (length xs) 0
 paid_at history xs n ys legal is =
-    let none : Leaves [] [] (record { received = 0; before_uses = [] }) None = record { all_received = refl; all_used = refl; covered = tt; last_is = refl; ends = tt } in
-    let all : AreCovered 0 (uses history) (before_uses history) = goes_on [] history [] (record { received = 0; before_uses = [] }) None legal none in
-    let le : 0 + sum xs + n ≤ slice_index_or (before_uses history) (length xs) 0 = covered-at 0 xs n ys (before_uses history) (subst (λ (us : List ℕ). AreCovered 0 us (before_uses history)) is all) in
+    let le : 0 + sum xs + n ≤ slice_index_or (before_uses history) (length xs) 0 = covered-at 0 xs n ys (before_uses history) (subst (λ (us : List ℕ). AreCovered 0 us (before_uses history)) is (ends history legal).covered) in
     omega (arith, le)

@@ -6,7 +6,6 @@ use Rattle.lc_frame.specs.declared.channel.Channel.{Channel}
 use Rattle.lc_frame.specs.declared.channel.Channel.TheVariants.{DataChannel}
 use Rattle.lc_frame.specs.declared.frame.Frame.TheVariants.{Send, Issue, Absolve, Plead, LimitSending, LimitReceiving, Finish}
 use Rattle.lc_inbox.specs.Sides.{Side}
-use Rattle.lc_frame.specs.declared.version.Version.TheVariants.{Two}
 use Rattle.lc_world.specs.State.{Versions, opening}
 use Rattle.lc_world.specs.Histories.{IsLegal}
 use Rattle.lc_interleaving.specs.Steps.{Step, put, heard, entries, without_refusals}
@@ -14,6 +13,7 @@ use Rattle.lc_interleaving.specs.Steps.Step.{puts, hears, takes}
 use Rattle.lc_interleaving.specs.Interleaving.{Trace, Joint, of_a, of_b, IsInTime, IsCausal}
 use Rattle.lc_interleaving.specs.Interleaving.Joint.{at_a, at_b}
 use Rattle.lc_interleaving.specs.History.{history_of}
+use Rattle.lc_interleaving.specs.State.{versions_of}
 use Rattle.lc_interleaving.specs.Finished.{trace}
 use Rattle.lc_interleaving.proofs.Examples.{each, message, a, b, a_finished, b_finished, a_report, b_report, a_settled, b_inbox, unused, unused_inbox, enough}
 
@@ -36,17 +36,17 @@ record IsOrderBut (t : Trace) (steps : List Step) : Type 0 where
   heard_is : heard steps ≡ t.heard
   inboxes : (c : Channel) → entries c steps ≡ without_refusals (t.inbox c)
 
--- both write in version Two
-abbrev each_two : Versions
-each_two s = Two
-
-not_legal : IsLegal (opening 6 each_two) (history_of too_early) → ⊥
-not_legal h = elim h.1.1.1.1.0 [ inl e ↦ absurd (cc) | inr e ↦ absurd (let n = e.1 in cc) ]
-
-not_causal : IsLegal (opening 6 each_two) (history_of unheard_of) → ⊥
-not_causal h = elim h.1.1.1.0 [ inl e ↦ absurd (cc) | inr e ↦ absurd (let n = e.1 in cc) ]
-
 module _ (id : TableId) (base : Side) where
+  -- the versions in which both wrote
+  abbrev versions : Versions
+  versions = versions_of (trace (a id base) (a_finished id base)) (trace (b id base) (b_finished id base))
+
+  not_legal : IsLegal (opening 6 versions) (history_of too_early) → ⊥
+  not_legal h = elim h.1.1.1.1.0 [ inl e ↦ absurd (cc) | inr e ↦ absurd (let n = e.1 in cc) ]
+
+  not_causal : IsLegal (opening 6 versions) (history_of unheard_of) → ⊥
+  not_causal h = elim h.1.1.1.0 [ inl e ↦ absurd (cc) | inr e ↦ absurd (let n = e.1 in cc) ]
+
   -- all of the premise but that frames are in time
   record AllButTime : Type 0 where
     a_order : IsOrderBut (trace (a id base) (a_finished id base)) (of_a too_early)

@@ -1,6 +1,8 @@
 -- The laws of two finished sessions.
-use Rattle.std.proofs.Common.{◌≡◌, ℕ, ◌+◌, List, ◌++◌, length, sym, ap, subst, ◌∙◌, arith}
+use Rattle.std.proofs.Common.{◌≡◌, ℕ, ◌+◌, List, ◌++◌, length, Option, sym, ap, subst, ◌∙◌, arith}
 use Rattle.std.specs.Prelude.{if◌then◌else◌, sum_by}
+use Rattle.std.specs.List.{filter_map}
+use Rattle.std.proofs.lemmas.List.Elements.{filter_map-append}
 use Rattle.lc_frame.specs.declared.channel.Channel.{Channel}
 use Rattle.lc_frame.specs.declared.frame.Frame.{Frame}
 use Rattle.lc_frame.specs.Channel.{number_of}
@@ -13,14 +15,14 @@ use Rattle.lc_credit.specs.declared.balance.Balance.{Balance}
 use Rattle.lc_inbox.specs.declared.rule.Key.{Key}
 use Rattle.lc_inbox.specs.History.{book_after}
 use Rattle.lc_world.specs.Guarantee.{FitsBuffer}
-use Rattle.lc_interleaving.specs.Steps.{Step, heard, took}
-use Rattle.lc_interleaving.specs.Interleaving.{Trace, Joint, of_a, of_b, IsOrderOf}
+use Rattle.lc_interleaving.specs.Steps.{Step, put_of, put, heard, took}
+use Rattle.lc_interleaving.specs.Interleaving.{Trace, Joint, a_step, b_step, of_a, of_b, IsOrderOf}
 use Rattle.lc_interleaving.specs.History.{history_of}
 use Rattle.lc_interleaving.specs.State.{IsStateOfBoth}
 use Rattle.lc_interleaving.specs.Promises.{promised, in_flight, KeepsBetween}
 use Rattle.lc_interleaving.specs.Finished.{Finished, IsFinished, trace, FitsRings}
 use Rattle.lc_interleaving.specs.Sessions.{WereOne, ReportsAreAState, FinishedSessionsKeepPromises, NextFramesAreLawful, RefusedFramesAreBreaches}
-use Rattle.lc_interleaving.proofs.Sides.{book_is, book_lasting}
+use Rattle.lc_interleaving.proofs.Sides.{KeepsRules, book_is, book_lasting}
 use Rattle.lc_interleaving.proofs.Between.{Keeps, last_client, last_server, left_over, may_all, state_of_both, took_is, last_keeps}
 use Rattle.lc_interleaving.proofs.Books.{book_fits}
 use Rattle.lc_interleaving.proofs.Lawful.{NextFrames, next_frames_after, refused_is_not_next, refused_by_credit}
@@ -89,13 +91,23 @@ next_frames k a b fa fb order w earlier later is = next_frames_after k (trace a 
 pub next_frames_are_lawful : NextFramesAreLawful
 next_frames_are_lawful k a b fa fb order w earlier later is = (next_frames k a b fa fb order w earlier later is).are_lawful
 
+-- what a side had put at a moment of the order is how what it put begins
+begins_put : (t : Trace) (step_of : Joint → Option Step) (order earlier later : List Joint) → put (filter_map step_of order) ≡ t.put → order ≡ earlier ++ later → t.put ≡ put (filter_map step_of earlier) ++ put (filter_map step_of later)
+begins_put t step_of order earlier later all is =
+    sym all
+    ∙ (ap (λ (js : List Joint). put (filter_map step_of js)) is
+    ∙ (ap put (filter_map-append step_of earlier later)
+    ∙ filter_map-append put_of (filter_map step_of earlier) (filter_map step_of later)))
+
 pub refused_frames_are_breaches : RefusedFramesAreBreaches
 refused_frames_are_breaches k a b fa fb order w earlier later is =
     let next : NextFrames k (trace a fa) (trace b fb) earlier = next_frames k a b fa fb order w earlier later is in
     let small = w.is_capacity.at_most in
+    let a_keeps : KeepsRules k (trace a fa) = keeps_rules k a fa w.a_rings in
+    let b_keeps : KeepsRules k (trace b fb) = keeps_rules k b fb w.b_rings in
     record {
-      at_a = refused_is_not_next k (trace a fa).version (trace a fa) (of_a earlier) (of_b earlier) (keeps_rules k a fa w.a_rings).receiving next.are_lawful.at_a;
-      at_b = refused_is_not_next k (trace b fb).version (trace b fb) (of_b earlier) (of_a earlier) (keeps_rules k b fb w.b_rings).receiving next.are_lawful.at_b;
-      a_credits = refused_by_credit k (trace a fa).version (of_a earlier) (of_b earlier) small next.a_covered next.are_lawful.at_a;
-      b_credits = refused_by_credit k (trace b fb).version (of_b earlier) (of_a earlier) small next.b_covered next.are_lawful.at_b;
+      at_a = refused_is_not_next k (trace a fa).version (trace a fa) (of_a earlier) (of_b earlier) a_keeps.receiving next.are_lawful.at_a;
+      at_b = refused_is_not_next k (trace b fb).version (trace b fb) (of_b earlier) (of_a earlier) b_keeps.receiving next.are_lawful.at_b;
+      a_credits = refused_by_credit k (trace a fa) (of_a earlier) (of_b earlier) (put (of_a later)) small a_keeps.sending (begins_put (trace a fa) a_step order earlier later w.interleaving.a_order.put is) next.a_covered next.are_lawful.at_a;
+      b_credits = refused_by_credit k (trace b fb) (of_b earlier) (of_a earlier) (put (of_b later)) small b_keeps.sending (begins_put (trace b fb) b_step order earlier later w.interleaving.b_order.put is) next.b_covered next.are_lawful.at_b;
     }

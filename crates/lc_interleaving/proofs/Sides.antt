@@ -123,7 +123,7 @@ more_used c d f fs n same e =
     let here : cost c (f ∷ []) + absolved c (f ∷ []) ≡ n = subst (λ (x : Channel). cost x (f ∷ []) + absolved x (f ∷ []) ≡ n) same e in
     omega (arith, here, cost-append c (f ∷ []) fs, absolved-append c (f ∷ []) fs)
 
-sums_to : (version : Version) (c : Channel) (before fs : List Frame) → IsHistoryAfter (MayPut version c) before fs → sum (amounts fs) ≡ cost c fs + absolved c fs
+pub sums_to : (version : Version) (c : Channel) (before fs : List Frame) → IsHistoryAfter (MayPut version c) before fs → sum (amounts fs) ≡ cost c fs + absolved c fs
 sums_to version c before [] h = refl
 sums_to version c before (Send d body ∷ fs) h =
     let f : Frame = Send d body in

@@ -1,11 +1,13 @@
 -- Two reports of `finish`, and what the two sessions keep together.
 use Rattle.std.specs.Prelude.{ℕ, List}
 use Rattle.lc_frame.specs.declared.frame.Frame.{Frame}
+use Rattle.lc_peer.specs.declared.config.Config.{Config}
 use Rattle.lc_session.specs.declared.report.Report.{Report}
+use Rattle.lc_session.specs.Played.{WasPlayed}
 use Rattle.lc_session.specs.Reading.{HasHeardAll}
 use Rattle.lc_session.specs.Report.{SessionState}
-use Rattle.lc_interleaving.specs.Interleaving.{Joint}
-use Rattle.lc_interleaving.specs.Finished.{Finished, IsFinished}
+use Rattle.lc_interleaving.specs.Interleaving.{Joint, IsInterleaving}
+use Rattle.lc_interleaving.specs.Finished.{Finished, IsFinished, trace}
 use Rattle.lc_interleaving.specs.Promises.{KeepPromises}
 use Rattle.lc_interleaving.specs.Sessions.{WereOne}
 
@@ -22,3 +24,13 @@ pub record KeepTogether (a b : Finished) : Type 0 where
 -- whatever frames had arrived
 abbrev pub AreTwoReports : SessionState → SessionState → Report → Report → Type 0
 AreTwoReports s t r q = (a_arrived b_arrived : List Frame) → HasHeardAll s.reading.side a_arrived → HasHeardAll t.reading.side b_arrived → KeepTogether (finished s a_arrived r) (finished t b_arrived q)
+
+-- the same with nothing more to be shown than the order: whichever it was, if there was one
+pub record KeepInOrder (a b : Finished) : Type 0 where
+  pub a_finished : IsFinished a
+  pub b_finished : IsFinished b
+  pub promises : (order : List Joint) → IsInterleaving (trace a a_finished) (trace b b_finished) order → KeepPromises a b a_finished b_finished
+
+-- so it is of two sessions that were new and then played: what had arrived is what their reading pumps heard
+abbrev pub ArePlayedOut : SessionState → SessionState → Report → Report → Type 0
+ArePlayedOut s t r q = (a_config b_config : Config) (a : WasPlayed a_config s) (b : WasPlayed b_config t) → KeepInOrder (finished s a.played.heard.frames r) (finished t b.played.heard.frames q)

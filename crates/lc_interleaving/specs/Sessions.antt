@@ -1,9 +1,15 @@
 -- The laws of two finished sessions. Their premise, that there is one order of the steps of both, no part of a program can prove.
-use Rattle.std.specs.Prelude.{◌≡◌, ℕ, List, ◌++◌}
+use Rattle.std.specs.Prelude.{◌≡◌, ℕ, List, ◌++◌, map, Contains}
 use Rattle.atomic_table.specs.Seated.{TableId}
+use Rattle.lc_frame.specs.declared.channel.Channel.{Channel}
+use Rattle.lc_frame.specs.declared.kind.Kind.{Kind}
+use Rattle.lc_frame.specs.declared.frame.Frame.{Frame}
 use Rattle.lc_frame.specs.Bounds.{IsCapacity}
+use Rattle.lc_frame.specs.Frame.{kind_of}
+use Rattle.lc_credit.specs.declared.history.Entry.{Entry}
+use Rattle.lc_credit.specs.declared.history.Entry.TheVariants.{Returned, Taken}
 use Rattle.lc_inbox.specs.Sides.{Side}
-use Rattle.lc_interleaving.specs.Interleaving.{Joint, IsInterleaving}
+use Rattle.lc_interleaving.specs.Interleaving.{Trace, Joint, IsInterleaving}
 use Rattle.lc_interleaving.specs.History.{history_of}
 use Rattle.lc_interleaving.specs.State.{IsStateOfBoth}
 use Rattle.lc_interleaving.specs.Promises.{KeepPromises}
@@ -29,7 +35,15 @@ NextFramesAreLawful = (capacity : ℕ) (a b : Finished) (fa : IsFinished a) (fb 
 abbrev pub RefusedFramesAreBreaches : Type 0
 RefusedFramesAreBreaches = (capacity : ℕ) (a b : Finished) (fa : IsFinished a) (fb : IsFinished b) (order : List Joint) → WereOne capacity a b fa fb order → (earlier later : List Joint) → order ≡ earlier ++ later → AreBreaches (trace a fa) (trace b fb) earlier
 
--- there are two such sessions, whichever queue, credits and inboxes are theirs
+-- of each kind of frame there is one among these
+abbrev pub HasEveryKind : List Frame → Type 0
+HasEveryKind frames = (kind : Kind) → Contains (map kind_of frames) kind
+
+-- the history of one of a session's credits has such an entry
+abbrev pub HasEntry : Trace → (ℕ → Entry) → Type 0
+HasEntry t entry = (c : Channel) × (n : ℕ) × Contains (t.credit c) (entry n)
+
+-- there are two such sessions, whichever queue, credits and inboxes are theirs; they put frames of every kind, and in the first an amount came back and a plead was taken to be honoured
 pub record SomeWereOne : Type 0 where
   pub capacity : ℕ
   pub a : Finished
@@ -38,6 +52,9 @@ pub record SomeWereOne : Type 0 where
   pub b_finished : IsFinished b
   pub order : List Joint
   pub were_one : WereOne capacity a b a_finished b_finished order
+  pub every_kind : HasEveryKind ((trace a a_finished).put ++ (trace b b_finished).put)
+  pub came_back : HasEntry (trace a a_finished) Returned
+  pub honoured : HasEntry (trace a a_finished) Taken
 
 abbrev pub PremisesCanBeMet : Type 0
 PremisesCanBeMet = TableId → Side → SomeWereOne

@@ -8,6 +8,7 @@ use Rattle.lc_frame.specs.declared.channel.Channel.{Channel}
 use Rattle.lc_frame.specs.Channel.{number_of}
 use Rattle.lc_frame.proofs.Channels.{same_from_number}
 use Rattle.lc_peer.specs.declared.config.Config.{Config}
+use Rattle.lc_peer.specs.Config.{config_fault}
 use Rattle.lc_queue.specs.Parts.{QueueId, End, Outlet, new_end, new_ends, new_outlet, slots_of}
 use Rattle.lc_credit.specs.Sides.{Incoming, Outgoing}
 use Rattle.lc_credit.specs.Channels as credits
@@ -92,12 +93,13 @@ begun q v ins out incoming outgoing intake = record {
 
 begun_is_new : (config : Config) (q : QueueId) (ins : List Incoming) (out : List Outgoing) (incoming outgoing : List Side) (intake : IntakeState)
     → length out ≡ 7 → credits.AreNew ins out → credits.AreMatched ins out → inboxes.AreNew config.capacities (drop 7 (new_ends q config.version)) incoming outgoing → inboxes.AreMatched incoming outgoing
-    → intake ≡ record { held = nothing_held; stop = None } → slots_of q ≡ config.slots
+    → intake ≡ record { held = nothing_held; stop = None } → slots_of q ≡ config.slots → config_fault config ≡ None
     → IsNewSession config (begun q config.version ins out incoming outgoing intake)
-begun_is_new config q ins out incoming outgoing intake seven new matched sides pairs nothing slots =
+begun_is_new config q ins out incoming outgoing intake seven new matched sides pairs nothing slots lawful =
     let same = credits_of q config.version channels out seven in
     let places = sides_in_place q config.version (new_ends q config.version) config.capacities incoming outgoing refl sides in
     record {
+      lawful = lawful;
       one = record {
         senders = senders q config.version channels out seven;
         receivers = places.reading;
@@ -118,9 +120,9 @@ pub new_session : (config : Config) (s : SessionState) (drain : Outlet) (ends la
     → s.sending ≡ new_outboxes channels lanes out → s.receiving ≡ outgoing → s.reading ≡ record { side = record { credits = ins; inboxes = incoming }; intake = intake } → s.writing ≡ new_pumping drain
     → drain ≡ new_outlet drain.queue config.version → ends ≡ new_ends drain.queue config.version → lanes ≡ take 7 ends
     → length out ≡ 7 → credits.AreNew ins out → credits.AreMatched ins out → inboxes.AreNew config.capacities (drop 7 ends) incoming outgoing → inboxes.AreMatched incoming outgoing
-    → intake ≡ record { held = nothing_held; stop = None } → slots_of drain.queue ≡ config.slots
+    → intake ≡ record { held = nothing_held; stop = None } → slots_of drain.queue ≡ config.slots → config_fault config ≡ None
     → IsNewSession config s
-new_session config s drain ends lanes ins out incoming outgoing intake sending receiving reading writing empty are first seven new matched sides pairs nothing slots =
+new_session config s drain ends lanes ins out incoming outgoing intake sending receiving reading writing empty are first seven new matched sides pairs nothing slots lawful =
     subst (IsNewSession config)
     (λ i. record {
       sending = sym (sending ∙ ap (λ (ls : List End). new_outboxes channels ls out) (first ∙ ap (take 7) are)) i;
@@ -128,4 +130,4 @@ new_session config s drain ends lanes ins out incoming outgoing intake sending r
       reading = sym reading i;
       writing = sym (writing ∙ ap new_pumping empty) i;
     })
-    (begun_is_new config drain.queue ins out incoming outgoing intake seven new matched (subst (λ (ls : List End). inboxes.AreNew config.capacities (drop 7 ls) incoming outgoing) are sides) pairs nothing slots)
+    (begun_is_new config drain.queue ins out incoming outgoing intake seven new matched (subst (λ (ls : List End). inboxes.AreNew config.capacities (drop 7 ls) incoming outgoing) are sides) pairs nothing slots lawful)

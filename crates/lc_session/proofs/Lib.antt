@@ -5,3 +5,5 @@ pub mod Begun
 pub mod Ended
 pub mod Heard
 pub mod Same
+pub mod Runs
+pub mod Played

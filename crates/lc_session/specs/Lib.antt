@@ -8,3 +8,4 @@ pub mod Parts
 pub mod Ending
 pub mod Heard
 pub mod Same
+pub mod Played

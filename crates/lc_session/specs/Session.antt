@@ -3,6 +3,7 @@ use Rattle.std.specs.Prelude.{◌≡◌, List, [], ◌∷◌, take, drop, None}
 use Rattle.lc_frame.specs.Held.{nothing_held}
 use Rattle.lc_frame.specs.declared.channel.Channel.{Channel}
 use Rattle.lc_peer.specs.declared.config.Config.{Config}
+use Rattle.lc_peer.specs.Config.{config_fault}
 use Rattle.lc_queue.specs.Parts.{End, slots_of, new_ends, new_outlet}
 use Rattle.lc_credit.specs.Sides.{Outgoing}
 use Rattle.lc_credit.specs.Channels as credits
@@ -21,8 +22,9 @@ abbrev pub new_outboxes : List Channel → List End → List Outgoing → List O
 new_outboxes (c ∷ cs) (lane ∷ lanes) (credit ∷ credits) = new_outbox c lane credit ∷ new_outboxes cs lanes credits
 new_outboxes cs lanes credits = []
 
--- nothing has happened on any channel, and nothing was read or written, not even the greeting of its version
+-- a session of a lawful configuration: nothing has happened on any channel, and nothing was read or written, not even the greeting of its version
 pub record IsNewSession (config : Config) (s : SessionState) : Type 0 where
+  pub lawful : config_fault config ≡ None
   pub one : AreOfOneSession s
   pub sending_new : s.sending ≡ new_outboxes channels (take 7 (new_ends s.writing.drain.queue config.version)) (outgoing_of s)
   pub credits_new : credits.AreNew s.reading.side.credits (outgoing_of s)

@@ -1,7 +1,8 @@
 //! The pump that reads.
 ghost use Rattle.std.specs.Prelude.{◌≡◌, ◌+◌, ◌≤◌, None, IfSome};
-ghost use Rattle.lc_driver.specs.Reading.{ReadsInto, CountsReads, EndsInput, end_of};
+ghost use Rattle.lc_driver.specs.Reading.{ReadsInto, CountsReads, CountsAll, EndsInput, end_of};
 ghost use Rattle.lc_session.specs.Reading.{Arrives, Violates, IsSameReading};
+ghost use Rattle.lc_session.specs.Heard.{HearsMore};
 
 use crate::reading_side::ReadingSide;
 use lc_credit::CreditIn;
@@ -48,7 +49,9 @@ impl ReadPump {
         ensures at_end { EndsInput result (D.remaining reader.new) }
         ensures counts { CountsReads result (D.counts reader.old) (D.counts reader.new) }
         ensures calls { (D.counts reader.new).calls ≤ (D.counts reader.old).calls + max_reads }
+        ensures spent { CountsAll result max_reads (D.counts reader.old) (D.counts reader.new) }
         ensures same { IsSameReading self.old.side self.new.side }
+        ensures hears { HearsMore self.old self.new }
     {
         self.side.begin_run();
         let end = read_into(&mut self.side, rt, reader, &mut self.intake, max_reads);

@@ -114,7 +114,7 @@ impl RecvEnd {
     /// Sleeps until something came that concerns this end since its last wait ended, or since the
     /// session began: a message, an absolving, a limit or a Finish on its channel, a free slot where a
     /// call since then was refused by 13, or the end of a pump's run. What calls have found meanwhile
-    /// ends it too: look again after each wait.
+    /// ends it too: look again after each wait. No clause says when it ends.
     pub fn wait<R: Wait>(&mut self, rt: &R) -> Wake
         ensures same { self.new ≡ self.old }
     {

@@ -135,7 +135,7 @@ impl SendEnd {
     /// Sleeps until something came that concerns this end since its last wait ended, or since the
     /// session began: guarantees or a plead on its channel, a free slot where a call since then was
     /// refused by 13, or the end of a pump's run. What calls have found meanwhile ends it too: look
-    /// again after each wait.
+    /// again after each wait. No clause says when it ends.
     ///
     /// Nothing that comes concerns a finished end: it does not sleep, and the answer is `Over`.
     pub fn wait<R: Wait>(&mut self, rt: &R) -> Wake

@@ -1,9 +1,9 @@
 //! How a session is made and stopped.
-ghost use Rattle.std.specs.Prelude.{◌≡◌, ◌<◌, ◌∷◌, [], take, map, IfOk};
+ghost use Rattle.std.specs.Prelude.{◌≡◌, ◌<◌, ◌∷◌, [], take, map, None, IfOk};
 ghost use Rattle.std.specs.Result.{result_err};
 ghost use Rattle.lc_frame.specs.declared.version.Version.{Version};
 ghost use Rattle.lc_frame.specs.Channel.{number_of};
-ghost use Rattle.lc_peer.specs.Config.{IsNewAnswer};
+ghost use Rattle.lc_peer.specs.Config.{config_fault, IsNewAnswer};
 ghost use Rattle.lc_queue.specs.Parts.{QueueId, new_ends, new_outlet};
 ghost use Rattle.lc_credit.specs.Sides.{new_outgoing};
 ghost use Rattle.lc_credit.specs.Channels.{credit_out};
@@ -34,6 +34,7 @@ use std::alloc::{AllocError, Global};
 use std::sync::Arc;
 
 /// Who has this can stop the session's writing pump. It can be cloned, for any thread that may fail.
+/// Contracts see nothing of it, and no clause speaks of its two calls.
 #[derive(Drop)]
 pub struct Session {
     wakers: Arc<Wakers, Global>,
@@ -137,6 +138,7 @@ fn put_together(
 
 // The parts of a session of a lawful configuration. The error is want of memory.
 fn make(alloc: Global, config: Config) -> Result<Parts, AllocError>
+    requires { config_fault config ≡ None }
     ensures { IfOk result (λ parts. IsNewSession config (state_of parts)) }
 {
     let batch = Batch::new(alloc, config.version)?;

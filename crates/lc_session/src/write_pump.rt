@@ -172,6 +172,9 @@ impl WritePump {
     ///
     /// It flushes before it sleeps and before it stops. It tries no failed write again. When the run
     /// ends all ends are woken.
+    ///
+    /// No clause says that it was asked to stop, that it flushed, or that several frames went out in
+    /// one write; and that the queue was empty where it stopped they say of the lanes that have ended.
     pub fn run<R: Wait, W: CountedWrite>(&mut self, rt: &R, writer: &mut W) -> WriteEnd
         ensures pumps { Pumps (W.contents writer.old) (W.contents writer.new) self.old self.new }
         ensures end { IsEnd result self.new }

@@ -11,4 +11,4 @@ put_together-requires-clause-outgoing c = (sides_in_place _ _ _ _ _ _ c.in-Ok.en
 pub returns : goal.returns
 returns c =
     let all = c.put_together.ensures in
-    new_session c.args.config _ c.in-Ok.lanes.drain c.in-Ok.lanes.ends c.in-Ok-share_all.inboxes.clients _ _ _ _ _ all.sending all.receiving all.reading all.writing c.in-Ok.ensures.drain c.in-Ok.ensures.ends c.in-Ok-share_all.ensures.clients (search rules) c.in_ok-credits.ensures.new c.in_ok-credits.ensures.matched c.in-Ok-share_all.ensures.new c.in-Ok-share_all.ensures.matched c.in_ok-intake.ensures c.in-Ok.ensures.slots
+    new_session c.args.config _ c.in-Ok.lanes.drain c.in-Ok.lanes.ends c.in-Ok-share_all.inboxes.clients _ _ _ _ _ all.sending all.receiving all.reading all.writing c.in-Ok.ensures.drain c.in-Ok.ensures.ends c.in-Ok-share_all.ensures.clients (search rules) c.in_ok-credits.ensures.new c.in_ok-credits.ensures.matched c.in-Ok-share_all.ensures.new c.in-Ok-share_all.ensures.matched c.in_ok-intake.ensures c.in-Ok.ensures.slots c.requires

@@ -1,3 +1,4 @@
+use Rattle.std.proofs.Common.{rules}
 use Rattle.lc_session.proofs.Pumped.{writes_all, writes_some}
 use Rattle.lc_session.proofs.write_pump.write_pending.Goals as goal
 
@@ -9,3 +10,6 @@ returns-in-Err-Failed-clause-writes g c = writes_some _ _ _ _ _ _ c.bytes.ensure
 
 pub returns-in-Err-Zero-clause-writes : goal.returns-in-Err-Zero-clause-writes
 returns-in-Err-Zero-clause-writes g c = writes_some _ _ _ _ _ _ c.bytes.ensures (rw c.in-Err-Zero.field-0-is at c.in-Err-Zero.ensures.grown) c.note_written-in-Err-Zero.ensures
+
+pub returns-in-Err-Zero-clause-counts : goal.returns-in-Err-Zero-clause-counts
+returns-in-Err-Zero-clause-counts g c = search rules

@@ -1,4 +1,4 @@
-use Rattle.std.proofs.Common.{refl, ◌∙◌}
+use Rattle.std.proofs.Common.{refl, rules, ◌∙◌}
 use Rattle.lc_session.proofs.Pumped.{goes_keep, pumps_on, pumps_popped}
 use Rattle.lc_session.proofs.write_pump.WritePump.turn.Goals as goal
 
@@ -13,3 +13,9 @@ returns-in-Ok-clause-pumps g c = pumps_popped _ _ _ _ _ refl c.flush_counted.ens
 
 pub returns-in-Err-clause-pumps : goal.returns-in-Err-clause-pumps
 returns-in-Err-clause-pumps g c = pumps_popped _ _ _ _ _ refl c.flush_counted.ensures.bytes c.join_popped.ensures.pops
+
+pub returns-in-Ok-clause-end : goal.returns-in-Ok-clause-end
+returns-in-Ok-clause-end g c = search rules
+
+pub returns-in-Ok-clause-counts : goal.returns-in-Ok-clause-counts
+returns-in-Ok-clause-counts g c = search rules
