@@ -1,1 +1,4 @@
 mod Back
+mod Takes
+mod Messages
+mod Puts

@@ -1,14 +1,15 @@
 //! The exchange by turns on one channel.
 ghost use Rattle.std.specs.Prelude.{◌≡◌, length};
 
-use crate::config::RING;
 use crate::connection::{Wires, connect_both};
 use crate::fault::fault_among;
 use crate::hold::Hold;
 use crate::opening::{Opened, open};
 use crate::patience::Patience;
+use crate::plan::Plan;
 use crate::pumping::{join_pump_outcomes, start_pumps};
 use crate::sending::send;
+use crate::taken::Taken;
 use crate::taking::{issue, take};
 use crate::worker::{Outcome, Part, Worker, join_outcome, start};
 use lc_frame::Version;
@@ -28,28 +29,32 @@ struct Player {
     receiving: RecvEnd,
 }
 
-// So many rounds, and how often a player may look in vain.
+// The sessions of the game, its rounds, and how often a player may look in vain.
 #[derive(Clone, Copy)]
 struct Game {
+    plan: Plan,
     rounds: u32,
     turns: u32,
 }
 
 impl Part for Player {
     ghost same = { λ _ _. Unit {0} };
+
+    ghost gives = { λ _ _ _. Unit {0} };
 }
 
 impl Worker<Game> for Player {
     fn work<R: Wait>(&mut self, rt: &R, hold: &Hold, game: Game) -> Outcome {
         let turns = game.turns;
         let mut patience = Patience::Polls { turns, hold };
-        issue(rt, &mut self.receiving, RING, &mut patience)?;
+        let mut buffer = [0; 4];
+        issue(rt, &mut self.receiving, game.plan.capacity, &mut patience)?;
         for round in 0..game.rounds {
             let body = round.to_be_bytes();
             send(rt, &mut self.sending, &body, &mut patience)?;
-            take(rt, &mut self.receiving, &body, &mut patience)?;
+            take(rt, &mut self.receiving, &body, &mut buffer, &mut patience)?;
         }
-        Ok(u64::from(game.rounds))
+        Ok(Taken::NOTHING)
     }
 }
 
@@ -123,7 +128,7 @@ where
     R: Threads + Wait + Copy + Send + 'static,
     S: Read + Write + Send + Drop + 'static,
 {
-    match open(alloc, [Version::One; 2]) {
+    match open(alloc, game.plan, Version::One, Version::One) {
         Ok(Opened { a, b, hold }) => play_all(rt, &hold, side_of(a), side_of(b), wires, game),
         Err(fault) => Err(fault),
     }
@@ -145,5 +150,11 @@ where
     R: Threads + Wait + Copy + Send + 'static,
 {
     let wires = connect_both(net)?;
-    bounce(rt, alloc, wires, Game { rounds, turns })
+    let plan = Plan::small(rounds);
+    let game = Game {
+        plan,
+        rounds,
+        turns,
+    };
+    bounce(rt, alloc, wires, game)
 }

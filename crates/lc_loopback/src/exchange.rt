@@ -1,21 +1,31 @@
-//! What both sides exchange.
-use lc_frame::Version;
+//! The job of an end.
+ghost use Rattle.std.specs.Prelude.{◌≡◌};
+ghost use Rattle.lc_loopback.specs.Plan.{IsPlan};
 
-/// What goes through each channel, each way: so many messages, and behind them a Finish or none.
+use crate::plan::Plan;
+use lc_frame::Version;
+use std::alloc::Global;
+
+/// What an end does: its messages, and behind them a Finish or none.
 #[derive(Clone, Copy)]
 pub(crate) struct Exchange {
-    pub(crate) messages: u32,
+    pub(crate) alloc: Global,
+    pub(crate) plan: Plan,
     pub(crate) finishes: bool,
+    ghost lawful: { IsPlan plan },
 }
 
 impl Exchange {
-    /// So many messages between sides that write in these versions. Channels are finished where both
+    /// This plan between sides that write in these versions. Channels are finished where both
     /// versions can say so.
-    pub(crate) fn of(messages: u32, versions: [Version; 2]) -> Exchange {
-        let [a, b] = versions;
+    pub(crate) fn of(alloc: Global, plan: Plan, versions: (Version, Version)) -> Exchange
+        requires { IsPlan plan }
+        ensures { result.plan ≡ plan }
+    {
         Exchange {
-            messages,
-            finishes: a.has_finish() && b.has_finish(),
+            alloc,
+            plan,
+            finishes: versions.0.has_finish() && versions.1.has_finish(),
         }
     }
 }

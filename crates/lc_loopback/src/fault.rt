@@ -1,4 +1,5 @@
 //! Which faults end a run, and which comes first.
+use crate::worker::Outcome;
 use lc_book::Refusal;
 use lc_report::LoopFault;
 
@@ -23,7 +24,7 @@ fn first_of(one: LoopFault, other: LoopFault) -> LoopFault {
 /// The first fault among these and one before.
 pub(crate) fn fault_among(
     before: Result<(), LoopFault>,
-    outcomes: &[Result<u64, LoopFault>],
+    outcomes: &[Outcome],
 ) -> Result<(), LoopFault> {
     let mut first = before;
     for outcome in outcomes {

@@ -4,7 +4,6 @@
 
 mod balance;
 mod bouncing;
-mod config;
 mod connection;
 mod ends;
 mod exchange;
@@ -13,12 +12,15 @@ mod hold;
 mod message;
 mod opening;
 mod patience;
+mod plan;
 mod pumping;
 mod sending;
 mod stage;
+mod taken;
 mod taking;
 mod worker;
 
 pub use bouncing::ping_pong;
 pub use lc_report::{LoopFault, LoopReport};
-pub use stage::{loopback, loopback_as};
+pub use plan::Plan;
+pub use stage::{loopback, loopback_as, loopback_of};

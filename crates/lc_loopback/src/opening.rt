@@ -1,10 +1,11 @@
 //! Two new sessions, and the connections between them.
-ghost use Rattle.std.specs.Prelude.{IfOk};
+ghost use Rattle.std.specs.Prelude.{◌≡◌, IfOk};
 ghost use Rattle.lc_session.specs.Parts.{state_of};
-ghost use Rattle.lc_session.specs.Report.{AreOfOneSession};
+ghost use Rattle.lc_session.specs.Session.{IsNewSession};
+ghost use Rattle.lc_loopback.specs.Plan.{config_of};
 
-use crate::config::config;
 use crate::hold::Hold;
+use crate::plan::Plan;
 use lc_frame::Version;
 use lc_report::LoopFault;
 use lc_session::{Parts, Session};
@@ -19,10 +20,8 @@ pub(crate) struct Opened {
 }
 
 fn held(alloc: Global, a: Parts, b: Parts) -> Result<Opened, LoopFault>
-    requires a { AreOfOneSession (state_of a) }
-    requires b { AreOfOneSession (state_of b) }
-    ensures a { IfOk result (λ opened. AreOfOneSession (state_of opened.a)) }
-    ensures b { IfOk result (λ opened. AreOfOneSession (state_of opened.b)) }
+    ensures a { IfOk result (λ opened. opened.a ≡ a) }
+    ensures b { IfOk result (λ opened. opened.b ≡ b) }
 {
     match Hold::new(alloc, &a.session, &b.session) {
         Ok(hold) => Ok(Opened { a, b, hold }),
@@ -30,26 +29,29 @@ fn held(alloc: Global, a: Parts, b: Parts) -> Result<Opened, LoopFault>
     }
 }
 
-fn open_second(alloc: Global, a: Parts, version: Version) -> Result<Opened, LoopFault>
-    requires a { AreOfOneSession (state_of a) }
-    ensures a { IfOk result (λ opened. AreOfOneSession (state_of opened.a)) }
-    ensures b { IfOk result (λ opened. AreOfOneSession (state_of opened.b)) }
+fn open_second(alloc: Global, a: Parts, plan: Plan, version: Version) -> Result<Opened, LoopFault>
+    ensures a { IfOk result (λ opened. opened.a ≡ a) }
+    ensures b { IfOk result (λ opened. IsNewSession (config_of plan version) (state_of opened.b)) }
 {
-    match Session::new(alloc, config(version)) {
+    match Session::new(alloc, plan.config(version)) {
         Ok(b) => held(alloc, a, b),
         Err(_) => Err(LoopFault::OutOfMemory),
     }
 }
 
-/// Each side writes in its version. All the memory that both sessions need is taken here, but for
-/// the bodies of messages.
-pub(crate) fn open(alloc: Global, versions: [Version; 2]) -> Result<Opened, LoopFault>
-    ensures a { IfOk result (λ opened. AreOfOneSession (state_of opened.a)) }
-    ensures b { IfOk result (λ opened. AreOfOneSession (state_of opened.b)) }
+/// Two new sessions of a plan: each side writes in its version. All the memory that both sessions
+/// need is taken here, but for the bodies of messages.
+pub(crate) fn open(
+    alloc: Global,
+    plan: Plan,
+    a_version: Version,
+    b_version: Version,
+) -> Result<Opened, LoopFault>
+    ensures a { IfOk result (λ opened. IsNewSession (config_of plan a_version) (state_of opened.a)) }
+    ensures b { IfOk result (λ opened. IsNewSession (config_of plan b_version) (state_of opened.b)) }
 {
-    let [a_version, b_version] = versions;
-    match Session::new(alloc, config(a_version)) {
-        Ok(a) => open_second(alloc, a, b_version),
+    match Session::new(alloc, plan.config(a_version)) {
+        Ok(a) => open_second(alloc, a, plan, b_version),
         Err(_) => Err(LoopFault::OutOfMemory),
     }
 }

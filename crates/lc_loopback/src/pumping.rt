@@ -1,12 +1,13 @@
 //! What the pumps do.
 ghost use Rattle.std.specs.Prelude.{◌≡◌};
-ghost use Rattle.lc_session.specs.Reading.{IsSameReading};
 ghost use Rattle.lc_session.specs.Pumping.{IsSamePump};
+ghost use Rattle.lc_session.specs.Heard.{HearsMore};
 
 use crate::connection::{Wire, Wires};
 use crate::hold::Hold;
+use crate::taken::Taken;
 use crate::worker::{Done, Outcome, Part, Work, Worker, join, join_outcome, start};
-use lc_driver::{Counted, ReadEnd};
+use lc_driver::{Counted, ReadEnd, Uninterrupted};
 use lc_report::LoopFault;
 use lc_session::{ReadPump, WriteEnd, WritePump};
 use std::io::{Read, Write};
@@ -14,20 +15,24 @@ use std::sync::Wait;
 use std::thread::Threads;
 
 impl Part for ReadPump {
-    ghost same = { λ old new. IsSameReading old.side new.side };
+    ghost same = { HearsMore };
+
+    ghost gives = { λ _ _ _. Unit {0} };
 }
 
 impl Part for WritePump {
     ghost same = { IsSamePump };
+
+    ghost gives = { λ _ _ _. Unit {0} };
 }
 
 // Reads until the stream ends. Its reader goes then, so that the other side's writes fail where it
 // writes on.
 impl<S: Read + Drop> Worker<S> for ReadPump {
     fn work<R: Wait>(&mut self, rt: &R, _hold: &Hold, stream: S) -> Outcome {
-        let mut reader = Counted::new(stream);
+        let mut reader = Counted::new(Uninterrupted::new(stream));
         match self.run(rt, &mut reader, u64::MAX) {
-            ReadEnd::Clean => Ok(0),
+            ReadEnd::Clean => Ok(Taken::NOTHING),
             ReadEnd::ReadFailed => Err(LoopFault::Device),
             _ => Err(LoopFault::BadMessage),
         }
@@ -37,9 +42,9 @@ impl<S: Read + Drop> Worker<S> for ReadPump {
 // Writes until the session is stopped. Its writer goes then, which ends the stream.
 impl<S: Write + Drop> Worker<S> for WritePump {
     fn work<R: Wait>(&mut self, rt: &R, _hold: &Hold, stream: S) -> Outcome {
-        let mut writer = Counted::new(stream);
+        let mut writer = Counted::new(Uninterrupted::new(stream));
         match self.run(rt, &mut writer) {
-            WriteEnd::Stopped => Ok(0),
+            WriteEnd::Stopped => Ok(Taken::NOTHING),
             WriteEnd::Failed | WriteEnd::Zero => Err(LoopFault::Device),
         }
     }
@@ -93,7 +98,7 @@ where
 
 /// Waits for both pumps of a side.
 pub(crate) fn join_pumps<R: Threads>(rt: &R, pumping: Pumping) -> (Done<ReadPump>, Done<WritePump>)
-    ensures reading { IsSameReading pumping.reading.side result.0.worker.side }
+    ensures reading { HearsMore pumping.reading result.0.worker }
     ensures writing { IsSamePump pumping.writing result.1.worker }
 {
     let writing = join(rt, pumping.writing);

@@ -1,21 +1,31 @@
 //! The exchange on all channels.
-ghost use Rattle.std.specs.Prelude.{◌≡◌, IsTrue, IfOk};
+ghost use Rattle.std.specs.Prelude.{◌≡◌, ◌∷◌, [], IfOk, Ok, map};
+ghost use Rattle.lc_frame.specs.declared.version.Version.TheVariants.{One};
 ghost use Rattle.lc_session.specs.Parts.{state_of};
-ghost use Rattle.lc_session.specs.Report.{AreOfOneSession};
+ghost use Rattle.lc_session.specs.Session.{IsNewSession};
+ghost use Rattle.lc_loopback.specs.Plan.{IsPlan, config_of, small_plan};
+ghost use Rattle.lc_loopback.specs.Ends.{end_of_sender, end_of_taker};
+ghost use Rattle.lc_loopback.specs.Played.{messages_of, bytes_of, Exchanged, BeganNew, IsReportOf, CameTo, TwoRan};
 
 use crate::balance::agree;
 use crate::connection::{Wires, connect_both};
-use crate::ends::{Back, join_ends, start_ends};
+use crate::ends::{Back, join_ends, recv_ends_of, send_ends_of, start_ends};
 use crate::exchange::Exchange;
 use crate::fault::fault_among;
 use crate::hold::Hold;
 use crate::opening::{Opened, open};
+use crate::plan::Plan;
 use crate::pumping::{join_pumps, start_pumps};
+use crate::sending::Sender;
+use crate::taken::Taken;
+use crate::taking::Taker;
 use crate::worker::{Done, Outcome};
+use lc_credit::Balance;
 use lc_frame::Version;
+use lc_inbox::apart;
 use lc_interleaving::finish_both;
 use lc_report::{LoopFault, LoopReport};
-use lc_session::{Parts, ReadPump, RecvEnd, SendEnd, Session, WritePump};
+use lc_session::{Parts, ReadPump, Session, WritePump};
 use std::alloc::Global;
 use std::io::{Read, Write};
 use std::net::Net;
@@ -34,19 +44,21 @@ struct Played {
 impl Played {
     fn new(
         session: Session,
-        ends: (Back<SendEnd>, Back<RecvEnd>),
+        ends: (Back<Sender>, Back<Taker>),
         pumps: (Done<ReadPump>, Done<WritePump>),
     ) -> Played
-        ensures { state_of result.parts ≡ record { sending = ends.0.workers; receiving = ends.1.workers; reading = pumps.0.worker; writing = pumps.1.worker } }
+        ensures sent { result.sent ≡ ends.0.outcomes }
+        ensures took { result.took ≡ ends.1.outcomes }
+        ensures parts { state_of result.parts ≡ record { sending = map end_of_sender ends.0.workers; receiving = map end_of_taker ends.1.workers; reading = pumps.0.worker; writing = pumps.1.worker } }
     {
         let (senders, takers) = ends;
         let (reading, writing) = pumps;
         let Back {
-            workers: send_ends,
+            workers: senders,
             outcomes: sent,
         } = senders;
         let Back {
-            workers: recv_ends,
+            workers: takers,
             outcomes: took,
         } = takers;
         let Done {
@@ -59,8 +71,8 @@ impl Played {
         } = writing;
         let parts = Parts {
             session,
-            send_ends,
-            recv_ends,
+            send_ends: send_ends_of(senders),
+            recv_ends: recv_ends_of(takers),
             read_pump,
             write_pump,
         };
@@ -78,11 +90,32 @@ impl Played {
         let before = fault_among(before, &self.took);
         fault_among(before, &self.pumped)
     }
+}
 
-    // The bytes that each end took.
-    fn bytes(&self) -> [u64; 7] {
-        self.took.map(|outcome| outcome.unwrap_or(0))
-    }
+// What each of seven came to, where all came to something.
+fn all_of(outcomes: [Outcome; 7]) -> Result<[Taken; 7], LoopFault>
+    ensures { IfOk result (λ all. outcomes ≡ map Ok all) }
+{
+    let (a, b, c, d, e, f, g) = apart(outcomes);
+    Ok([a?, b?, c?, d?, e?, f?, g?])
+}
+
+fn messages_of(all: [Taken; 7]) -> [u64; 7]
+    ensures { result ≡ map messages_of all }
+{
+    let (a, b, c, d, e, f, g) = apart(all);
+    [
+        a.messages, b.messages, c.messages, d.messages, e.messages, f.messages, g.messages,
+    ]
+}
+
+fn bytes_of(all: [Taken; 7]) -> [u64; 7]
+    ensures { result ≡ map bytes_of all }
+{
+    let (a, b, c, d, e, f, g) = apart(all);
+    [
+        a.bytes, b.bytes, c.bytes, d.bytes, e.bytes, f.bytes, g.bytes,
+    ]
 }
 
 // Both sides exchange this on each channel, until all threads are joined.
@@ -97,10 +130,8 @@ fn play<R, S>(
 where
     R: Threads + Wait + Copy + Send + 'static,
     S: Read + Write + Send + Drop + 'static,
-    requires a { AreOfOneSession (state_of a) }
-    requires b { AreOfOneSession (state_of b) }
-    ensures a { AreOfOneSession (state_of result.0.parts) }
-    ensures b { AreOfOneSession (state_of result.1.parts) }
+    ensures a { Exchanged exchange.plan (state_of a) (state_of result.0.parts) result.0.sent result.0.took }
+    ensures b { Exchanged exchange.plan (state_of b) (state_of result.1.parts) result.1.sent result.1.took }
 {
     let a_pumps = (a.read_pump, a.write_pump);
     let b_pumps = (b.read_pump, b.write_pump);
@@ -117,26 +148,45 @@ where
     (a, b)
 }
 
+// The report, where the guarantees that each side spent are what the other took.
+fn judge(
+    a_clients: [Balance; 7],
+    b_clients: [Balance; 7],
+    a_took: [Taken; 7],
+    b_took: [Taken; 7],
+) -> Result<LoopReport, LoopFault>
+    ensures { IfOk result (λ report. IsReportOf a_clients b_clients a_took b_took report) }
+{
+    let (a_bytes, b_bytes) = (bytes_of(a_took), bytes_of(b_took));
+    if !agree(a_clients, b_bytes) || !agree(b_clients, a_bytes) {
+        return Err(LoopFault::BadMessage);
+    }
+    Ok(LoopReport {
+        messages: [messages_of(b_took), messages_of(a_took)],
+        bytes: [b_bytes, a_bytes],
+        balanced: true,
+    })
+}
+
 // What both sides come to, once their threads are joined.
-fn conclude<R: Wait>(rt: &R, a: Played, b: Played, count: u32) -> Result<LoopReport, LoopFault>
-    requires a { AreOfOneSession (state_of a.parts) }
-    requires b { AreOfOneSession (state_of b.parts) }
-    ensures balanced { IfOk result (λ report. IsTrue report.balanced) }
+fn conclude<R: Wait>(
+    rt: &R,
+    a: Played,
+    b: Played,
+    plan: Plan,
+    versions: (Version, Version),
+) -> Result<LoopReport, LoopFault>
+    requires a { BeganNew plan versions.0 (state_of a.parts) a.sent a.took }
+    requires b { BeganNew plan versions.1 (state_of b.parts) b.sent b.took }
+    ensures { IfOk result (λ report. CameTo plan versions.0 versions.1 (state_of a.parts) (state_of b.parts) report) }
 {
     let fault = b.fault_after(a.fault_after(Ok(())));
-    let (a_bytes, b_bytes) = (a.bytes(), b.bytes());
+    let (a_outcomes, b_outcomes) = ((a.sent, a.took), (b.sent, b.took));
     let (a_report, b_report) = finish_both(rt, a.parts, b.parts);
     fault?;
-    let report = LoopReport {
-        messages: [[u64::from(count); 7]; 2],
-        bytes: [b_bytes, a_bytes],
-        balanced: agree(a_report.clients, b_bytes) && agree(b_report.clients, a_bytes),
-    };
-    if report.balanced {
-        Ok(report)
-    } else {
-        Err(LoopFault::BadMessage)
-    }
+    let (a_sent, b_sent) = (all_of(a_outcomes.0)?, all_of(b_outcomes.0)?);
+    let (a_took, b_took) = (all_of(a_outcomes.1)?, all_of(b_outcomes.1)?);
+    judge(a_report.clients, b_report.clients, a_took, b_took)
 }
 
 /// Exchanges so many messages on each channel and in each direction between two sessions, over a
@@ -147,9 +197,17 @@ where
     N: Net,
     N::Stream: Send + 'static,
     R: Threads + Wait + Copy + Send + 'static,
-    ensures balanced { IfOk result (λ report. IsTrue report.balanced) }
+    ensures { IfOk result (λ report. TwoRan (small_plan count) (One ∷ One ∷ []) report) }
 {
     loopback_as(net, rt, alloc, count, [Version::One; 2])
+}
+
+// The versions of both sides.
+fn both(versions: [Version; 2]) -> (Version, Version)
+    ensures { versions ≡ result.0 ∷ result.1 ∷ [] }
+{
+    let [a, b] = versions;
+    (a, b)
 }
 
 /// As [`loopback`], where A writes in the first of these versions and B in the second. Where both are
@@ -166,15 +224,34 @@ where
     N: Net,
     N::Stream: Send + 'static,
     R: Threads + Wait + Copy + Send + 'static,
-    ensures balanced { IfOk result (λ report. IsTrue report.balanced) }
+    ensures { IfOk result (λ report. TwoRan (small_plan count) versions report) }
 {
+    loopback_of(net, rt, alloc, Plan::small(count), versions)
+}
+
+/// As [`loopback_as`], by a plan of the caller's.
+pub fn loopback_of<N, R>(
+    net: &N,
+    rt: R,
+    alloc: Global,
+    plan: Plan,
+    versions: [Version; 2],
+) -> Result<LoopReport, LoopFault>
+where
+    N: Net,
+    N::Stream: Send + 'static,
+    R: Threads + Wait + Copy + Send + 'static,
+    requires { IsPlan plan }
+    ensures { IfOk result (λ report. TwoRan plan versions report) }
+{
+    let versions = both(versions);
     let wires = connect_both(net)?;
-    match open(alloc, versions) {
+    match open(alloc, plan, versions.0, versions.1) {
         Ok(opened) => {
             let Opened { a, b, hold } = opened;
-            let exchange = Exchange::of(count, versions);
+            let exchange = Exchange::of(alloc, plan, versions);
             let (a, b) = play(rt, &hold, a, b, wires, exchange);
-            conclude(&rt, a, b, count)
+            conclude(&rt, a, b, plan, versions)
         }
         Err(fault) => Err(fault),
     }

@@ -1,7 +1,10 @@
 //! A part of a session at work in a thread of its own.
-ghost use Rattle.std.specs.Prelude.{◌≡◌};
+ghost use Rattle.std.specs.Prelude.{◌≡◌, Err, IfOk};
+ghost use Rattle.lc_report.specs.declared.fault.LoopFault.TheVariants.{OutOfMemory as NoMemory};
+ghost use Rattle.lc_loopback.specs.declared.taken.Taken.{Taken as Count};
 
 use crate::hold::Hold;
+use crate::taken::Taken;
 use lc_report::LoopFault;
 use std::marker::Model;
 use std::snapshot::Snapshot;
@@ -13,15 +16,18 @@ use std::thread::{Promise, PromisedHandle, Threads};
 pub(crate) trait Part: Drop + 'static {
     // That it is still the same part of the same session.
     ghost same: { Self → Self → Type 0 };
+    // What it did, where its work came to so much.
+    ghost gives: { Self → Count → Self → Type 0 };
 }
 
-/// What a thread's work comes to: how many bytes of messages it took.
-pub(crate) type Outcome = Result<u64, LoopFault>;
+/// What a thread's work comes to: what it took.
+pub(crate) type Outcome = Result<Taken, LoopFault>;
 
 /// A part that does a job.
 pub(crate) trait Worker<J>: Part + Send {
     fn work<R: Wait>(&mut self, rt: &R, hold: &Hold, job: J) -> Outcome
-        ensures same { Self.same self.old self.new };
+        ensures same { Self.same self.old self.new }
+        ensures gives { IfOk result (λ n. Self.gives self.old n self.new) };
 }
 
 /// What a thread gives back.
@@ -36,7 +42,9 @@ pub(crate) struct Done<W> {
 pub(crate) struct Same<W>(Snapshot<W>);
 
 impl<W: Part> Promise<Done<W>> for Same<W> {
-    ghost kept_by = { λ p r. W.same p.0.value r.worker };
+    ghost use Rattle.std.specs.Prelude.{IfOk};
+
+    ghost kept_by = { λ p r. W.same p.0.value r.worker × IfOk r.outcome (λ n. W.gives p.0.value n r.worker) };
 }
 
 /// A part at work. Contracts see the part as it went.
@@ -54,12 +62,13 @@ impl<W: Part> Model for Work<W> {
 
     ghost view = { λ w. w.given.value };
 
-    ghost invariant = { λ w. IfOk w.place (λ handle. handle.promise.0.value ≡ w.given.value) × IfErr w.place (λ done. W.same w.given.value done.worker) };
+    ghost invariant = { λ w. IfOk w.place (λ handle. handle.promise.0.value ≡ w.given.value) × IfErr w.place (λ done. W.same w.given.value done.worker × IfOk done.outcome (λ n. W.gives w.given.value n done.worker)) };
 }
 
 // Does the work. A worker that fails stops both sessions, or others would wait for it.
 fn run<R: Wait, J, W: Worker<J>>(rt: &R, hold: &Hold, worker: W, job: J) -> Done<W>
-    ensures { W.same worker result.worker }
+    ensures same { W.same worker result.worker }
+    ensures gives { IfOk result.outcome (λ n. W.gives worker n result.worker) }
 {
     let mut worker = worker;
     let outcome = worker.work(rt, hold, job);
@@ -71,14 +80,15 @@ fn run<R: Wait, J, W: Worker<J>>(rt: &R, hold: &Hold, worker: W, job: J) -> Done
 
 // The same in a thread, which has a hold of its own.
 fn run_there<R: Wait + Copy, J, W: Worker<J>>(rt: R, hold: Hold, worker: W, job: J) -> Done<W>
-    ensures { W.same worker result.worker }
+    ensures same { W.same worker result.worker }
+    ensures gives { IfOk result.outcome (λ n. W.gives worker n result.worker) }
 {
     run(&rt, &hold, worker, job)
 }
 
 // There was no thread for this work.
 fn refused<W: Part>(done: Done<W>) -> Done<W>
-    ensures { result.worker ≡ done.worker }
+    ensures { result ≡ record { worker = done.worker; outcome = Err NoMemory } }
 {
     Done {
         worker: done.worker,
@@ -114,7 +124,8 @@ where
 
 /// Waits until the part is back.
 pub(crate) fn join<R: Threads, W: Part>(rt: &R, work: Work<W>) -> Done<W>
-    ensures { W.same work result.worker }
+    ensures same { W.same work result.worker }
+    ensures gives { IfOk result.outcome (λ n. W.gives work n result.worker) }
 {
     let Work { place, given: _ } = work;
     match place {

@@ -6,7 +6,7 @@ ghost use Rattle.lc_inbox.specs.Sides.{Side, IsSameSide};
 ghost use Rattle.lc_outbox.specs.Outbox.{OutboxState, IsSameOutbox};
 ghost use Rattle.lc_session.specs.Parts.{state_of};
 ghost use Rattle.lc_session.specs.Pumping.{IsSamePump};
-ghost use Rattle.lc_session.specs.Reading.{IsSameReading};
+ghost use Rattle.lc_session.specs.Heard.{HearsMore};
 ghost use Rattle.lc_session.specs.Report.{AreOfOneSession};
 
 use lc_book::Refusal;
@@ -190,7 +190,7 @@ fn write_all_out<R: Wait>(rt: &R, mut pump: WritePump, writer: PipeWriter) -> Wr
 
 // Reads until the stream ends.
 fn read_all<R: Wait>(rt: &R, mut pump: ReadPump, reader: PipeReader) -> ReadPump
-    ensures { IsSameReading pump.side result.side }
+    ensures { HearsMore pump result }
 {
     let _end = pump.run(rt, &mut Counted::new(reader), u64::MAX);
     pump
@@ -204,13 +204,13 @@ fn use_pumps<R: Threads + Wait + Sync>(
     writing: WritePump,
     writer: PipeWriter,
 ) -> (ReadPump, WritePump)
-    ensures reading { IsSameReading reading.side result.0.side }
+    ensures reading { HearsMore reading result.0 }
     ensures writing { IsSamePump writing result.1 }
 {
     join(
         rt,
         || -> ReadPump
-            ensures { IsSameReading reading.side result.side }
+            ensures { HearsMore reading result }
         { read_all(rt, reading, reader) },
         || -> WritePump
             ensures { IsSamePump writing result }
@@ -239,7 +239,7 @@ fn use_all<R: Threads + Wait + Sync>(
     let (pumps, ends) = join(
         rt,
         || -> (ReadPump, WritePump)
-            ensures { IsSameReading read_pump.side result.0.side × IsSamePump write_pump result.1 }
+            ensures { HearsMore read_pump result.0 × IsSamePump write_pump result.1 }
         { use_pumps(rt, read_pump, reader, write_pump, writer) },
         || -> ([SendEnd; 7], [RecvEnd; 7])
             ensures { AllZip IsSameOutbox send_ends result.0 × AllZip IsSameSide recv_ends result.1 }

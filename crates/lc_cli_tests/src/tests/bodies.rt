@@ -113,20 +113,3 @@ fn longer_bodies_are_refused(rt: HostRuntime) {
         same(&rt, "a long body", sent(rt.alloc(), digits), wanted);
     }
 }
-
-// What a script in version Two shows that sends a body that is too long in version One, and one that
-// is too long in version Two.
-fn sent_in_two(alloc: Global) -> Option<String> {
-    let long = "61".repeat(alloc, 65_536).ok()?;
-    let longer = "61".repeat(alloc, 1_048_577).ok()?;
-    let script = format!(in alloc;
-        "B issue 1 65536\nA arrive\nA send 1 {long}\nA send 1 {longer}\n"
-    ).ok()?;
-    shown(alloc, "lcmux replay 65536 2", &mut script.as_bytes())
-}
-
-#[test]
-fn bodies_are_longer_in_version_two(rt: HostRuntime) {
-    let wanted = "> ok\n> arrived\n> ok\n> refused 2\n= 0\n";
-    same(&rt, "a longer body", sent_in_two(rt.alloc()), wanted);
-}

@@ -190,27 +190,24 @@ fn a_report_that_cannot_be_written_is_a_failed_write(rt: HostRuntime) {
     same(&rt, "the first write", found, "lcmux: write failed\n= 1\n");
 }
 
-// What two sessions of version One come to over a network in trouble.
-fn troubled<R>(rt: R, alloc: Global, trouble: Trouble, at: u64) -> Option<String>
-where
-    R: Net<Listener = TcpListener, Stream = TcpStream>
-        + Threads
-        + Wait
-        + Copy
-        + Send
-        + Drop
-        + 'static,
-{
-    troubled_as(rt, alloc, [Version::One; 2], trouble, at)
-}
+/// How many messages go through each channel each way, and the versions in which both sides write.
+type Exchange = (u32, [Version; 2]);
 
-// And those that write in these versions.
-fn troubled_as<R>(
+const ONES: Exchange = (100, [Version::One, Version::One]);
+
+const MIXED: Exchange = (1, [Version::One, Version::Two]);
+
+const REVERSED: Exchange = (1, [Version::Two, Version::One]);
+
+const TWOS: Exchange = (1, [Version::Two, Version::Two]);
+
+// What two sessions come to over a network in trouble.
+fn troubled<R>(
     rt: R,
     alloc: Global,
-    versions: [Version; 2],
     trouble: Trouble,
     at: u64,
+    (count, versions): Exchange,
 ) -> Option<String>
 where
     R: Net<Listener = TcpListener, Stream = TcpStream>
@@ -222,96 +219,128 @@ where
         + 'static,
 {
     let net = Troubled::new(alloc, rt, trouble, at).ok()?;
-    let answer = loopback_as(&net, rt, alloc, 100, versions).map(|report| report.balanced);
+    let answer = loopback_as(&net, rt, alloc, count, versions).map(|report| report.balanced);
     format!(in alloc; "{answer:?}").ok()
 }
 
-#[test]
-fn a_connection_that_is_not_made_fails(rt: HostRuntime) {
-    for at in 1..=12 {
-        same(
-            &rt,
-            "a call",
-            troubled(rt, rt.alloc(), Trouble::Refuses, at),
-            "Err(Device)",
+/// A trouble, the first and the last of the calls at which it is met in turn, the exchange, and what
+/// that comes to.
+type Case = (Trouble, u64, u64, Exchange, &'static str);
+
+// An exchange comes to what its case says.
+fn comes_to<R>(rt: R, alloc: Global, (trouble, first, last, exchange, wanted): Case)
+where
+    R: Net<Listener = TcpListener, Stream = TcpStream>
+        + Threads
+        + Wait
+        + Abort
+        + Copy
+        + Send
+        + Drop
+        + 'static,
+{
+    for at in first..=last {
+        let found = troubled(rt, alloc, trouble, at, exchange);
+        let found = found.as_deref().unwrap_or("nothing");
+        let is_wanted = wanted.split(" or ").any(|one| one == found);
+        assert!(rt;
+            is_wanted,
+            "{trouble:?} at {at} of {exchange:?}: {found}, not {wanted}"
         );
     }
-    same(
-        &rt,
-        "none",
-        troubled(rt, rt.alloc(), Trouble::Refuses, 13),
-        "Ok(true)",
-    );
 }
 
-#[test]
-fn a_socket_that_fails_ends_both_sessions(rt: HostRuntime) {
-    for at in [1, 2, 3, 4, 7, 20, 100] {
-        same(
-            &rt,
-            "a read",
-            troubled(rt, rt.alloc(), Trouble::FailsToRead, at),
-            "Err(Device)",
-        );
-        same(
-            &rt,
-            "a write",
-            troubled(rt, rt.alloc(), Trouble::FailsToWrite, at),
-            "Err(Device)",
-        );
-    }
-}
+const WHOLE: &str = "Ok(true)";
+
+const FAILED: &str = "Err(Device)";
+
+const BAD: &str = "Err(BadMessage)";
 
 // Which fault it is depends on who finds it first: who reads, or who writes to a side that is gone.
-fn is_fault(rt: &impl Abort, what: &str, found: Option<String>) {
-    let found = found.as_deref().unwrap_or("nothing");
-    let is_fault = found == "Err(Over)" || found == "Err(Device)" || found == "Err(BadMessage)";
-    assert!(rt; is_fault, "{what}: {found}");
-}
+const ANY: &str = "Err(Over) or Err(Device) or Err(BadMessage)";
+
+// Two connections are made, by twelve calls.
+const CONNECTIONS: [Case; 4] = [
+    (Trouble::Refuses, 1, 12, ONES, FAILED),
+    (Trouble::Refuses, 13, 13, ONES, WHOLE),
+    (Trouble::Stranger, 1, 2, ONES, FAILED),
+    (Trouble::Stranger, 3, 3, ONES, WHOLE),
+];
 
 #[test]
-fn a_stream_that_ends_too_early_ends_both_sessions(rt: HostRuntime) {
-    for at in [1, 2] {
-        let found = troubled(rt, rt.alloc(), Trouble::Ends, at);
-        is_fault(&rt, "an end", found);
+fn a_connection_that_fails_or_is_a_strangers_is_refused(rt: HostRuntime) {
+    for case in &CONNECTIONS {
+        comes_to(rt, rt.alloc(), *case);
     }
 }
 
-// How many streams of sessions in these versions begin with a greeting.
-const GREETINGS: [([Version; 2], u64); 4] = [
-    ([Version::One, Version::One], 0),
-    ([Version::One, Version::Two], 1),
-    ([Version::Two, Version::One], 1),
-    ([Version::Two, Version::Two], 2),
+const SOCKETS: [Case; 7] = [
+    (Trouble::FailsToRead, 1, 4, ONES, FAILED),
+    (Trouble::FailsToRead, 20, 20, ONES, FAILED),
+    (Trouble::FailsToRead, 100, 100, ONES, FAILED),
+    (Trouble::FailsToWrite, 1, 4, ONES, FAILED),
+    (Trouble::FailsToWrite, 20, 20, ONES, FAILED),
+    (Trouble::FailsToWrite, 100, 100, ONES, FAILED),
+    (Trouble::Ends, 1, 2, ONES, ANY),
+];
+
+#[test]
+fn a_socket_that_fails_or_ends_too_early_ends_both_sessions(rt: HostRuntime) {
+    for case in &SOCKETS {
+        comes_to(rt, rt.alloc(), *case);
+    }
+}
+
+// Each stream of version Two begins with a greeting.
+const GREETINGS: [Case; 7] = [
+    (Trouble::Misgreets, 1, 1, ONES, WHOLE),
+    (Trouble::Misgreets, 1, 1, MIXED, ANY),
+    (Trouble::Misgreets, 2, 2, MIXED, WHOLE),
+    (Trouble::Misgreets, 1, 1, REVERSED, ANY),
+    (Trouble::Misgreets, 2, 2, REVERSED, WHOLE),
+    (Trouble::Misgreets, 1, 2, TWOS, ANY),
+    (Trouble::Misgreets, 3, 3, TWOS, WHOLE),
 ];
 
 #[test]
 fn another_greeting_ends_both_sessions(rt: HostRuntime) {
-    for &(versions, greetings) in &GREETINGS {
-        for at in 1..=greetings {
-            let found = troubled_as(rt, rt.alloc(), versions, Trouble::Misgreets, at);
-            is_fault(&rt, "a greeting", found);
-        }
-        let found = troubled_as(
-            rt,
-            rt.alloc(),
-            versions,
-            Trouble::Misgreets,
-            greetings.saturating_add(1),
-        );
-        same(&rt, "no greeting", found, "Ok(true)");
+    for case in &GREETINGS {
+        comes_to(rt, rt.alloc(), *case);
     }
 }
 
+// The first four bytes of a message are its number, and the longest has sixteen.
+const MESSAGES: [Case; 8] = [
+    (Trouble::Changes(0), 1, 2, ONES, BAD),
+    (Trouble::Changes(0), 5, 5, ONES, BAD),
+    (Trouble::Changes(0), 30, 30, ONES, BAD),
+    (Trouble::Changes(1), 1, 1, ONES, BAD),
+    (Trouble::Changes(2), 1, 1, ONES, BAD),
+    (Trouble::Changes(3), 1, 2, ONES, BAD),
+    (Trouble::Changes(4), 1, 2, ONES, BAD),
+    (Trouble::Changes(15), 1, 1, ONES, BAD),
+];
+
 #[test]
 fn another_message_than_the_one_due_ends_both_sessions(rt: HostRuntime) {
-    for at in [1, 2, 5, 30] {
-        same(
-            &rt,
-            "a message",
-            troubled(rt, rt.alloc(), Trouble::Changes, at),
-            "Err(BadMessage)",
-        );
+    for case in &MESSAGES {
+        comes_to(rt, rt.alloc(), *case);
+    }
+}
+
+// Fourteen channels are finished where both sides write in version Two, and none elsewhere.
+const FINISHES: [Case; 5] = [
+    (Trouble::Adds, 1, 1, ONES, WHOLE),
+    (Trouble::Adds, 1, 1, MIXED, WHOLE),
+    (Trouble::Adds, 1, 1, REVERSED, WHOLE),
+    (Trouble::Adds, 1, 14, TWOS, BAD),
+    (Trouble::Adds, 15, 15, TWOS, WHOLE),
+];
+
+#[test]
+fn a_message_more_before_the_end_ends_both_sessions(rt: HostRuntime) {
+    for case in &FINISHES {
+        comes_to(rt, rt.alloc(), *case);
     }
 }
 

@@ -1,4 +1,6 @@
 //! A network over loopback in which one call goes wrong.
+ghost use Rattle.std.specs.Prelude.{◌≤◌, IfOk, length};
+
 use std::alloc::{AllocError, Global};
 use std::io;
 use std::io::{ErrorKind, Read, Write};
@@ -6,22 +8,27 @@ use std::net::{Net, OpenListener, OpenStream, SocketAddr, TcpListener, TcpStream
 use std::os::fd::{AsRawFd, RawFd};
 use std::sync::Arc;
 use std::sync::atomic::{AtomicU64, Ordering};
+use std::time::Duration;
 
 /// What goes wrong.
 #[derive(Clone, Copy, Debug, PartialEq, Eq)]
 pub enum Trouble {
     /// A call that sets a connection up fails.
     Refuses,
+    /// Someone else connects first, and passes on what is written.
+    Stranger,
     /// A read fails.
     FailsToRead,
     /// A write fails.
     FailsToWrite,
     /// A read says that the stream has ended.
     Ends,
-    /// A write that begins with a message changes its first byte.
-    Changes,
+    /// A write that begins with a message of more bytes changes this one of them, counted from 0.
+    Changes(usize),
     /// A write that begins with a greeting changes its last byte.
     Misgreets,
+    /// A message more comes, late, between the last one of a channel and its Finish.
+    Adds,
 }
 
 // The calls that may be in trouble.
@@ -44,6 +51,17 @@ impl Calls {
             return Err(io::Error::from(ErrorKind::Other));
         }
         Ok(())
+    }
+
+    // The place of the byte that a write of these frames changes, if it is the one.
+    fn change(&self, frames: &[u8]) -> Option<usize> {
+        let place = match (self.trouble, frames) {
+            (Trouble::Changes(byte), [0x10..=0x16, high, low, ..])
+                if byte < usize::from(u16::from_be_bytes([*high, *low])) => { 3 + byte }
+            (Trouble::Misgreets, [0x4c, 0x43, 0x4d, _, ..]) => 3,
+            _ => return None,
+        };
+        self.meets(self.trouble).then_some(place)
     }
 }
 
@@ -70,7 +88,42 @@ impl<R> Troubled<R> {
 #[derive(Drop)]
 pub struct Stream {
     stream: TcpStream,
+    // The address of its own connection, where it writes to a stranger's.
+    own: Option<SocketAddr>,
     calls: Arc<Calls, Global>,
+}
+
+impl Stream {
+    // Writes frames, of which one may be changed.
+    fn write_frames(&mut self, frames: &[u8]) -> io::Result<usize>
+        ensures { IfOk result (λ n. n ≤ length frames.now) }
+    {
+        let place = self.calls.change(frames);
+        match place.and_then(|place| frames.split_at_checked(place)) {
+            Some((before, [byte, after @ ..])) => {
+                self.stream.write_all(before)?;
+                self.stream.write_all(&[!*byte])?;
+                self.stream.write_all(after)?;
+                Ok(frames.len())
+            }
+            _ => self.stream.write(frames),
+        }
+    }
+
+    // Writes a Finish. Where that is the trouble, a message of one byte comes before it, once whoever
+    // does not wait for the end has gone.
+    fn write_finish(&mut self, tag: u8) -> io::Result<usize>
+        ensures { IfOk result (λ n. n ≤ 1) }
+    {
+        if self.calls.meets(Trouble::Adds) {
+            let pause = Duration::from_millis(10);
+            self.stream.set_read_timeout(Some(pause))?;
+            // Nothing is ever written back.
+            let _paused = self.stream.read(&mut [0]);
+            self.stream.write_all(&[tag ^ 0x60, 0, 0, 0, 1, 0xff])?;
+        }
+        self.stream.write(&[tag])
+    }
 }
 
 /// A listener of such a network.
@@ -95,10 +148,14 @@ impl<R: Net<Listener = TcpListener, Stream = TcpStream>> Net for Troubled<R> {
 
     fn connect(&self, addr: SocketAddr) -> io::Result<Stream> {
         self.calls.set_up()?;
-        Ok(Stream {
-            stream: self.net.connect(addr)?,
-            calls: Arc::try_clone(&self.calls)?,
-        })
+        let calls = Arc::try_clone(&self.calls)?;
+        let stream = self.net.connect(addr)?;
+        let own = if calls.meets(Trouble::Stranger) {
+            Some(self.net.connect(addr)?.local_addr()?)
+        } else {
+            None
+        };
+        Ok(Stream { stream, own, calls })
     }
 }
 
@@ -109,7 +166,8 @@ impl OpenListener for Listener {
         self.calls.set_up()?;
         let calls = Arc::try_clone(&self.calls)?;
         let (stream, from) = self.listener.accept()?;
-        Ok((Stream { stream, calls }, from))
+        let own = None;
+        Ok((Stream { stream, own, calls }, from))
     }
 
     fn local_addr(&self) -> io::Result<SocketAddr> {
@@ -127,7 +185,10 @@ impl AsRawFd for Listener {
 impl OpenStream for Stream {
     fn local_addr(&self) -> io::Result<SocketAddr> {
         self.calls.set_up()?;
-        self.stream.local_addr()
+        match self.own {
+            Some(own) => Ok(own),
+            None => self.stream.local_addr(),
+        }
     }
 
     fn set_nodelay(&self, nodelay: bool) -> io::Result<()> {
@@ -154,30 +215,21 @@ impl Read for Stream {
     }
 }
 
-// How a write of these bytes may change its fourth.
-fn trouble_of(bytes: &[u8]) -> Option<Trouble> {
-    match bytes {
-        [0x10..=0x16, _, _, _, ..] => Some(Trouble::Changes),
-        [0x4c, 0x43, 0x4d, _, ..] => Some(Trouble::Misgreets),
-        _ => None,
-    }
+// Whether this is the tag of a Finish. In streams of less than 112 messages no other byte is one.
+fn is_finish(byte: u8) -> bool {
+    matches!(byte, 0x70..=0x76)
 }
 
 impl Write for Stream {
+    // A Finish is written by itself.
     fn write(&mut self, buf: &[u8]) -> io::Result<usize> {
         if self.calls.meets(Trouble::FailsToWrite) {
             return Err(io::Error::from(ErrorKind::Other));
         }
-        // Of a message it is the byte behind its tag and its length, of a greeting the last.
-        let is_met = trouble_of(buf).is_some_and(|trouble| self.calls.meets(trouble));
-        match buf {
-            [first, second, third, fourth, rest @ ..] if is_met => {
-                let changed = [*first, *second, *third, !*fourth];
-                self.stream.write_all(&changed)?;
-                self.stream.write_all(rest)?;
-                Ok(buf.len())
-            }
-            _ => self.stream.write(buf),
+        match buf.iter().position(|byte| is_finish(*byte)) {
+            Some(0) => self.write_finish(buf[0]),
+            Some(place) => self.write_frames(&buf[..place]),
+            None => self.write_frames(buf),
         }
     }
 

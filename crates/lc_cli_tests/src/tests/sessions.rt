@@ -55,10 +55,12 @@ $ lcmux replay 8
 = 0
 $ lcmux replay 8
 < A send 1 -
++ 65536 A send 1
 < A limit-sending 1 0
 < A send 1 -
 < A send 1 61
 > refused 1
+> refused 2
 > ok
 > refused 1
 > refused 3 left 0
@@ -174,6 +176,18 @@ $ lcmux replay 8
 > ended
 = 0
 $ lcmux replay 8
+< A limit-sending 1 3
+< A limit-sending 1 4
+< A limit-sending 1 3
+< A limit-sending 0 4611686018427387905
+< A limit-sending 0 4611686018427387904
+> ok
+> refused 8 left 3
+> ok
+> refused 7
+> ok
+= 0
+$ lcmux replay 8
 < B issue 1 5
 < A arrive
 < B limit-receiving 1 0
@@ -221,7 +235,8 @@ $ lcmux replay 8
 = 0
 ";
 
-// Streams of version Two begin with a greeting, whose bytes are counted and which is no frame.
+// Streams of version Two begin with a greeting, whose bytes are counted and which is no frame. Their
+// messages are longer.
 const VERSION_TWO: &str = "$ lcmux replay 8 2
 < A arrive
 < A deliver 9
@@ -265,6 +280,16 @@ $ lcmux replay 8 2
 > delivered 9 bytes 0 frames
 > delivered 2 bytes 1 frames
 > took 6869
+= 0
+$ lcmux replay 65536 2
+< B issue 1 65536
+< A arrive
++ 65536 A send 1
++ 1048577 A send 1
+> ok
+> arrived
+> ok
+> refused 2
 = 0
 ";
 

@@ -1,8 +1,9 @@
 //! Runs of the program, written down as a terminal would show them.
 //!
 //! `$ ` begins a case with its command line, in which `''` is an empty argument. `< ` begins a line
-//! of standard input, and `x ` bytes of it in hexadecimal; `> ` begins a line of standard output,
-//! `! ` one of standard error, and `= ` the exit status.
+//! of standard input, `x ` bytes of it in hexadecimal, and `+ ` a line of it that ends with a body of
+//! so many bytes; `> ` begins a line of standard output, `! ` one of standard error, and `= ` the exit
+//! status.
 use super::devices::ShortReader;
 use super::same;
 use lc_cli::run;
@@ -146,6 +147,7 @@ impl<'a> Case<'a> {
         match mark {
             "<" => writeln!(self.input, "{rest}").ok(),
             "x" => self.read_digits(alloc, rest),
+            "+" => self.read_long_line(alloc, rest),
             _ => writeln!(self.wanted, "{line}").ok(),
         }
     }
@@ -156,6 +158,12 @@ impl<'a> Case<'a> {
             self.input.extend_from_slice(byte.as_slice()).ok()?;
         }
         Some(())
+    }
+
+    fn read_long_line(&mut self, alloc: Global, line: &str) -> Option<()> {
+        let (len, line) = line.split_once(' ')?;
+        let body = "61".repeat(alloc, len.parse::<usize>().ok()?).ok()?;
+        writeln!(self.input, "{line} {body}").ok()
     }
 
     // Runs the case, with short reads and with long ones.
