@@ -1,4 +1,7 @@
-//! The calls of ends, each made again until it is accepted.
+//! The calls of ends, each made again until it is accepted. An end stays the same end of its session.
+ghost use Rattle.lc_inbox.specs.Sides.{IsSameSide};
+ghost use Rattle.lc_outbox.specs.Outbox.{IsSameOutbox};
+
 use crate::fault::Fault;
 use lc_book::Refusal;
 use lc_peer::Take;
@@ -7,7 +10,9 @@ use lc_wake::Wake;
 use std::sync::Wait;
 
 /// Sends a message as soon as the other side has room for it, which it says by guarantees.
-pub fn send<R: Wait>(rt: &R, end: &mut SendEnd, body: &[u8]) -> Result<(), Fault> {
+pub fn send<R: Wait>(rt: &R, end: &mut SendEnd, body: &[u8]) -> Result<(), Fault>
+    ensures { IsSameOutbox end.old end.new }
+{
     let mut wake = Wake::Again;
     for _ in rt.forever() {
         match end.send(rt, body) {
@@ -22,7 +27,9 @@ pub fn send<R: Wait>(rt: &R, end: &mut SendEnd, body: &[u8]) -> Result<(), Fault
 }
 
 /// Says that no more messages come on the end's channel.
-pub fn end_sending<R: Wait>(rt: &R, end: &mut SendEnd) -> Result<(), Fault> {
+pub fn end_sending<R: Wait>(rt: &R, end: &mut SendEnd) -> Result<(), Fault>
+    ensures { IsSameOutbox end.old end.new }
+{
     let mut wake = Wake::Again;
     for _ in rt.forever() {
         match end.limit(rt, 0) {
@@ -36,7 +43,9 @@ pub fn end_sending<R: Wait>(rt: &R, end: &mut SendEnd) -> Result<(), Fault> {
 }
 
 /// Promises the other side room for so many bytes. On a channel that it finished it wants none.
-pub fn issue<R: Wait>(rt: &R, end: &mut RecvEnd, amount: u32) -> Result<(), Fault> {
+pub fn issue<R: Wait>(rt: &R, end: &mut RecvEnd, amount: u32) -> Result<(), Fault>
+    ensures { IsSameSide end.old end.new }
+{
     for _ in rt.forever() {
         match end.issue(rt, amount) {
             Ok(()) | Err(Refusal::ChannelFinished) => return Ok(()),
@@ -53,7 +62,9 @@ pub fn issue<R: Wait>(rt: &R, end: &mut RecvEnd, amount: u32) -> Result<(), Faul
 
 /// Takes the next message, promises its room anew, and says how long it is. `None` where no message
 /// will come.
-pub fn take<R: Wait>(rt: &R, end: &mut RecvEnd, buffer: &mut [u8]) -> Result<Option<usize>, Fault> {
+pub fn take<R: Wait>(rt: &R, end: &mut RecvEnd, buffer: &mut [u8]) -> Result<Option<usize>, Fault>
+    ensures { IsSameSide end.old end.new }
+{
     let mut wake = Wake::Again;
     for _ in rt.forever() {
         match end.take_into(rt, buffer) {

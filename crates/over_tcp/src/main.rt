@@ -6,50 +6,65 @@
 mod calls;
 mod fault;
 mod items;
+mod patience;
 mod side;
 mod tasks;
 
-use anyhow::{Error, anyhow};
+use anyhow::{Context, Error, anyhow};
 use items::{CONNECTING, LISTENING};
-use side::sync;
+use patience::accept;
+use side::{Synced, sync};
 use std::alloc::Global;
 use std::env;
 use std::net::{Ipv4Addr, Net, TcpListener, TcpStream};
 use std::sync::Wait;
 use std::thread::{Threads, join};
+use std::time::Clock;
+
+// The items that a side lacked; or why it failed, and what never went out.
+fn lacked_of(synced: Synced) -> Result<String, Error> {
+    let Synced {
+        lacked,
+        left,
+        partly,
+    } = synced;
+    lacked.context(format_args!(
+        "{left} frames never went out, nor {partly} bytes of one that was begun"
+    ))
+}
 
 // Waits for one other process.
 fn listen<R>(rt: &R, alloc: Global, port: u16) -> Result<String, Error>
 where
-    R: Net<Listener = TcpListener, Stream = TcpStream> + Threads + Wait + Sync,
+    R: Net<Listener = TcpListener, Stream = TcpStream> + Threads + Wait + Clock + Sync,
 {
     let listener = TcpListener::bind(rt, (Ipv4Addr::LOCALHOST, port))?;
-    let (socket, _) = listener.accept()?;
-    Ok(sync(rt, alloc, socket, LISTENING)?)
+    let socket = accept(rt, &listener)?;
+    lacked_of(sync(rt, alloc, socket, LISTENING)?)
 }
 
 fn connect<R>(rt: &R, alloc: Global, port: u16) -> Result<String, Error>
 where
-    R: Net<Listener = TcpListener, Stream = TcpStream> + Threads + Wait + Sync,
+    R: Net<Listener = TcpListener, Stream = TcpStream> + Threads + Wait + Clock + Sync,
 {
     let socket = TcpStream::connect(rt, (Ipv4Addr::LOCALHOST, port))?;
-    Ok(sync(rt, alloc, socket, CONNECTING)?)
+    lacked_of(sync(rt, alloc, socket, CONNECTING)?)
 }
 
 // Both sides in this process: what the one that listens lacked, and what the other did.
 fn both<R>(rt: &R, alloc: Global) -> Result<(String, String), Error>
 where
-    R: Net<Listener = TcpListener, Stream = TcpStream> + Threads + Wait + Sync,
+    R: Net<Listener = TcpListener, Stream = TcpStream> + Threads + Wait + Clock + Sync,
 {
     let listener = TcpListener::bind(rt, (Ipv4Addr::LOCALHOST, 0u16))?;
     let far = TcpStream::connect(rt, listener.local_addr()?)?;
-    let (near, _) = listener.accept()?;
+    let near = accept(rt, &listener)?;
     let lacked = join(
         rt,
         || sync(rt, alloc, far, CONNECTING),
         || sync(rt, alloc, near, LISTENING),
     );
-    Ok((lacked.1?, lacked.0?))
+    Ok((lacked_of(lacked.1?)?, lacked_of(lacked.0?)?))
 }
 
 fn main(rt: HostRuntime) -> Result<(), Error> {

@@ -1,28 +1,46 @@
 //! One side of a sync: a session over a socket, whose parts six threads have.
+ghost use Rattle.std.specs.List.{AllZip};
+ghost use Rattle.lc_inbox.specs.Sides.{IsSameSide};
+ghost use Rattle.lc_outbox.specs.Outbox.{IsSameOutbox};
+ghost use Rattle.lc_session.specs.Reading.{IsSameReading};
+ghost use Rattle.lc_session.specs.Pumping.{IsSamePump};
+ghost use Rattle.lc_session.specs.Parts.{state_of};
+ghost use Rattle.lc_session.specs.Report.{AreOfOneSession};
+
 use crate::fault::{Fault, both};
+use crate::patience::{Deadline, Patient};
 use crate::tasks::{RING, ask, collect, offer, serve};
-use lc_driver::{Counted, ReadEnd};
+use lc_driver::{Counted, ReadEnd, Uninterrupted};
 use lc_frame::Version;
 use lc_inbox::apart;
 use lc_peer::Config;
-use lc_session::{Parts, ReadPump, RecvEnd, SendEnd, Session, WriteEnd, WritePump};
+use lc_session::{Parts, ReadPump, RecvEnd, SendEnd, Session, WriteEnd, WritePump, finish};
 use std::alloc::Global;
 use std::net::{Shutdown, TcpStream};
 use std::sync::Wait;
-use std::thread::{Threads, join};
-use std::time::Duration;
+use std::thread::{Threads, join, join_mut};
+use std::time::Clock;
 
 /// How many frames may wait to go out.
 const SLOTS: u32 = 16;
 
-/// How many seconds the other side may be silent, or read nothing.
-const PATIENCE: u64 = 30;
+/// What a sync came to.
+#[derive(Drop)]
+pub struct Synced {
+    /// The items that this side lacked, a line each.
+    pub lacked: Result<String, Fault>,
+    /// How many frames never went out.
+    pub left: u64,
+    /// How many bytes never went out of a frame that was begun.
+    pub partly: u64,
+}
 
-// What any thread can end the session by: a hold of it, and a clone of the socket of its pumps.
+// What any thread can end the session by: a hold of it, and the socket of its pumps.
 #[derive(Drop)]
 struct Hold {
     session: Session,
     socket: TcpStream,
+    deadline: Deadline,
 }
 
 impl Hold {
@@ -36,22 +54,34 @@ impl Hold {
         }
         answer
     }
+
+    // The socket as a pump has it: a signal is no dead transport, and patience ends.
+    fn device<'a, R>(&'a self, rt: &'a R) -> Counted<Uninterrupted<Patient<'a, R>>> {
+        Counted::new(Uninterrupted::new(Patient {
+            rt,
+            socket: &self.socket,
+            deadline: self.deadline,
+        }))
+    }
 }
 
 // Reads up to the end of what the other side writes. A transport that fails and a frame that breaks
 // the rules are answered by the pump; all waits answer `Over` from then on, so that the tasks end.
-fn read<R: Wait>(rt: &R, mut pump: ReadPump, socket: TcpStream) -> Result<(), Fault> {
-    match pump.run(rt, &mut Counted::new(socket), u64::MAX) {
+fn read<R: Wait + Clock>(rt: &R, hold: &Hold, pump: &mut ReadPump) -> Result<(), Fault>
+    ensures { IsSameReading pump.old.side pump.new.side }
+{
+    match pump.run(rt, &mut hold.device(rt), u64::MAX) {
         ReadEnd::Clean => Ok(()),
         _ => Err(Fault::Over),
     }
 }
 
 // Writes until the session is stopped, and then ends this side's half of the connection.
-fn write<R: Wait>(rt: &R, mut pump: WritePump, socket: TcpStream) -> Result<(), Fault> {
-    let mut writer = Counted::new(socket);
-    match pump.run(rt, &mut writer) {
-        WriteEnd::Stopped => Ok(writer.into_inner().shutdown(Shutdown::Write)?),
+fn write<R: Wait + Clock>(rt: &R, hold: &Hold, pump: &mut WritePump) -> Result<(), Fault>
+    ensures { IsSamePump pump.old pump.new }
+{
+    match pump.run(rt, &mut hold.device(rt)) {
+        WriteEnd::Stopped => Ok(hold.socket.shutdown(Shutdown::Write)?),
         WriteEnd::Failed | WriteEnd::Zero => Err(Fault::Over),
     }
 }
@@ -60,15 +90,19 @@ fn write<R: Wait>(rt: &R, mut pump: WritePump, socket: TcpStream) -> Result<(), 
 fn give<'a, R: Threads + Wait + Sync>(
     rt: &'a R,
     hold: &'a Hold,
-    names: SendEnd,
-    requests: RecvEnd,
-    data: SendEnd,
+    names: &mut SendEnd,
+    requests: &mut RecvEnd,
+    answers: &mut SendEnd,
     items: &'a str,
-) -> Result<(), Fault> {
-    let (offered, served) = join(
+) -> Result<(), Fault>
+    ensures names { IsSameOutbox names.old names.new }
+    ensures requests { IsSameSide requests.old requests.new }
+    ensures answers { IsSameOutbox answers.old answers.new }
+{
+    let (offered, served) = join_mut(
         rt,
-        || hold.give_up_at(offer(rt, names, items)),
-        || hold.give_up_at(serve(rt, requests, data, items)),
+        &mut || hold.give_up_at(offer(rt, names, items)),
+        &mut || hold.give_up_at(serve(rt, requests, answers, items)),
     );
     both(offered, served)?;
     Ok(())
@@ -79,15 +113,19 @@ fn gain<'a, R: Threads + Wait + Sync>(
     rt: &'a R,
     alloc: Global,
     hold: &'a Hold,
-    names: RecvEnd,
-    requests: SendEnd,
-    data: RecvEnd,
+    names: &mut RecvEnd,
+    requests: &mut SendEnd,
+    answers: &mut RecvEnd,
     items: &'a str,
-) -> Result<String, Fault> {
-    let (asked, collected) = join(
+) -> Result<String, Fault>
+    ensures names { IsSameSide names.old names.new }
+    ensures requests { IsSameOutbox requests.old requests.new }
+    ensures answers { IsSameSide answers.old answers.new }
+{
+    let (asked, collected) = join_mut(
         rt,
-        || hold.give_up_at(ask(rt, names, requests, items)),
-        || hold.give_up_at(collect(rt, alloc, data, items)),
+        &mut || hold.give_up_at(ask(rt, names, requests, items)),
+        &mut || hold.give_up_at(collect(rt, alloc, answers, items)),
     );
     let ((), lacked) = both(asked, collected)?;
     Ok(lacked)
@@ -102,51 +140,112 @@ fn work<'a, R: Threads + Wait + Sync>(
     send_ends: [SendEnd; 7],
     recv_ends: [RecvEnd; 7],
     items: &'a str,
-) -> Result<String, Fault> {
-    let (names, data, _, _, _, requests, _) = apart(send_ends);
-    let (their_names, their_data, _, _, _, their_requests, _) = apart(recv_ends);
-    let (gave, gained) = join(
+) -> (Result<String, Fault>, [SendEnd; 7], [RecvEnd; 7])
+    ensures sending { AllZip IsSameOutbox send_ends result.1 }
+    ensures receiving { AllZip IsSameSide recv_ends result.2 }
+{
+    let (mut names, mut answers, a, b, c, mut requests, d) = apart(send_ends);
+    let (mut their_names, mut their_answers, e, f, g, mut their_requests, h) = apart(recv_ends);
+    let (gave, gained) = join_mut(
         rt,
-        || give(rt, hold, names, their_requests, data, items),
-        || gain(rt, alloc, hold, their_names, requests, their_data, items),
+        &mut || give(
+            rt,
+            hold,
+            &mut names,
+            &mut their_requests,
+            &mut answers,
+            items,
+        ),
+        &mut || gain(
+            rt,
+            alloc,
+            hold,
+            &mut their_names,
+            &mut requests,
+            &mut their_answers,
+            items,
+        ),
     );
     hold.session.stop();
-    let ((), lacked) = both(gave, gained)?;
-    Ok(lacked)
+    let lacked = both(gave, gained).map(|((), lacked)| lacked);
+    let send_ends = [names, answers, a, b, c, requests, d];
+    let recv_ends = [their_names, their_answers, e, f, g, their_requests, h];
+    (lacked, send_ends, recv_ends)
 }
 
 // Both pumps, until the session is stopped and the other side's stream has ended.
-fn pump<R: Threads + Wait + Sync>(
-    rt: &R,
-    reading: ReadPump,
-    reader: TcpStream,
-    writing: WritePump,
-    writer: TcpStream,
-) -> Result<(), Fault> {
-    let (wrote, heard) = join(
+fn pump<'a, R: Threads + Wait + Clock + Sync>(
+    rt: &'a R,
+    hold: &'a Hold,
+    mut reading: ReadPump,
+    mut writing: WritePump,
+) -> (Result<(), Fault>, ReadPump, WritePump)
+    ensures reading { IsSameReading reading.side result.1.side }
+    ensures writing { IsSamePump writing result.2 }
+{
+    let (wrote, heard) = join_mut(
         rt,
-        || write(rt, writing, writer),
-        || read(rt, reading, reader),
+        &mut || write(rt, hold, &mut writing),
+        &mut || read(rt, hold, &mut reading),
     );
-    both(wrote, heard)?;
-    Ok(())
+    (both(wrote, heard).map(|((), ())| ()), reading, writing)
 }
 
-/// Makes the lists of both sides equal, and answers the items that this one lacked, a line each.
-pub fn sync<'a, R>(
+// All parts of a session at work, until both sides are done: the items that this one lacked, and the
+// parts, back from their threads.
+fn exchange<'a, R: Threads + Wait + Clock + Sync>(
+    rt: &'a R,
+    alloc: Global,
+    parts: Parts,
+    socket: TcpStream,
+    deadline: Deadline,
+    items: &'a str,
+) -> (Result<String, Fault>, Parts)
+    requires { AreOfOneSession (state_of parts) }
+    ensures { AreOfOneSession (state_of result.1) }
+{
+    let Parts {
+        session,
+        send_ends,
+        recv_ends,
+        read_pump,
+        write_pump,
+    } = parts;
+    let hold = Hold {
+        session,
+        socket,
+        deadline,
+    };
+    // Where no thread can be made, `join` runs the first after the second. No wait may come before
+    // the pumps, so they are second: they end by patience then.
+    let ((worked, send_ends, recv_ends), (pumped, read_pump, write_pump)) = join(
+        rt,
+        || -> (Result<String, Fault>, [SendEnd; 7], [RecvEnd; 7])
+            ensures { AllZip IsSameOutbox send_ends result.1 × AllZip IsSameSide recv_ends result.2 }
+        { work(rt, alloc, &hold, send_ends, recv_ends, items) },
+        || -> (Result<(), Fault>, ReadPump, WritePump)
+            ensures { IsSameReading read_pump.side result.1.side × IsSamePump write_pump result.2 }
+        { pump(rt, &hold, read_pump, write_pump) },
+    );
+    let parts = Parts {
+        session: hold.session,
+        send_ends,
+        recv_ends,
+        read_pump,
+        write_pump,
+    };
+    (both(worked, pumped).map(|(lacked, ())| lacked), parts)
+}
+
+/// Makes the lists of both sides equal, and finishes the session.
+pub fn sync<'a, R: Threads + Wait + Clock + Sync>(
     rt: &'a R,
     alloc: Global,
     socket: TcpStream,
     items: &'a str,
-) -> Result<String, Fault>
-where
-    R: Threads + Wait + Sync,
-{
-    let patience = Some(Duration::from_secs(PATIENCE));
+) -> Result<Synced, Fault> {
+    let deadline = Deadline::new(rt)?;
     socket.set_nodelay(true)?;
-    socket.set_read_timeout(patience)?;
-    socket.set_write_timeout(patience)?;
-    let (reader, writer) = (socket.try_clone()?, socket.try_clone()?);
     let config = Config {
         version: Version::One,
         capacities: [RING; 7],
@@ -155,21 +254,11 @@ where
     let Ok(parts) = Session::new(alloc, config) else {
         return Err(Fault::OutOfMemory);
     };
-    let Parts {
-        session,
-        send_ends,
-        recv_ends,
-        read_pump,
-        write_pump,
-    } = parts;
-    let hold = Hold { session, socket };
-    // Where no thread can be made, `join` runs the first after the second. No wait may come before
-    // the pumps, so they are second: they end by patience then.
-    let (lacked, pumped) = join(
-        rt,
-        || work(rt, alloc, &hold, send_ends, recv_ends, items),
-        || pump(rt, read_pump, reader, write_pump, writer),
-    );
-    let (lacked, ()) = both(lacked, pumped)?;
-    Ok(lacked)
+    let (lacked, parts) = exchange(rt, alloc, parts, socket, deadline, items);
+    let report = finish(rt, parts);
+    Ok(Synced {
+        lacked,
+        left: report.left,
+        partly: report.partly,
+    })
 }

@@ -1,5 +1,8 @@
 //! What the threads of a side do, each with ends of its own. No message of the other side is
 //! trusted: what no honest side sends ends the sync, and no more is kept than a limit allows.
+ghost use Rattle.lc_inbox.specs.Sides.{IsSameSide};
+ghost use Rattle.lc_outbox.specs.Outbox.{IsSameOutbox};
+
 use crate::calls::{end_sending, issue, send, take};
 use crate::fault::Fault;
 use crate::items::{LONGEST, MOST, checked, find, name_of};
@@ -11,29 +14,34 @@ use std::sync::Wait;
 pub const RING: u32 = 256;
 
 /// Reconciliation: sends the name of each item.
-pub fn offer<R: Wait>(rt: &R, mut names: SendEnd, items: &str) -> Result<(), Fault> {
+pub fn offer<R: Wait>(rt: &R, names: &mut SendEnd, items: &str) -> Result<(), Fault>
+    ensures { IsSameOutbox names.old names.new }
+{
     for item in items.lines() {
-        send(rt, &mut names, name_of(item).as_bytes())?;
+        send(rt, names, name_of(item).as_bytes())?;
     }
-    end_sending(rt, &mut names)
+    end_sending(rt, names)
 }
 
 /// Asks for each item that the other side names and this one lacks.
 pub fn ask<R: Wait>(
     rt: &R,
-    mut names: RecvEnd,
-    mut requests: SendEnd,
+    names: &mut RecvEnd,
+    requests: &mut SendEnd,
     items: &str,
-) -> Result<(), Fault> {
-    issue(rt, &mut names, RING)?;
+) -> Result<(), Fault>
+    ensures names { IsSameSide names.old names.new }
+    ensures requests { IsSameOutbox requests.old requests.new }
+{
+    issue(rt, names, RING)?;
     let mut name = [0; LONGEST];
     for _ in 0..MOST {
-        let Some(len) = take(rt, &mut names, &mut name)? else {
-            return end_sending(rt, &mut requests);
+        let Some(len) = take(rt, names, &mut name)? else {
+            return end_sending(rt, requests);
         };
         let name = name.get(..len).ok_or(Fault::NoSync)?;
         if find(items, name).is_none() {
-            send(rt, &mut requests, name)?;
+            send(rt, requests, name)?;
         }
     }
     Err(Fault::NoSync)
@@ -42,19 +50,22 @@ pub fn ask<R: Wait>(
 /// Sends each item that the other side asks for.
 pub fn serve<R: Wait>(
     rt: &R,
-    mut requests: RecvEnd,
-    mut data: SendEnd,
+    requests: &mut RecvEnd,
+    answers: &mut SendEnd,
     items: &str,
-) -> Result<(), Fault> {
-    issue(rt, &mut requests, RING)?;
+) -> Result<(), Fault>
+    ensures requests { IsSameSide requests.old requests.new }
+    ensures answers { IsSameOutbox answers.old answers.new }
+{
+    issue(rt, requests, RING)?;
     let mut name = [0; LONGEST];
     for _ in 0..MOST {
-        let Some(len) = take(rt, &mut requests, &mut name)? else {
-            return end_sending(rt, &mut data);
+        let Some(len) = take(rt, requests, &mut name)? else {
+            return end_sending(rt, answers);
         };
         let name = name.get(..len).ok_or(Fault::NoSync)?;
         let item = find(items, name).ok_or(Fault::NoSync)?;
-        send(rt, &mut data, item.as_bytes())?;
+        send(rt, answers, item.as_bytes())?;
     }
     Err(Fault::NoSync)
 }
@@ -63,14 +74,16 @@ pub fn serve<R: Wait>(
 pub fn collect<R: Wait>(
     rt: &R,
     alloc: Global,
-    mut data: RecvEnd,
+    answers: &mut RecvEnd,
     items: &str,
-) -> Result<String, Fault> {
-    issue(rt, &mut data, RING)?;
+) -> Result<String, Fault>
+    ensures { IsSameSide answers.old answers.new }
+{
+    issue(rt, answers, RING)?;
     let mut collected = String::new(alloc);
     let mut message = [0; LONGEST];
     for _ in 0..MOST {
-        let Some(len) = take(rt, &mut data, &mut message)? else {
+        let Some(len) = take(rt, answers, &mut message)? else {
             return Ok(collected);
         };
         let message = message.get(..len).ok_or(Fault::NoSync)?;
