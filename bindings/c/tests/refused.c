@@ -83,77 +83,77 @@ static void empty_handle(lcmux_peer *peer) {
     must(!memcmp(buffer, "unused\0", 8), "nothing is written");
 }
 
-/* What the sentence of each code has to speak of. */
+/* The sentence of each code. */
 static const struct {
     uint32_t code;
-    const char *word;
-} subjects[] = {
+    const char *text;
+} sentences[] = {
     {LCMUX_OK, "done"},
-    {LCMUX_EMPTY_BODY, "message is empty"},
-    {LCMUX_BODY_TOO_LONG, "message is too long"},
-    {LCMUX_PAST_SEND_LIMIT, "than the limit on sending"},
-    {LCMUX_NO_GUARANTEE, "guarantees that are held"},
-    {LCMUX_ZERO_AMOUNT, "amount is zero"},
-    {LCMUX_NOT_HELD, "absolved than is held"},
-    {LCMUX_BOUND_TOO_LARGE, "bound is above 2^62"},
-    {LCMUX_LIMIT_RAISED, "bound is above what an earlier limit"},
-    {LCMUX_PAST_RECEIVE_LIMIT, "issued than the limit on receiving"},
-    {LCMUX_NO_ROOM, "issued than the receiving ring"},
-    {LCMUX_NOTHING_TO_ASK, "target"},
-    {LCMUX_TOTAL_REACHED, "would pass 2^62"},
-    {LCMUX_QUEUE_FULL, "queue is full"},
+    {LCMUX_EMPTY_BODY, "the message is empty"},
+    {LCMUX_BODY_TOO_LONG, "the message is too long"},
+    {LCMUX_PAST_SEND_LIMIT, "the message is longer than the limit on sending leaves"},
+    {LCMUX_NO_GUARANTEE, "the message is longer than the guarantees that are held"},
+    {LCMUX_ZERO_AMOUNT, "the amount is zero"},
+    {LCMUX_NOT_HELD, "more would be absolved than is held"},
+    {LCMUX_BOUND_TOO_LARGE, "the bound is above 2^62"},
+    {LCMUX_LIMIT_RAISED, "the bound is above what an earlier limit leaves"},
+    {LCMUX_PAST_RECEIVE_LIMIT, "more would be issued than the limit on receiving leaves"},
+    {LCMUX_NO_ROOM, "more would be issued than the receiving ring has room for"},
+    {LCMUX_NOTHING_TO_ASK, "the target is not below the guarantees outstanding"},
+    {LCMUX_TOTAL_REACHED, "the guarantees of one channel would pass 2^62"},
+    {LCMUX_QUEUE_FULL, "the outgoing queue is full"},
     {LCMUX_OUT_OF_MEMORY, "out of memory"},
-    {LCMUX_CHANNEL_FINISHED, "channel is finished"},
-    {LCMUX_BUFFER_TOO_SMALL, "buffer is too small"},
-    {LCMUX_WRONG_VERSION, "cannot finish"},
-    {LCMUX_NO_PEER, "handle is empty"},
-    {LCMUX_HAS_PEER, "has a peer already"},
-    {LCMUX_NO_CHANNEL, "no such channel"},
-    {LCMUX_BAD_VERSION, "no such version"},
-    {LCMUX_BAD_CAPACITY, "capacity is not 1 to 2^24"},
-    {LCMUX_BAD_SLOTS, "slots are not 1 to 65,536"},
-    {LCMUX_NO_CODE, "no such code"},
+    {LCMUX_CHANNEL_FINISHED, "the channel is finished"},
+    {LCMUX_BUFFER_TOO_SMALL, "the buffer is too small"},
+    {LCMUX_WRONG_VERSION, "version 1 of the format cannot finish a channel"},
+    {LCMUX_NO_PEER, "the handle is empty"},
+    {LCMUX_HAS_PEER, "the handle has a peer already"},
+    {LCMUX_NO_CHANNEL, "there is no such channel"},
+    {LCMUX_BAD_VERSION, "there is no such version of the format"},
+    {LCMUX_BAD_CAPACITY, "a capacity is not 1 to 2^24"},
+    {LCMUX_BAD_SLOTS, "the slots are not 1 to 65,536"},
+    {LCMUX_NO_CODE, "there is no such code"},
     {LCMUX_EMPTY, "no message waits"},
-    {LCMUX_ENDED, "none will come"},
-    {LCMUX_V1_NOT_GUARANTEED, "longer than the guarantees outstanding"},
-    {LCMUX_V2_SENT_PAST_LIMIT, "message beyond the limit on sending"},
-    {LCMUX_V3_ABSOLVED_TOO_MUCH, "absolved than are outstanding"},
-    {LCMUX_V4_SEND_LIMIT_RAISED, "limit on sending that raises"},
+    {LCMUX_ENDED, "no message waits, and none will come"},
+    {LCMUX_V1_NOT_GUARANTEED, "a message longer than the guarantees outstanding"},
+    {LCMUX_V2_SENT_PAST_LIMIT, "a message beyond the limit on sending"},
+    {LCMUX_V3_ABSOLVED_TOO_MUCH, "more guarantees absolved than are outstanding"},
+    {LCMUX_V4_SEND_LIMIT_RAISED, "a limit on sending that raises an earlier one"},
     {LCMUX_V5_ISSUED_PAST_LIMIT, "guarantees beyond the limit on receiving"},
-    {LCMUX_V6_TOO_MANY_GUARANTEES, "2^24 guarantees held"},
-    {LCMUX_V7_RECEIVE_LIMIT_RAISED, "limit on receiving that raises"},
-    {LCMUX_V8_TOTAL_PASSED, "2^62 guarantees on one channel"},
-    {LCMUX_V9_AFTER_FINISH, "behind its Finish"},
-    {LCMUX_F1_BAD_TAG, "no kind or channel"},
-    {LCMUX_F2_ZERO_LENGTH, "length 0"},
-    {LCMUX_F3_BAD_NUMBER, "out of its range"},
-    {LCMUX_F4_TRUNCATED, "stream ends within"},
+    {LCMUX_V6_TOO_MANY_GUARANTEES, "more than 2^24 guarantees held"},
+    {LCMUX_V7_RECEIVE_LIMIT_RAISED, "a limit on receiving that raises an earlier one"},
+    {LCMUX_V8_TOTAL_PASSED, "more than 2^62 guarantees on one channel"},
+    {LCMUX_V9_AFTER_FINISH, "a frame of the client behind its Finish"},
+    {LCMUX_F1_BAD_TAG, "a byte names no kind or channel, or is not the greeting's"},
+    {LCMUX_F2_ZERO_LENGTH, "a message has length 0"},
+    {LCMUX_F3_BAD_NUMBER, "a number in a frame is out of its range"},
+    {LCMUX_F4_TRUNCATED, "the stream ends within a frame or a greeting"},
 };
 
-#define SUBJECTS (sizeof subjects / sizeof *subjects)
+#define SENTENCES (sizeof sentences / sizeof *sentences)
 
-/* Each code has a sentence of its own that fits 64 bytes, and no other number has one. */
-static void sentences(void) {
-    size_t codes = 0;
-    char before[64] = "";
-    for (uint32_t code = 0; code < 1000; code++) {
+/* A code has its sentence, and no other number has one. */
+static void tell_all(void) {
+    size_t told = 0;
+    for (uint32_t code = 0; code < 1 << 17; code++) {
         char text[64];
         memset(text, '#', sizeof text);
-        lcmux_answer told = lcmux_text(code, text, sizeof text);
-        must(told.code == LCMUX_OK || (told.code == LCMUX_NO_CODE && text[0] == '#'), "text");
-        if (told.code != LCMUX_OK)
+        lcmux_answer answer = lcmux_text(code, text, sizeof text);
+        if (told == SENTENCES || sentences[told].code != code) {
+            must(answer.code == LCMUX_NO_CODE && answer.number == 0 && text[0] == '#', "no other code");
             continue;
-        must(strlen(text) == told.number && told.number > 0, "its length");
-        must(codes < SUBJECTS && subjects[codes].code == code, "a code of the header");
-        must(strstr(text, subjects[codes].word) != NULL, "what its sentence speaks of");
-        must(strcmp(text, before) != 0, "and not what the one before it says");
-        strcpy(before, text);
-        codes++;
-        must(lcmux_text(code, text, told.number).code == LCMUX_BUFFER_TOO_SMALL, "no room for the zero byte");
-        must(lcmux_text(code, text, told.number).number == told.number + 1, "and the room that it needs");
+        }
+        size_t len = strlen(sentences[told].text);
+        must(answer.code == LCMUX_OK && answer.number == len, "its length");
+        must(!strcmp(text, sentences[told].text) && text[len + 1] == '#', "its sentence");
+        text[0] = '#';
+        answer = lcmux_text(code, text, len);
+        must(answer.code == LCMUX_BUFFER_TOO_SMALL && answer.number == len + 1, "no room for the zero byte");
+        must(text[0] == '#', "nothing is written");
+        told++;
     }
-    must(codes == SUBJECTS, "each code of the header");
-    printf("%zu sentences\n", codes);
+    must(told == SENTENCES, "each code");
+    printf("%zu sentences\n", told);
 }
 
 int main(void) {
@@ -188,6 +188,6 @@ int main(void) {
     must(requests == 18, "a configuration that is refused asks for no memory");
     must(lcmux_version() == LCMUX_VERSION_NUMBER, "version");
     puts("handles and configurations as the header says");
-    sentences();
+    tell_all();
     return 0;
 }

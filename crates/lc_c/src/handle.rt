@@ -11,7 +11,6 @@ use std::ptr;
 
 /// The place of a side, or none.
 #[repr(C)]
-#[derive(Drop)]
 pub struct Slot {
     at: *mut (),
     alloc: Global,
@@ -64,6 +63,15 @@ impl Slot {
             ptr: at as *mut Side,
             alloc,
         }
+    }
+}
+
+// A slot that holds a side is never let go: the side leaves it as a box, and its memory with it.
+impl Drop for Slot {
+    fn drop(self)
+        requires { self.held ≡ None }
+    {
+        let Slot { at: _, alloc: _ } = self;
     }
 }
 

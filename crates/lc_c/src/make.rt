@@ -113,7 +113,7 @@ pub extern "C" fn lcmux_peer_new(
     }
 }
 
-/// Gives back all memory of the peer, and leaves the handle empty. Code 32, where it was.
+/// Takes the peer out of the handle, which stays empty, and drops it. Code 32, where it was empty.
 #[unsafe(no_mangle)]
 pub extern "C" fn lcmux_peer_free(alloc: Global, peer: &mut LcmuxPeer) -> LcmuxAnswer
     ensures answer { result ≡ only (if is_some peer.old.slot.held then done else no_peer) }

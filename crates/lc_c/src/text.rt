@@ -1,6 +1,7 @@
 //! What the codes mean, in words.
-ghost use Rattle.std.specs.Prelude.{◌≡◌, length};
-ghost use Rattle.lc_c.specs.Texts.{text_answer, text_in, Tells, version};
+ghost use Rattle.std.specs.Prelude.{◌≡◌, Some, length};
+ghost use Rattle.std.specs.Option.{option_map};
+ghost use Rattle.lc_c.specs.Texts.{version, sentence_in, refusal_sentences, handle_sentences, arrival_sentences, sentence, text_answer, text_in};
 
 use crate::answer::{DONE, LcmuxAnswer, NO_CODE, only, refused};
 use lc_book::Refusal;
@@ -15,8 +16,10 @@ pub extern "C" fn lcmux_version() -> u32
 }
 
 // The sentence of a code below 32: done, or a refusal.
-fn refusal_sentence(code: u32) -> &'static [u8] {
-    match code {
+fn refusal_sentence(code: u32) -> Option<&'static [u8]>
+    ensures { option_map (λ sentence. sentence.now) result ≡ sentence_in refusal_sentences code }
+{
+    let sentence: &'static [u8] = match code {
         0 => b"done",
         1 => b"the message is empty",
         2 => b"the message is too long",
@@ -35,13 +38,16 @@ fn refusal_sentence(code: u32) -> &'static [u8] {
         15 => b"the channel is finished",
         16 => b"the buffer is too small",
         17 => b"version 1 of the format cannot finish a channel",
-        _ => b"",
-    }
+        _ => return None,
+    };
+    Some(sentence)
 }
 
-// The sentence of a code of handles and takes.
-fn handle_sentence(code: u32) -> &'static [u8] {
-    match code {
+// The sentence of a code of handles, configurations and takes.
+fn handle_sentence(code: u32) -> Option<&'static [u8]>
+    ensures { option_map (λ sentence. sentence.now) result ≡ sentence_in handle_sentences code }
+{
+    let sentence: &'static [u8] = match code {
         32 => b"the handle is empty",
         33 => b"the handle has a peer already",
         34 => b"there is no such channel",
@@ -51,13 +57,16 @@ fn handle_sentence(code: u32) -> &'static [u8] {
         38 => b"there is no such code",
         48 => b"no message waits",
         49 => b"no message waits, and none will come",
-        _ => b"",
-    }
+        _ => return None,
+    };
+    Some(sentence)
 }
 
 // The sentence of a code of what arrives: a violation or a fault.
-fn arrival_sentence(code: u32) -> &'static [u8] {
-    match code {
+fn arrival_sentence(code: u32) -> Option<&'static [u8]>
+    ensures { option_map (λ sentence. sentence.now) result ≡ sentence_in arrival_sentences code }
+{
+    let sentence: &'static [u8] = match code {
         101 => b"a message longer than the guarantees outstanding",
         102 => b"a message beyond the limit on sending",
         103 => b"more guarantees absolved than are outstanding",
@@ -71,19 +80,28 @@ fn arrival_sentence(code: u32) -> &'static [u8] {
         202 => b"a message has length 0",
         203 => b"a number in a frame is out of its range",
         204 => b"the stream ends within a frame or a greeting",
-        _ => b"",
+        _ => return None,
+    };
+    Some(sentence)
+}
+
+#[tactic(auto, unfolding(crate::specs::Texts::sentence))]
+fn sentence(code: u32) -> Option<&'static [u8]>
+    ensures { option_map (λ sentence. sentence.now) result ≡ sentence code }
+{
+    match code {
+        0..=31 => refusal_sentence(code),
+        32..=99 => handle_sentence(code),
+        _ => arrival_sentence(code),
     }
 }
 
 // A sentence and a zero byte go to the front of a buffer.
 fn tell(sentence: &[u8], buffer: &mut [u8]) -> LcmuxAnswer
-    ensures answer { result ≡ text_answer sentence.now (length buffer.old) }
-    ensures buffer { buffer.new ≡ text_in sentence.now buffer.old }
+    ensures answer { result ≡ text_answer (Some sentence.now) (length buffer.old) }
+    ensures buffer { buffer.new ≡ text_in (Some sentence.now) buffer.old }
 {
     let len = sentence.len();
-    if len == 0 {
-        return only(NO_CODE);
-    }
     if buffer.len() <= len {
         return refused(Refusal::BufferTooSmall { need: len + 1 });
     }
@@ -100,13 +118,11 @@ fn tell(sentence: &[u8], buffer: &mut [u8]) -> LcmuxAnswer
 /// sentence's length. Codes 38, and 16, whose number is the length of a buffer that would do.
 #[unsafe(no_mangle)]
 pub extern "C" fn lcmux_text(code: u32, buffer: &mut [u8]) -> LcmuxAnswer
-    ensures { Tells buffer.old buffer.new result }
+    ensures answer { result ≡ text_answer (sentence code) (length buffer.old) }
+    ensures buffer { buffer.new ≡ text_in (sentence code) buffer.old }
 {
-    if code < 32 {
-        tell(refusal_sentence(code), buffer)
-    } else if code < 100 {
-        tell(handle_sentence(code), buffer)
-    } else {
-        tell(arrival_sentence(code), buffer)
+    match sentence(code) {
+        Some(sentence) => tell(sentence, buffer),
+        None => only(NO_CODE),
     }
 }
