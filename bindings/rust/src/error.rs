@@ -336,7 +336,7 @@ impl Display for PeerFault {
 
 impl Error for PeerFault {}
 
-/// Why [`Peer::read_from`](crate::Peer::read_from) got nothing.
+/// Why [`Peer::read_from`](crate::Peer::read_from) stopped. The frames before a stop have arrived.
 #[derive(Debug)]
 pub enum ReadError {
     /// The read failed. A further call goes on with the next byte.
@@ -361,3 +361,6 @@ impl From<io::Error> for ReadError {
         ReadError::Io(error)
     }
 }
+
+#[cfg(test)]
+mod tests;

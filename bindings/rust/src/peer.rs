@@ -150,7 +150,7 @@ fn some_unless_none(number: u64) -> Option<u64> {
 }
 
 /// One side of a session. It is fed the bytes that come and asked for the bytes that go out; the
-/// transport is the caller's.
+/// transport is the caller's. It may go to another thread, and two threads do not share it.
 ///
 /// ```
 /// use lcmux::{Channel::Data, Config, Peer, Refusal, Take};
@@ -312,6 +312,10 @@ impl Peer {
     /// that was interrupted is made again. After any other error nothing is lost: a further call goes
     /// on with the next byte, also where the writer was one that would block.
     ///
+    /// # Panics
+    ///
+    /// Where the writer says that it took more than it was offered. Nothing is lost then.
+    ///
     /// ```
     /// # use lcmux::{Channel::Data, Config, Peer};
     /// # let mut peer = Peer::new(&Config::new([8; 7], 4))?;
@@ -334,6 +338,7 @@ impl Peer {
             match writer.write(&self.unsent[self.start..self.end]) {
                 Ok(0) => return Err(ErrorKind::WriteZero.into()),
                 Ok(count) => {
+                    assert!(count <= self.end - self.start, "the writer took too much");
                     self.start += count;
                     written += count as u64;
                 }

@@ -1,133 +1,303 @@
-//! What the crate adds to the calls of the library: writers that fail, threads, texts.
+//! What the calls of a peer put, answer and leave, where `rows.txt` does not say it.
+mod common;
+
+use common::{hex, rows};
 use lcmux::{
-    Channel, Channel::Data, Config, Fault, Peer, PeerFault, ReadError, Refusal, Stop, Violation,
+    Channel,
+    Channel::{Data, Overlap},
+    ClientBook, Config, Delivery, Peer, PeerFault, Refusal, ServerBook, Take, Version,
 };
-use std::error::Error;
-use std::io::{self, ErrorKind, Write};
+use std::marker::PhantomData;
 use std::thread;
 
+fn peer_in(version: Version, capacities: [u32; 7]) -> Peer {
+    let mut config = Config::new(capacities, 16);
+    config.version = version;
+    Peer::new(&config).unwrap()
+}
+
 fn peer() -> Peer {
-    Peer::new(&Config::new([8; 7], 4)).unwrap()
+    peer_in(Version::One, [300_000; 7])
 }
 
-// Takes one byte a call, and fails at one call.
-struct Slow {
-    bytes: Vec<u8>,
-    calls: usize,
-    fails_at: usize,
-    kind: ErrorKind,
+/// All that waits at one peer arrives at the other.
+fn carry(from: &mut Peer, to: &mut Peer) {
+    let mut wire = vec![0; from.pending()];
+    assert_eq!(from.write(&mut wire), wire.len());
+    let delivery = to.deliver(&wire);
+    assert_eq!((delivery.taken, delivery.stop), (wire.len(), None));
 }
 
-impl Write for Slow {
-    fn write(&mut self, buffer: &[u8]) -> io::Result<usize> {
-        self.calls += 1;
-        if self.calls == self.fails_at {
-            return Err(self.kind.into());
-        }
-        self.bytes.push(buffer[0]);
-        Ok(1)
-    }
-
-    fn flush(&mut self) -> io::Result<()> {
-        Ok(())
-    }
-}
-
-fn slow(kind: ErrorKind) -> Slow {
-    Slow {
-        bytes: Vec::new(),
-        calls: 0,
-        fails_at: 4,
-        kind,
-    }
+fn written(peer: &mut Peer) -> Vec<u8> {
+    let mut wire = vec![0; peer.pending()];
+    assert_eq!(peer.write(&mut wire), wire.len());
+    wire
 }
 
 #[test]
-fn a_failed_write_loses_nothing() {
-    let mut peer = peer();
-    peer.issue(Data, 5).unwrap();
-    let mut writer = slow(ErrorKind::WouldBlock);
+fn channels_have_their_names_and_numbers() {
+    let names = [
+        "Reconciliation",
+        "Data",
+        "Overlap",
+        "Capability",
+        "AreaOfInterest",
+        "PayloadRequest",
+        "StaticToken",
+    ];
+    assert_eq!(Channel::ALL.map(|channel| format!("{channel:?}")), names);
+    assert_eq!(Channel::ALL.map(Channel::number), [0, 1, 2, 3, 4, 5, 6]);
+    for channel in Channel::ALL {
+        assert_eq!(Channel::from_number(channel.number()), Some(channel));
+    }
+    assert_eq!([7, 8, 255].map(Channel::from_number), [None; 3]);
+}
+
+#[test]
+fn versions_have_their_numbers_and_one_is_the_default() {
+    for (number, version) in [(1, Version::One), (2, Version::Two)] {
+        assert_eq!(Version::from_number(number), Some(version));
+        assert_eq!(version.number(), number);
+    }
+    assert_eq!([0, 3, 255].map(Version::from_number), [None; 3]);
+    assert_eq!(Version::default(), Version::One);
+    assert_eq!(Config::new([8; 7], 4).version, Version::One);
+}
+
+#[test]
+fn a_configuration_is_judged_by_channel_then_by_slots() {
+    let bad = |capacities, slots| Peer::new(&Config::new(capacities, slots)).unwrap_err();
+    let capacity_of = |channel| PeerFault::BadCapacity { channel };
     assert_eq!(
-        peer.write_to(&mut writer).unwrap_err().kind(),
-        ErrorKind::WouldBlock
+        bad([8, 8, 8, 8, 8, 8, 0], 0),
+        capacity_of(Channel::StaticToken)
     );
-    assert_eq!(writer.bytes, [0x21, 0, 0]);
-    assert_eq!(peer.pending(), 2);
-    let mut next = [9];
-    assert_eq!(peer.write(&mut next), 1);
-    assert_eq!(peer.write_to(&mut writer).unwrap(), 1);
-    assert_eq!((next, writer.bytes), ([0], vec![0x21, 0, 0, 5]));
-    assert_eq!(peer.pending(), 0);
+    assert_eq!(
+        bad([8, 8, 0, 8, 8, (1 << 24) + 1, 8], 4),
+        capacity_of(Overlap)
+    );
+    assert_eq!(bad([8; 7], 0), PeerFault::BadSlots);
+    assert_eq!(bad([8; 7], 65_537), PeerFault::BadSlots);
+    let widest = Peer::new(&Config::new([1, 2, 3, 4, 5, 6, 1 << 24], 65_536)).unwrap();
+    let capacities = Channel::ALL.map(|channel| widest.server(channel).capacity);
+    assert_eq!(capacities, [1, 2, 3, 4, 5, 6, 1 << 24]);
 }
 
 #[test]
-fn an_interrupted_write_is_made_again() {
-    let mut peer = peer();
-    peer.issue(Data, 5).unwrap();
-    let mut writer = slow(ErrorKind::Interrupted);
-    assert_eq!(peer.write_to(&mut writer).unwrap(), 5);
-    assert_eq!(writer.bytes, [0x21, 0, 0, 0, 5]);
-}
-
-#[test]
-fn a_stream_that_was_given_up_is_not_read() {
-    let mut peer = peer();
-    let mut wire: &[u8] = &[0x77, 0x21];
-    for _ in 0..2 {
-        let error = peer.read_from(&mut wire).unwrap_err();
-        assert!(matches!(
-            error,
-            ReadError::Stopped(Stop::Fault(Fault::BadTag))
-        ));
+fn each_call_puts_its_frame_on_its_channel() {
+    for channel in Channel::ALL {
+        let mut peer = peer_in(Version::Two, [8; 7]);
+        let tag = |kind: u8| 16 * kind + channel.number();
+        let arrived = peer.deliver(&[tag(2), 0, 0, 0, 9]);
+        assert_eq!(arrived.frames, 1);
+        peer.send(channel, b"hi").unwrap();
+        peer.issue(channel, 5).unwrap();
+        peer.absolve(channel, 3).unwrap();
+        peer.plead(channel, 4).unwrap();
+        peer.limit_sending(channel, 0x0102_0304_0506).unwrap();
+        peer.limit_receiving(channel, 0x0203_0405_0607).unwrap();
+        peer.finish(channel).unwrap();
+        let frames: [&[u8]; 8] = [
+            &[0x4c, 0x43, 0x4d, 2],
+            &[tag(1), 0, 0, 0, 2, b'h', b'i'],
+            &[tag(2), 0, 0, 0, 5],
+            &[tag(3), 0, 0, 0, 3],
+            &[tag(4), 0, 0, 0, 4],
+            &[tag(5), 0, 0, 1, 2, 3, 4, 5, 6],
+            &[tag(6), 0, 0, 2, 3, 4, 5, 6, 7],
+            &[tag(7)],
+        ];
+        assert_eq!(written(&mut peer), frames.concat());
     }
-    let mut rest: &[u8] = &[0x21];
-    assert!(peer.read_from(&mut rest).is_err());
-    assert_eq!(rest.len(), 1);
 }
 
 #[test]
-fn a_peer_goes_to_another_thread() {
+fn an_honour_absolves_what_is_held_above_the_target() {
+    let cases = [
+        (300, 0, Some(300)),
+        (300_000, 70_000, Some(230_000)),
+        (5, 4, Some(1)),
+    ];
+    for (amount, target, absolved) in cases {
+        let (mut client, mut server) = (peer(), peer());
+        server.issue(Data, amount).unwrap();
+        server.plead(Data, target).unwrap();
+        assert_eq!(client.honour(Data), Ok(None));
+        carry(&mut server, &mut client);
+        assert_eq!(client.honour(Data), Ok(absolved));
+        assert_eq!(client.honour(Data), Ok(None));
+        carry(&mut client, &mut server);
+        assert_eq!(server.server(Data).outstanding, target.into());
+    }
+}
+
+#[test]
+fn messages_are_taken_one_by_one() {
+    let mut peer = peer();
+    assert_eq!((peer.front_len(Data), peer.take(Data)), (None, None));
+    assert_eq!(peer.take_into(Data, &mut [7; 4]), Ok(Take::Empty));
+    peer.issue(Data, 9).unwrap();
+    peer.issue(Overlap, 6).unwrap();
+    let arrived = peer.deliver(b"\x11\x00\x05first\x12\x00\x06beside\x11\x00\x04next");
+    assert_eq!(arrived.frames, 3);
+
+    let fronts = [Data, Overlap, Channel::Capability].map(|channel| peer.front_len(channel));
+    assert_eq!(fronts, [Some(5), Some(6), None]);
+    assert_eq!(peer.take(Overlap).as_deref(), Some(&b"beside"[..]));
+    assert_eq!(peer.take(Data).as_deref(), Some(&b"first"[..]));
+    assert_eq!(peer.server(Data).buffered, 4);
+    let mut buffer = [7; 6];
+    let short = peer.take_into(Data, &mut buffer[..3]);
+    assert_eq!(short, Err(Refusal::BufferTooSmall { need: 4 }));
+    assert_eq!(peer.take_into(Data, &mut buffer), Ok(Take::Took(4)));
+    assert_eq!(&buffer, b"next\x07\x07");
+    assert_eq!((peer.front_len(Data), peer.take(Data)), (None, None));
+
+    let ended = peer.deliver(&[0x51, 0, 0, 0, 0, 0, 0, 0, 0]);
+    assert_eq!(ended.frames, 1);
+    assert_eq!(peer.take_into(Data, &mut buffer), Ok(Take::Ended));
+    assert_eq!((peer.front_len(Data), peer.take(Data)), (None, None));
+}
+
+/// A peer that sent, was asked and limited, and one that received, with what both say of the channel.
+#[test]
+fn both_books_show_each_balance() {
+    let capacities = [0, 1, 2, 3, 4, 5, 6].map(|number| 1_000_000 + number);
+    let (mut client, mut server) = (
+        peer_in(Version::Two, capacities),
+        peer_in(Version::Two, capacities),
+    );
+    server.issue(Overlap, 300_000).unwrap();
+    server.limit_receiving(Overlap, 5_000_000_000).unwrap();
+    carry(&mut server, &mut client);
+    client.limit_sending(Overlap, 6_000_000_000).unwrap();
+    client.send(Overlap, &[7; 40]).unwrap();
+    client.absolve(Overlap, 15).unwrap();
+    server.plead(Overlap, 70_000).unwrap();
+    carry(&mut client, &mut server);
+    carry(&mut server, &mut client);
+    let sending = ClientBook {
+        held: 299_945,
+        received: 300_000,
+        spent: 40,
+        absolved: 15,
+        waived: 0,
+        send_left: Some(5_999_999_960),
+        receive_left: Some(5_000_000_000),
+        asked: Some(70_000),
+        finished: false,
+    };
+    let receiving = ServerBook {
+        capacity: 1_000_002,
+        issued: 300_000,
+        outstanding: 299_945,
+        buffered: 40,
+        room: 700_017,
+        waived: 0,
+        send_left: Some(5_999_999_960),
+        receive_left: Some(5_000_000_000),
+        finished: false,
+    };
+    assert_eq!(client.client(Overlap), sending);
+    assert_eq!(server.server(Overlap), receiving);
+
+    server.issue(Overlap, 30).unwrap();
+    client.finish(Overlap).unwrap();
+    carry(&mut server, &mut client);
+    carry(&mut client, &mut server);
+    let sending = ClientBook {
+        held: 0,
+        received: 300_030,
+        waived: 299_975,
+        receive_left: Some(4_999_999_970),
+        asked: None,
+        finished: true,
+        ..sending
+    };
+    let receiving = ServerBook {
+        issued: 300_030,
+        outstanding: 0,
+        room: 999_962,
+        waived: 299_975,
+        receive_left: Some(4_999_999_970),
+        finished: true,
+        ..receiving
+    };
+    assert_eq!(client.client(Overlap), sending);
+    assert_eq!(server.server(Overlap), receiving);
+}
+
+// A piece, then how many bytes of it were taken, how many frames arrived, and why it stopped. A fault is
+// known with its byte or its number, a violation with its whole frame.
+const DELIVERIES: &str = "\
+- => 0 0 None
+21000000052100 => 7 1 None
+2100000005772100 => 6 1 Some(Fault(BadTag))
+1100002100000005 => 3 0 Some(Fault(ZeroLength))
+2100000005610000000000000009220100000121 => 19 2 Some(Fault(BadNumber))
+4c434d0121 => 4 0 Some(Fault(BadTag))
+210000000531000000012100 => 10 1 Some(Violated(AbsolvedTooMuch))";
+
+#[test]
+fn a_delivery_says_what_it_took_and_where_it_stopped() {
+    let shown = |it: Delivery| format!("{} {} {:?}", it.taken, it.frames, it.stop);
+    for (piece, delivery) in rows(DELIVERIES) {
+        let mut peer = peer();
+        let delivered = peer.deliver(&hex(piece));
+        assert_eq!(shown(delivered), delivery, "{piece}");
+        if let Some(stop) = delivered.stop {
+            let again = peer.deliver(&hex("2100000005"));
+            assert_eq!(shown(again), format!("0 0 Some({stop:?})"), "{piece}");
+            assert_eq!(peer.end(), Err(stop), "{piece}");
+        }
+    }
+}
+
+// What came of a stream, and what it means that it ends there.
+const ENDS: &str = "\
+- => Ok(())
+4c43 => Err(Fault(Truncated))
+4c434d02 => Ok(())
+2100000005 => Ok(())
+210000000521 => Err(Fault(Truncated))";
+
+#[test]
+fn the_end_of_a_stream_is_judged_by_what_is_held() {
+    for (piece, end) in rows(ENDS) {
+        let mut peer = peer();
+        assert_eq!(peer.deliver(&hex(piece)).stop, None);
+        assert_eq!(format!("{:?}", peer.end()), end, "{piece}");
+    }
+}
+
+/// Whether a type is `Sync`: a constant of the type itself comes before one of a trait.
+struct Threads<T>(PhantomData<T>);
+
+trait OneAtATime {
+    const MAY_SHARE: bool = false;
+}
+
+impl<T> OneAtATime for Threads<T> {}
+
+impl<T: Sync> Threads<T> {
+    const MAY_SHARE: bool = true;
+}
+
+#[test]
+fn a_peer_goes_to_another_thread_and_is_not_shared() {
     let mut peer = peer();
     peer.issue(Data, 5).unwrap();
     let moved = thread::spawn(move || peer.pending());
     assert_eq!(moved.join().unwrap(), 5);
-}
-
-#[test]
-fn messages_of_every_length_that_a_frame_has() {
-    let config = Config::new([65_535; 7], 4);
-    let (mut a, mut b) = (Peer::new(&config).unwrap(), Peer::new(&config).unwrap());
-    for len in [1, 2, 255, 256, 1_000, 65_534, 65_535] {
-        let body: Vec<u8> = (0..len).map(|k| (k % 251) as u8).collect();
-        let mut wire = Vec::new();
-        b.issue(Data, len as u32).unwrap();
-        b.write_to(&mut wire).unwrap();
-        a.read_from(&mut wire.as_slice()).unwrap();
-        a.send(Data, &body).unwrap();
-        let mut wire = Vec::new();
-        assert_eq!(a.write_to(&mut wire).unwrap(), len as u64 + 3);
-        b.read_from(&mut wire.as_slice()).unwrap();
-        assert_eq!(b.take(Data), Some(body));
-    }
-}
-
-#[test]
-fn errors_have_their_numbers_and_texts() {
-    let errors: [Box<dyn Error>; 4] = [
-        Box::new(Refusal::NoGuarantee { held: 3 }),
-        Box::new(Violation::NotGuaranteed),
-        Box::new(Fault::Truncated),
-        Box::new(PeerFault::BadCapacity {
-            channel: Channel::Data,
-        }),
-    ];
-    let texts: Vec<String> = errors.iter().map(ToString::to_string).collect();
-    assert_eq!(texts[0], "guarantees for 3 bytes are held");
-    assert_eq!(texts[3], "the capacity of Data is not 1 to 2^24");
-    assert!(Violation::ALL.iter().map(|v| v.number()).eq(1..=9));
-    assert!(Fault::ALL.iter().map(|f| f.number()).eq(1..=4));
     assert_eq!(
-        Peer::new(&Config::new([8; 7], 65_537)).unwrap_err(),
-        PeerFault::BadSlots
+        [Threads::<Config>::MAY_SHARE, Threads::<Peer>::MAY_SHARE],
+        [true, false]
     );
+}
+
+#[test]
+fn a_peer_shows_how_many_bytes_wait() {
+    let mut peer = peer();
+    peer.issue(Data, 5).unwrap();
+    assert_eq!(format!("{peer:?}"), "Peer { pending: 5, .. }");
 }

@@ -1,17 +1,13 @@
 //! The worked examples and hostile bytes of `bindings/rows.txt`, through the crate.
+mod common;
+
+use common::hex;
 use lcmux::{Channel, Config, Peer, Refusal, Stop, Take, Version};
 
 struct Side {
     peer: Peer,
     // The side's bytes that did not arrive yet.
     wire: Vec<u8>,
-}
-
-fn hex(text: &str) -> Vec<u8> {
-    let text = text.trim_start_matches('-');
-    (0..text.len() / 2)
-        .map(|at| u8::from_str_radix(&text[2 * at..2 * at + 2], 16).unwrap())
-        .collect()
 }
 
 fn unhex(bytes: &[u8]) -> String {

@@ -1,0 +1,123 @@
+//! Each code by its name, its number and its whole sentence.
+use super::*;
+
+// A code, what it becomes where 6 is the number that goes with it, and what that says.
+const REFUSALS: &str = "\
+1 | EmptyBody | the message is empty
+2 | BodyTooLong | the message is too long
+3 | PastSendLimit { left: 6 } | the limit on sending leaves 6 bytes
+4 | NoGuarantee { held: 6 } | guarantees for 6 bytes are held
+5 | ZeroAmount | the amount is zero
+6 | NotHeld { held: 6 } | only 6 guarantees are held
+7 | BoundTooLarge | the bound is above 2^62
+8 | LimitRaised { left: 6 } | the bound is above the 6 that an earlier limit leaves
+9 | PastReceiveLimit { left: 6 } | the limit on receiving leaves 6 bytes
+10 | NoRoom { room: 6 } | the receiving ring has room for 6 bytes
+11 | NothingToAsk { outstanding: 6 } | the target is not below the 6 guarantees outstanding
+12 | TotalReached | the guarantees of one channel would pass 2^62
+13 | QueueFull | the outgoing queue is full
+14 | OutOfMemory | out of memory
+15 | ChannelFinished | the channel is finished
+16 | BufferTooSmall { need: 6 } | the buffer is too small: 6 bytes are needed
+17 | WrongVersion | version One of the format cannot finish a channel";
+
+const VIOLATIONS: &str = "\
+101 | NotGuaranteed | a message longer than the guarantees outstanding
+102 | SentPastLimit | a message beyond the limit on sending
+103 | AbsolvedTooMuch | more guarantees absolved than are outstanding
+104 | SendLimitRaised | a limit on sending that raises an earlier one
+105 | IssuedPastLimit | guarantees beyond the limit on receiving
+106 | TooManyGuarantees | more than 2^24 guarantees held
+107 | ReceiveLimitRaised | a limit on receiving that raises an earlier one
+108 | TotalPassed | more than 2^62 guarantees on one channel
+109 | AfterFinish | a frame of the client behind its Finish";
+
+const FAULTS: &str = "\
+201 | BadTag | a byte names no kind or channel, or is not the greeting's
+202 | ZeroLength | a message has length 0
+203 | BadNumber | a number in a frame is out of its range
+204 | Truncated | the stream ends within a frame or a greeting";
+
+const PEER_FAULTS: &str = "\
+14 | OutOfMemory | out of memory
+36 | BadCapacity { channel: StaticToken } | the capacity of StaticToken is not 1 to 2^24
+37 | BadSlots | the slots are not 1 to 65,536";
+
+fn rows(table: &str) -> impl Iterator<Item = (u32, String)> + '_ {
+    table.lines().map(|row| {
+        let (code, shown) = row.split_once(" | ").unwrap();
+        (code.parse().unwrap(), shown.into())
+    })
+}
+
+fn shown(error: impl Error) -> String {
+    format!("{error:?} | {error}")
+}
+
+#[test]
+fn each_refusal() {
+    for (code, row) in rows(REFUSALS) {
+        let refusal = Refusal::of(code, 6);
+        assert_eq!(shown(refusal), row);
+        assert_eq!(u32::from(refusal.number()), code);
+    }
+    let most = Refusal::LimitRaised { left: 1 << 62 };
+    assert_eq!(Refusal::of(8, 1 << 62), most);
+}
+
+#[test]
+fn each_violation() {
+    assert_eq!(rows(VIOLATIONS).count(), Violation::ALL.len());
+    for (violation, (code, row)) in Violation::ALL.into_iter().zip(rows(VIOLATIONS)) {
+        assert_eq!(shown(violation), row);
+        assert_eq!(u32::from(violation.number()), code - 100);
+        let stop = Stop::Violated(violation);
+        assert_eq!(Stop::of(code), Some(stop));
+        assert_eq!(stop.to_string(), violation.to_string());
+    }
+}
+
+#[test]
+fn each_fault() {
+    assert_eq!(rows(FAULTS).count(), Fault::ALL.len());
+    for (fault, (code, row)) in Fault::ALL.into_iter().zip(rows(FAULTS)) {
+        assert_eq!(shown(fault), row);
+        assert_eq!(u32::from(fault.number()), code - 200);
+        let stop = Stop::Fault(fault);
+        assert_eq!(Stop::of(code), Some(stop));
+        assert_eq!(stop.to_string(), fault.to_string());
+    }
+    assert_eq!(Stop::of(0), None);
+}
+
+#[test]
+fn each_fault_of_a_configuration() {
+    for (code, row) in rows(PEER_FAULTS) {
+        assert_eq!(shown(PeerFault::of(code, 6)), row);
+    }
+}
+
+// `LCMUX_NO_ROOM = 10, ..` of the C header as `10 NoRoom`, `LCMUX_V1_NOT_GUARANTEED` as `NotGuaranteed`.
+fn named(line: &str) -> Option<String> {
+    let (name, rest) = line.trim().strip_prefix("LCMUX_")?.split_once(" = ")?;
+    let code = rest.split(|c: char| !c.is_ascii_digit()).next()?;
+    let words = name
+        .split('_')
+        .filter(|word| !word.ends_with(char::is_numeric));
+    let name = words.map(|word| word[..1].to_owned() + &word[1..].to_ascii_lowercase());
+    Some(format!("{code} {}", name.collect::<String>()))
+}
+
+#[test]
+fn names_and_numbers_are_those_of_the_c_header() {
+    let header: Vec<_> = include_str!("../../../c/lcmux.h")
+        .lines()
+        .filter_map(named)
+        .collect();
+    for table in [REFUSALS, VIOLATIONS, FAULTS, PEER_FAULTS] {
+        for (code, row) in rows(table) {
+            let name = row.split(' ').next().unwrap();
+            assert!(header.contains(&format!("{code} {name}")), "{code} {row}");
+        }
+    }
+}

@@ -1,0 +1,196 @@
+//! What peers ask memory for and give back: the `malloc`, `realloc` and `free` of this program count what
+//! a thread asks for, and refuse it a request.
+use lcmux::{Channel::Data, Config, Peer, PeerFault, Refusal};
+use std::cell::Cell;
+use std::ffi::c_void;
+use std::{ptr, slice};
+
+/// What a thread asked for since it is watched.
+#[derive(Clone, Copy, Debug, PartialEq)]
+struct Heap {
+    requests: usize,
+    /// The request that is refused, from 1; 0 where none is.
+    refused: usize,
+    /// The bytes of the last request.
+    size: usize,
+    /// Blocks that were got, less those that were given back.
+    live: isize,
+}
+
+thread_local! {
+    static HEAP: Cell<Heap> = const { Cell::new(Heap { requests: 0, refused: 0, size: 0, live: 0 }) };
+}
+
+extern "C" {
+    fn __libc_malloc(size: usize) -> *mut c_void;
+    fn __libc_realloc(at: *mut c_void, size: usize) -> *mut c_void;
+    fn __libc_free(at: *mut c_void);
+}
+
+/// Whether a request is granted. `blocks` is how many more there are then.
+fn is_granted(size: usize, blocks: isize) -> bool {
+    let mut heap = HEAP.get();
+    heap.requests += 1;
+    heap.size = size;
+    let granted = heap.requests != heap.refused;
+    heap.live += if granted { blocks } else { 0 };
+    HEAP.set(heap);
+    granted
+}
+
+#[no_mangle]
+unsafe extern "C" fn malloc(size: usize) -> *mut c_void {
+    match is_granted(size, 1) {
+        true => __libc_malloc(size),
+        false => ptr::null_mut(),
+    }
+}
+
+#[no_mangle]
+unsafe extern "C" fn realloc(at: *mut c_void, size: usize) -> *mut c_void {
+    match is_granted(size, isize::from(at.is_null())) {
+        true => __libc_realloc(at, size),
+        false => ptr::null_mut(),
+    }
+}
+
+#[no_mangle]
+unsafe extern "C" fn free(at: *mut c_void) {
+    let mut heap = HEAP.get();
+    heap.live -= isize::from(!at.is_null());
+    HEAP.set(heap);
+    __libc_free(at)
+}
+
+/// What a call answers, and what it asks for, where the request of this number is refused.
+fn watched<T>(refused: usize, call: impl FnOnce() -> T) -> (T, Heap) {
+    HEAP.set(Heap {
+        requests: 0,
+        refused,
+        size: 0,
+        live: 0,
+    });
+    let answer = call();
+    (answer, HEAP.get())
+}
+
+#[test]
+fn each_request_of_a_new_peer_is_refused_in_turn() {
+    let config = Config::new([8; 7], 4);
+    for refused in 1..=18 {
+        let (made, heap) = watched(refused, || Peer::new(&config).err());
+        assert_eq!(made, Some(PeerFault::OutOfMemory));
+        assert_eq!((heap.requests, heap.live), (refused, 0));
+    }
+    let (peer, made) = watched(19, || Peer::new(&config).unwrap());
+    assert_eq!((made.requests, made.live), (18, 18));
+    let ((), dropped) = watched(0, || drop(peer));
+    assert_eq!((dropped.requests, dropped.live), (0, -18));
+    let (_, bad) = watched(0, || Peer::new(&Config::new([0; 7], 4)).is_err());
+    assert_eq!((bad.requests, bad.live), (0, 0));
+}
+
+#[test]
+fn a_send_that_is_refused_memory_changes_nothing() {
+    let mut peer = Peer::new(&Config::new([8; 7], 4)).unwrap();
+    assert_eq!(peer.deliver(&[0x21, 0, 0, 0, 5]).frames, 1);
+    let (sent, heap) = watched(1, || peer.send(Data, b"hello"));
+    assert_eq!(sent, Err(Refusal::OutOfMemory));
+    assert_eq!((heap.requests, heap.live), (1, 0));
+    assert_eq!((peer.client(Data).held, peer.pending()), (5, 0));
+
+    let (sent, heap) = watched(2, || peer.send(Data, b"hello"));
+    assert_eq!(sent, Ok(()));
+    assert_eq!((heap.requests, heap.size, heap.live), (1, 5, 1));
+    let (count, heap) = watched(1, || peer.write(&mut [0; 8]));
+    assert_eq!((count, heap.requests, heap.live), (8, 0, -1));
+}
+
+/// A message in the ring, a frame that waits and one of which the first byte went out.
+#[test]
+fn a_peer_gives_back_what_waits_in_it() {
+    let config = Config::new([8; 7], 4);
+    let ((), heap) = watched(0, || {
+        let mut peer = Peer::new(&config).unwrap();
+        peer.issue(Data, 5).unwrap();
+        assert_eq!(peer.deliver(b"\x21\0\0\0\x05\x11\0\x02hi").frames, 2);
+        assert_eq!(peer.write(&mut [0; 5]), 5);
+        peer.send(Data, b"one").unwrap();
+        peer.send(Data, b"2").unwrap();
+        assert_eq!(peer.write(&mut [0; 1]), 1);
+    });
+    assert_eq!(heap.live, 0);
+}
+
+/// What the archive calls in place of `malloc`, `realloc` and `free`.
+mod edge {
+    use super::c_void;
+
+    #[repr(C)]
+    pub struct Tried {
+        pub ok: bool,
+        pub at: *mut c_void,
+    }
+
+    extern "C" {
+        pub fn rattle_alloc(size: usize, align: usize) -> Tried;
+        pub fn rattle_realloc(at: *mut c_void, kept: usize, size: usize, align: usize) -> Tried;
+        pub fn rattle_dealloc(at: *mut c_void);
+    }
+}
+
+/// Sizes and alignments, with how many bytes have to be asked for: some, where nothing is wanted.
+const REQUESTS: [(usize, usize, usize); 6] = [
+    (0, 1, 1),
+    (0, 16, 16),
+    (1, 1, 1),
+    (24, 8, 24),
+    (48, 16, 48),
+    (1 << 20, 16, 1 << 20),
+];
+
+fn bytes_at<'a>(at: *mut c_void, len: usize) -> &'a mut [u8] {
+    unsafe { slice::from_raw_parts_mut(at.cast(), len) }
+}
+
+#[test]
+fn a_block_is_got_and_given_back() {
+    for (size, align, asked) in REQUESTS {
+        let (tried, heap) = watched(0, || unsafe { edge::rattle_alloc(size, align) });
+        assert!(tried.ok);
+        assert_eq!(tried.at as usize % align, 0);
+        assert_eq!((heap.requests, heap.size, heap.live), (1, asked, 1));
+        bytes_at(tried.at, size).fill(7);
+        let ((), heap) = watched(0, || unsafe { edge::rattle_dealloc(tried.at) });
+        assert_eq!(heap.live, -1);
+
+        let (tried, heap) = watched(1, || unsafe { edge::rattle_alloc(size, align) });
+        assert!(!tried.ok && !tried.at.is_null());
+        assert_eq!((heap.requests, heap.live), (1, 0));
+    }
+}
+
+#[test]
+fn a_block_keeps_its_bytes_when_it_moves_and_when_that_is_refused() {
+    for (size, align, asked) in REQUESTS {
+        let old = unsafe { edge::rattle_alloc(16, align) }.at;
+        bytes_at(old, 16).copy_from_slice(b"what was in here");
+        let kept = size.min(16);
+        let moved = |refused| {
+            watched(refused, || unsafe {
+                edge::rattle_realloc(old, kept, size, align)
+            })
+        };
+        let (tried, heap) = moved(1);
+        assert!(!tried.ok && !tried.at.is_null());
+        assert_eq!((heap.requests, heap.live), (1, 0));
+        assert_eq!(bytes_at(old, 16), b"what was in here");
+
+        let (tried, heap) = moved(0);
+        assert!(tried.ok);
+        assert_eq!((heap.requests, heap.size, heap.live), (1, asked, 0));
+        assert_eq!(bytes_at(tried.at, kept), &b"what was in here"[..kept]);
+        bytes_at(tried.at, size).fill(7);
+        unsafe { edge::rattle_dealloc(tried.at) };
+    }
+}

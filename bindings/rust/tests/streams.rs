@@ -1,0 +1,281 @@
+//! `read_from` and `write_to` over readers and writers that are interrupted, block, fail, stop, and
+//! take or give less than they could.
+mod common;
+
+use common::{hex, rows};
+use lcmux::{
+    Channel::{Capability, Data, Overlap},
+    Config, Fault, Peer, ReadError, Stop, Take, Version,
+};
+use std::collections::VecDeque;
+use std::io::{self, ErrorKind, Read, Write};
+use std::panic;
+
+/// An issue of 5 on channel 1.
+const ISSUE: [u8; 5] = [0x21, 0, 0, 0, 5];
+
+fn peer() -> Peer {
+    Peer::new(&Config::new([8; 7], 4)).unwrap()
+}
+
+/// What a device answers, call by call: each word is the name of an error, or what was done.
+fn script<T>(words: &str, done: fn(&str) -> T) -> VecDeque<io::Result<T>> {
+    let kinds = [
+        ErrorKind::Interrupted,
+        ErrorKind::WouldBlock,
+        ErrorKind::BrokenPipe,
+        ErrorKind::ConnectionReset,
+    ];
+    let answer = |word| {
+        let failed = kinds.iter().find(|kind| format!("{kind:?}") == word);
+        failed.map_or_else(|| Ok(done(word)), |kind| Err((*kind).into()))
+    };
+    words.split_whitespace().map(answer).collect()
+}
+
+/// Takes so many bytes at each call, and then all; keeps what it took, and how much it was offered.
+struct Writer {
+    answers: VecDeque<io::Result<usize>>,
+    taken: Vec<u8>,
+    offered: Vec<usize>,
+}
+
+impl Writer {
+    fn new(words: &str) -> Writer {
+        Writer {
+            answers: script(words, |count| count.parse().unwrap()),
+            taken: Vec::new(),
+            offered: Vec::new(),
+        }
+    }
+}
+
+impl Write for Writer {
+    fn write(&mut self, buffer: &[u8]) -> io::Result<usize> {
+        self.offered.push(buffer.len());
+        assert!(self.offered.len() < 100, "the writer is called on and on");
+        let count = self.answers.pop_front().unwrap_or(Ok(buffer.len()))?;
+        self.taken.extend(&buffer[..count]);
+        Ok(count)
+    }
+
+    fn flush(&mut self) -> io::Result<()> {
+        panic!("the writer is flushed");
+    }
+}
+
+/// Gives bytes at each call, and then ends; keeps how much it was asked for.
+struct Reader {
+    answers: VecDeque<io::Result<Vec<u8>>>,
+    asked: Vec<usize>,
+}
+
+impl Reader {
+    fn new(words: &str) -> Reader {
+        Reader {
+            answers: script(words, hex),
+            asked: Vec::new(),
+        }
+    }
+}
+
+impl Read for Reader {
+    fn read(&mut self, buffer: &mut [u8]) -> io::Result<usize> {
+        self.asked.push(buffer.len());
+        assert!(self.asked.len() < 100, "the reader is called on and on");
+        // What an earlier read left in the buffer is no byte of this one.
+        buffer.fill(0x77);
+        let bytes = self.answers.pop_front().unwrap_or(Ok(Vec::new()))?;
+        buffer[..bytes.len()].copy_from_slice(&bytes);
+        Ok(bytes.len())
+    }
+}
+
+// What the writer answers, then what `write_to` does, and how many of five bytes the writer has.
+const WRITES: &str = "\
+5 => 5, has 5
+1 1 2 1 => 5, has 5
+Interrupted => 5, has 5
+2 Interrupted Interrupted 2 => 5, has 5
+WouldBlock => WouldBlock, has 0
+3 WouldBlock => WouldBlock, has 3
+3 Interrupted 1 WouldBlock => WouldBlock, has 4
+BrokenPipe => BrokenPipe, has 0
+4 BrokenPipe => BrokenPipe, has 4
+0 => WriteZero, has 0
+2 0 => WriteZero, has 2";
+
+#[test]
+fn a_write_that_stops_loses_nothing() {
+    for (words, answer) in rows(WRITES) {
+        let (mut peer, mut writer) = (peer(), Writer::new(words));
+        peer.issue(Data, 5).unwrap();
+        let written = match peer.write_to(&mut writer) {
+            Ok(count) => count.to_string(),
+            Err(error) => format!("{:?}", error.kind()),
+        };
+        let count = writer.taken.len();
+        assert_eq!(format!("{written}, has {count}"), answer, "{words}");
+        assert_eq!(peer.pending(), 5 - count);
+        assert_eq!(peer.write_to(&mut writer).unwrap(), 5 - count as u64);
+        assert_eq!((&writer.taken[..], peer.pending()), (&ISSUE[..], 0));
+    }
+}
+
+#[test]
+fn a_write_offers_all_that_waits_up_to_a_whole_frame_of_version_one() {
+    let mut peer = peer();
+    assert_eq!(peer.deliver(&[0x21, 0, 1, 0xff, 0xfe]).frames, 1);
+    for _ in 0..2 {
+        peer.send(Data, &[7; 65_535]).unwrap();
+    }
+    peer.issue(Data, 5).unwrap();
+    let mut writer = Writer::new("65530 8 65538");
+    assert_eq!(peer.write_to(&mut writer).unwrap(), 2 * 65_538 + 5);
+    assert_eq!(writer.taken[2 * 65_538..], ISSUE);
+    assert_eq!(peer.write_to(&mut writer).unwrap(), 0);
+    assert_eq!(writer.offered, [65_538, 8, 65_538, 5]);
+}
+
+/// Says that it took a byte more than it was offered.
+struct Boaster;
+
+impl Write for Boaster {
+    fn write(&mut self, buffer: &[u8]) -> io::Result<usize> {
+        Ok(buffer.len() + 1)
+    }
+
+    fn flush(&mut self) -> io::Result<()> {
+        Ok(())
+    }
+}
+
+#[test]
+fn a_writer_that_took_more_than_it_was_offered_is_no_loss() {
+    let mut peer = peer();
+    peer.issue(Data, 5).unwrap();
+    let write = panic::AssertUnwindSafe(|| peer.write_to(&mut Boaster));
+    assert!(panic::catch_unwind(write).is_err());
+    let mut wire = Vec::new();
+    assert_eq!((peer.pending(), peer.write_to(&mut wire).unwrap()), (5, 5));
+    assert_eq!(wire, ISSUE);
+}
+
+/// Two frames of which a writer took six bytes, and a third behind them.
+#[test]
+fn a_buffer_gets_what_no_writer_took_and_then_what_waits() {
+    let frames = [[0x21, 0, 0, 0, 5], [0x22, 0, 0, 0, 7], [0x23, 0, 0, 0, 8]].concat();
+    for room in 0..=10 {
+        let mut peer = peer();
+        peer.issue(Data, 5).unwrap();
+        peer.issue(Overlap, 7).unwrap();
+        let mut writer = Writer::new("6 WouldBlock");
+        assert!(peer.write_to(&mut writer).is_err());
+        peer.issue(Capability, 8).unwrap();
+        assert_eq!(peer.pending(), 9);
+
+        let mut buffer = vec![0xee; room];
+        let count = peer.write(&mut buffer);
+        assert_eq!(count, room.min(9));
+        assert_eq!(peer.pending(), 9 - count);
+        assert!(buffer[count..].iter().all(|byte| *byte == 0xee));
+        writer.taken.extend(&buffer[..count]);
+        assert_eq!(peer.write_to(&mut writer).unwrap(), 9 - count as u64);
+        assert_eq!((&writer.taken, peer.pending()), (&frames, 0));
+    }
+}
+
+// What the reader answers, then what `read_from` does, call by call, and how much is held then.
+const READS: &str = "\
+- => 0 0, held 0
+2100000005 => 5 0 0, held 5
+Interrupted Interrupted 2100000005 => 5 0, held 5
+2100 Interrupted 000005 => 2 3 0, held 5
+2100 WouldBlock 000005 => 2 WouldBlock 3 0, held 5
+2100000005 ConnectionReset => 5 ConnectionReset, held 5
+2100000005 2100 => 5 2 Fault(Truncated), held 5
+2100000005 77 2100000005 => 5 Fault(BadTag) Fault(BadTag), held 5
+210000000331000000012100000005 2100000005 => Violated(AbsolvedTooMuch) Violated(AbsolvedTooMuch), held 3";
+
+fn answer(read: Result<usize, ReadError>) -> String {
+    match read {
+        Ok(count) => count.to_string(),
+        Err(ReadError::Io(error)) => format!("{:?}", error.kind()),
+        Err(ReadError::Stopped(stop)) => format!("{stop:?}"),
+    }
+}
+
+#[test]
+fn each_read_is_answered() {
+    for (words, answers) in rows(READS) {
+        let (mut peer, mut reader) = (peer(), Reader::new(words));
+        let calls = answers.split_once(',').unwrap().0.split(' ');
+        let read: Vec<_> = calls.map(|_| answer(peer.read_from(&mut reader))).collect();
+        let held = peer.client(Data).held;
+        assert_eq!(
+            format!("{}, held {held}", read.join(" ")),
+            answers,
+            "{words}"
+        );
+        assert!(reader.asked.iter().all(|count| *count == 65_538));
+    }
+}
+
+/// All that waits at one peer goes to the other, by as many reads as that takes.
+fn carry(from: &mut Peer, to: &mut Peer) -> usize {
+    let mut wire = Vec::new();
+    from.write_to(&mut wire).unwrap();
+    let (mut rest, mut count) = (wire.as_slice(), 0);
+    while !rest.is_empty() {
+        count += to.read_from(&mut rest).unwrap();
+    }
+    assert_eq!(count, wire.len());
+    count
+}
+
+#[test]
+fn messages_of_every_length_that_a_frame_has() {
+    let lengths = [
+        (Version::One, 3, vec![1, 2, 255, 256, 65_534, 65_535]),
+        (
+            Version::Two,
+            5,
+            vec![1, 65_535, 65_536, 1_048_575, 1_048_576],
+        ),
+    ];
+    for (version, header, lengths) in lengths {
+        let mut config = Config::new([1 << 20; 7], 4);
+        config.version = version;
+        let (mut client, mut server) = (Peer::new(&config).unwrap(), Peer::new(&config).unwrap());
+        carry(&mut client, &mut server);
+        for len in lengths {
+            let body: Vec<u8> = (0..len).map(|k| (k % 251) as u8).collect();
+            server.issue(Data, len as u32).unwrap();
+            carry(&mut server, &mut client);
+            client.send(Data, &body).unwrap();
+            assert_eq!(carry(&mut client, &mut server), header + len);
+            let mut message = vec![0; len];
+            assert_eq!(server.take_into(Data, &mut message), Ok(Take::Took(len)));
+            assert_eq!(message, body);
+        }
+    }
+}
+
+#[test]
+fn a_stream_that_was_given_up_is_not_read() {
+    for bytes in ["77", "3100000001"] {
+        let (mut peer, mut reader) = (peer(), Reader::new(bytes));
+        for _ in 0..3 {
+            assert!(peer.read_from(&mut reader).is_err());
+        }
+        assert_eq!(reader.asked.len(), 1);
+    }
+}
+
+#[test]
+fn a_read_error_says_what_befell() {
+    let failed = ReadError::from(io::Error::other("the cable is cut"));
+    assert_eq!(failed.to_string(), "the cable is cut");
+    let stopped = ReadError::Stopped(Stop::Fault(Fault::ZeroLength));
+    assert_eq!(stopped.to_string(), "a message has length 0");
+}
