@@ -3,6 +3,22 @@
 //! Each call takes the side out of the handle, works on it and puts it back. Nothing is required of
 //! what C passes but what the types say, which nothing tests: that a handle began as zero and is the
 //! one that the last call left, and that a slice is as long as its length says.
+//!
+//! C keeps an `LcmuxPeer`: a mark that is 0 where the handle is empty, and a `Slot`, whose
+//! pointer is that of a `Box<Side>`. A raw pointer may cross to C and a box may not, so `Slot`
+//! (in `handle.rt`) is a box with its fields in sight; its five functions are the only ones that
+//! are proved by hand, and the contracts of all others see which side, if any, a handle holds.
+//! `open` takes it out, and `reach` where there is a channel too.
+//!
+//! A `Side` is a peer, a stream decoder, why the stream was given up, if it was, and `Pending`,
+//! what is left of the greeting or of the frame that was begun to go out. Bytes come in by
+//! `Peer::deliver`. They go out by `give` (in `streams.rt`): what is pending, then frame by frame
+//! what waits, each encoded into the buffer of `Pending` and copied as far as there is room. So a
+//! call writes exactly as many bytes as there are and have room, which `Outgo` can't promise: it
+//! hands its bytes to a writer, of which nothing is known.
+//!
+//! Codes are 0, the numbers of refusals, 32 to 49 for handles, configurations and takes, 100 more
+//! than the number of a violation and 200 more than that of a fault.
 #![tactic(auto)]
 
 mod answer;

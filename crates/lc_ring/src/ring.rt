@@ -1,4 +1,11 @@
 //! A bounded list of messages.
+//!
+//! A `RecvRing` has two of the kit's circular buffers, one of bytes and one of lengths, each with
+//! as many places as the ring has bytes, so that a ring full of messages of one byte fits.
+//! Contracts see neither: they see the list of messages that the lengths cut out of the bytes
+//! (`cut` in `specs/Cuts.antt`). A message goes in and comes out in at most two pieces, copied as
+//! slices. `RecvRing::new` asks for five bytes of address space for each byte of the ring; a page
+//! of memory is taken by the system only once a message reaches it.
 ghost use Rattle.std.specs.Prelude.{◌≡◌, ◌+◌, ◌≤◌, ◌↔◌, ◌++◌, length, Err, IfOk, IfErr, IfSome, OnOk, is_ok, if◌then◌else◌};
 ghost use Rattle.std.specs.Option.{option_map};
 ghost use Rattle.std.specs.Result.{result_err};

@@ -1,4 +1,21 @@
 //! Two peers whose streams keep order.
+//!
+//! A `World` has two ends (`endpoint.rt`). Each has a `Peer` with one slot, the bytes of its
+//! whole stream from the greeting on, how many of them were delivered, and the decoder of what
+//! comes from the other end. No frame, book or message stands beside the peers. Contracts see
+//! none of this: they see the `State` of the definitions. `line_of` (in `specs/Endpoint.antt`)
+//! reads a line off the two ends: its version is the writing peer's, the frames that arrived are
+//! those of the delivered bytes behind the greeting, what has begun is what follows them, and the
+//! messages taken are those that arrived and do not wait in the reader's ring. `AreEnds` says
+//! what ties the two: each peer is that of the sums over both streams, each decoder holds what
+//! was delivered of a greeting or a frame, and `IsSound`, which the laws keep of every history,
+//! holds of both lines. So no frame in flight violates, and nothing is judged twice or undone.
+//!
+//! An event is an arm of `act.rt`. An own event first takes the room of its frame on the stream,
+//! then calls the peer, and what the peer put goes to the stream at once. A delivery hands a
+//! slice of the other end's stream to `Peer::deliver`, and an arrival is the delivery of the
+//! bytes that are missing of the greeting and of one frame, whose place on the stream
+//! `first_place` finds. A take copies the first message, and then drops it from the ring.
 ghost use Rattle.std.specs.Prelude.{◌≡◌, ◌↔◌, IfOk, IsOk, IsSome, IfSome, length, [], replicate, Err};
 ghost use Rattle.std.specs.List.{zip};
 ghost use Rattle.lc_frame.specs.declared.version.Version.TheVariants.{One};
