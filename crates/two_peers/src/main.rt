@@ -1,7 +1,6 @@
 //! Two peers of one session exchange messages on three channels over two pipes in memory.
 #![tactic(auto)]
 
-// README: begin
 ghost use Rattle.std.specs.Prelude.{◌≡◌};
 
 use anyhow::{Error, ensure};
@@ -65,4 +64,3 @@ fn main(rt: HostRuntime) -> Result<(), Error> {
     }
     Ok(())
 }
-// README: end
