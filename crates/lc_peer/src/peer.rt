@@ -1,4 +1,12 @@
 //! One side of a session.
+//!
+//! A `Peer` has for each channel a `ChannelState`, the client's book and an `Inbox`, and one list
+//! of the frames that wait to go out, whose places are taken when the peer is made. An own call
+//! judges on copies of its channel's books, then puts the frame, then writes the books back, so
+//! that what refuses comes before what changes. An arrival is judged and kept by its channel
+//! alone (`channel_state.rt`). An `Inbox` is the server's book with the ring: where the book
+//! allows a message, the ring has room for it, since outstanding and buffered bytes fit the
+//! capacity. It is what a thread that receives will hold by itself.
 ghost use Rattle.std.specs.Prelude.{◌≡◌, ◌≤◌, ◌<◌, ◌↔◌, ◌++◌, [], ◌∷◌, length, if◌then◌else◌, is_ok, nat_lt, IfOk, IfErr, IsSome, IfSome, slice_get, Some, None};
 ghost use Rattle.circular_buffer.specs.Buffer.{buffer};
 ghost use Rattle.lc_book.specs.declared.fault.Refusal.TheVariants.{QueueFull};
