@@ -23,6 +23,7 @@ pub record Client : Type 0 where
   pub asked : Option ℕ
   pub finished : Bool
 
+-- a book on which nothing has happened, in the version of the client's stream
 abbrev pub new_client : Version → Client
 new_client version = record { version = version; received = 0; spent = 0; absolved = 0; send_left = None; receive_left = None; asked = None; finished = false }
 
@@ -34,11 +35,11 @@ waived b = if b.finished then b.received - b.spent - b.absolved else 0
 abbrev pub held : Client → ℕ
 held b = b.received - b.spent - b.absolved - waived b
 
--- of a plead, what a client keeps: nothing once it finished
+-- the plead that a client keeps: none once it finished
 abbrev pub kept : Bool → Option ℕ → Option ℕ
 kept finished asked = if finished then None else asked
 
--- no balance is below 0, the numbers are within the profile's limits, and only a client whose stream can say so finished
+-- what every client's book keeps: no balance is below 0, the numbers are within the profile's limits, only a client whose stream can say so finished, and one that finished keeps no plead
 pub record IsClient (b : Client) : Type 0 where
   pub paid : b.spent + b.absolved + waived b ≤ b.received
   pub total : b.received ≤ max_total
@@ -49,15 +50,16 @@ pub record IsClient (b : Client) : Type 0 where
   pub finish : b.finished ≡ true → has b.version Finish ≡ true
   pub forgotten : b.finished ≡ true → b.asked ≡ None
 
+-- a book by its named fields
 abbrev pub client_of_parts : ClientParts → Client
 client_of_parts p = record { version = p.version; received = p.received; spent = p.spent; absolved = p.absolved; send_left = p.send_left; receive_left = p.receive_left; asked = p.asked; finished = p.finished }
 
--- the fields are those of a book, which has what is waived by the others
+-- the named fields are those of a book, and what is waived is as the others say
 pub record AreClientParts (p : ClientParts) : Type 0 where
   pub is_client : IsClient (client_of_parts p)
   pub waived_is : p.waived ≡ waived (client_of_parts p)
 
--- why a message of so many bytes may not be sent where so much is left of the limit on sending; where neither its length nor the limit forbids it, `otherwise` says why
+-- why a message of so many bytes may not go on a stream of this version where so much is left of the limit on sending: 1, 2, which the version decides, or 3, the first that holds; else `otherwise` says why
 abbrev pub message_refusal_or : Version → Option ℕ → ℕ → Option Refusal → Option Refusal
 message_refusal_or version left len otherwise =
     if len == 0 then Some EmptyBody
@@ -69,20 +71,22 @@ message_refusal_or version left len otherwise =
 abbrev pub message_refusal : Version → Option ℕ → ℕ → Option Refusal
 message_refusal version left len = message_refusal_or version left len None
 
--- why a client may not send so many bytes, and what a message leaves
+-- why a client may not send so many bytes: 15, 1, 2, 3 or 4, the first that holds
 abbrev pub spend_refusal : Client → ℕ → Option Refusal
 spend_refusal b len = finished_refusal_or b.finished (message_refusal_or b.version b.send_left len (if nat_lt (held b) len then Some (NoGuarantee (held b)) else None))
 
+-- what a message of so many bytes leaves
 abbrev pub spend : Client → ℕ → Client
 spend b len = record b { spent = b.spent + len; send_left = less b.send_left len }
 
--- why a client may not absolve so much, and what absolving leaves
+-- why a client may not absolve so much: 15, 5 or 6, the first that holds
 abbrev pub absolve_refusal : Client → ℕ → Option Refusal
 absolve_refusal b n =
     finished_refusal_or b.finished (if n == 0 then Some ZeroAmount
     else (if nat_lt (held b) n then Some (NotHeld (held b))
     else None))
 
+-- what absolving so much leaves
 abbrev pub absolve : Client → ℕ → Client
 absolve b n = record b { absolved = b.absolved + n }
 
@@ -90,28 +94,31 @@ absolve b n = record b { absolved = b.absolved + n }
 abbrev pub amount_to_absolve : Client → Option ℕ
 amount_to_absolve b = option_and_then (λ target. if nat_lt target (held b) then Some (held b - target) else None) b.asked
 
--- why a client may not honour, and what honouring leaves: it absolves that amount, and forgets the plead
+-- why a client may not honour the plead that it keeps: 15
 abbrev pub honour_refusal : Client → Option Refusal
 honour_refusal b = finished_refusal_or b.finished None
 
+-- what an honour leaves: that amount is absolved, and no plead is kept
 abbrev pub honour : Client → Client
 honour b = record b { absolved = b.absolved + unwrap_or (amount_to_absolve b) 0; asked = None }
 
--- why a client may not limit its sending, and what a limit leaves
+-- why a client may not limit its sending so: 15, 7 or 8, the first that holds
 abbrev pub limit_sending_refusal : Client → ℕ → Option Refusal
 limit_sending_refusal b bound = finished_refusal_or b.finished (limit_refusal b.send_left bound)
 
+-- what a limit on sending leaves
 abbrev pub limit_client : Client → ℕ → Client
 limit_client b bound = record b { send_left = Some bound }
 
--- why a client may not finish: its stream has no such frame, or it finished already; and what a Finish leaves
+-- why a client may not finish: 17, its stream has no such frame, or 15, it finished already
 abbrev pub finish_refusal : Client → Option Refusal
 finish_refusal b = if has b.version Finish then finished_refusal_or b.finished None else Some WrongVersion
 
+-- what a Finish leaves: no plead is kept
 abbrev pub finish : Client → Client
 finish b = record b { asked = None; finished = true }
 
--- what is wrong with guarantees that arrive, and what they leave
+-- what is wrong with guarantees that arrive: V5, V6 or V8, the first that holds
 abbrev pub issued_violation : Client → ℕ → Option Violation
 issued_violation b n =
     if is_past b.receive_left n then Some IssuedPastLimit
@@ -119,16 +126,18 @@ issued_violation b n =
     else (if nat_lt max_total (b.received + n) then Some TotalPassed
     else None))
 
+-- what guarantees that arrive leave
 abbrev pub add_received : Client → ℕ → Client
 add_received b n = record b { received = b.received + n; receive_left = less b.receive_left n }
 
--- a plead that arrives is kept in place of an older one
+-- what a plead that arrives leaves: it is kept in place of an older one, but by no client that finished; it is never wrong
 abbrev pub keep_plead : Client → ℕ → Client
 keep_plead b target = record b { asked = kept b.finished (Some target) }
 
--- what is wrong with a limit on receiving that arrives, and what it leaves
+-- what is wrong with a limit on receiving that arrives: V7, it raises an earlier one
 abbrev pub receive_limit_violation : Client → ℕ → Option Violation
 receive_limit_violation b bound = if is_past b.receive_left bound then Some ReceiveLimitRaised else None
 
+-- what a limit on receiving that arrives leaves
 abbrev pub note_receive_limit : Client → ℕ → Client
 note_receive_limit b bound = record b { receive_left = Some bound }

@@ -5,6 +5,7 @@ use Rattle.lc_book.specs.declared.fault.Refusal.TheVariants.{EmptyBody, BodyTooL
 use Rattle.lc_book.specs.declared.fault.Violation.{Violation}
 use Rattle.lc_book.specs.declared.fault.Violation.TheVariants.{NotGuaranteed, SentPastLimit, AbsolvedTooMuch, SendLimitRaised, IssuedPastLimit, TooManyGuarantees, ReceiveLimitRaised, TotalPassed, AfterFinish}
 
+-- the number of a refusal, 1 to 17
 abbrev pub refusal_number : Refusal → ℕ
 refusal_number EmptyBody = 1
 refusal_number BodyTooLong = 2
@@ -24,6 +25,7 @@ refusal_number ChannelFinished = 15
 refusal_number (BufferTooSmall need) = 16
 refusal_number WrongVersion = 17
 
+-- the number of a violation, V1 to V9
 abbrev pub violation_number : Violation → ℕ
 violation_number NotGuaranteed = 1
 violation_number SentPastLimit = 2

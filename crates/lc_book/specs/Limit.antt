@@ -14,11 +14,11 @@ is_past (Some left) n = nat_lt left n
 abbrev pub less : Option ℕ → ℕ → Option ℕ
 less left n = option_map (λ m. m - n) left
 
--- the number that a refusal names
+-- what is left of a limit, as a refusal names it
 abbrev pub left_of : Option ℕ → ℕ
 left_of left = unwrap_or left 0
 
--- why a side may not limit itself so
+-- why a side may not limit itself so: 7, the bound is above 2^62, or 8, it is above what an earlier limit leaves
 abbrev pub limit_refusal : Option ℕ → ℕ → Option Refusal
 limit_refusal left bound =
     if nat_lt max_total bound then Some BoundTooLarge

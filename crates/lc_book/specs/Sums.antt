@@ -10,7 +10,7 @@ use Rattle.lc_frame.specs.Stream.{of_lane, messages, cost, issued as issued_on, 
 use Rattle.lc_book.specs.Client.{Client, IsClient, spend_refusal, spend, absolve_refusal, absolve, amount_to_absolve, kept, honour, limit_sending_refusal, limit_client, finish_refusal, finish, add_received, keep_plead, note_receive_limit}
 use Rattle.lc_book.specs.Server.{Server, IsServer, buffered, issue_refusal, issue, plead_refusal, limit_receiving_refusal, limit_server, note_taken, add_arrived, add_absolved, note_send_limit, note_finish}
 
--- the client's book of a channel, by the version of its stream, all frames that it put, the frames that arrived at it, and the target of the plead that it keeps where it did not finish
+-- the client's book of a channel, by the version of its stream, all frames that it put, the frames that arrived at it, and the target of the plead that it keeps where it did not finish; it finished where a Finish of the channel is among the frames that it put
 abbrev pub client_of : Version → Channel → List Frame → List Frame → Option ℕ → Client
 client_of version c put arrived asked =
     record {
@@ -24,7 +24,7 @@ client_of version c put arrived asked =
       finished = finished_on c put;
     }
 
--- the server's book, by all frames that it put, the frames that arrived at it, and the bytes that were taken
+-- the server's book, by all frames that it put, the frames that arrived at it, and the bytes that were taken; it is finished where a Finish of the channel is among the frames that arrived
 abbrev pub server_of : ℕ → Channel → List Frame → List Frame → ℕ → Server
 server_of capacity c put arrived taken =
     record {
@@ -38,7 +38,7 @@ server_of capacity c put arrived taken =
       finished = finished_on c arrived;
     }
 
--- what a frame on its channel leaves of the client's book, where the client put it, and where it arrived
+-- what a frame that a side put leaves of its book as client of the frame's channel
 abbrev pub client_after_put : Frame → Client → Client
 client_after_put (Send c body) b = spend b (length body)
 client_after_put (Absolve c amount) b = absolve b amount
@@ -46,18 +46,20 @@ client_after_put (LimitSending c bound) b = limit_client b bound
 client_after_put (Finish c) b = finish b
 client_after_put f b = b
 
+-- what a frame that arrived at a side leaves of its book as client of the frame's channel
 abbrev pub client_after_arrival : Frame → Client → Client
 client_after_arrival (Issue c amount) b = add_received b amount
 client_after_arrival (Plead c target) b = keep_plead b target
 client_after_arrival (LimitReceiving c bound) b = note_receive_limit b bound
 client_after_arrival f b = b
 
--- and of the server's
+-- what a frame that a side put leaves of its book as server of the frame's channel
 abbrev pub server_after_put : Frame → Server → Server
 server_after_put (Issue c amount) b = issue b amount
 server_after_put (LimitReceiving c bound) b = limit_server b bound
 server_after_put f b = b
 
+-- what a frame that arrived at a side leaves of its book as server of the frame's channel
 abbrev pub server_after_arrival : Frame → Server → Server
 server_after_arrival (Send c body) b = add_arrived b (length body)
 server_after_arrival (Absolve c amount) b = add_absolved b amount
@@ -70,19 +72,21 @@ abbrev pub asked_after : Frame → Option ℕ → Option ℕ
 asked_after (Plead c target) asked = Some target
 asked_after f asked = asked
 
--- a book of sums is one again after a frame: by the frame's own effect on its channel, as it was on every other
+-- a client's book of sums is one again after a frame: by the frame's own effect on its channel, as it was on every other
 pub record ClientKeepsSums (version : Version) (put arrived : List Frame) (asked : Option ℕ) (f : Frame) : Type 0 where
   pub put_here : client_after_put f (client_of version (channel_of f) put arrived asked) ≡ client_of version (channel_of f) (put ++ f ∷ []) arrived asked
   pub put_elsewhere : (c : Channel) → is_same c (channel_of f) ≡ false → client_of version c put arrived asked ≡ client_of version c (put ++ f ∷ []) arrived asked
   pub arrived_here : client_after_arrival f (client_of version (channel_of f) put arrived asked) ≡ client_of version (channel_of f) put (arrived ++ f ∷ []) (asked_after f asked)
   pub arrived_elsewhere : (c : Channel) → is_same c (channel_of f) ≡ false → client_of version c put arrived asked ≡ client_of version c put (arrived ++ f ∷ []) asked
 
+-- the same of a server's book of sums
 pub record ServerKeepsSums (capacity : ℕ) (put arrived : List Frame) (taken : ℕ) (f : Frame) : Type 0 where
   pub put_here : server_after_put f (server_of capacity (channel_of f) put arrived taken) ≡ server_of capacity (channel_of f) (put ++ f ∷ []) arrived taken
   pub put_elsewhere : (c : Channel) → is_same c (channel_of f) ≡ false → server_of capacity c put arrived taken ≡ server_of capacity c (put ++ f ∷ []) arrived taken
   pub arrived_here : server_after_arrival f (server_of capacity (channel_of f) put arrived taken) ≡ server_of capacity (channel_of f) put (arrived ++ f ∷ []) taken
   pub arrived_elsewhere : (c : Channel) → is_same c (channel_of f) ≡ false → server_of capacity c put arrived taken ≡ server_of capacity c put (arrived ++ f ∷ []) taken
 
+-- so it is of every book, after any frame that is put or arrives
 abbrev pub BooksKeepSums : Type 0
 BooksKeepSums = (version : Version) (capacity : ℕ) (put arrived : List Frame) (asked : Option ℕ) (taken : ℕ) (f : Frame) → ClientKeepsSums version put arrived asked f × ServerKeepsSums capacity put arrived taken f
 
@@ -91,6 +95,7 @@ pub record HonourKeepsSums (version : Version) (c : Channel) (put arrived : List
   pub absolves : (amount : ℕ) → amount_to_absolve (client_of version c put arrived asked) ≡ Some amount → honour (client_of version c put arrived asked) ≡ client_of version c (put ++ Absolve c amount ∷ []) arrived None
   pub forgets : amount_to_absolve (client_of version c put arrived asked) ≡ None → honour (client_of version c put arrived asked) ≡ client_of version c put arrived None
 
+-- so it is of every client's book of sums
 abbrev pub EveryHonourKeepsSums : Type 0
 EveryHonourKeepsSums = (version : Version) (c : Channel) (put arrived : List Frame) (asked : Option ℕ) → HonourKeepsSums version c put arrived asked
 
@@ -104,10 +109,11 @@ pub record TakeKeepsSums (capacity : ℕ) (c : Channel) (put arrived : List Fram
   pub takes : count < length (messages c arrived) → note_taken (server_of capacity c put arrived (taken_cost c arrived count)) (length (get_or (messages c arrived) count [])) ≡ server_of capacity c put arrived (taken_cost c arrived (count + 1))
   pub stays : (f : Frame) → count ≤ length (messages c arrived) → taken_cost c (arrived ++ f ∷ []) count ≡ taken_cost c arrived count
 
+-- so it is of every server's book of sums
 abbrev pub EveryTakeKeepsSums : Type 0
 EveryTakeKeepsSums = (capacity : ℕ) (c : Channel) (put arrived : List Frame) (count : ℕ) → TakeKeepsSums capacity c put arrived count
 
--- the frame of an event that is accepted is valid in the version of the stream
+-- the frame of an event that the book accepts is valid in the client's version
 pub record PutsValidFrames (client : Client) (server : Server) (c : Channel) : Type 0 where
   pub send : (body : List ℕ) → spend_refusal client (length body) ≡ None → IsValid client.version (Send c body)
   pub absolve : (amount : ℕ) → absolve_refusal client amount ≡ None → IsValid client.version (Absolve c amount)
@@ -118,10 +124,11 @@ pub record PutsValidFrames (client : Client) (server : Server) (c : Channel) : T
   pub plead : (target : ℕ) → plead_refusal server target ≡ None → IsValid client.version (Plead c target)
   pub limit_receiving : (bound : ℕ) → limit_receiving_refusal server bound ≡ None → IsValid client.version (LimitReceiving c bound)
 
+-- so it is of every book
 abbrev pub EveryBookPutsValidFrames : Type 0
 EveryBookPutsValidFrames = (client : Client) (server : Server) (c : Channel) → IsClient client → IsServer server → PutsValidFrames client server c
 
--- each sum over a list of frames is that over the frames of its lane
+-- each sum over all frames is that over the frames of its lane
 pub record SumsAreOfLanes (c : Channel) (frames : List Frame) : Type 0 where
   pub messages_are : messages c (of_lane (number_of c) frames) ≡ messages c frames
   pub cost_is : cost c (of_lane (number_of c) frames) ≡ cost c frames
@@ -131,5 +138,6 @@ pub record SumsAreOfLanes (c : Channel) (frames : List Frame) : Type 0 where
   pub issued_is : issued_on c (of_lane (7 + number_of c) frames) ≡ issued_on c frames
   pub receive_left_is : receive_left_on c (of_lane (7 + number_of c) frames) ≡ receive_left_on c frames
 
+-- so it is of every list of frames
 abbrev pub EverySumIsOfItsLane : Type 0
 EverySumIsOfItsLane = (c : Channel) (frames : List Frame) → SumsAreOfLanes c frames

@@ -5,47 +5,47 @@ use Rattle.lc_book.specs.declared.fault.Refusal.TheVariants.{PastSendLimit, NoGu
 use Rattle.lc_book.specs.Fault.{refusal_number}
 use Rattle.lc_c.specs.declared.answer.LcmuxAnswer.{LcmuxAnswer}
 
--- done
+-- the code of a call that was done
 abbrev pub done : ℕ
 done = 0
 
--- the handle is empty
+-- the code of a handle that is empty
 abbrev pub no_peer : ℕ
 no_peer = 32
 
--- the handle has a peer already
+-- the code of a handle that has a peer already
 abbrev pub has_peer : ℕ
 has_peer = 33
 
--- no channel has this number
+-- the code where no channel has the number
 abbrev pub no_channel : ℕ
 no_channel = 34
 
--- no such version of the format
+-- the code where the format has no such version
 abbrev pub bad_version : ℕ
 bad_version = 35
 
--- a ring would not have a capacity that rings have; the number is its channel's
+-- the code where a ring would not have a capacity that rings have; the number is its channel's
 abbrev pub bad_capacity : ℕ
 bad_capacity = 36
 
--- not as many frames might wait as may
+-- the code where not as many frames might wait as may
 abbrev pub bad_slots : ℕ
 bad_slots = 37
 
--- there is no such code
+-- the code where there is no such code
 abbrev pub no_code : ℕ
 no_code = 38
 
--- no message waits
+-- the code where no message waits
 abbrev pub empty : ℕ
 empty = 48
 
--- no message waits, and none will come
+-- the code where no message waits and none will come
 abbrev pub ended : ℕ
 ended = 49
 
--- a code alone
+-- the answer that is a code alone
 abbrev pub only : ℕ → LcmuxAnswer
 only code = record { code = code; number = 0 }
 
@@ -61,13 +61,15 @@ number_in (NothingToAsk outstanding) = outstanding
 number_in (BufferTooSmall need) = need
 number_in refusal = 0
 
--- a refusal has its own number as its code
+-- the answer that is a refusal: its own number is the code
 abbrev pub refusal_answer : Refusal → LcmuxAnswer
 refusal_answer refusal = record { code = refusal_number refusal; number = number_in refusal }
 
+-- what a call answers that may be refused
 abbrev pub answer_of : Option Refusal → LcmuxAnswer
 answer_of None = only done
 answer_of (Some refusal) = refusal_answer refusal
 
+-- whether a call was done
 abbrev pub is_done : LcmuxAnswer → Bool
 is_done answer = answer.code == done

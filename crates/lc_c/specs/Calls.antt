@@ -19,6 +19,7 @@ frame_answer held channel frame = answered held channel (λ side c. answer_of (r
 abbrev pub put_where : Bool → (Channel → Frame) → Side → Channel → Side
 put_where done frame side c = if done then record side { peer = put side.peer (frame c) } else side
 
+-- what a call that puts a frame on a channel leaves behind the handle
 abbrev pub frame_after : Bool → Option Side → Option Channel → (Channel → Frame) → Option Side
 frame_after done held channel frame = changed held channel (put_where done frame)
 
@@ -27,6 +28,7 @@ abbrev pub MayWantMemory : Option Side → Option Channel → List ℕ → Type 
 MayWantMemory (Some side) (Some c) body = refusal_by_books side.peer (Send c body) ≡ None
 MayWantMemory held channel body = ⊥
 
+-- what a send answers: what any call does that puts a frame, or want of memory where there may be one
 abbrev pub SendAnswers : Option Side → Option Channel → List ℕ → LcmuxAnswer → Type 0
 SendAnswers held channel body answer = (answer ≡ frame_answer held channel (λ c. Send c body)) ⊎ (MayWantMemory held channel body × (answer ≡ refusal_answer OutOfMemory))
 
@@ -36,12 +38,15 @@ honoured (Some refusal) amount = refusal_answer refusal
 honoured None None = only done
 honoured None (Some amount) = record { code = done; number = amount }
 
+-- what an honour answers
 abbrev pub honour_answer : Option Side → Option Channel → LcmuxAnswer
 honour_answer held channel = answered held channel (λ side c. honoured (honour_refusal side.peer c) (due side.peer c))
 
+-- the side that an honour leaves: one that is refused changes nothing
 abbrev pub honour_where : Option Refusal → Side → Channel → Side
 honour_where None side c = record side { peer = put_honour side.peer c }
 honour_where (Some refusal) side c = side
 
+-- what an honour leaves behind the handle
 abbrev pub honour_after : Option Side → Option Channel → Option Side
 honour_after held channel = changed held channel (λ side c. honour_where (honour_refusal side.peer c) side c)

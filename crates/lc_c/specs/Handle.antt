@@ -9,9 +9,11 @@ use Rattle.std_heap.specs.contracts.GlobalAllocator.TheImpl.{ghosts}
 use Rattle.lc_c.specs.contracts.side.Side.{the_row}
 use Rattle.std.specs.contracts.option.Option as option
 
+-- what a handle owns: nothing, or the side in its box
 abbrev pub handle_owns : Global → Ptr → Option the_row.Denot → Fml
 handle_owns alloc p None = ftrue
 handle_owns alloc p (Some v) = box_owns (ghosts.dealloc_token alloc) the_row p v
 
+-- what stands behind a handle, as the prover has it in memory
 abbrev pub held_coded : Coded (Option the_row.Denot)
 held_coded = (option.the_row the_row).coded

@@ -26,6 +26,7 @@ fault_answer OutOfMemory = refusal_answer refusals.OutOfMemory
 abbrev pub version_at : ℕ → Option Version
 version_at number = if number == 1 then Some One else if number == 2 then Some Two else None
 
+-- the configuration of a peer, by the one that C hands in and the version of its number
 abbrev pub config_in : LcmuxConfig → Version → Config
 config_in config version = record { version = version; capacities = config.capacities; slots = config.slots }
 
@@ -33,22 +34,26 @@ config_in config version = record { version = version; capacities = config.capac
 abbrev pub new_side : Config → Side
 new_side config = record { peer = new_peer config; decoder = nothing_held; stop = None; pending = record { bytes = greeting config.version } }
 
+-- what the making of a peer answers, by what is wrong with its configuration
 abbrev pub fault_or_done : Option PeerFault → LcmuxAnswer
 fault_or_done None = only done
 fault_or_done (Some fault) = fault_answer fault
 
+-- the same, by the configuration, where its version is one
 abbrev pub bounds_answer : Option Config → LcmuxAnswer
 bounds_answer None = only bad_version
 bounds_answer (Some config) = fault_or_done (config_fault config)
 
--- a full handle comes first, then the version, then the bounds, and then memory
+-- what the making of a peer answers where there is memory: a full handle comes first, then the version, then the bounds
 abbrev pub make_answer : Option Side → LcmuxConfig → LcmuxAnswer
 make_answer (Some side) config = only has_peer
 make_answer None config = bounds_answer (option_map (config_in config) (version_at config.version))
 
+-- what the making of a peer answers: that, or want of memory where nothing else is wrong
 abbrev pub MakeAnswers : Option Side → LcmuxConfig → LcmuxAnswer → Type 0
 MakeAnswers held config answer = (answer ≡ make_answer held config) ⊎ ((make_answer held config ≡ only done) × (answer ≡ fault_answer OutOfMemory))
 
+-- what stands behind the handle then: a new peer where it was made, else what stood there
 abbrev pub made : Bool → Option Side → LcmuxConfig → Option Side
 made true held config = option_map (λ version. new_side (config_in config version)) (version_at config.version)
 made false held config = held

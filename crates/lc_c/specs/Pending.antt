@@ -3,6 +3,7 @@ use Rattle.std.specs.Prelude.{ℕ, ◌≤◌, List}
 use Rattle.lc_frame.specs.declared.version.Version.TheVariants.{Two}
 use Rattle.lc_frame.specs.Kind.{max_frame}
 
+-- the bytes that are left
 pub record PendingState : Type 0 where
   pub bytes : List ℕ
 

@@ -44,6 +44,7 @@ pub record ComesTo (side : Side) (c : Channel) (held : Option Side) (channel : O
   pub numbered : channel ≡ Some c
   pub out : left ≡ None
 
+-- what a call comes to: its answer where there is no side or no channel, or a side and a channel
 abbrev pub Reaches : Target → Option Side → Option Channel → Option Side → Type 0
 Reaches (Barred answer) held channel left = StaysBarred answer held channel left
 Reaches (At side c) held channel left = ComesTo side.value c held channel left

@@ -16,7 +16,7 @@ use Rattle.lc_c.specs.declared.wire.LcmuxDelivery.{LcmuxDelivery}
 use Rattle.lc_c.specs.declared.side.Side.{Side}
 use Rattle.lc_c.specs.Answers.{done, only, no_peer}
 
--- the bytes that are to go out: the rest of the greeting or of the frame that was begun, and then those of the frames that wait
+-- the bytes that are to go out: the rest of the greeting or of the frame that was begun, and then those of the frames that wait, in the peer's version
 abbrev pub text : Side → List ℕ
 text side = side.pending.bytes ++ flat_map (encoding side.peer.version) side.peer.waiting
 
@@ -48,11 +48,12 @@ pub record Brings (piece : List ℕ) (old new : Side) (d : Delivery) : Type 0 wh
   pub stop : new.stop ≡ d.stop
   pub pending : new.pending ≡ old.pending
 
--- where it was, nothing is taken, and the answer is the same for good
+-- where its stream was given up nothing is taken, and the answer is the same for good
 pub record StaysStopped (stop : Stop) (old new : Side) (d : Delivery) : Type 0 where
   pub delivery : d ≡ record { taken = 0; frames = 0; stop = Some stop }
   pub same : new ≡ old
 
+-- a piece is delivered to a side, unless its stream was given up
 abbrev pub DeliversAt : Option Stop → List ℕ → Side → Side → Delivery → Type 0
 DeliversAt None piece old new d = Brings piece old new d
 DeliversAt (Some stop) piece old new d = StaysStopped stop old new d
@@ -63,10 +64,11 @@ stop_code None = done
 stop_code (Some (Violated violation)) = 100 + violation_number violation
 stop_code (Some (Fault fault)) = 200 + fault_number fault
 
+-- what a delivery answers, as C reads it
 abbrev pub shown : Delivery → LcmuxDelivery
 shown d = record { code = stop_code d.stop; taken = d.taken; frames = d.frames }
 
--- a delivery behind a handle, which answers this
+-- a piece is delivered behind a handle that has a side, which answers this
 pub record DeliversTo (side : Side) (piece : List ℕ) (after : Option Side) (answer : LcmuxDelivery) : Type 0 where
   pub new : Side
   pub stands : after ≡ Some new
@@ -74,15 +76,17 @@ pub record DeliversTo (side : Side) (piece : List ℕ) (after : Option Side) (an
   pub is : answer ≡ shown delivery
   pub delivers : DeliversAt side.stop piece side new delivery
 
+-- an empty handle takes nothing of a piece, and says so
 pub record DeliversNowhere (after : Option Side) (answer : LcmuxDelivery) : Type 0 where
   pub is : answer ≡ record { code = no_peer; taken = 0; frames = 0 }
   pub stays : after ≡ None
 
+-- a piece is delivered behind a handle
 abbrev pub DeliversBehind : Option Side → List ℕ → Option Side → LcmuxDelivery → Type 0
 DeliversBehind None piece after answer = DeliversNowhere after answer
 DeliversBehind (Some side) piece after answer = DeliversTo side piece after answer
 
--- what goes out behind a handle: the number is how many bytes were written, as many as there are and have room
+-- what goes out of a side behind a handle: the number is how many bytes were written, as many as there are and have room
 pub record WritesOut (side : Side) (buffer : List ℕ) (after : Option Side) (buffer' : List ℕ) (answer : LcmuxAnswer) : Type 0 where
   pub new : Side
   pub stands : after ≡ Some new
@@ -91,11 +95,13 @@ pub record WritesOut (side : Side) (buffer : List ℕ) (after : Option Side) (bu
   pub written : buffer' ≡ take answer.number (text side) ++ drop answer.number buffer
   pub gives : GivesOut answer.number side new
 
+-- an empty handle gives out nothing, and says so
 pub record WritesNothing (buffer : List ℕ) (after : Option Side) (buffer' : List ℕ) (answer : LcmuxAnswer) : Type 0 where
   pub is : answer ≡ only no_peer
   pub stays : after ≡ None
   pub same : buffer' ≡ buffer
 
+-- as many bytes go out behind a handle as there are and have room
 abbrev pub WritesBehind : Option Side → List ℕ → Option Side → List ℕ → LcmuxAnswer → Type 0
 WritesBehind None buffer after buffer' answer = WritesNothing buffer after buffer' answer
 WritesBehind (Some side) buffer after buffer' answer = WritesOut side buffer after buffer' answer
@@ -105,11 +111,12 @@ abbrev pub pending_answer : Option Side → LcmuxAnswer
 pending_answer None = only no_peer
 pending_answer (Some side) = record { code = done; number = length (text side) }
 
--- a stream that was not given up ends so
+-- the code of the end of a stream that was not given up
 abbrev pub end_code : {T : Type 0} → Result T FrameFault → ℕ
 end_code (Ok _) = done
 end_code (Err fault) = 200 + fault_number fault
 
+-- what the end of a stream means that was not given up, by what is held of it
 pub record EndsOpen (held : Held) (code : ℕ) : Type 0 where
   pub end : Result (Unit {0}) FrameFault
   pub ends : EndsAs end held
@@ -120,6 +127,7 @@ abbrev pub EndsWith : Option Stop → Held → ℕ → Type 0
 EndsWith (Some stop) held code = code ≡ stop_code (Some stop)
 EndsWith None held code = EndsOpen held code
 
+-- what the end of the stream means behind a handle
 abbrev pub EndsBehind : Option Side → LcmuxAnswer → Type 0
 EndsBehind None answer = answer ≡ only no_peer
 EndsBehind (Some side) answer = EndsWith side.stop side.decoder answer.code × (answer.number ≡ 0)

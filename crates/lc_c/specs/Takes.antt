@@ -14,32 +14,36 @@ use Rattle.lc_c.specs.declared.side.Side.{Side}
 use Rattle.lc_c.specs.Answers.{done, only, empty, ended, refusal_answer}
 use Rattle.lc_c.specs.Reach.{answered, changed, given}
 
--- the number is the length of the message
+-- what a take answers, as C reads it: the number is the length of the message
 abbrev pub take_shown : Take → LcmuxAnswer
 take_shown (Took len) = record { code = done; number = len }
 take_shown Empty = only empty
 take_shown Ended = only ended
 
+-- the same, unless it is refused
 abbrev pub take_unless : Option Refusal → Take → LcmuxAnswer
 take_unless None take = take_shown take
 take_unless (Some refusal) take = refusal_answer refusal
 
--- a take into a buffer of so many bytes
+-- what a take into a buffer of so many bytes answers
 abbrev pub take_answer : Option Side → Option Channel → ℕ → LcmuxAnswer
 take_answer held channel room = answered held channel (λ side c. take_unless (take_refusal (inbox side.peer c) room) (inboxes.take_answer (inbox side.peer c)))
 
+-- the side that a take leaves: one that is refused changes nothing
 abbrev pub taken_where : Option Refusal → Side → Channel → Side
 taken_where None side c = record side { peer = take_on side.peer c }
 taken_where (Some refusal) side c = side
 
+-- what a take leaves behind the handle
 abbrev pub take_after : Option Side → Option Channel → ℕ → Option Side
 take_after held channel room = changed held channel (λ side c. taken_where (take_refusal (inbox side.peer c) room) side c)
 
--- the message stands at the front of the buffer, which is else as it was
+-- the buffer when a message stands at its front, which is else as it was
 abbrev pub filled_where : Option Refusal → Option (List ℕ) → List ℕ → List ℕ
 filled_where None message buffer = with_front message buffer
 filled_where (Some refusal) message buffer = buffer
 
+-- the buffer that a take leaves
 abbrev pub filled : Option Side → Option Channel → List ℕ → List ℕ
 filled held channel buffer = given held channel (λ side c. filled_where (take_refusal (inbox side.peer c) (length buffer)) (front (inbox side.peer c).ring) buffer) buffer
 

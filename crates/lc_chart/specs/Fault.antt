@@ -5,7 +5,7 @@ use Rattle.lc_cli.specs.Fault.{status_of}
 use Rattle.lc_chart.specs.declared.fault.ChartFault.{ChartFault}
 use Rattle.lc_chart.specs.declared.fault.ChartFault.TheVariants.{Usage, TooManyEvents, Shared}
 
--- arguments and scripts that are too long are bad, and a fault that lcmux has too ends as there
+-- how a run that meets a fault ends: arguments and scripts that are too long are bad, and a fault that lcmux has too ends as there
 abbrev pub chart_status : ChartFault → Status
 chart_status Usage = Bad
 chart_status TooManyEvents = Bad

@@ -5,7 +5,7 @@ use Rattle.lc_cli.specs.declared.fault.Status.TheVariants.{Done, Failed, Bad}
 use Rattle.lc_cli.specs.declared.fault.Fault.{Fault}
 use Rattle.lc_cli.specs.declared.fault.Fault.TheVariants.{Usage, BadLine, BadFrame, InputTooLong, OutOfMemory, ReadFailed, WriteFailed, LoopbackFailed}
 
--- memory and devices fail; arguments and input are bad
+-- how a run that meets a fault ends: memory and devices fail; arguments and input are bad
 abbrev pub status_of : Fault → Status
 status_of Usage = Bad
 status_of (BadLine line) = Bad
@@ -16,6 +16,7 @@ status_of ReadFailed = Failed
 status_of WriteFailed = Failed
 status_of LoopbackFailed = Failed
 
+-- the exit status: 0 done, 1 failed, 2 bad
 abbrev pub code_of : Status → ℕ
 code_of Done = 0
 code_of Failed = 1

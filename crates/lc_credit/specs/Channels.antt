@@ -3,17 +3,19 @@ use Rattle.std.specs.Prelude.{◌≡◌, List, [], ◌∷◌, map}
 use Rattle.lc_credit.specs.declared.balance.Balance.{Balance}
 use Rattle.lc_credit.specs.Sides.{CreditId, Incoming, Outgoing, new_incoming, new_outgoing, IsSettled}
 
--- which credits they are, by channel
+-- which credit a reading side is of
 abbrev pub credit_in : Incoming → CreditId
 credit_in i = i.credit
 
+-- which credit a sending end is of
 abbrev pub credit_out : Outgoing → CreditId
 credit_out o = o.credit
 
--- a call leaves both sides what they were: of these credits
+-- each reading side is still of the credit that it was of
 abbrev pub SameCredits : List Incoming → List Incoming → Type 0
 SameCredits old new = map credit_in new ≡ map credit_in old
 
+-- a sending end is still of the credit that it was of
 abbrev pub SameCredit : Outgoing → Outgoing → Type 0
 SameCredit old new = new.credit ≡ old.credit
 

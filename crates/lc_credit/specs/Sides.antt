@@ -1,4 +1,4 @@
--- What contracts see of the two sides of one channel's credit, and what each call does to them. Sending and absolving within the guarantees received, limits on receiving and pleads are LCMUX's; the order of the violations, that an amount is pending between its use and its frame, and that an end may be finished, which waives its guarantees, is this project's own.
+-- What contracts see of the two sides of one channel's credit, and what each call does to them. The other side only ever adds to the word, so what an end knows that it has at least stays true, and one load and one subtraction are enough to use guarantees. Each look raises `looks` by one, so an answer that is tied to a look was looked up in that very call. Sending and absolving within the guarantees received, limits on receiving and pleads are LCMUX's; the order of the violations, that an amount is pending between its use and its frame, and that an end may be finished, which waives its guarantees, is this project's own.
 use Rattle.std.specs.Prelude.{◌≡◌, ◌⊎◌, ℕ, ◌+◌, ◌-◌, ◌≤◌, ◌<◌, true, false, List, [], Option, None, Some, MatchOption, unwrap_or}
 use Rattle.std.specs.Option.{ForSome}
 use Rattle.atomic_table.specs.Seated.{TableId}
@@ -40,20 +40,24 @@ pub record Outgoing : Type 0 where
   pub pending : Option Pending
   pub least : ℕ
 
+-- a reading side that has done nothing
 abbrev pub new_incoming : CreditId → Incoming
 new_incoming credit = record { credit = credit; seen = []; looks = 0; received = 0; left = None }
 
+-- a sending end that has done nothing
 abbrev pub new_outgoing : CreditId → Outgoing
 new_outgoing credit = record { credit = credit; seen = []; looks = 0; spent = 0; absolved = 0; waived = None; pending = None; least = 0 }
 
+-- the amount that is pending, 0 where none is
 abbrev pub amount_of : Option Pending → ℕ
 amount_of None = 0
 amount_of (Some p) = p.amount
 
--- nothing is pending; and the end is not finished
+-- nothing is pending
 abbrev pub IsIdle : Outgoing → Type 0
 IsIdle o = o.pending ≡ None
 
+-- the end is not finished
 abbrev pub IsUnfinished : Outgoing → Type 0
 IsUnfinished o = o.waived ≡ None
 
@@ -61,12 +65,13 @@ IsUnfinished o = o.waived ≡ None
 abbrev pub all_counted : Outgoing → ℕ
 all_counted o = o.spent + o.absolved + unwrap_or o.waived 0
 
--- what each side counted is what its entries add up to, and what is pending is the last use, which did not come back, at an end that is not finished
+-- what the reading side counted is what its entries add up to
 pub record IsIncoming (i : Incoming) : Type 0 where
   pub counted : i.received ≡ received i.seen
   pub total : i.received ≤ max_total
   pub bound : ForSome i.left (λ left. left ≤ max_total)
 
+-- what the sending end counted, and what is pending, is what its entries add up to; what is pending is the last use, which did not come back, at an end that is not finished
 pub record IsOutgoing (o : Outgoing) : Type 0 where
   pub counted : used o.seen ≡ returned o.seen + (all_counted o + amount_of o.pending)
   pub total : all_counted o + amount_of o.pending ≤ max_total
@@ -91,12 +96,13 @@ pub record IsAdded (n : ℕ) (old new : Incoming) : Type 0 where
   pub makes : Makes is_incoming between.seen (Received n) new.seen
   pub after : new ≡ record between { seen = new.seen; received = old.received + n; left = less old.left n }
 
--- the word, as it was loaded, has no room for the amount; and it has
+-- the word, as it was loaded, has no room for the amount
 pub record HasNoRoom (n : ℕ) (old new : Incoming) : Type 0 where
   pub held : ℕ
   pub loads : LoadsIn held old new
   pub over : max_amount < held + n
 
+-- the word, as it was loaded, has room for the amount
 pub record HasRoom (n : ℕ) (old new : Incoming) : Type 0 where
   pub held : ℕ
   pub loads : LoadsIn held old new
@@ -107,14 +113,14 @@ pub record IsPastLimit (n : ℕ) (old new : Incoming) : Type 0 where
   pub past : is_past old.left n ≡ true
   pub after : new ≡ old
 
--- what is wrong with an amount that arrives
+-- what is wrong with an amount that arrives, V5, V6 or V8, and what the reading side looked up for that
 abbrev pub IsNotAdded : Violation → ℕ → Incoming → Incoming → Type 0
 IsNotAdded IssuedPastLimit n old new = IsPastLimit n old new
 IsNotAdded TooManyGuarantees n old new = (is_past old.left n ≡ false) × HasNoRoom n old new
 IsNotAdded TotalPassed n old new = (is_past old.left n ≡ false) × HasRoom n old new × (max_total < old.received + n)
 IsNotAdded v n old new = ⊥
 
--- a limit on receiving that is no higher than what the one before it leaves
+-- a limit on receiving that is no higher than what the one before it leaves is noted
 pub record IsLimited (bound : ℕ) (old new : Incoming) : Type 0 where
   pub within : is_past old.left bound ≡ false
   pub after : new ≡ record old { left = Some bound }
@@ -144,20 +150,22 @@ pub record IsUsed (kind : Use) (n : ℕ) (old new : Outgoing) : Type 0 where
   pub makes : Makes is_outgoing between.seen (Used n) new.seen
   pub after : new ≡ record between { seen = new.seen; pending = Some (record { kind = kind; amount = n }); least = held - n }
 
--- why an amount is not spent, or not absolved: the number that the refusal carries is the word as it was loaded
+-- why an amount is not spent: 4, with the word as it was loaded
 abbrev pub IsNotSpent : Refusal → ℕ → Outgoing → Outgoing → Type 0
 IsNotSpent (NoGuarantee held) n old new = (held < n) × LoadsOut held old new
 IsNotSpent e n old new = ⊥
 
+-- why an amount is not absolved: 6, with the word as it was loaded
 abbrev pub IsNotAbsolved : Refusal → ℕ → Outgoing → Outgoing → Type 0
 IsNotAbsolved (NotHeld held) n old new = ((held < n) ⊎ (max_amount < n)) × LoadsOut held old new
 IsNotAbsolved e n old new = ⊥
 
--- what is pending is counted
+-- an amount is counted as spent, or as absolved, and nothing is pending
 abbrev pub counted_as : Use → ℕ → Outgoing → Outgoing
 counted_as Spend n o = record o { spent = o.spent + n; pending = None }
 counted_as Absolve n o = record o { absolved = o.absolved + n; pending = None }
 
+-- what is pending is counted
 abbrev pub counted : Pending → Outgoing → Outgoing
 counted p o = counted_as p.kind p.amount o
 
@@ -173,7 +181,7 @@ pub record IsWaived (old new : Outgoing) : Type 0 where
   pub makes : Makes is_outgoing between.seen (Used held) new.seen
   pub after : new ≡ record between { seen = new.seen; waived = Some held; least = 0 }
 
--- A channel is settled: what both sides counted, beside what is held, adds up, and nothing is held where the end is finished, nor waived where it is not; and there is one history that both sides know, of which these are the sums
+-- a channel is settled: what both sides counted, beside what is held, adds up, and nothing is held where the end is finished, since what the word had got by then is waived too, nor waived where it is not; and there is one history that both sides know, of which these are the sums
 pub record IsSettled (incoming : Incoming) (outgoing : Outgoing) (b : Balance) : Type 0 where
   pub received_is : b.received ≡ incoming.received
   pub spent_is : b.spent ≡ outgoing.spent

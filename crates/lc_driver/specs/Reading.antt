@@ -1,4 +1,4 @@
--- What reading a stream of either version does: which frames arrive, what is held, and how it ends. These rules are this project's own.
+-- What reading a stream of either version does: which frames arrive, what is held, and how it ends. One relation says it for all outcomes, so that two calls one after the other compose: whatever the cuts and the faults, the frames that arrive are the first of those that were put. These rules are this project's own.
 use Rattle.std.specs.Prelude.{◌≡◌, ℕ, ◌*◌, ◌<◌, ◌≤◌, List, [], ◌++◌, length, All, Option, Some, None, IsSome, ⊤}
 use Rattle.std.specs.Io.KnownBytes.{Consumes, IsAtEnd}
 use Rattle.lc_frame.specs.declared.frame.Frame.{Frame}

@@ -1,4 +1,4 @@
--- What writing does: which bytes the writer takes, and which frames leave the peer. These rules are this project's own.
+-- What writing does: which bytes the writer takes, and which frames leave the peer. One relation says it for all outcomes, so that two calls one after the other compose: whatever the cuts and the faults, the text goes out once, in order. These rules are this project's own.
 use Rattle.std.specs.Prelude.{◌≡◌, ℕ, ◌+◌, ◌<◌, ◌≤◌, List, ◌++◌, length, take, drop, Option, Result, Ok, Err, IsSome}
 use Rattle.std.specs.List.{flat_map}
 use Rattle.std.specs.Io.KnownBytes.{Appends}
@@ -31,11 +31,12 @@ pub record Writes (version : Version) (before after : Option (List ℕ)) (old_pe
   -- of each of them the first byte was taken
   pub begun : (k : ℕ) → k < gone → length (text version old_pending (take k old.waiting)) < written
 
--- how many bytes were written in a call
+-- how many bytes a call wrote before its fault
 abbrev pub fault_written : WriteFault → ℕ
 fault_written (Failed n) = n
 fault_written (Zero n) = n
 
+-- how many bytes a call wrote, whether it ended well or not
 abbrev pub written_in : Result ℕ WriteFault → ℕ
 written_in (Ok n) = n
 written_in (Err fault) = fault_written fault

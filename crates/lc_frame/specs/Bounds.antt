@@ -7,18 +7,19 @@ pub record IsCapacity (capacity : ℕ) : Type 0 where
   pub at_least : 1 ≤ capacity
   pub at_most : capacity ≤ max_amount
 
--- the same as a test
+-- whether a receiving ring may have so many bytes
 abbrev pub is_capacity : ℕ → Bool
 is_capacity capacity = nat_le 1 capacity && nat_le capacity max_amount
 
--- 1 to 65,536 frames may wait
+-- the most frames that may wait to go out: 65,536
 abbrev pub max_slots : ℕ
 max_slots = 2 ^ 16
 
+-- 1 to 65,536 frames may wait to go out
 pub record IsSlots (slots : ℕ) : Type 0 where
   pub at_least : 1 ≤ slots
   pub at_most : slots ≤ max_slots
 
--- the same as a test
+-- whether so many frames may wait to go out
 abbrev pub is_slots : ℕ → Bool
 is_slots slots = nat_le 1 slots && nat_le slots max_slots

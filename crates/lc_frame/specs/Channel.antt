@@ -3,7 +3,7 @@ use Rattle.std.specs.Prelude.{ℕ, zero, suc, Bool, ◌==◌, Option, Some, None
 use Rattle.lc_frame.specs.declared.channel.Channel.{Channel}
 use Rattle.lc_frame.specs.declared.channel.Channel.TheVariants.{ReconciliationChannel, DataChannel, OverlapChannel, CapabilityChannel, AreaOfInterestChannel, PayloadRequestChannel, StaticTokenChannel}
 
--- a channel's number
+-- a channel's number, 0 to 6
 abbrev pub number_of : Channel → ℕ
 number_of ReconciliationChannel = 0
 number_of DataChannel = 1
@@ -24,6 +24,6 @@ channel_at (suc (suc (suc (suc (suc zero))))) = Some PayloadRequestChannel
 channel_at (suc (suc (suc (suc (suc (suc zero)))))) = Some StaticTokenChannel
 channel_at (suc (suc (suc (suc (suc (suc (suc n))))))) = None
 
--- a test whether two channels are one
+-- whether two channels are one
 abbrev pub is_same : Channel → Channel → Bool
 is_same c d = number_of c == number_of d

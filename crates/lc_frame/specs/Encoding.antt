@@ -11,7 +11,7 @@ use Rattle.lc_frame.specs.Channel.{number_of}
 use Rattle.lc_frame.specs.Kind.{code_of, has, width_of, width_len, IsInRange, fault_of}
 use Rattle.lc_frame.specs.Frame.{kind_of, channel_of, field_of, body_of, IsValid}
 
--- the first byte of a frame
+-- the first byte of a frame: 16 times the code of its kind, and the channel's number
 abbrev pub tag_of : Kind → Channel → ℕ
 tag_of kind c = 16 * code_of kind + number_of c
 
@@ -20,11 +20,11 @@ abbrev pub number_bytes : Option Width → ℕ → List ℕ
 number_bytes None number = []
 number_bytes (Some width) number = to_be_bytes width number
 
--- the tag, and the number
+-- the bytes in front of a message: the tag, and the number
 abbrev pub header : Version → Kind → Channel → ℕ → List ℕ
 header v kind c number = tag_of kind c ∷ number_bytes (width_of v kind) number
 
--- the bytes of a frame
+-- the bytes of a frame: the tag, the number with its highest byte first, where there is one, and the message
 abbrev pub encoding : Version → Frame → List ℕ
 encoding v f = header v (kind_of f) (channel_of f) (field_of f) ++ body_of f
 
@@ -53,7 +53,7 @@ pub record NumberStands (v : Version) (fault : FrameFault) (bytes : List ℕ) : 
   pub out : ¬ IsInRange v kind number
   pub names : fault_of kind number ≡ fault
 
--- the fault of the bytes, which they keep however they go on
+-- why the bytes begin with no valid frame, however they go on
 abbrev pub FaultStands : Version → FrameFault → List ℕ → Type 0
 FaultStands v BadTag bytes = NoTagStands v bytes
 FaultStands v ZeroLength bytes = NumberStands v ZeroLength bytes

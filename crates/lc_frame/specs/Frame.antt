@@ -9,7 +9,7 @@ use Rattle.lc_frame.specs.declared.frame.Frame.TheVariants.{Send, Issue, Absolve
 use Rattle.lc_frame.specs.Channel.{number_of}
 use Rattle.lc_frame.specs.Kind.{has, IsInRange}
 
--- what a frame does
+-- what kind of frame it is
 abbrev pub kind_of : Frame → Kind
 kind_of (Send c body) = kinds.Send
 kind_of (Issue c amount) = kinds.Issue

@@ -3,7 +3,7 @@ use Rattle.std.specs.Prelude.{ℕ}
 use Rattle.lc_frame.specs.declared.frame_fault.FrameFault.{FrameFault}
 use Rattle.lc_frame.specs.declared.frame_fault.FrameFault.TheVariants.{BadTag, ZeroLength, BadNumber, Truncated}
 
--- F1 to F4
+-- the number of a fault, F1 to F4
 abbrev pub fault_number : FrameFault → ℕ
 fault_number BadTag = 1
 fault_number ZeroLength = 2

@@ -4,7 +4,7 @@ use Rattle.lc_frame.specs.declared.frame.Frame.TheVariants as owned
 use Rattle.lc_frame.specs.declared.frame_ref.FrameRef.{FrameRef}
 use Rattle.lc_frame.specs.declared.frame_ref.FrameRef.TheVariants.{Send, Issue, Absolve, Plead, LimitSending, LimitReceiving, Finish}
 
--- the same kind, channel and number, and the bytes that are lent
+-- the frame that a borrowed one shows: the same kind, channel and number, and the bytes that are lent
 abbrev pub frame_of : FrameRef → Frame
 frame_of (Send c body) = owned.Send c body.now
 frame_of (Issue c amount) = owned.Issue c amount

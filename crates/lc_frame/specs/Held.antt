@@ -22,14 +22,16 @@ nothing_held = record { version = None; bytes = [] }
 abbrev pub held_in : Version → List ℕ → Held
 held_in v bytes = record { version = Some v; bytes = bytes }
 
--- the bytes of a stream from its start, which tell this version: a greeting is gone once it is whole
+-- what is held of a stream of which these are the bytes from its start, which tell this version: a greeting is gone once it is whole
 abbrev pub opened_as : Option Version → List ℕ → Held
 opened_as None bytes = record { version = None; bytes = bytes }
 opened_as (Some v) bytes = held_in v (drop (length (greeting v)) bytes)
 
+-- the same, by the version that the bytes tell
 abbrev pub opened : List ℕ → Held
 opened bytes = opened_as (version_of bytes) bytes
 
+-- what is held where the version was known or not, and these are the bytes since then: where it was not, it may be now
 abbrev pub held_as : Option Version → List ℕ → Held
 held_as None bytes = opened bytes
 held_as (Some v) bytes = held_in v bytes
@@ -42,11 +44,12 @@ fed h more = held_as h.version (h.bytes ++ more)
 abbrev pub IsSettled : Held → Type 0
 IsSettled h = h ≡ held_as h.version h.bytes
 
--- what frames are where a version is known, and where none is
+-- a frame is valid in the version that is known; where none is known, no frame is
 abbrev pub IsValidIn : Option Version → Frame → Type 0
 IsValidIn None = λ f. ⊥
 IsValidIn (Some v) = IsValid v
 
+-- the bytes of a frame in the version that is known; none where none is known
 abbrev pub encoding_in : Option Version → Frame → List ℕ
 encoding_in None = λ f. []
 encoding_in (Some v) = encoding v
@@ -59,27 +62,29 @@ before frames h = record { version = h.version; bytes = flat_map (encoding_in h.
 abbrev pub front : ℕ → Held → Held
 front n h = record { version = h.version; bytes = take n h.bytes }
 
--- what stands at the front of bytes: a frame where a version is known, and where none is known a byte that breaks a greeting, which is no tag
+-- this frame stands at the front of the bytes; where no version is known, none does
 abbrev pub FrameIn : Option Version → Frame → List ℕ → Type 0
 FrameIn None f bytes = ⊥
 FrameIn (Some v) f bytes = FrameStands v f bytes
 
+-- this fault stands at the front of the bytes; where no version is known that is BadTag, of a byte that breaks a greeting
 abbrev pub FaultIn : Option Version → FrameFault → List ℕ → Type 0
 FaultIn None e bytes = (e ≡ BadTag) × GreetingBreaks bytes
 FaultIn (Some v) e bytes = FaultStands v e bytes
 
--- this frame, or this fault, stands at the front of what is held
+-- this frame stands at the front of what is held
 abbrev pub HasFrame : Frame → Held → Type 0
 HasFrame f h = FrameIn h.version f h.bytes
 
+-- this fault stands at the front of what is held
 abbrev pub HasFault : FrameFault → Held → Type 0
 HasFault e h = FaultIn h.version e h.bytes
 
--- neither a frame nor a fault does
+-- neither a frame nor a fault stands at the front of what is held
 pub record IsUndecided (h : Held) : Type 0 where
   pub no_frame : (f : Frame) → ¬ HasFrame f h
   pub no_fault : (e : FrameFault) → ¬ HasFault e h
 
--- a frame or a fault does
+-- a frame or a fault stands at the front of what is held
 abbrev pub IsDecided : Held → Type 0
 IsDecided h = ((f : Frame) × HasFrame f h) ⊎ ((e : FrameFault) × HasFault e h)

@@ -29,12 +29,13 @@ Holds v (Fault fault) bytes = OnlyFault v fault bytes
 Holds v Greeted bytes = ⊥
 Holds v Broken bytes = ⊥
 
--- the same from the start of a stream on, and whether its version is known
+-- the same from the start of a stream on
 abbrev pub Remembers : Version → Progress → List ℕ → Type 0
 Remembers v Greeted bytes = IsGreetingPart bytes
 Remembers v Broken bytes = GreetingBreaks bytes
 Remembers v progress bytes = Holds v progress bytes
 
+-- the version, where what is remembered says that it is known
 abbrev pub known_version : Version → Progress → Option Version
 known_version v Greeted = None
 known_version v Broken = None

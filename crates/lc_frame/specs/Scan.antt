@@ -35,14 +35,14 @@ abbrev pub number_in : Option Width → List ℕ → ℕ
 number_in None bytes = 0
 number_in (Some width) bytes = from_be_bytes width bytes
 
--- behind a number in range
+-- what a scan finds behind a number in range
 unfoldable pub scan_body : Version → Kind → Channel → ℕ → List ℕ → Scan
 scan_body v kind c number rest =
     let len = body_len kind number in
     if nat_lt (length rest) len then Needs (header_len v kind + len)
     else Whole (record { kind = kind; channel = c; number = number }) (header_len v kind + len)
 
--- behind a tag
+-- what a scan finds behind a tag
 unfoldable pub scan_number : Version → Kind → Channel → List ℕ → Scan
 scan_number v kind c bytes =
     let width = width_len (width_of v kind) in
@@ -51,11 +51,13 @@ scan_number v kind c bytes =
     else if is_in_range v kind number then scan_body v kind c number (drop width bytes)
     else Fault (fault_of kind number)
 
+-- what a scan finds behind a first byte, by the kind and the channel that it names
 unfoldable pub scan_tag : Version → Option Kind → Option Channel → List ℕ → Scan
 scan_tag v None c rest = Fault BadTag
 scan_tag v (Some kind) None rest = Fault BadTag
 scan_tag v (Some kind) (Some c) rest = if has v kind then scan_number v kind c rest else Fault BadTag
 
+-- what a scan finds at the front of the bytes
 unfoldable pub scan_of : Version → List ℕ → Scan
 scan_of v [] = Needs 1
 scan_of v (first ∷ rest) = scan_tag v (kind_at (first / 16)) (channel_at (first % 16)) rest

@@ -33,14 +33,15 @@ abbrev pub split_in : Version → ℕ → List ℕ → List Frame × List ℕ
 split_in v zero bytes = ([], bytes)
 split_in v (suc turns) bytes = option_map_or (λ p. (p.0 ∷ (split_in v turns p.1).0, (split_in v turns p.1).1)) (first_frame v (scan_of v bytes) bytes) ([], bytes)
 
--- none where no version is known
+-- the same where a version is known; where none is, no frame stands there
 abbrev pub split_as : Option Version → List ℕ → List Frame × List ℕ
 split_as None bytes = ([], bytes)
 split_as (Some v) bytes = split_in v (length bytes) bytes
 
--- all frames at the front of what is held, and what is held behind them. These compute; the law frames_are_split says that they are what Splits says
+-- all frames at the front of what is held. This computes, one frame a turn, as a scan finds it; the law frames_are_split says that it is what Splits says
 abbrev pub frames_of : Held → List Frame
 frames_of h = (split_as h.version h.bytes).0
 
+-- what is held behind these frames, computed with them
 abbrev pub rest_of : Held → Held
 rest_of h = record { version = h.version; bytes = (split_as h.version h.bytes).1 }

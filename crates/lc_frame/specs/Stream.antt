@@ -16,48 +16,54 @@ on c frames = filter (λ f. is_same c (channel_of f)) frames
 abbrev pub of_lane : ℕ → List Frame → List Frame
 of_lane lane frames = filter (λ f. lane_of f == lane) frames
 
--- what each frame carries, by its kind
+-- the message of a Send
 abbrev pub message_of : Frame → Option (List ℕ)
 message_of (Send c body) = Some body
 message_of f = None
 
+-- the amount of an Issue
 abbrev pub issue_of : Frame → Option ℕ
 issue_of (Issue c amount) = Some amount
 issue_of f = None
 
+-- the amount of an Absolve
 abbrev pub absolve_of : Frame → Option ℕ
 absolve_of (Absolve c amount) = Some amount
 absolve_of f = None
 
+-- the target of a Plead
 abbrev pub target_of : Frame → Option ℕ
 target_of (Plead c target) = Some target
 target_of f = None
 
+-- the bound of a limit on sending
 abbrev pub send_bound_of : Frame → Option ℕ
 send_bound_of (LimitSending c bound) = Some bound
 send_bound_of f = None
 
+-- the bound of a limit on receiving
 abbrev pub receive_bound_of : Frame → Option ℕ
 receive_bound_of (LimitReceiving c bound) = Some bound
 receive_bound_of f = None
 
+-- whether it is a Finish
 abbrev pub is_finish : Frame → Bool
 is_finish (Finish c) = true
 is_finish f = false
 
--- the bodies sent on a channel, in order
+-- the messages sent on a channel, in order
 abbrev pub messages : Channel → List Frame → List (List ℕ)
 messages c frames = filter_map message_of (on c frames)
 
--- the bytes sent on a channel
+-- the bytes sent on a channel: the sum of the lengths of its messages
 abbrev pub cost : Channel → List Frame → ℕ
 cost c frames = sum_by length (messages c frames)
 
--- the guarantees issued on a channel
+-- the guarantees issued on a channel: the sum of the amounts
 abbrev pub issued : Channel → List Frame → ℕ
 issued c frames = sum (filter_map issue_of (on c frames))
 
--- the guarantees absolved on a channel
+-- the guarantees absolved on a channel: the sum of the amounts
 abbrev pub absolved : Channel → List Frame → ℕ
 absolved c frames = sum (filter_map absolve_of (on c frames))
 
@@ -74,9 +80,10 @@ abbrev pub last_limit : (Frame → Option ℕ) → List Frame → Option (ℕ ×
 last_limit bound_of [] = None
 last_limit bound_of (f ∷ frames) = option_or (last_limit bound_of frames) (option_map (λ bound. (bound, frames)) (bound_of f))
 
--- what is left of a limit: the bound of the last one less what was sent, or issued, after it; None where there is none
+-- what is left of the limit on sending: the bound of the last one less the bytes sent after it; None where there is none
 abbrev pub send_left : Channel → List Frame → Option ℕ
 send_left c frames = option_map (λ p. p.0 - cost c p.1) (last_limit send_bound_of (on c frames))
 
+-- what is left of the limit on receiving: the bound of the last one less the guarantees issued after it; None where there is none
 abbrev pub receive_left : Channel → List Frame → Option ℕ
 receive_left c frames = option_map (λ p. p.0 - issued c p.1) (last_limit receive_bound_of (on c frames))

@@ -3,12 +3,12 @@ use Rattle.std.specs.Prelude.{◌≡◌, ℕ, ◌<◌, ◌==◌, ◌&&◌, Bool,
 use Rattle.lc_frame.specs.declared.version.Version.{Version}
 use Rattle.lc_frame.specs.declared.version.Version.TheVariants.{One, Two}
 
--- the bytes in front of a stream's frames
+-- the bytes in front of a stream's frames: none in version One
 abbrev pub greeting : Version → List ℕ
 greeting One = []
 greeting Two = 76 ∷ 67 ∷ 77 ∷ 2 ∷ []
 
--- a test whether the first list begins the second
+-- whether the first list begins the second
 abbrev pub begins : List ℕ → List ℕ → Bool
 begins [] bytes = true
 begins (x ∷ xs) [] = false

@@ -1,12 +1,13 @@
--- Histories of things that two sides share, whatever their entries are: what both sides did, in one order, and what each side knows of it. When an entry may follow those before it, and whose entries are whose, is said by the thing that has the history. These words are this project's own.
+-- Histories of things that two sides share, whatever their entries are: what both sides did, each by single steps, in one order, so that "before" has a meaning between them; and what each side knows of it. A history is in no memory: it is what the proofs speak of. When an entry may follow those before it, and whose entries are whose, is said by the thing that has the history. These words are this project's own.
 use Rattle.std.specs.Prelude.{◌≡◌, ℕ, Bool, false, List, [], ◌∷◌, ◌++◌, filter, Option, None}
 use Rattle.std.specs.List.{filter_map}
 
--- each entry may follow those before it
+-- each entry of the second list may follow those before it, the first list among them
 abbrev pub IsHistoryAfter : {E : Type 0} → (List E → E → Type 0) → List E → List E → Type 0
 IsHistoryAfter MayFollow before [] = Unit {0}
 IsHistoryAfter MayFollow before (e ∷ later) = MayFollow before e × IsHistoryAfter MayFollow (before ++ e ∷ []) later
 
+-- each entry may follow those before it
 abbrev pub IsHistory : {E : Type 0} → (List E → E → Type 0) → List E → Type 0
 IsHistory MayFollow history = IsHistoryAfter MayFollow [] history
 

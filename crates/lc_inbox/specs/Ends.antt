@@ -31,7 +31,7 @@ pub record IsHeld (h : Held) : Type 0 where
   pub issued : h.inbox.book.issued ≡ issued h.channel h.lane.put
   pub left : h.inbox.book.receive_left ≡ receive_left h.channel h.lane.put
 
--- why a frame of the client may not arrive, and what it leaves
+-- why a frame of the client may not arrive, by the server's book
 abbrev pub violation_of : Frame → Server → Option Violation
 violation_of (Send c body) book = message_violation book (length body)
 violation_of (Absolve c amount) book = absolve_violation book amount
@@ -39,16 +39,18 @@ violation_of (LimitSending c bound) book = send_limit_violation book bound
 violation_of (Finish c) book = finish_violation book
 violation_of f book = None
 
+-- what a frame of the client that arrives leaves
 abbrev pub arrive : Frame → Held → Held
 arrive f h = record h { inbox = record { book = server_after_arrival f h.inbox.book; ring = ring_after_arrival f h.inbox.ring } }
 
--- why a server may not put a frame, by its book, and what it leaves
+-- why a server may not put a frame, by its book
 abbrev pub refusal_of : Frame → Server → Option Refusal
 refusal_of (Issue c amount) book = issue_refusal book amount
 refusal_of (Plead c target) book = plead_refusal book target
 refusal_of (LimitReceiving c bound) book = limit_receiving_refusal book bound
 refusal_of f book = None
 
+-- what a frame that the server put leaves: the book goes on, and it is the last on the lane
 abbrev pub put : Frame → Held → Held
 put f h = record h { inbox = record h.inbox { book = server_after_put f h.inbox.book }; lane = record h.lane { put = h.lane.put ++ f ∷ [] } }
 
@@ -57,10 +59,11 @@ pub record IsPut (f : Frame) (old new : Held) : Type 0 where
   pub allowed : refusal_of f old.inbox.book ≡ None
   pub after : new ≡ put f old
 
--- why it was not put: the book has a refusal; or it has none, and the queue gave the frame back
+-- why a frame was not put: the book has a refusal; or it has none, and the queue gave the frame back
 abbrev pub IsReason : Refusal → Frame → Held → Type 0
 IsReason e f h = (refusal_of f h.inbox.book ≡ Some e) ⊎ ((refusal_of f h.inbox.book ≡ None) × (e ≡ QueueFull))
 
+-- it was not put, for this reason, and nothing changed
 pub record IsNotPut (e : Refusal) (f : Frame) (old new : Held) : Type 0 where
   pub reason : IsReason e f old
   pub after : new ≡ old

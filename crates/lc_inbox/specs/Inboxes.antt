@@ -23,9 +23,11 @@ capacity_of capacities lane = slice_index capacities (lane.lane - 7)
 abbrev pub IsNewShared : List ℕ → End → SharedInbox → Type 0
 IsNewShared capacities lane shared = IsNew (capacity_of capacities lane) lane shared.incoming shared.outgoing
 
+-- the reading side of an inbox
 abbrev pub incoming_of : SharedInbox → Side
 incoming_of shared = shared.incoming
 
+-- the receiving side of an inbox
 abbrev pub outgoing_of : SharedInbox → Side
 outgoing_of shared = shared.outgoing
 
@@ -40,17 +42,19 @@ AreNew capacities [] [] [] = Unit {0}
 AreNew capacities (lane ∷ lanes) (i ∷ incoming) (o ∷ outgoing) = IsNew (capacity_of capacities lane) lane i o × AreNew capacities lanes incoming outgoing
 AreNew capacities lanes incoming outgoing = ⊥
 
--- at each place both sides are of one inbox
+-- which inbox a side is of
 abbrev pub inbox_of : Side → InboxId
 inbox_of side = side.inbox
 
+-- at each place both sides are of one inbox
 abbrev pub AreMatched : List Side → List Side → Type 0
 AreMatched incoming outgoing = map inbox_of incoming ≡ map inbox_of outgoing
 
--- which inbox a side is of, and what that was made of; each side is still of the inbox that it was of, place by place
+-- which inbox a side is of, and what that was made of
 abbrev pub origin_of : Side → InboxId × Key
 origin_of side = (side.inbox, side.key)
 
+-- each side is still of the inbox that it was of, place by place
 abbrev pub AreSameSides : List Side → List Side → Type 0
 AreSameSides old new = map origin_of new ≡ map origin_of old
 

@@ -18,6 +18,7 @@ abbrev pub taken_entry : Option (List ℕ) → List Entry
 taken_entry (Some body) = Took body ∷ []
 taken_entry None = []
 
+-- the entry of a take of an inbox's first message, where one waits
 abbrev pub first_taken : Held → List Entry
 first_taken h = taken_entry (front h.inbox.ring)
 

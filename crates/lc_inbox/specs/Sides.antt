@@ -39,6 +39,7 @@ pub record Side : Type 0 where
   pub seen : List Entry
   pub turns : ℕ
 
+-- the side that a half is
 abbrev pub side_of : Half → Side
 side_of h = record { inbox = h.inbox; key = h.key; seen = h.seen; turns = h.turns }
 
@@ -140,6 +141,6 @@ pub record IsFinished (incoming outgoing : Side) (book : Server) (lane : End) : 
 abbrev pub TookTheFirst : Side → Side → Type 0
 TookTheFirst incoming outgoing = (others : List (List ℕ)) × (messages incoming.key.channel (heard incoming.seen) ≡ took outgoing.seen ++ others)
 
--- what every end of both sides keeps, as one fact
+-- so it is wherever both sides have ended
 abbrev pub EveryFinishIsInOrder : Type 0
 EveryFinishIsInOrder = (incoming outgoing : Side) (book : Server) (lane : End) → IsFinished incoming outgoing book lane → TookTheFirst incoming outgoing

@@ -30,11 +30,12 @@ pub record IsFinished (r : Finished) : Type 0 where
   pub heard : HasHeardAll r.session.reading.side r.arrived
   pub report : IsReport r.session r.clients r.servers r.left r.partly
 
--- the histories that the report tells of, by channel
+-- the histories of the credits that the report tells of, by channel
 abbrev pub credit_histories : (incoming : List Incoming) (outgoing : List Outgoing) (balances : List Balance) → AreSettled incoming outgoing balances → List (List Entry)
 credit_histories (i ∷ incoming) (o ∷ outgoing) (b ∷ balances) h = h.0.history ∷ credit_histories incoming outgoing balances h.1
 credit_histories incoming outgoing balances h = []
 
+-- the histories of the inboxes that it tells of, by channel
 abbrev pub inbox_histories : (incoming outgoing : List Side) (books : List Server) (lanes : List End) → AreFinished incoming outgoing books lanes → List (List inbox.Entry)
 inbox_histories (i ∷ incoming) (o ∷ outgoing) (book ∷ books) (lane ∷ lanes) h = h.0.history ∷ inbox_histories incoming outgoing books lanes h.1
 inbox_histories incoming outgoing books lanes h = []
@@ -49,6 +50,6 @@ trace r h = record {
   inbox = λ c. slice_index_or (inbox_histories r.session.reading.side.inboxes r.session.receiving r.servers h.report.lanes h.report.finished) (number_of c) [];
 }
 
--- no ring of the session is larger
+-- no ring of the session is larger than so many bytes
 abbrev pub FitsRings : ℕ → Finished → Type 0
 FitsRings capacity r = All (λ (side : Side). side.key.capacity ≤ capacity) r.session.reading.side.inboxes

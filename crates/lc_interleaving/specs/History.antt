@@ -14,7 +14,7 @@ use Rattle.lc_interleaving.specs.Steps.Step.{puts, hears, takes}
 use Rattle.lc_interleaving.specs.Interleaving.{Joint}
 use Rattle.lc_interleaving.specs.Interleaving.Joint.{at_a, at_b}
 
--- a step as an event with its answer: an honour that absolves is the absolving that it puts
+-- the event that puts a frame: an honour that absolves is the absolving that it puts
 abbrev pub act_putting : Frame → Act
 act_putting (frame.Send c body) = Send c body
 act_putting (frame.Issue c amount) = Issue c amount
@@ -24,19 +24,23 @@ act_putting (frame.LimitSending c bound) = LimitSending c bound
 act_putting (frame.LimitReceiving c bound) = LimitReceiving c bound
 act_putting (frame.Finish c) = Finish c
 
+-- a step as an event
 abbrev pub act_of : Step → Act
 act_of (puts f) = act_putting f
 act_of (hears f) = Arrive
 act_of (takes c body) = Take c
 
+-- the answer to the event that a step is: what is put is accepted, what is heard arrives
 abbrev pub answer_to : Step → Answer
 answer_to (puts f) = Accepted
 answer_to (hears f) = Arrived
 answer_to (takes c body) = Took body
 
+-- a step of one of the two sides as an event with its answer
 abbrev pub event_of : Joint → Event × Answer
 event_of (at_a step) = (record { side = A; act = act_of step }, answer_to step)
 event_of (at_b step) = (record { side = B; act = act_of step }, answer_to step)
 
+-- the history of two peers that an order of steps is
 abbrev pub history_of : List Joint → History
 history_of order = map event_of order

@@ -23,24 +23,27 @@ pub record Trace : Type 0 where
   pub credit : Channel → List Entry
   pub inbox : Channel → List inbox.Entry
 
--- what had been received before each use that did not come back, in order
+-- how much was received, and how much had been before each use that did not come back
 pub record Funds : Type 0 where
   pub received : ℕ
   pub before_uses : List ℕ
 
+-- the same after one entry more
 abbrev pub funds_after : Funds → Entry → Funds
 funds_after s (Received n) = record s { received = s.received + n }
 funds_after s (Used n) = record s { before_uses = s.before_uses ++ s.received ∷ [] }
 funds_after s (Returned n) = record s { before_uses = take (length s.before_uses - 1) s.before_uses }
 funds_after s e = s
 
+-- what had been received before each use of a history that did not come back, in order
 abbrev pub before_uses : List Entry → List ℕ
 before_uses history = (fold funds_after (record { received = 0; before_uses = [] }) history).before_uses
 
--- what had been received before the use that pays the next frame of a channel's client was heard
+-- what had been received before the use that pays the next frame of a channel's client was heard by then
 abbrev pub IsFunded : Trace → List Step → Channel → Type 0
 IsFunded t before c = slice_index_or (before_uses (t.credit c)) (length (amounts (of_lane (number_of c) (put before)))) 0 ≤ issued c (heard before)
 
+-- a step is in time: a message or an absolving comes when what pays it was heard
 abbrev pub IsInTime : Trace → List Step → Step → Type 0
 IsInTime t before (puts f) = IfSome (amount_of f) (λ n. IsFunded t before (channel_of f))
 IsInTime t before step = Unit {0}
@@ -57,17 +60,21 @@ pub data Joint : Type 0 where
   at_a : Step → Joint
   at_b : Step → Joint
 
+-- the step, where it is the first side's
 abbrev pub a_step : Joint → Option Step
 a_step (at_a step) = Some step
 a_step (at_b step) = None
 
+-- the step, where it is the second side's
 abbrev pub b_step : Joint → Option Step
 b_step (at_a step) = None
 b_step (at_b step) = Some step
 
+-- the steps of the first side, in order
 abbrev pub of_a : List Joint → List Step
 of_a order = filter_map a_step order
 
+-- the steps of the second side, in order
 abbrev pub of_b : List Joint → List Step
 of_b order = filter_map b_step order
 
@@ -75,6 +82,7 @@ of_b order = filter_map b_step order
 abbrev pub IsNext : List Step → List Step → Frame → Type 0
 IsNext there here f = (rest : List Frame) × (put there ≡ heard here ++ f ∷ rest)
 
+-- where a step hears a frame, it is that one
 abbrev pub HearsNext : List Step → List Step → Step → Type 0
 HearsNext there here (hears f) = IsNext there here f
 HearsNext there here step = Unit {0}
@@ -84,7 +92,7 @@ abbrev pub IsCausal : List Joint → Joint → Type 0
 IsCausal before (at_a step) = HearsNext (of_b before) (of_a before) step
 IsCausal before (at_b step) = HearsNext (of_a before) (of_b before) step
 
--- the premise
+-- the premise: an order of the steps of both sessions, each one's own, in which nothing is heard before it was put
 pub record IsInterleaving (a b : Trace) (order : List Joint) : Type 0 where
   pub a_order : IsOrderOf a (of_a order)
   pub b_order : IsOrderOf b (of_b order)

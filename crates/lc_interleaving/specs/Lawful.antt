@@ -38,11 +38,12 @@ pub record IsCreditThen (t : Trace) (c : Channel) (here : List Step) (old new : 
   pub begins : (later : List credit.Entry) × (t.credit c ≡ new.seen ++ later)
   pub paid : (later : List ℕ) × (uses new.seen ≡ amounts (of_lane (number_of c) (put here)) ++ later)
 
--- and so with a frame that the credit of a channel refused
+-- a frame that the credit of a channel refused, once it had counted what had arrived, is not the next of the other side's stream either
 pub record RefusedByCredit (t : Trace) (here there : List Step) : Type 0 where
   pub issue : (c : Channel) (n : ℕ) (v : Violation) (old new : Incoming) → IsNotAdded v n old new → IsCreditThen t c here old new → IsNext there here (Issue c n) → ⊥
   pub limit : (c : Channel) (bound : ℕ) (old new : Incoming) → IsPastLimit bound old new → old.left ≡ receive_left c (heard here) → IsNext there here (LimitReceiving c bound) → ⊥
 
+-- both hold at both sides: what is refused is nothing that the other side had put
 pub record AreBreaches (a b : Trace) (earlier : List Joint) : Type 0 where
   pub at_a : RefusedIsNotNext a (of_a earlier) (of_b earlier)
   pub at_b : RefusedIsNotNext b (of_b earlier) (of_a earlier)

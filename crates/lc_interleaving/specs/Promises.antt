@@ -34,7 +34,7 @@ pub record IsBalanceOf (c : Channel) (t : Trace) (b : Balance) : Type 0 where
   pub waived_is : finished c t.put ≡ false → b.waived ≡ 0
   pub adds_up : b.held + b.spent + b.absolved + b.waived ≡ b.received
 
--- of a channel, where the first session is its client, and the second its server
+-- what two finished sessions keep on one channel one way, of which the first session is the client, and the second the server
 pub record KeepsBetween (c : Channel) (client server : Finished) (sent received : Trace) : Type 0 where
   -- the two ends, and what `finish` gave for them
   pub sender : OutboxState
@@ -54,7 +54,7 @@ pub record KeepsBetween (c : Channel) (client server : Finished) (sent received 
   pub somewhere : outstanding book ≡ promised c sent received balance
   pub conserved : promised c sent received balance + buffered book + room book ≡ book.capacity
 
--- each session is the client of every channel, and the server of every channel
+-- the headline of running sessions: so it is on all channels, both ways
 pub record KeepPromises (a b : Finished) (fa : IsFinished a) (fb : IsFinished b) : Type 0 where
   pub a_sends : (c : Channel) → KeepsBetween c a b (trace a fa) (trace b fb)
   pub b_sends : (c : Channel) → KeepsBetween c b a (trace b fb) (trace a fa)

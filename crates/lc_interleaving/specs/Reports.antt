@@ -21,11 +21,11 @@ pub record KeepTogether (a b : Finished) : Type 0 where
   pub b_finished : IsFinished b
   pub promises : (capacity : ℕ) (fa : IsFinished a) (fb : IsFinished b) (order : List Joint) → WereOne capacity a b fa fb order → KeepPromises a b fa fb
 
--- whatever frames had arrived
+-- so it is of two reports of `finish`, whatever frames had arrived at both sessions
 abbrev pub AreTwoReports : SessionState → SessionState → Report → Report → Type 0
 AreTwoReports s t r q = (a_arrived b_arrived : List Frame) → HasHeardAll s.reading.side a_arrived → HasHeardAll t.reading.side b_arrived → KeepTogether (finished s a_arrived r) (finished t b_arrived q)
 
--- the same with nothing more to be shown than the order: whichever it was, if there was one
+-- both sessions are finished, and whichever order their steps fell into, if any, they keep their promises
 pub record KeepInOrder (a b : Finished) : Type 0 where
   pub a_finished : IsFinished a
   pub b_finished : IsFinished b

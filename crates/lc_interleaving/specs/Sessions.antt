@@ -23,15 +23,19 @@ pub record WereOne (capacity : ℕ) (a b : Finished) (fa : IsFinished a) (fb : I
   pub b_rings : FitsRings capacity b
   pub interleaving : IsInterleaving (trace a fa) (trace b fb) order
 
+-- the order is a legal history of two peers, which leaves both streams as the sessions wrote, heard and took them
 abbrev pub ReportsAreAState : Type 0
 ReportsAreAState = (capacity : ℕ) (a b : Finished) (fa : IsFinished a) (fb : IsFinished b) (order : List Joint) → WereOne capacity a b fa fb order → IsStateOfBoth capacity (trace a fa) (trace b fb) (history_of order)
 
+-- two such sessions keep their promises
 abbrev pub FinishedSessionsKeepPromises : Type 0
 FinishedSessionsKeepPromises = (capacity : ℕ) (a b : Finished) (fa : IsFinished a) (fb : IsFinished b) (order : List Joint) → WereOne capacity a b fa fb order → KeepPromises a b fa fb
 
+-- at each moment of the order the next frame of each stream has no violation where it arrives
 abbrev pub NextFramesAreLawful : Type 0
 NextFramesAreLawful = (capacity : ℕ) (a b : Finished) (fa : IsFinished a) (fb : IsFinished b) (order : List Joint) → WereOne capacity a b fa fb order → (earlier later : List Joint) → order ≡ earlier ++ later → IsLawfulAfter capacity (trace a fa) (trace b fb) earlier
 
+-- at each moment of the order a frame that is refused is nothing that the other session had put
 abbrev pub RefusedFramesAreBreaches : Type 0
 RefusedFramesAreBreaches = (capacity : ℕ) (a b : Finished) (fa : IsFinished a) (fb : IsFinished b) (order : List Joint) → WereOne capacity a b fa fb order → (earlier later : List Joint) → order ≡ earlier ++ later → AreBreaches (trace a fa) (trace b fb) earlier
 
@@ -56,5 +60,6 @@ pub record SomeWereOne : Type 0 where
   pub came_back : HasEntry (trace a a_finished) Returned
   pub honoured : HasEntry (trace a a_finished) Taken
 
+-- there are two such sessions, so these laws speak of something
 abbrev pub PremisesCanBeMet : Type 0
 PremisesCanBeMet = TableId → Side → SomeWereOne

@@ -23,12 +23,12 @@ pub record IsPlan (p : Plan) : Type 0 where
 abbrev pub message : Plan → Channel → ℕ → List ℕ
 message p c number = to_be_bytes w32 number ++ replicate (p.shortest - 4 + number % p.lengths) (number_of c)
 
--- the first so many that are due on a channel
+-- the first so many messages that are due on a channel, each once and in order
 abbrev pub due_first : Plan → Channel → ℕ → List (List ℕ)
 due_first p c zero = []
 due_first p c (suc n) = due_first p c n ++ message p c n ∷ []
 
--- all of them
+-- all messages that are due on a channel
 abbrev pub due : Plan → Channel → List (List ℕ)
 due p c = due_first p c p.messages
 

@@ -39,10 +39,11 @@ EachGave Gives [] [] [] = Unit {0}
 EachGave Gives (w ∷ olds) (o ∷ outcomes) (v ∷ news) = IfOk o (λ n. Gives w n v) × EachGave Gives olds outcomes news
 EachGave Gives olds outcomes news = ⊥
 
+-- the same, whatever it counted
 abbrev pub Puts : Plan → OutboxState → Taken → OutboxState → Type 0
 Puts p old n new = PutsAll p old new
 
--- all parts of a session are back from their threads, and the ends did what they say
+-- all parts of a session are back from their threads, and its ends put and took what is due, where their work came to something
 pub record Exchanged (p : Plan) (old new : SessionState) (sent took : List (Result Taken LoopFault)) : Type 0 where
   pub played : HasPlayed old new
   pub sent_all : EachGave (Puts p) old.sending sent new.sending
@@ -54,17 +55,19 @@ pub record BeganNew (p : Plan) (version : Version) (s : SessionState) (sent took
   pub new : IsNewSession (config_of p version) began
   pub exchanged : Exchanged p began s sent took
 
--- an end that began new put, or took, what is due, each message once and in order
+-- an end that began new put what is due on its channel, each message once and in order
 abbrev pub HasPut : Plan → OutboxState → Type 0
 HasPut p o = messages o.channel o.lane.put ≡ due p o.channel
 
+-- an end that began new took what is due on its channel, each message once and in order
 abbrev pub HasTaken : Plan → Side → Type 0
 HasTaken p side = took side.seen ≡ due p side.key.channel
 
--- how many messages an end took, and how many bytes they have
+-- how many messages an end took
 abbrev pub messages_taken : Side → ℕ
 messages_taken side = length (took side.seen)
 
+-- how many bytes the messages have that an end took
 abbrev pub bytes_taken : Side → ℕ
 bytes_taken side = sum_by length (took side.seen)
 
@@ -73,9 +76,11 @@ pub record AgreesWith (b : Balance) (bytes : ℕ) : Type 0 where
   pub adds_up : b.held + b.spent + b.absolved + b.waived ≡ b.received
   pub spent_is : b.spent ≡ bytes
 
+-- how many messages a job took
 abbrev pub messages_of : Taken → ℕ
 messages_of n = n.messages
 
+-- how many bytes a job took
 abbrev pub bytes_of : Taken → ℕ
 bytes_of n = n.bytes
 
@@ -107,7 +112,7 @@ pub record CameTo (p : Plan) (a_version b_version : Version) (s t : SessionState
   pub a_balances : AllZip AgreesWith a_report.clients (map bytes_taken t.receiving)
   pub b_balances : AllZip AgreesWith b_report.clients (map bytes_taken s.receiving)
 
--- there are two sessions, which write in these versions, that came to this
+-- there are two sessions, each in its version, that came to this
 pub record TwoRan (p : Plan) (versions : List Version) (report : LoopReport) : Type 0 where
   pub a_version : Version
   pub b_version : Version

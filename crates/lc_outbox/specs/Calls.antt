@@ -16,7 +16,7 @@ use Rattle.lc_credit.specs.Sides as sides
 use Rattle.lc_credit.specs.Sides.{Outgoing, IsUnfinished, IsUsed, IsNotSpent, IsWaived, counted_as, given_back}
 use Rattle.lc_outbox.specs.Outbox.{OutboxState, put}
 
--- a call is refused by 15 where the outbox is finished, which changes nothing; `Otherwise` says what else refuses it
+-- a finished outbox refuses a call by 15, which changes nothing; `Otherwise` says what else refuses it
 abbrev pub IsRefused : Refusal → OutboxState → OutboxState → Type 0 → Type 0
 IsRefused e old new Otherwise = MatchOption old.credit.waived Otherwise (λ _. (e ≡ ChannelFinished) × (new ≡ old))
 
@@ -26,7 +26,7 @@ pub record IsCounted (kind : Use) (n : ℕ) (old new : Outgoing) : Type 0 where
   pub used : IsUsed kind n old pending
   pub after : new ≡ counted_as kind n pending
 
--- the same, but the amount was given back
+-- the credit, as it was loaded, had the amount, which was taken out and given back
 pub record IsGivenBack (kind : Use) (n : ℕ) (old new : Outgoing) : Type 0 where
   pub pending : Outgoing
   pub used : IsUsed kind n old pending
@@ -39,13 +39,14 @@ pub record IsSent (body : List ℕ) (old new : OutboxState) : Type 0 where
   pub spent : IsCounted kinds.Spend (length body) old.credit new.credit
   pub after : new ≡ put (Send old.channel body) (record old { credit = new.credit; send_left = less old.send_left (length body) })
 
--- why a message of so many bytes was not put, and what that leaves of the credit: 1, 2 and 3 come before a look at it, 4 by the word as it was loaded, and 14 and 13 where it had enough
+-- why a message of so many bytes was not put, and what that leaves of the credit: 1, 2 and 3, by the version of the lane and the limit, come before a look at it, 4 by the word as it was loaded, and 14 and 13 where it had enough
 abbrev pub IsSendReason : Refusal → Version → Option ℕ → ℕ → Outgoing → Outgoing → Type 0
 IsSendReason (NoGuarantee held) version left len old new = (message_refusal version left len ≡ None) × IsNotSpent (NoGuarantee held) len old new
 IsSendReason OutOfMemory version left len old new = (message_refusal version left len ≡ None) × IsGivenBack kinds.Spend len old new
 IsSendReason QueueFull version left len old new = (message_refusal version left len ≡ None) × IsGivenBack kinds.Spend len old new
 IsSendReason e version left len old new = (message_refusal version left len ≡ Some e) × (new ≡ old)
 
+-- a message was not put, for this reason, and all but the credit is as it was
 pub record IsNotSent (e : Refusal) (body : List ℕ) (old new : OutboxState) : Type 0 where
   pub reason : IsSendReason e old.lane.version old.send_left (length body) old.credit new.credit
   pub after : new ≡ record old { credit = new.credit }
@@ -56,13 +57,14 @@ pub record IsAbsolved (n : ℕ) (old new : OutboxState) : Type 0 where
   pub absolved : IsCounted kinds.Absolve n old.credit new.credit
   pub after : new ≡ put (Absolve old.channel n) (record old { credit = new.credit })
 
--- why it was not, and what that leaves of the credit: 5 comes before a look at it, 6 by the word as it was loaded, and 13 where it had enough
+-- why an absolving was not put, and what that leaves of the credit: 5 comes before a look at it, 6 by the word as it was loaded, and 13 where it had enough
 abbrev pub IsAbsolveReason : Refusal → ℕ → Outgoing → Outgoing → Type 0
 IsAbsolveReason ZeroAmount n old new = (n ≡ 0) × (new ≡ old)
 IsAbsolveReason (NotHeld held) n old new = (0 < n) × sides.IsNotAbsolved (NotHeld held) n old new
 IsAbsolveReason QueueFull n old new = (0 < n) × IsGivenBack kinds.Absolve n old new
 IsAbsolveReason e n old new = ⊥
 
+-- an absolving was not put, for this reason, and all but the credit is as it was
 pub record IsNotAbsolved (e : Refusal) (n : ℕ) (old new : OutboxState) : Type 0 where
   pub reason : IsAbsolveReason e n old.credit new.credit
   pub after : new ≡ record old { credit = new.credit }
@@ -72,7 +74,7 @@ pub record IsLimited (bound : ℕ) (old new : OutboxState) : Type 0 where
   pub allowed : limit_refusal old.send_left bound ≡ None
   pub after : new ≡ put (LimitSending old.channel bound) (record old { send_left = Some bound })
 
--- why it was not: 7 and 8, or else 13
+-- a limit was not put: by 7 or 8, or else 13; and nothing changed
 pub record IsNotLimited (e : Refusal) (bound : ℕ) (old new : OutboxState) : Type 0 where
   pub reason : (limit_refusal old.send_left bound ≡ Some e) ⊎ ((limit_refusal old.send_left bound ≡ None) × (e ≡ QueueFull))
   pub after : new ≡ old
@@ -82,13 +84,14 @@ pub record IsFinished (old new : OutboxState) : Type 0 where
   pub waived : IsWaived old.credit new.credit
   pub after : new ≡ put (Finish old.channel) (record old { credit = new.credit; asked = None })
 
--- why it was not: 17, or else 15, or else 13
+-- why a Finish was not put: 17 by the version of the lane, or else 15, or else 13
 abbrev pub IsFinishReason : Refusal → OutboxState → Type 0
 IsFinishReason WrongVersion o = has o.lane.version frames.Finish ≡ false
 IsFinishReason ChannelFinished o = (has o.lane.version frames.Finish ≡ true) × IsSome o.credit.waived
 IsFinishReason QueueFull o = (has o.lane.version frames.Finish ≡ true) × IsUnfinished o.credit
 IsFinishReason e o = ⊥
 
+-- a Finish was not put, for this reason, and nothing changed
 pub record IsNotFinished (e : Refusal) (old new : OutboxState) : Type 0 where
   pub reason : IsFinishReason e old
   pub after : new ≡ old

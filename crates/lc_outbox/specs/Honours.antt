@@ -54,7 +54,7 @@ pub record IsHonouredBy (n : ℕ) (old new : OutboxState) : Type 0 where
   pub lowered : IsLowered target n looked pending
   pub after : new ≡ put (Absolve old.channel n) (record old { credit = counted_as kinds.Absolve n pending; asked = None })
 
--- by what was absolved
+-- what an honour did, by what it absolved
 abbrev pub IsHonoured : Option ℕ → OutboxState → OutboxState → Type 0
 IsHonoured None old new = HasNothingToAbsolve old new
 IsHonoured (Some n) old new = IsHonouredBy n old new

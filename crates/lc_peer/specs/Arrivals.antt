@@ -21,6 +21,7 @@ violation client server (LimitSending c bound) = send_limit_violation server bou
 violation client server (LimitReceiving c bound) = receive_limit_violation client bound
 violation client server (Finish c) = finish_violation server
 
+-- the same at a peer, by its books of the frame's channel
 abbrev pub violation_at : PeerState → Frame → Option Violation
 violation_at p f = violation (client p (channel_of f)) (server p (channel_of f)) f
 
@@ -36,6 +37,7 @@ channel_after_arrival f s = record {
   inbox = record { book = server_after_arrival f s.inbox.book; ring = ring_after_arrival f s.inbox.ring };
 }
 
+-- what a lawful frame leaves of a peer: its channel goes on, and every other is as it was
 abbrev pub arrive : PeerState → Frame → PeerState
 arrive p f = set_channel p (channel_of f) (channel_after_arrival f (channel p (channel_of f)))
 
@@ -45,11 +47,12 @@ pub record Arrival : Type 0 where
   pub peer : PeerState
   pub violation : Option Violation
 
+-- what comes of frames by the violation of the first: where it has none, one more than of those after it; else none
 abbrev pub arrive_unless : PeerState → Option Violation → Arrival → Arrival
 arrive_unless p None later = record later { count = later.count + 1 }
 arrive_unless p (Some v) later = record { count = 0; peer = p; violation = Some v }
 
--- the frames arrive in order, up to the first that violates; that one and those after it change nothing
+-- the frames arrive in order, up to the first that violates, by the books that those before it left; that one and those after it change nothing
 abbrev pub arrivals : PeerState → List Frame → Arrival
 arrivals p [] = record { count = 0; peer = p; violation = None }
 arrivals p (f ∷ frames) = arrive_unless p (violation_at p f) (arrivals (arrive p f) frames)

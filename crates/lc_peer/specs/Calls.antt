@@ -16,7 +16,7 @@ use Rattle.lc_peer.specs.declared.inbox.Take.{Take}
 use Rattle.lc_peer.specs.Inbox.{take_first, Takes}
 use Rattle.lc_peer.specs.Peer.{PeerState, channel, client, inbox, server, set_channel}
 
--- the first refusal of the books of a channel
+-- why a frame may not be put, by the books of its channel: the first refusal that holds
 abbrev pub book_refusal : Client → Server → Frame → Option Refusal
 book_refusal client server (Send c body) = spend_refusal client (length body)
 book_refusal client server (Issue c amount) = issue_refusal server amount
@@ -26,14 +26,15 @@ book_refusal client server (LimitSending c bound) = limit_sending_refusal client
 book_refusal client server (LimitReceiving c bound) = limit_receiving_refusal server bound
 book_refusal client server (Finish c) = finish_refusal client
 
+-- the same of a peer, by its books of the frame's channel
 abbrev pub refusal_by_books : PeerState → Frame → Option Refusal
 refusal_by_books p f = book_refusal (client p (channel_of f)) (server p (channel_of f)) f
 
--- no frame more can wait
+-- 13 where no frame more can wait
 abbrev pub queue_refusal : PeerState → Option Refusal
 queue_refusal p = if nat_lt (length p.waiting) p.slots then None else Some QueueFull
 
--- what an own call answers: the books come first
+-- what an own call answers, by the frame that it would put: the books come first, and then 13
 abbrev pub refusal : PeerState → Frame → Option Refusal
 refusal p f = option_or (refusal_by_books p f) (queue_refusal p)
 
@@ -53,7 +54,7 @@ put p f = record (set_channel p (channel_of f) (channel_after_put f (channel p (
 abbrev pub due : PeerState → Channel → Option ℕ
 due p c = amount_to_absolve (client p c)
 
--- no frame more can wait, where an honour would put one
+-- 13 where no frame more can wait and an honour would put one
 abbrev pub absolving_refusal : PeerState → Option ℕ → Option Refusal
 absolving_refusal p None = None
 absolving_refusal p (Some amount) = queue_refusal p
@@ -62,10 +63,12 @@ absolving_refusal p (Some amount) = queue_refusal p
 abbrev pub honour_refusal : PeerState → Channel → Option Refusal
 honour_refusal p c = option_or (book_honour_refusal (client p c)) (absolving_refusal p (due p c))
 
+-- the absolving of an amount, where there is one
 abbrev pub absolvings : Channel → Option ℕ → List Frame
 absolvings c None = []
 absolvings c (Some amount) = Absolve c amount ∷ []
 
+-- what an honour leaves of its channel: the plead is forgotten
 abbrev pub channel_after_honour : ChannelState → ChannelState
 channel_after_honour s = record s { client = honour s.client }
 
@@ -73,7 +76,7 @@ channel_after_honour s = record s { client = honour s.client }
 abbrev pub put_honour : PeerState → Channel → PeerState
 put_honour p c = record (set_channel p c (channel_after_honour (channel p c))) { waiting = p.waiting ++ absolvings c (due p c) }
 
--- a take on the channel
+-- what a take on the channel leaves
 abbrev pub take_on : PeerState → Channel → PeerState
 take_on p c = set_channel p c (record (channel p c) { inbox = take_first (inbox p c) })
 
@@ -86,9 +89,10 @@ pub record TakesOn (c : Channel) (take : Take) (old new : PeerState) : Type 0 wh
   pub waiting : new.waiting ≡ old.waiting
   pub slots : new.slots ≡ old.slots
 
--- the frame that goes out next, where one waits, and the peer without it
+-- the frame that goes out next, where one waits
 abbrev pub next : PeerState → Option Frame
 next p = slice_get p.waiting 0
 
+-- the peer without that frame
 abbrev pub without_next : PeerState → PeerState
 without_next p = record p { waiting = drop 1 p.waiting }

@@ -14,17 +14,18 @@ abbrev pub bad_from : ℕ → List ℕ → Option Channel
 bad_from number [] = None
 bad_from number (n ∷ capacities) = if is_capacity n then bad_from (number + 1) capacities else channel_at number
 
+-- the first channel whose ring may not have its capacity
 abbrev pub first_bad : List ℕ → Option Channel
 first_bad capacities = bad_from 0 capacities
 
--- what is wrong with a configuration: capacities come before slots
+-- what is wrong with a configuration: the first channel with a bad capacity, else the slots
 abbrev pub config_fault : Config → Option PeerFault
 config_fault config = option_or (option_map BadCapacity (first_bad config.capacities)) (if is_slots config.slots then None else Some BadSlots)
 
--- a configuration without a fault may still want memory
+-- why there is no peer: that fault, or want of memory where there is none
 abbrev pub IsNewAnswer : Config → Option PeerFault → Type 0
 IsNewAnswer config answer = (answer ≡ config_fault config) ⊎ ((config_fault config ≡ None) × (answer ≡ Some OutOfMemory))
 
--- nothing has happened on any channel, and no frame waits
+-- the peer of a configuration: nothing has happened on any channel, and no frame waits
 abbrev pub new_peer : Config → PeerState
 new_peer config = record { version = config.version; channels = map (new_channel config.version) config.capacities; waiting = []; slots = config.slots }

@@ -34,6 +34,7 @@ pub record MetFault (fault : FrameFault) (a : Arrival) (text held : Held) (taken
   pub known : HasFault fault held
   pub shortest : 0 < taken → (k : ℕ) → k < length held.bytes → IsUndecided (front k held)
 
+-- where a delivery stopped, by why it did
 abbrev pub StopsBy : Option Stop → Arrival → Held → List ℕ → Held → ℕ → Type 0
 StopsBy None a text piece held taken = TookAll a text piece held taken
 StopsBy (Some (Violated violation)) a text piece held taken = MetViolation violation a text held

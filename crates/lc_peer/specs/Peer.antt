@@ -27,12 +27,15 @@ new_channel version capacity = record { client = new_client version; inbox = new
 abbrev pub channel : PeerState → Channel → ChannelState
 channel p c = slice_index_or p.channels (number_of c) (new_channel p.version 0)
 
+-- the book of a channel's client
 abbrev pub client : PeerState → Channel → Client
 client p c = (channel p c).client
 
+-- the inbox of a channel
 abbrev pub inbox : PeerState → Channel → InboxState
 inbox p c = (channel p c).inbox
 
+-- the book of a channel's server
 abbrev pub server : PeerState → Channel → Server
 server p c = (inbox p c).book
 
@@ -40,12 +43,12 @@ server p c = (inbox p c).book
 abbrev pub set_channel : PeerState → Channel → ChannelState → PeerState
 set_channel p c s = record p { channels = slice_set p.channels (number_of c) s }
 
--- what every channel of a peer keeps
+-- what every channel of a peer keeps: its client's book and its inbox keep what they keep alone
 pub record IsChannel (s : ChannelState) : Type 0 where
   pub client : IsClient s.client
   pub inbox : IsInbox s.inbox
 
--- what the waiting frames of every peer keep
+-- what the waiting frames of every peer keep: there are at most as many as may wait, and each is valid in the peer's version
 pub record AreWaiting (version : Version) (slots : ℕ) (frames : List Frame) : Type 0 where
   pub bound : IsSlots slots
   pub fit : length frames ≤ slots

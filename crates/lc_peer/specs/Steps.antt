@@ -41,6 +41,7 @@ pub record FaultComes {T : Type 0} (fault : FrameFault) (p : T) (held : Held) (p
   pub known : HasFault fault held'
   pub shortest : 0 < taken → (k : ℕ) → k < length held'.bytes → IsUndecided (front k held')
 
+-- what a step of a delivery does, by its answer
 abbrev pub Steps : {T : Type 0} → (T → Frame → T → Type 0) → (Violation → T → Frame → T → Type 0) → Step → T → Held → List ℕ → T → Held → Type 0
 Steps arrives violates (Arrived taken) p held piece p' held' = FrameArrives arrives p held piece p' held' taken
 Steps arrives violates (Open taken) p held piece p' held' = StaysOpen p held piece p' held' taken

@@ -19,7 +19,7 @@ use Rattle.lc_peer.specs.Calls.{put, due, absolvings, put_honour, take_on, witho
 use Rattle.lc_peer.specs.Arrivals.{violation_at, arrive, Arrival, arrivals}
 use Rattle.lc_peer.specs.Config.{new_peer}
 
--- a channel is that of two streams, where so many of its messages were taken, and this plead is kept unless its client finished
+-- a channel is that of two streams: its books are the sums over them, and its ring has the messages that arrived without those taken, which are so many; this plead is kept unless its client finished
 pub record IsChannelOf (version : Version) (capacity : ℕ) (c : Channel) (put arrived : List Frame) (taken : ℕ) (asked : Option ℕ) (s : ChannelState) : Type 0 where
   pub client : s.client ≡ client_of version c put arrived asked
   pub server : s.inbox.book ≡ server_of capacity c put arrived (taken_cost c arrived taken)
@@ -40,7 +40,7 @@ pub record Streams : Type 0 where
   pub taken : Channel → ℕ
   pub asked : Channel → Option ℕ
 
--- a peer is that of two streams: so is each of its channels, and the frames that wait are the last that it put
+-- a peer is that of two streams: it writes the version of the one, each of its channels is that of both, and the frames that wait are the last that it put
 pub record IsPeerOf (streams : Streams) (p : PeerState) : Type 0 where
   pub version : p.version ≡ streams.version
   pub places : length p.channels ≡ 7
@@ -51,19 +51,23 @@ pub record IsPeerOf (streams : Streams) (p : PeerState) : Type 0 where
 abbrev pub at : {X : Type 0} → Channel → X → (Channel → X) → Channel → X
 at c x f d = if is_same d c then x else f d
 
--- the streams of a new peer, and one step further
+-- the streams of a new peer
 abbrev pub new_streams : Config → Streams
 new_streams config = record { version = config.version; put = []; arrived = []; capacity = λ c. slice_index config.capacities (number_of c); taken = λ c. 0; asked = λ c. None }
 
+-- these one step further: the peer put a frame
 abbrev pub then_put : Frame → Streams → Streams
 then_put f s = record s { put = s.put ++ f ∷ [] }
 
+-- the same where a frame arrived
 abbrev pub then_arrives : Frame → Streams → Streams
 then_arrives f s = record s { arrived = s.arrived ++ f ∷ []; asked = at (channel_of f) (asked_after f (s.asked (channel_of f))) s.asked }
 
+-- the same where it honoured a plead, and absolved this amount, if any
 abbrev pub then_honours : Channel → Option ℕ → Streams → Streams
 then_honours c amount s = record s { put = s.put ++ absolvings c amount; asked = at c None s.asked }
 
+-- the same where it took a message
 abbrev pub then_takes : Channel → Streams → Streams
 then_takes c s = record s { taken = at c (s.taken c + 1) s.taken }
 
@@ -80,9 +84,11 @@ pub record CallKeepsStreams (s : Streams) (p : PeerState) : Type 0 where
   -- a frame goes out
   pub goes_out : IsPeerOf s (without_next p)
 
+-- a new peer is that of two empty streams
 abbrev pub NewPeersAreOfStreams : Type 0
 NewPeersAreOfStreams = (config : Config) → length config.capacities ≡ 7 → IsPeerOf (new_streams config) (new_peer config)
 
+-- each call, arrival, take and frame that goes out keeps a peer one of two streams
 abbrev pub CallsKeepStreams : Type 0
 CallsKeepStreams = (s : Streams) (p : PeerState) → IsPeerOf s p → CallKeepsStreams s p
 
@@ -92,6 +98,7 @@ pub record StaysBounded (capacity : ℕ) (s : ChannelState) : Type 0 where
   pub bytes : bytes s.inbox.ring ≡ buffered s.inbox.book
   pub fits : buffered s.inbox.book + outstanding s.inbox.book ≤ capacity
 
+-- whatever valid frames arrive, each channel stays so
 abbrev pub ArrivalsStayBounded : Type 0
 ArrivalsStayBounded = (p : PeerState) (frames : List Frame) (c : Channel) → IsChannel (channel p c) → AllByRecursion (IsValid Two) frames → StaysBounded (server p c).capacity (channel (arrivals p frames).peer c)
 
@@ -115,5 +122,6 @@ pub record StopsAtTheFirst (frames : List Frame) (came : Arrival) : Type 0 where
   pub all : came.violation ≡ None → came.count ≡ length frames
   pub stops : (v : Violation) → came.violation ≡ Some v → StopsAt frames came v
 
+-- so every list of frames arrives
 abbrev pub ArrivalsStopAtTheFirst : Type 0
 ArrivalsStopAtTheFirst = (p : PeerState) (frames : List Frame) → StopsAtTheFirst frames (arrivals p frames)

@@ -33,14 +33,15 @@ pub record Outlet : Type 0 where
 abbrev pub IsSame : QueueId → QueueId → Type 0
 IsSame a b = a ≡ b
 
--- it is still the end of the same lane of the same queue, in the same version
+-- it is still the end of the same lane of the same queue, in the same version: by this promise a thread gives an end back
 abbrev pub IsSameEnd : End → End → Type 0
 IsSameEnd old new = IsSame new.queue old.queue × (new.lane ≡ old.lane) × (new.version ≡ old.version)
 
--- the end of a lane at which nothing was put, and a drain that popped nothing
+-- the end of a lane at which nothing was put
 abbrev pub new_end : QueueId → Version → ℕ → End
 new_end queue version lane = record { queue = queue; version = version; lane = lane; put = [] }
 
+-- a drain that popped nothing
 abbrev pub new_outlet : QueueId → Version → Outlet
 new_outlet queue version = record { queue = queue; version = version; popped = []; joined = [] }
 
@@ -60,6 +61,6 @@ IsBegun slots popped l = (rest : List Frame) × (of_lane l.lane popped ++ rest �
 abbrev pub AreBegun : Outlet → Type 0
 AreBegun drain = All (IsBegun (slots_of drain.queue) drain.popped) drain.joined
 
--- of the lanes that were joined, all that was put is popped
+-- of the lanes that were joined, all that was put is popped; of lanes that go on this says nothing
 abbrev pub AllPopped : Outlet → Type 0
 AllPopped drain = All (λ l. of_lane l.lane drain.popped ≡ l.put) drain.joined

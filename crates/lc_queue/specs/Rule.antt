@@ -1,4 +1,4 @@
--- The rule of the queue, which holds between any two steps of all threads: lane by lane, what was popped and then what is queued is what was put, and no more is queued than there are slots. It is this project's own.
+-- The rule of the queue, which holds between any two steps of all threads: lane by lane, what was popped and then what is queued is what was put, and no more is queued than there are slots. Each thread knows what cannot go stale, since nobody else does it: a lane's end all that was put there, and the drain all that was popped. Each step of a thread keeps the rule, whatever the others did before it. It is this project's own.
 use Rattle.std.specs.Prelude.{◌≡◌, ℕ, ◌≤◌, ◌<◌, List, [], ◌++◌, length}
 use Rattle.std.specs.List.{All}
 use mathlib.Core.Option.{Option, some, none}

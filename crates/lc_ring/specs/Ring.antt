@@ -16,14 +16,15 @@ pub record Ring : Type 0 where
 abbrev pub new_ring : ℕ → Ring
 new_ring capacity = record { messages = []; capacity = capacity }
 
--- the bytes of the messages that wait, and the rest of the room. On these numbers the minus stops at 0; IsRing says that it never has to
+-- the bytes of the messages that wait
 abbrev pub bytes : Ring → ℕ
 bytes r = sum_by length r.messages
 
+-- the rest of the room: the capacity less these bytes. On these numbers the minus stops at 0; IsRing says that it never has to
 abbrev pub free : Ring → ℕ
 free r = r.capacity - bytes r
 
--- a message has at least one byte and at most so many
+-- a message has 1 to 1,048,576 bytes, as one of either version has
 pub record IsLength (len : ℕ) : Type 0 where
   pub at_least : 1 ≤ len
   pub at_most : len ≤ max_body Two
@@ -34,17 +35,19 @@ pub record IsRing (r : Ring) : Type 0 where
   pub fits : bytes r ≤ r.capacity
   pub each : AllByRecursion (λ message. IsLength (length message)) r.messages
 
--- why a message of so many bytes is not taken in: it is longer than what is free. Else it is the last
+-- why a message of so many bytes is not taken in: it is longer than what is free, which the refusal names
 abbrev pub push_refusal : Ring → ℕ → Option Full
 push_refusal r len = if nat_lt (free r) len then Some (record { free = free r }) else None
 
+-- the ring with the message as its last
 abbrev pub push : Ring → List ℕ → Ring
 push r message = record r { messages = r.messages ++ message ∷ [] }
 
--- the first message, where one waits, and the ring without it
+-- the first message, where one waits
 abbrev pub front : Ring → Option (List ℕ)
 front r = slice_get r.messages 0
 
+-- the ring without its first message
 abbrev pub pop : Ring → Ring
 pop r = record r { messages = drop 1 r.messages }
 

@@ -29,9 +29,11 @@ new_batch version = record { version = version; begun = greeting version; waitin
 abbrev pub waiting_in : Version → ℕ → List ℕ → List Frame
 waiting_in version begun bytes = frames_of (held_in version (drop begun bytes))
 
+-- what a buffer with these bytes has as a batch
 abbrev pub batch_of : Version → ℕ → List ℕ → ℕ → BatchState
 batch_of version begun bytes free = record { version = version; begun = take begun bytes; waiting = waiting_in version begun bytes; free = free }
 
+-- behind what is left of what was begun, the bytes are those of whole, valid frames
 pub record AreWhole (version : Version) (begun : ℕ) (bytes : List ℕ) : Type 0 where
   pub within : begun ≤ length bytes
   pub whole : drop begun bytes ≡ flat_map (encoding version) (waiting_in version begun bytes)

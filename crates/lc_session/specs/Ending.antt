@@ -5,6 +5,7 @@ use Rattle.lc_queue.specs.declared.rule.JoinedLane.{JoinedLane}
 use Rattle.lc_queue.specs.Parts.{End, Outlet, AllPopped, lane_of_end}
 use Rattle.lc_outbox.specs.Outbox.{OutboxState}
 
+-- the end of the lane on which an outbox puts
 abbrev pub lane_of_outbox : OutboxState → End
 lane_of_outbox o = o.lane
 

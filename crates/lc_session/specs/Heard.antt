@@ -37,10 +37,11 @@ pub record HearsMore (old new : Reading) : Type 0 where
   pub all : new.intake.stop ≡ None → AllCame old.intake.held read frames new.intake.held
   pub given_up : IfSome old.intake.stop (λ stop. ReadsNothing old.intake new.intake read frames)
 
--- a new session has heard nothing, and a run of its reading pump hears the frames that arrive in it
+-- a new session has heard nothing
 abbrev pub NewSessionsHeardNothing : Type 0
 NewSessionsHeardNothing = (config : Config) (s : SessionState) → IsNewSession config s → HasHeardAll s.reading.side []
 
+-- the frames that arrive in a run of the reading pump are heard after those of the runs before it
 abbrev pub RunsAreHeard : Type 0
 RunsAreHeard = (before after : Option (List ℕ)) (held : Held) (old : ReadingSide) (intake : IntakeState) (new : ReadingSide) (max_reads : ℕ) (end : ReadEnd)
     → (run : ReadsInto Arrives Violates before after held old intake new max_reads end) → HearsOn old (take run.frames (frames_of (fed held run.read))) new

@@ -16,9 +16,10 @@ pub record WasPlayed (config : Config) (s : SessionState) : Type 0 where
   pub new : IsNewSession config began
   pub played : HasPlayed began s
 
--- a new session is one, and what was played stays one when it is played on
+-- a new session was played
 abbrev pub NewSessionsWerePlayed : Type 0
 NewSessionsWerePlayed = (config : Config) (s : SessionState) → IsNewSession config s → WasPlayed config s
 
+-- a session that was played stays one when it is played on
 abbrev pub SessionsArePlayedOn : Type 0
 SessionsArePlayedOn = (config : Config) (old new : SessionState) → WasPlayed config old → HasPlayed old new → WasPlayed config new

@@ -28,6 +28,7 @@ pub record Reading : Type 0 where
   pub side : ReadingSide
   pub intake : IntakeState
 
+-- the channel of an inbox
 abbrev pub channel_of_side : Side → Channel
 channel_of_side side = side.key.channel
 
@@ -35,21 +36,23 @@ channel_of_side side = side.key.channel
 abbrev pub IsReadingSide : ReadingSide → Type 0
 IsReadingSide r = map channel_of_side r.inboxes ≡ channels
 
--- an inbox heard a frame, or refused it, in one turn
+-- an inbox heard a frame, in one turn
 pub record Hears (f : Frame) (old new : Side) : Type 0 where
   pub heard : IsHeard f old new
   pub turn : HadOneTurn old new
   pub same : IsSameSide old new
 
+-- an inbox refused a frame, in one turn
 pub record Refuses (v : Violation) (f : Frame) (old new : Side) : Type 0 where
   pub violated : IsViolated v f old new
   pub turn : HadOneTurn old new
   pub same : IsSameSide old new
 
--- something comes to the credit of a channel, or to its inbox, and to nothing else
+-- something comes to the credit of a channel, and to nothing else
 abbrev pub ToCredit : Channel → (Incoming → Incoming → Type 0) → ReadingSide → ReadingSide → Type 0
 ToCredit c Changes old new = ChangesAt (number_of c) Changes old.credits new.credits × (new.inboxes ≡ old.inboxes)
 
+-- something comes to the inbox of a channel, and to nothing else
 abbrev pub ToInbox : Channel → (Side → Side → Type 0) → ReadingSide → ReadingSide → Type 0
 ToInbox c Changes old new = ChangesAt (number_of c) Changes old.inboxes new.inboxes × (new.credits ≡ old.credits)
 
@@ -79,6 +82,6 @@ pub record HasHeard (c : Channel) (r : ReadingSide) (arrived : List Frame) : Typ
   pub left : IsSomeAnd (slice_get r.credits (number_of c)) (λ i. i.left ≡ receive_left c arrived)
   pub asked : IsSomeAnd (slice_get r.credits (number_of c)) (λ i. targets_asked i.seen ≡ pleads c arrived)
 
--- and on all channels
+-- these frames arrived, all in all, on all channels
 abbrev pub HasHeardAll : ReadingSide → List Frame → Type 0
 HasHeardAll r arrived = (c : Channel) → HasHeard c r arrived

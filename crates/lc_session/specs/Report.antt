@@ -25,20 +25,24 @@ pub record SessionState : Type 0 where
   pub reading : Reading
   pub writing : Pumping
 
+-- the channel of an outbox
 abbrev pub channel_of_outbox : OutboxState → Channel
 channel_of_outbox o = o.channel
 
+-- the credit of an outbox
 abbrev pub credit_of_outbox : OutboxState → Outgoing
 credit_of_outbox o = o.credit
 
+-- the sending ends of a session's credits, by channel
 abbrev pub outgoing_of : SessionState → List Outgoing
 outgoing_of s = map credit_of_outbox s.sending
 
--- an outbox puts on this queue, in this version; and so does an inbox, on the lane of its channel's server
+-- an outbox puts on this queue, in this version
 pub record PutsOn (queue : QueueId) (version : Version) (o : OutboxState) : Type 0 where
   pub queue_is : IsSame queue o.lane.queue
   pub version_is : o.lane.version ≡ version
 
+-- the server of an inbox puts on this queue, in this version, on the lane of its channel
 pub record ServesOn (queue : QueueId) (version : Version) (side : Side) : Type 0 where
   pub queue_is : IsSame queue side.key.lane.value.queue
   pub version_is : side.key.lane.value.version ≡ version
@@ -57,6 +61,7 @@ pub record AreOfOneSession (s : SessionState) : Type 0 where
 abbrev pub GaveAll : List Frame → OutboxState → Type 0
 GaveAll frames o = of_lane (number_of o.channel) frames ≡ o.lane.put
 
+-- the frames that the queue gave on a lane are those that were put there
 abbrev pub GaveAllOf : List Frame → End → Type 0
 GaveAllOf frames lane = of_lane lane.lane frames ≡ lane.put
 

@@ -42,6 +42,7 @@ own_frame (Take c) = None
 abbrev pub refusal : Client → Server → Act → Option Refusal
 refusal client server act = option_and_then (book_refusal client server) (own_frame act)
 
+-- the answer by the refusal: an event that has none is accepted
 abbrev pub judged : Option Refusal → Answer
 judged None = Accepted
 judged (Some r) = Refused r
@@ -56,6 +57,7 @@ abbrev pub honour_judged : Option Refusal → Option ℕ → Answer
 honour_judged None amount = honoured amount
 honour_judged (Some r) amount = Refused r
 
+-- the answer to an honour, by the client's book: its refusal, or what it absolves
 abbrev pub honour_answer : Client → Answer
 honour_answer client = honour_judged (honour_refusal client) (amount_to_absolve client)
 
@@ -65,11 +67,12 @@ frame_put act Accepted = own_frame act
 frame_put (Honour c) (Absolved amount) = Some (frame.Absolve c amount)
 frame_put act answer = None
 
+-- the answer to an arrival, by the violation of the frame
 abbrev pub arrival : Option Violation → Answer
 arrival None = Arrived
 arrival (Some v) = Violated v
 
--- the arrival of the first of the frames in flight, at the side whose line is the first
+-- the answer to an arrival of the first of the frames in flight, at the side whose line is the first: that none is in flight, or by its violation
 abbrev pub arrive_answer : ℕ → Line → Line → List Frame → Answer
 arrive_answer capacity mine theirs [] = NothingInFlight
 arrive_answer capacity mine theirs (f ∷ rest) = arrival (violation (client_book (channel_of f) mine theirs) (server_book capacity (channel_of f) mine theirs) f)
@@ -85,6 +88,7 @@ delivery_violation capacity mine (f ∷ rest) n theirs =
     if nat_lt n (size theirs.version f) then None
     else option_or (violation (client_book (channel_of f) mine theirs) (server_book capacity (channel_of f) mine theirs) f) (delivery_violation capacity mine rest (n - size theirs.version f) (arrive_first theirs (f ∷ rest)))
 
+-- the answer to a delivery: the violation that it met, or how many bytes and how many frames came
 abbrev pub delivery : Option Violation → ℕ → ℕ → Answer
 delivery None bytes frames = Delivered bytes frames
 delivery (Some v) bytes frames = Violated v
@@ -104,6 +108,7 @@ empty_or_ended true left = Ended
 empty_or_ended false (Some zero) = Ended
 empty_or_ended false left = Empty
 
+-- the answer to a take: the first message that waits, or, where none does, whether one will come
 abbrev pub take_answer : Server → List (List ℕ) → Answer
 take_answer book [] = empty_or_ended book.finished book.send_left
 take_answer book (body ∷ bodies) = Took body
@@ -141,6 +146,7 @@ MayWantMemory (Take c) answer = ⊥
 abbrev pub IsUnlessMemory : Act → Answer → Answer → Type 0
 IsUnlessMemory act right answer = (answer ≡ right) ⊎ (MayWantMemory act right × (answer ≡ Refused OutOfMemory))
 
+-- the answer is right at the side whose line is the first
 abbrev pub IsAnswerOf : ℕ → Line → Line → Act → Answer → Type 0
 IsAnswerOf capacity mine theirs act answer = IsUnlessMemory act (answer_of capacity mine theirs act) answer
 
@@ -148,14 +154,16 @@ IsAnswerOf capacity mine theirs act answer = IsUnlessMemory act (answer_of capac
 abbrev pub IsAnswer : State → Event → Answer → Type 0
 IsAnswer w event answer = IsAnswerOf w.capacity (line w event.side) (line w (other event.side)) event.act answer
 
+-- a frame is put last, if there is one
 abbrev pub put_any : Line → Option Frame → Line
 put_any l None = l
 put_any l (Some f) = put_on l f
 
--- what an answered event leaves of its side's line, and of the other side's; a refusal leaves both as they were
+-- what an answered event leaves of its side's line; a refusal leaves it as it was
 abbrev pub mine_after : Line → Line → Act → Answer → Line
 mine_after mine theirs act answer = put_any mine (frame_put act answer)
 
+-- what an answered event leaves of the other side's line; a refusal leaves it as it was
 abbrev pub theirs_after : Line → Line → Act → Answer → Line
 theirs_after mine theirs Arrive Arrived = arrive_on theirs
 theirs_after mine theirs (Deliver count) (Delivered bytes frames) = deliver_on count theirs
@@ -174,9 +182,11 @@ theirs_after mine theirs Arrive answer = theirs
 theirs_after mine theirs (Deliver count) answer = theirs
 theirs_after mine theirs (Take c) answer = theirs
 
+-- the state that an answered event of a side leaves
 abbrev pub state_after : State → Side → Act → Answer → State
 state_after w A act answer = settled w.capacity (mine_after w.a w.b act answer) (theirs_after w.a w.b act answer)
 state_after w B act answer = settled w.capacity (theirs_after w.b w.a act answer) (mine_after w.b w.a act answer)
 
+-- the state that an answered event leaves
 abbrev pub after : State → Event → Answer → State
 after w event answer = state_after w event.side event.act answer

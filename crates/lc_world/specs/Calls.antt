@@ -43,6 +43,7 @@ own_channel Arrive = None
 own_channel (Deliver count) = None
 own_channel (Take c) = None
 
+-- a frame is put by a peer, if there is one
 abbrev pub put_any_at : Option Frame → PeerState → PeerState
 put_any_at None p = p
 put_any_at (Some f) p = put p f
@@ -63,6 +64,7 @@ abbrev pub IsCallAnswer : PeerState → Act → Answer → Type 0
 IsCallAnswer p (Honour c) answer = IsUnlessMemory (Honour c) (honour_answer (client p c)) answer
 IsCallAnswer p act answer = IfSome (own_frame act) (λ f. IsUnlessMemory act (judged (refusal_by_books p f)) answer)
 
+-- a call of an own event was answered so, and left the peer so
 pub record Called (p new : PeerState) (act : Act) (answer : Answer) : Type 0 where
   pub right : IsCallAnswer p act answer
   pub after : new ≡ after_call act answer p

@@ -1,4 +1,4 @@
--- Where the bytes of a ring are. That guarantees are neither lost nor made up is LCMUX's; that each byte is always in one place, and comes back, is this project's own way to say it.
+-- Where the bytes of a ring are: every byte is always in exactly one place. What a peer promised and neither got back nor can give out again does not exist. What that is worth: whatever both sides did, what is under way can arrive and what waits can be taken; and then, on a channel that is not finished, what there is room for can be issued, unless a limit or the total of 2^62 forbids it, so that the client holds the whole ring again. This says what can be done, and not that any thread does it. That guarantees are neither lost nor made up is LCMUX's; that each byte is always in one place, and comes back, is this project's own way to say it.
 use Rattle.std.specs.Prelude.{◌≡◌, ℕ, ◌+◌, ◌≤◌, min, false, [], ◌∷◌, ◌++◌, None}
 use Rattle.lc_frame.specs.declared.channel.Channel.{Channel}
 use Rattle.lc_frame.specs.Kind.{max_body, max_total}
@@ -19,6 +19,7 @@ IsConserved capacity w s c =
     let book = server w (other s) c in
     promised w s c + buffered book + room book ≡ capacity
 
+-- so it is after every legal history, on each channel and both ways
 abbrev pub CreditIsConserved : Type 0
 CreditIsConserved = (capacity : ℕ) (versions : Versions) (history : History) → IsHistory capacity versions history → (s : Side) (c : Channel) → IsConserved capacity (state_of capacity versions history) s c
 
@@ -26,7 +27,7 @@ CreditIsConserved = (capacity : ℕ) (versions : Versions) (history : History) �
 pub record IsQuiet (w : State) : Type 0 where
   pub in_flight : (s : Side) → (line w s).in_flight ≡ []
 
--- where no message waits on the channel either, all of the ring is held by the client or may be issued
+-- where no frame is in flight and no message waits on the channel, all of the ring is held by the client or may be issued
 abbrev pub CreditNeverLeaks : Type 0
 CreditNeverLeaks = (capacity : ℕ) (versions : Versions) (history : History) → IsHistory capacity versions history →
     let w = state_of capacity versions history in

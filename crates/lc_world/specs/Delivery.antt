@@ -36,6 +36,7 @@ pub record IsInOrder (l : Line) : Type 0 where
   -- while some of it is, no byte of a frame was delivered
   pub first : 0 < l.greeting_left → (l.arrived ≡ []) × (l.begun ≡ 0)
 
+-- what was delivered are the first bytes of the stream, and a frame has arrived exactly where its last byte is among them
 pub record IsCutByBytes (l : Line) : Type 0 where
   pub order : IsInOrder l
   -- what came of the greeting, the bytes of the frames that arrived, and those that have begun to come, are the first so many of the stream
@@ -43,6 +44,7 @@ pub record IsCutByBytes (l : Line) : Type 0 where
   -- a frame has arrived exactly where its last byte was delivered
   pub whole : (before behind : List Frame) (f : Frame) → stream l ≡ before ++ f ∷ behind → (length before < length l.arrived) ↔ (length (text_of l.version (before ++ f ∷ [])) ≤ delivered l)
 
+-- so it is of both streams after every legal history
 abbrev pub EveryStreamIsCutByBytes : Type 0
 EveryStreamIsCutByBytes = (capacity : ℕ) (versions : Versions) (history : History) → IsHistory capacity versions history → (s : Side) → IsCutByBytes (line (state_of capacity versions history) s)
 
@@ -55,5 +57,6 @@ pub record DeliversBytes (l : Line) : Type 0 where
   -- the arrival of a frame is the delivery of the bytes that are missing of it, and of the greeting before it
   pub arrives : (f : Frame) (rest : List Frame) → l.in_flight ≡ f ∷ rest → arrive_on l ≡ deliver_on (l.greeting_left + (size l.version f - l.begun)) l
 
+-- so it is on every stream whose bytes come in order
 abbrev pub DeliveriesAddUp : Type 0
 DeliveriesAddUp = (l : Line) → IsInOrder l → DeliversBytes l

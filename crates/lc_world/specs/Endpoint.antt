@@ -20,10 +20,11 @@ use Rattle.lc_world.specs.Answers.{IsAnswerOf, mine_after, theirs_after}
 use Rattle.lc_world.specs.Sound.{IsSound}
 use Rattle.lc_world.specs.Delivery.{text_of, delivered, IsInOrder}
 
--- by channel, how many of the messages that arrived do not wait in the ring of the peer that they came to, and the plead that it keeps
+-- by channel, how many of the messages that arrived do not wait in the ring of the peer that they came to
 abbrev pub taken_by : PeerState → List Frame → List ℕ
 taken_by reader arrived = map (λ c. length (messages c arrived) - length (inbox reader c).ring.messages) every_channel
 
+-- by channel, the plead that the peer keeps
 abbrev pub pleads_of : PeerState → List (Option ℕ)
 pleads_of reader = map (λ c. (client reader c).asked) every_channel
 
@@ -43,10 +44,11 @@ line_in v bytes count reader = record {
 abbrev pub line_of : Endpoint → Endpoint → Line
 line_of writer reader = line_in writer.peer.version writer.stream.items writer.delivered reader.peer
 
--- all rings have one capacity
+-- the capacity of an end's rings, which all have one
 abbrev pub capacity_of : Endpoint → ℕ
 capacity_of e = (server e.peer ReconciliationChannel).capacity
 
+-- the state of two peers that two ends stand for
 abbrev pub state_between : Endpoint → Endpoint → State
 state_between a b = record { capacity = capacity_of a; a = line_of a b; b = line_of b a }
 

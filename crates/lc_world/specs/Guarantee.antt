@@ -16,13 +16,15 @@ use Rattle.lc_world.specs.declared.event.Answer.TheVariants.{Accepted, Absolved,
 use Rattle.lc_world.specs.State.{State, Versions, opening, line, other, client, server, stream, kept_plead, taken_messages}
 use Rattle.lc_world.specs.Histories.{History, after_all, IsHistory, accepted, amounts, taken, honours}
 
--- the state after a whole history, and after its first n events
+-- the state after a whole history
 abbrev pub state_of : ℕ → Versions → History → State
 state_of capacity versions history = after_all (opening capacity versions) history
 
+-- the state after the first n events of a history
 abbrev pub state_at : ℕ → Versions → History → ℕ → State
 state_at capacity versions history n = state_of capacity versions (take n history)
 
+-- the first list is the beginning of the second
 abbrev pub IsPrefix : List (List ℕ) → List (List ℕ) → Type 0
 IsPrefix xs ys = (rest : List (List ℕ)) × (xs ++ rest ≡ ys)
 
@@ -112,12 +114,13 @@ pub record IsFinishedSince (s : Side) (c : Channel) (before w : State) : Type 0 
 abbrev pub ServerWaives : State → Side → Channel → Type 0
 ServerWaives w client_side c = waived_by (server w (other client_side) c) ≡ (if finished c (line w client_side).arrived then waived (client w client_side c) + issued c (line w (other client_side)).in_flight else 0)
 
--- what a Finish of the side on the channel leaves; where there was none, nothing is waived
+-- what a Finish of the side on the channel leaves; where there was none, nothing is waived. That what is waived, which the book has as a remainder, is what was held then and what still came, is said here
 pub record KeepsFinish (capacity : ℕ) (versions : Versions) (history : History) (s : Side) (c : Channel) : Type 0 where
   pub never_finished : ((later : History) → IsCut history s (Finish c) later → ⊥) → waived (client (state_of capacity versions history) s c) ≡ 0
   pub since_finish : (later : History) (cut : IsCut history s (Finish c) later) → IsFinishedSince s c (state_of capacity versions cut.0) (state_of capacity versions history)
   pub server_waives : ServerWaives (state_of capacity versions history) s c
 
+-- the headline: what every legal history of two peers keeps, on every channel, both ways
 pub record KeepsGuarantees (capacity : ℕ) (versions : Versions) (history : History) : Type 0 where
   -- on every channel the messages taken are a prefix of those that its client had accepted
   pub in_order : (s : Side) (c : Channel) → IsPrefix (taken c (other s) history) (accepted c s history)
@@ -136,5 +139,6 @@ pub record KeepsGuarantees (capacity : ℕ) (versions : Versions) (history : His
   -- after every event, what a Finish waives is what its client held, and what still came
   pub finish_is : (n : ℕ) (s : Side) (c : Channel) → KeepsFinish capacity versions (take n history) s c
 
+-- every legal history keeps it, of whichever versions its streams are
 abbrev pub EveryHistoryKeepsGuarantees : Type 0
 EveryHistoryKeepsGuarantees = (capacity : ℕ) (versions : Versions) (history : History) → IsHistory capacity versions history → KeepsGuarantees capacity versions history

@@ -14,6 +14,7 @@ use Rattle.lc_world.specs.declared.event.Answer.TheVariants.{Accepted, Absolved,
 use Rattle.lc_world.specs.State.{State, Versions, opening}
 use Rattle.lc_world.specs.Answers.{IsAnswer, after}
 
+-- events in order, each with its answer
 abbrev pub History : Type 0
 History = List (Event × Answer)
 
@@ -27,18 +28,19 @@ abbrev pub IsLegal : State → History → Type 0
 IsLegal w [] = Unit {0}
 IsLegal w (p ∷ history) = IsAnswer w p.0 p.1 × IsLegal (after w p.0 p.1) history
 
--- a history of two new peers, whose streams are of these versions
+-- a history of two new peers with rings of 1 to 2^24 bytes, whose streams are of these versions
 pub record IsHistory (capacity : ℕ) (versions : Versions) (history : History) : Type 0 where
   pub is_capacity : IsCapacity capacity
   pub legal : IsLegal (opening capacity versions) history
 
+-- whether two sides are one
 abbrev pub is_side : Side → Side → Bool
 is_side A A = true
 is_side A B = false
 is_side B A = false
 is_side B B = true
 
--- what one act, so answered, has sent, issued, taken or absolved by an honour on the channel
+-- the message that an act, so answered, has sent on the channel
 abbrev pub sent_body : Channel → Act → Answer → Option (List ℕ)
 sent_body c (Send d body) Accepted = if is_same c d then Some body else None
 sent_body c (Send d body) answer = None
@@ -53,6 +55,7 @@ sent_body c Arrive answer = None
 sent_body c (Deliver count) answer = None
 sent_body c (Take d) answer = None
 
+-- the amount that an act, so answered, has issued on the channel
 abbrev pub issued_amount : Channel → Act → Answer → Option ℕ
 issued_amount c (Issue d amount) Accepted = if is_same c d then Some amount else None
 issued_amount c (Send d body) answer = None
@@ -67,6 +70,7 @@ issued_amount c Arrive answer = None
 issued_amount c (Deliver count) answer = None
 issued_amount c (Take d) answer = None
 
+-- the message that an act, so answered, took of the channel
 abbrev pub taken_body : Channel → Act → Answer → Option (List ℕ)
 taken_body c (Take d) (Took body) = if is_same c d then Some body else None
 taken_body c (Send d body) answer = None
@@ -81,7 +85,7 @@ taken_body c Arrive answer = None
 taken_body c (Deliver count) answer = None
 taken_body c (Take d) answer = None
 
--- an honour that was answered, by what it absolved
+-- what an act, so answered, absolved as an honour on the channel, 0 where it had nothing to absolve
 abbrev pub honoured_amount : Channel → Act → Answer → Option ℕ
 honoured_amount c (Honour d) (Absolved amount) = if is_same c d then Some amount else None
 honoured_amount c (Honour d) NothingToAbsolve = if is_same c d then Some 0 else None
@@ -97,19 +101,22 @@ honoured_amount c Arrive answer = None
 honoured_amount c (Deliver count) answer = None
 honoured_amount c (Take d) answer = None
 
--- the same of a whole history, at one side, in order
+-- what an event with its answer has of this, where it is one of the side
 abbrev pub at_side : {X : Type 0} → (Act → Answer → Option X) → Side → (Event × Answer) → Option X
 at_side of_act s p = if is_side s p.0.side then of_act p.0.act p.1 else None
 
+-- the messages that a side had accepted on the channel in a history, in order
 abbrev pub accepted : Channel → Side → History → List (List ℕ)
 accepted c s history = filter_map (at_side (sent_body c) s) history
 
+-- the amounts that a side issued on the channel, in order
 abbrev pub amounts : Channel → Side → History → List ℕ
 amounts c s history = filter_map (at_side (issued_amount c) s) history
 
+-- the messages that a side took of the channel, in order
 abbrev pub taken : Channel → Side → History → List (List ℕ)
 taken c s history = filter_map (at_side (taken_body c) s) history
 
--- the honours on the channel that were answered
+-- what each honour of a side on the channel absolved that was answered, in order
 abbrev pub honours : Channel → Side → History → List ℕ
 honours c s history = filter_map (at_side (honoured_amount c) s) history

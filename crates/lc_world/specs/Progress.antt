@@ -17,7 +17,7 @@ ComesOrTakes Arrive = Unit {0}
 ComesOrTakes (Take c) = Unit {0}
 ComesOrTakes act = ⊥
 
--- arrivals and takes go on from the history, and leave every message that it accepted taken, on every channel and both ways
+-- arrivals and takes alone go on from the history; after them every message that it accepted is taken, on every channel and both ways, no frame is in flight, and no message waits
 pub record IsDrained (capacity : ℕ) (versions : Versions) (history later : History) : Type 0 where
   pub only : AllByRecursion (λ p. ComesOrTakes p.0.act) later
   pub legal : IsHistory capacity versions (history ++ later)
@@ -26,5 +26,6 @@ pub record IsDrained (capacity : ℕ) (versions : Versions) (history later : His
   pub quiet : IsQuiet (state_of capacity versions (history ++ later))
   pub dry : (s : Side) (c : Channel) → waiting c (line (state_of capacity versions (history ++ later)) s) ≡ []
 
+-- every legal history can be gone on with so
 abbrev pub NothingWedges : Type 0
 NothingWedges = (capacity : ℕ) (versions : Versions) (history : History) → IsHistory capacity versions history → (later : History) × IsDrained capacity versions history later

@@ -30,9 +30,11 @@ pub record Line : Type 0 where
 abbrev pub stream : Line → List Frame
 stream l = l.arrived ++ l.in_flight
 
+-- how many messages of a channel the other side took
 abbrev pub taken_count : Channel → Line → ℕ
 taken_count c l = slice_index l.taken (number_of c)
 
+-- the target of the plead that the other side keeps on a channel
 abbrev pub kept_plead : Channel → Line → Option ℕ
 kept_plead c l = slice_index_or l.asked (number_of c) None
 
@@ -54,6 +56,7 @@ pub record State : Type 0 where
   pub a : Line
   pub b : Line
 
+-- the other of two sides
 abbrev pub other : Side → Side
 other A = B
 other B = A
@@ -63,25 +66,28 @@ abbrev pub line : State → Side → Line
 line w A = w.a
 line w B = w.b
 
--- the books of a side as client and as server
+-- the book of a side as a channel's client
 abbrev pub client : State → Side → Channel → Client
 client w s c = client_book c (line w s) (line w (other s))
 
+-- the book of a side as a channel's server
 abbrev pub server : State → Side → Channel → Server
 server w s c = server_book w.capacity c (line w s) (line w (other s))
 
+-- a line on which nothing has happened: the greeting is in flight
 abbrev pub new_line : Version → Line
 new_line v = record { version = v; greeting_left = length (greeting v); arrived = []; in_flight = []; begun = 0; taken = replicate 7 0; asked = replicate 7 None }
 
--- the versions of two streams, by the sides that write them, and those of a list, the first as that of side A
+-- the versions of two streams, by the sides that write them
 abbrev pub Versions : Type 0
 Versions = Side → Version
 
+-- the versions of a list, of which the first is side A's
 abbrev pub by_side : List Version → Versions
 by_side versions A = slice_index_or versions 0 One
 by_side versions B = slice_index_or versions 1 One
 
--- nothing has happened, and the greetings are in flight
+-- two peers to whom nothing has happened: the greetings are in flight
 abbrev pub opening : ℕ → Versions → State
 opening capacity versions = record { capacity = capacity; a = new_line (versions A); b = new_line (versions B) }
 
@@ -94,11 +100,12 @@ abbrev pub keep_pleads : Frame → List (Option ℕ) → List (Option ℕ)
 keep_pleads (Plead c target) asked = slice_set asked (number_of c) (Some target)
 keep_pleads f asked = asked
 
--- the first frame in flight arrives, and before it all of the greeting
+-- what the arrival of the first of the frames in flight leaves: it has arrived, and before it all of the greeting
 abbrev pub arrive_first : Line → List Frame → Line
 arrive_first l [] = l
 arrive_first l (frame ∷ rest) = record l { greeting_left = 0; arrived = l.arrived ++ frame ∷ []; in_flight = rest; begun = 0; asked = keep_pleads frame l.asked }
 
+-- the same of the line's own frames in flight
 abbrev pub arrive_on : Line → Line
 arrive_on l = arrive_first l l.in_flight
 
@@ -106,12 +113,12 @@ arrive_on l = arrive_first l l.in_flight
 abbrev pub size : Version → Frame → ℕ
 size v f = length (encoding v f)
 
--- so many bytes of the frames in flight have been delivered: each frame whose last byte is among them arrives, and the rest of them are of the next
+-- of the frames in flight so many bytes have been delivered: each frame whose last byte is among them arrives, and the rest of them are of the next
 abbrev pub deliver_over : List Frame → ℕ → Line → Line
 deliver_over [] n l = l
 deliver_over (f ∷ rest) n l = if nat_lt n (size l.version f) then record l { begun = n } else deliver_over rest (n - size l.version f) (arrive_first l (f ∷ rest))
 
--- so many bytes more are delivered, or as many as are in flight: those of the greeting, and then those of the frames
+-- what a delivery of so many bytes leaves, or of as many as are in flight: those of the greeting come first, and then those of the frames
 abbrev pub deliver_on : ℕ → Line → Line
 deliver_on count l = deliver_over l.in_flight (l.begun + (count - l.greeting_left)) (record l { greeting_left = l.greeting_left - count })
 
