@@ -5,7 +5,7 @@ ghost use Rattle.lc_book.specs.Finish.{finished_refusal_or, finished_violation_o
 
 use crate::fault::{Refusal, Violation};
 
-// Whether there may be own events. Refused by 15.
+/// Whether there may be own events. Refused by 15.
 #[inline]
 pub(crate) fn check_own(finished: bool) -> Result<(), Refusal>
     ensures answer { result_err result ≡ finished_refusal_or finished None }
@@ -17,7 +17,7 @@ pub(crate) fn check_own(finished: bool) -> Result<(), Refusal>
     Ok(())
 }
 
-// Whether frames of the client may arrive. Violation V9.
+/// Whether frames of the client may arrive. Violation V9.
 #[inline]
 pub(crate) fn check_arrival(finished: bool) -> Result<(), Violation>
     ensures answer { result_err result ≡ finished_violation_or finished None }
@@ -29,7 +29,7 @@ pub(crate) fn check_arrival(finished: bool) -> Result<(), Violation>
     Ok(())
 }
 
-// Of the guarantees that are left over, those that are waived: all where the client finished.
+/// Of the guarantees that are left over, those that are waived: all where the client finished.
 #[inline]
 pub(crate) fn waived_of(finished: bool, unused: u64) -> u64
     ensures { result ≡ (if finished then unused else 0) }

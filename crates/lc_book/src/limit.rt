@@ -47,7 +47,7 @@ pub fn check_limit(left: Option<u64>, bound: u64) -> Result<(), Refusal>
     }
 }
 
-// What is left of a limit after `n` bytes, as an error what was left where `n` is past it.
+/// What is left of a limit after `n` bytes, as an error what was left where `n` is past it.
 pub(crate) fn take_from(left: Option<u64>, n: u64) -> Result<Option<u64>, u64>
     ensures { result ≡ (if is_past left n then Err (left_of left) else Ok (less left n)) }
 {
@@ -58,7 +58,7 @@ pub(crate) fn take_from(left: Option<u64>, n: u64) -> Result<Option<u64>, u64>
     }
 }
 
-// Whether a limit is within the profile.
+/// Whether a limit is within the profile.
 pub(crate) fn is_bound(left: Option<u64>) -> bool
     ensures { IsTrue result ↔ ForSome left (λ n. n ≤ max_total) }
 {

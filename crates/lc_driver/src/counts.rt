@@ -25,7 +25,7 @@ fn count_up(count: u64) -> u64
 }
 
 impl Counts {
-    // A read or a write, asked for so many bytes, gave this answer.
+    /// A read or a write, asked for so many bytes, gave this answer.
     #[inline]
     pub(crate) fn note_call(&mut self, answer: &io::Result<usize>, asked: usize)
         ensures { CountsCall answer.now asked self.old self.new }
@@ -41,7 +41,7 @@ impl Counts {
         }
     }
 
-    // A call failed.
+    /// A call failed.
     pub(crate) fn note_failure(&mut self, error: &io::Error)
         ensures { self.new ≡ with_failure self.old error.now }
     {

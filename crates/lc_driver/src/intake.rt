@@ -50,7 +50,7 @@ impl Intake {
         self.stop
     }
 
-    // What it means that the stream ends here.
+    /// What it means that the stream ends here.
     pub(crate) fn end(&self) -> ReadEnd
         requires { self.now.stop ≡ None }
         ensures { EndsHere result self.now.held }
@@ -61,7 +61,7 @@ impl Intake {
         }
     }
 
-    // The frames of what is held and of the piece arrive.
+    /// The frames of what is held and of the piece arrive.
     pub(crate) fn deliver<C, S: FrameSink<C>>(
         &mut self,
         sink: &mut S,

@@ -66,7 +66,7 @@ impl Outgo {
         self.buffer.split_at(self.start).1
     }
 
-    // Drops the first so many bytes.
+    /// Drops the first so many bytes.
     pub(crate) fn advance(&mut self, count: usize)
         requires { count ≤ length self.old.pending }
         ensures pending { self.new.pending ≡ drop count self.old.pending }
@@ -75,7 +75,7 @@ impl Outgo {
         self.start += count;
     }
 
-    // Keeps the first so many bytes alone.
+    /// Keeps the first so many bytes alone.
     pub(crate) fn cut_back(&mut self, count: usize)
         requires { count ≤ length self.old.pending }
         ensures pending { self.new.pending ≡ take count self.old.pending }
@@ -84,7 +84,7 @@ impl Outgo {
         self.buffer.truncate(self.start + count);
     }
 
-    // Puts the bytes of a frame last, where there is room for all of them. There is where nothing is pending.
+    /// Puts the bytes of a frame last, where there is room for all of them. There is where nothing is pending.
     pub(crate) fn append(&mut self, frame: FrameRef<'_>) -> bool
         requires { IsValid self.old.version (frame_of frame) }
         ensures after { self.new.pending ≡ (if result then self.old.pending ++ encoding self.old.version (frame_of frame.entry) else self.old.pending) }

@@ -77,7 +77,7 @@ impl InboxEnd {
         self.channel
     }
 
-    // The lane's end.
+    /// The lane's end.
     pub(crate) fn lane(&self) -> &LaneEnd
         ensures { result.now ≡ self.now.lane }
     {

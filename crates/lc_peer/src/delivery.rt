@@ -32,7 +32,7 @@ pub struct Delivery {
     pub stop: Option<Stop>,
 }
 
-// What was done with what stands at the front, and how many bytes were taken for it.
+/// What was done with what stands at the front, and how many bytes were taken for it.
 #[derive(Clone, Copy)]
 pub(crate) enum Step {
     Arrived(usize),

@@ -73,7 +73,7 @@ fn encode(version: Version, frame: Frame, buffer: &mut Vec<u8>)
 }
 
 impl Batch {
-    // The start of a stream: its greeting is pending, which is nothing in version One.
+    /// The start of a stream: its greeting is pending, which is nothing in version One.
     pub(crate) fn new(alloc: Global, version: Version) -> Result<Batch, AllocError>
         ensures { IfOk result (λ batch. batch ≡ new_batch version) }
     {
@@ -88,8 +88,8 @@ impl Batch {
         })
     }
 
-    // All that is pending: what is left of the frame that was begun, or of the greeting, and the
-    // frames that wait.
+    /// All that is pending: what is left of the frame that was begun, or of the greeting, and the
+    /// frames that wait.
     pub(crate) fn bytes(&self) -> &[u8]
         ensures { result.now ≡ text self.now.version self.now.begun self.now.waiting }
     {
@@ -103,14 +103,14 @@ impl Batch {
         self.start == self.buffer.len()
     }
 
-    // How many bytes are left of the frame that was begun, or of the greeting.
+    /// How many bytes are left of the frame that was begun, or of the greeting.
     pub(crate) fn begun(&self) -> usize
         ensures { result ≡ length self.now.begun }
     {
         self.begun
     }
 
-    // How many frames wait.
+    /// How many frames wait.
     pub(crate) fn waiting(&self) -> usize
         ensures { result ≡ length self.now.waiting }
     {
@@ -118,7 +118,7 @@ impl Batch {
         frame_end(self.version, bytes, self.begun, bytes.len()).1
     }
 
-    // All that is pending was written.
+    /// All that is pending was written.
     pub(crate) fn clear(&mut self)
         ensures version { self.new.version ≡ self.old.version }
         ensures begun { self.new.begun ≡ [] }
@@ -130,7 +130,7 @@ impl Batch {
         self.begun = 0;
     }
 
-    // Where nothing is pending, all room is free.
+    /// Where nothing is pending, all room is free.
     pub(crate) fn restart(&mut self)
         ensures version { self.new.version ≡ self.old.version }
         ensures begun { self.new.begun ≡ self.old.begun }
@@ -143,7 +143,7 @@ impl Batch {
         }
     }
 
-    // The first so many bytes were written.
+    /// The first so many bytes were written.
     pub(crate) fn note_written(&mut self, count: usize)
         requires { count ≤ length (text self.old.version self.old.begun self.old.waiting) }
         ensures { LetsGo count self.old self.new }
@@ -153,14 +153,14 @@ impl Batch {
         self.begun = end - count;
     }
 
-    // Whether any frame has room.
+    /// Whether any frame has room.
     pub(crate) fn has_room(&self) -> bool
         ensures { IsTrue result ↔ (max_frame self.now.version ≤ self.now.free) }
     {
         max_batch(self.version) - self.buffer.len() >= self.version.max_frame()
     }
 
-    // A frame waits behind the others.
+    /// A frame waits behind the others.
     pub(crate) fn append(&mut self, frame: Frame)
         requires valid { IsValid self.old.version frame }
         requires room { max_frame self.old.version ≤ self.old.free }

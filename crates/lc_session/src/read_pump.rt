@@ -59,7 +59,7 @@ impl ReadPump {
         end
     }
 
-    // The reading sides of the credits and of the inboxes, when the session ends.
+    /// The reading sides of the credits and of the inboxes, when the session ends.
     pub(crate) fn into_parts(self) -> (CreditIn, [InboxIn; 7])
         ensures { self.side ≡ record { credits = result.0; inboxes = result.1 } }
     {

@@ -188,7 +188,7 @@ impl WritePump {
         end
     }
 
-    // The drain and what is pending, when the session ends.
+    /// The drain and what is pending, when the session ends.
     pub(crate) fn into_parts(self) -> (Drain, Batch)
         ensures { self ≡ pumping_of result.0 result.1 }
     {

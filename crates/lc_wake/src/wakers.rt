@@ -48,7 +48,7 @@ impl Pump {
     }
 }
 
-// One end, as others wake it.
+/// One end, as others wake it.
 #[derive(Drop)]
 pub(crate) struct Waker {
     // How often it was told of something.
@@ -118,34 +118,34 @@ impl Wakers {
         self.waker(end.lane()).tell();
     }
 
-    // How often the end was told of something.
+    /// How often the end was told of something.
     pub(crate) fn told(&self, end: End) -> u64 {
         self.waker(end.lane()).told.load(Ordering::SeqCst)
     }
 
-    // A frame was put, which the writing pump will find before it sleeps, or is woken for.
+    /// A frame was put, which the writing pump will find before it sleeps, or is woken for.
     pub(crate) fn frame_put(&self) {
         if self.pump_sleeps.load(Ordering::SeqCst) {
             self.pump.unpark();
         }
     }
 
-    // The writing pump says whether it sleeps. Once it has said so, it looks once more.
+    /// The writing pump says whether it sleeps. Once it has said so, it looks once more.
     pub(crate) fn set_pump_sleeps(&self, sleeps: bool) {
         self.pump_sleeps.store(sleeps, Ordering::SeqCst);
     }
 
-    // How often slots were freed.
+    /// How often slots were freed.
     pub(crate) fn freed(&self) -> u64 {
         self.freed.load(Ordering::SeqCst)
     }
 
-    // Slots were freed. Who notes that it wants one after this finds the count risen.
+    /// Slots were freed. Who notes that it wants one after this finds the count risen.
     pub(crate) fn note_freed(&self) {
         self.freed.fetch_add(1, Ordering::SeqCst);
     }
 
-    // An end waits for a slot, or no longer does.
+    /// An end waits for a slot, or no longer does.
     pub(crate) fn want_slot(&self, end: End) {
         self.wanting.fetch_or(end.bit(), Ordering::SeqCst);
     }
@@ -154,8 +154,8 @@ impl Wakers {
         self.wanting.fetch_and(!end.bit(), Ordering::SeqCst);
     }
 
-    // Wakes up to so many of the ends that wait for a slot, from a lane on in turn, and says from
-    // which lane on to go next.
+    /// Wakes up to so many of the ends that wait for a slot, from a lane on in turn, and says from
+    /// which lane on to go next.
     pub(crate) fn wake_wanting(&self, from: usize, count: usize) -> usize {
         let wanting = self.wanting.load(Ordering::SeqCst);
         if wanting == 0 {
