@@ -2,7 +2,7 @@
 use Rattle.std.proofs.Common.{◌≡◌, ℕ, ◌+◌, ◌-◌, ◌<◌, ◌≤◌, min, List, [], ◌++◌, length, take, drop, Some, refl, sym, ap, ◌∙◌, append_assoc, arith, inl, inr, length-append}
 use Rattle.std.specs.List.{flat_map, slice_get}
 use Rattle.std.proofs.lemmas.Bool.{cases_lt}
-use Rattle.std.proofs.lemmas.List.{length-take, length-drop, drop-drop, take_at, drop_at, take-append-le, drop-append-le, nil_from_length}
+use Rattle.std.proofs.lemmas.List.{length-take, length-drop, drop-drop, take_at, drop_at, nil_from_length}
 use Rattle.std.proofs.lemmas.List.Concat.{flat_map-cons}
 use Rattle.std.proofs.Math.Seq.{take-add}
 use Rattle.lc_frame.specs.declared.frame.Frame.{Frame}
@@ -39,47 +39,11 @@ begins old f next begun none first gone is =
       stop = refl;
     }
 
--- as much of the frame that was begun as has room
-pub gives_one : (n room : ℕ) (a b : Side) (left : PendingState) → Begins a b → n ≡ min (length b.pending.bytes) room → 0 < room → left.bytes ≡ drop n b.pending.bytes → GivesOut n a (record { peer = b.peer; decoder = b.decoder; stop = b.stop; pending = left })
-gives_one n room a b left begun count some rest =
-    let fits : n ≤ length b.pending.bytes = omega (arith, count) in
-    record {
-      within = omega (arith, fits, ap length begun.same, length-text b);
-      rest =
-          ap (λ (x : List ℕ). x ++ flat_map (encoding b.peer.version) b.peer.waiting) rest
-          ∙ sym (drop-append-le n b.pending.bytes (flat_map (encoding b.peer.version) b.peer.waiting) fits)
-          ∙ ap (λ (x : List ℕ). drop n x) begun.same;
-      gone = begun.gone;
-      peer = begun.peer;
-      begun = λ k h.
-          let more : 0 < begun.gone = omega (arith, h) in
-          let first : k ≡ 0 = omega (arith, h, begun.one more) in
-          let none : length (flat_map (encoding a.peer.version) (take k a.peer.waiting)) ≡ 0 = ap (λ (i : ℕ). length (flat_map (encoding a.peer.version) (take i a.peer.waiting))) first in
-          omega (arith, none, some, count, ap length (begun.first more), begun.some more, length-append a.pending.bytes (flat_map (encoding a.peer.version) (take k a.peer.waiting)));
-      decoder = begun.decoder;
-      stop = begun.stop;
-    }
-
-pub written_one : (n room : ℕ) (a b : Side) (out written : List ℕ) → Begins a b → n ≡ min (length b.pending.bytes) room → written ≡ take n b.pending.bytes ++ drop n out → written ≡ take n (text a) ++ drop n out
-written_one n room a b out written begun count is =
-    is ∙ ap (λ (x : List ℕ). x ++ drop n out) (sym (take-append-le n b.pending.bytes (flat_map (encoding b.peer.version) b.peer.waiting) (omega (arith, count))) ∙ ap (λ (x : List ℕ). take n x) begun.same)
-
 -- where nothing was given, there is nothing to give
 pub none_left : (n room : ℕ) (a b c : Side) → Begins a b → n ≡ min (length b.pending.bytes) room → 0 < room → GivesOut n a c → n ≡ 0 → text c ≡ []
 none_left n room a b c begun count some gives zero =
     let nothing : b.pending.bytes ≡ [] = nil_from_length b.pending.bytes (omega (arith, count, some, zero)) in
     gives.rest ∙ ap (λ (i : ℕ). drop i (text a)) zero ∙ sym begun.same ∙ begun.ready nothing
-
-pub gives_nothing : (s : Side) → GivesOut 0 s s
-gives_nothing s = record {
-  within = omega arith;
-  rest = refl;
-  gone = 0;
-  peer = refl;
-  begun = λ k h. absurd (omega (arith, h));
-  decoder = refl;
-  stop = refl;
-}
 
 gone_then : (n m : ℕ) (p q r : PeerState) → q ≡ record p { waiting = drop n p.waiting } → r ≡ record q { waiting = drop m q.waiting } → r ≡ record p { waiting = drop (n + m) p.waiting }
 gone_then n m p q r e f = f ∙ ap (λ (s : PeerState). record s { waiting = drop m s.waiting }) e ∙ ap (λ (ws : List Frame). record p { waiting = ws }) (drop-drop m n p.waiting)

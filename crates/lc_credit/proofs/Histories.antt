@@ -87,15 +87,6 @@ last_use_same seen history h = ap last_use h.begins ∙ (fold-append last_use_af
 pub learned_received : (old new : List Entry) → Learns is_incoming old new → received new ≡ received old
 learned_received old new h = received_same old new h.knows
 
-pub learned_used : (old new : List Entry) → Learns is_outgoing old new → used new ≡ used old
-learned_used old new h = used_same old new h.knows
-
-pub learned_returned : (old new : List Entry) → Learns is_outgoing old new → returned new ≡ returned old
-learned_returned old new h = returned_same old new h.knows
-
-pub learned_last_use : (old new : List Entry) → Learns is_outgoing old new → last_use new ≡ last_use old
-learned_last_use old new h = last_use_same old new h.knows
-
 -- what a side has counted after an entry of its own
 pub made_received : (old new : List Entry) (e : Entry) → Makes is_incoming old e new → received new ≡ received old + amount (received_of e)
 made_received old new e h = ap received h.last ∙ (received-push h.before e ∙ ap (λ n. n + amount (received_of e)) (received_same old h.before h.knows))

@@ -5,14 +5,13 @@ use Rattle.std.specs.Io.KnownBytes.{IsAtEnd}
 use Rattle.std.specs.declared.io.Error.{Error}
 use Rattle.std.specs.declared.io.ErrorKind.{ErrorKind}
 use Rattle.lc_frame.specs.Held.{Held}
-use Rattle.lc_peer.specs.declared.delivery.Stop.{Stop}
 use Rattle.lc_peer.specs.declared.delivery.Stop.TheVariants as stops
 use Rattle.lc_driver.specs.declared.counts.Counts.{Counts}
 use Rattle.lc_driver.specs.declared.reading.ReadEnd.{ReadEnd}
 use Rattle.lc_driver.specs.declared.reading.ReadEnd.TheVariants.{Clean, Truncated, Fault, Violated, ReadFailed, TurnsSpent}
 use Rattle.lc_driver.specs.Counts.{count_up, count_on, CountsCall}
 use Rattle.lc_driver.specs.Intake.{EndsHere}
-use Rattle.lc_driver.specs.Reading.{CountsReads, EndsInput, end_of}
+use Rattle.lc_driver.specs.Reading.{CountsReads, EndsInput}
 
 -- a count that a call that moved some bytes leaves
 count_stays : (n asked before after more : ℕ) → (n ≡ 0 → ⊥) → after ≡ cond (eqb n 0 && ltb 0 asked) more before → after ≡ before
@@ -93,8 +92,3 @@ ends_input (Fault fault) held remaining e at = absurd e
 ends_input (Violated violation) held remaining e at = absurd e
 ends_input ReadFailed held remaining e at = absurd e
 ends_input TurnsSpent held remaining e at = absurd e
-
--- the stream was given up
-pub counts_stop : (stop : Stop) (old new : Counts) → NoneTold old new → CountsReads (end_of stop) old new
-counts_stop (stops.Fault fault) old new counts = counts
-counts_stop (stops.Violated violation) old new counts = counts

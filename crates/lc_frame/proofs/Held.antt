@@ -13,13 +13,13 @@ use Rattle.lc_frame.specs.declared.kind.Kind.TheVariants as kinds
 use Rattle.lc_frame.specs.declared.frame.Frame.{Frame}
 use Rattle.lc_frame.specs.declared.frame_fault.FrameFault.{FrameFault}
 use Rattle.lc_frame.specs.Version.{greeting, begins, version_of, IsGreetingPart, GreetingBreaks}
-use Rattle.lc_frame.specs.Frame.{kind_of, channel_of, IsValid}
+use Rattle.lc_frame.specs.Frame.{kind_of, channel_of}
 use Rattle.lc_frame.specs.Encoding.{tag_of, encoding}
 use Rattle.lc_frame.specs.Held.{Held, held_in, opened_as, opened, held_as, fed, IsSettled, IsValidIn, encoding_in, before, FrameIn, FaultIn, HasFrame, HasFault, IsUndecided, front}
 use Rattle.std.proofs.lemmas.List.Concat.{flat_map-append}
 use Rattle.lc_frame.proofs.Bytes.{IsBytes, IsBytes-drop}
 use Rattle.lc_frame.proofs.Channels.{number_below}
-use Rattle.lc_frame.proofs.Fronts.{one_frame, one_fault, frame_no_fault, frame_goes_on, fault_goes_on, nothing_yet, valid_in_two}
+use Rattle.lc_frame.proofs.Fronts.{one_frame, one_fault, frame_no_fault, frame_goes_on, fault_goes_on, nothing_yet}
 
 -- ---- fronts
 
@@ -284,14 +284,6 @@ each_as (Some v) fs bytes each = each
 pub each_fed : (fs : List Frame) (h : Held) (more : List ℕ) → AllByRecursion (IsValidIn h.version) fs → AllByRecursion (IsValidIn (fed h more).version) fs
 each_fed fs h more each = each_as h.version fs (h.bytes ++ more) each
 
-valid_as : (version : Option Version) (f : Frame) → IsValidIn version f → IsValid Two f
-valid_as None f valid = absurd valid
-valid_as (Some v) f valid = valid_in_two v f valid
-
--- what is valid in the version of a stream is valid in version Two
-pub each_in_two : (version : Option Version) (f : Frame) → IsValidIn version f → IsValid Two f
-each_in_two version f valid = valid_as version f valid
-
 -- ---- how long it is, and that it is bytes
 
 opened_short : (o : Option Version) (bytes : List ℕ) → length (opened_as o bytes).bytes ≤ length bytes
@@ -318,18 +310,12 @@ fed_fits h more fits = held_fits h.version (h.bytes ++ more) fits
 
 -- ---- fronts of what is held
 
-unbroken_front : (k : ℕ) (bytes : List ℕ) → ¬ GreetingBreaks bytes → ¬ GreetingBreaks (take k bytes)
-unbroken_front k bytes none s = none (subst GreetingBreaks (take-append-drop k bytes) (breaks_goes_on (take k bytes) (drop k bytes) s))
-
 front_as : (version : Option Version) (k : ℕ) (bytes : List ℕ) → IsUndecided (record { version = version; bytes = bytes }) → IsUndecided (record { version = version; bytes = take k bytes })
 front_as None k bytes u = record { no_frame = λ f s. s; no_fault = λ e s. u.no_fault e (s.0, subst GreetingBreaks (take-append-drop k bytes) (breaks_goes_on (take k bytes) (drop k bytes) s.1)) }
 front_as (Some v) k bytes u = record {
   no_frame = λ f s. u.no_frame f (subst (FrameIn (Some v) f) (take-append-drop k bytes) (frame_goes_on v f (take k bytes) (drop k bytes) s));
   no_fault = λ e s. u.no_fault e (subst (FaultIn (Some v) e) (take-append-drop k bytes) (fault_goes_on v e (take k bytes) (drop k bytes) s));
 }
-
-pub front_undecided : (k : ℕ) (h : Held) → IsUndecided h → IsUndecided (front k h)
-front_undecided k h u = front_as h.version k h.bytes u
 
 pub nothing_in : (version : Option Version) → IsUndecided (record { version = version; bytes = [] })
 nothing_in None = part_undecided [] nothing_is_part

@@ -17,8 +17,8 @@ use Rattle.lc_frame.specs.Version.{greeting, begins, version_of, IsGreetingPart,
 use Rattle.lc_frame.specs.Decoded.{IsOpen, IsKnown}
 use Rattle.lc_frame.specs.Scan.{frame_in, NeedsMore}
 use Rattle.lc_frame.specs.Held.{Held, held_in, opened, HasFrame, HasFault, IsUndecided, IsDecided, IsSettled}
-use Rattle.lc_frame.specs.Progress.{Holds, Remembers, known_version, Takes, Feeds, TakesPart, OpensAs, Opens, IsDue}
-use Rattle.lc_frame.proofs.Held.{told, begins_long, front_is, fed_nothing, settled_none, part_none, front_of_part, opened_is, part_undecided, part_opened, greeted_told}
+use Rattle.lc_frame.specs.Progress.{Holds, Remembers, known_version, Takes, TakesPart, OpensAs, Opens, IsDue}
+use Rattle.lc_frame.proofs.Held.{told, begins_long, front_is, settled_none, part_none, front_of_part, opened_is, part_undecided, part_opened, greeted_told}
 
 -- ---- in a version
 
@@ -44,14 +44,6 @@ held_of v progress bytes h = ap (λ (o : Option Version). record { version = o; 
 
 decided_of : (v : Version) (progress : Progress) (bytes : List ℕ) → Holds v progress bytes → IsKnown v bytes → IsDecided (record { version = known_version v progress; bytes = bytes })
 decided_of v progress bytes h known = subst IsDecided (sym (held_of v progress bytes h)) known
-
-pub takes_feeds : (v : Version) (old new piece : List ℕ) (taken : ℕ) (progress : Progress) → Takes v old new piece taken progress → Feeds (held_in v old) (record { version = known_version v progress; bytes = new }) piece taken
-takes_feeds v old new piece taken progress t = record {
-  count = t.count;
-  held = held_of v progress new t.knows ∙ ap (held_in v) t.held;
-  shortest = λ k lt. undecided_of v (old ++ take k piece) (t.shortest k lt);
-  stop = λ lt. decided_of v progress new t.knows (t.stop lt);
-}
 
 -- ---- of version One
 
@@ -308,18 +300,6 @@ module _ (v : Version) (progress : Progress) (inside : List ℕ) (held : Held) (
 
 -- ---- feeds
 
-pub feeds_none : (h : Held) (piece : List ℕ) → IsSettled h → IsDecided h → Feeds h h piece 0
-feeds_none h piece settled decided = record {
-  count = omega arith;
-  held = sym (fed_nothing h settled);
-  shortest = λ k lt. absurd (omega (arith, lt));
-  stop = λ lt. decided;
-}
-
 pub undecided_not : (h : Held) → IsUndecided h → ¬ IsDecided h
 undecided_not h u (inl p) = u.no_frame p.0 p.1
 undecided_not h u (inr p) = u.no_fault p.0 p.1
-
--- as seen
-pub feeds_seen : (old new old' new' : Held) (piece : List ℕ) (taken : ℕ) → old ≡ old' → new ≡ new' → Feeds old new piece taken → Feeds old' new' piece taken
-feeds_seen old new old' new' piece taken e f h = subst (λ (x : Held). Feeds old' x piece taken) f (subst (λ (x : Held). Feeds x new piece taken) e h)

@@ -17,9 +17,6 @@ knows_more {E} own seen history later others h =
 pub knows_all : {E : Type 0} (own : E → Bool) (history : List E) → Knows own history history
 knows_all own history = record { later = []; begins = sym (append-nil history); others = refl }
 
-pub knows_through : {E : Type 0} (own : E → Bool) (seen between history : List E) → Knows own seen between → Knows own between history → Knows own seen history
-knows_through own seen between history h k = subst (Knows own seen) (sym k.begins) (knows_more own seen between k.later k.others h)
-
 -- a history with one entry more
 follows_after : {E : Type 0} (MayFollow : List E → E → Type 0) (before history : List E) (e : E) → MayFollow (before ++ history) e → IsHistoryAfter MayFollow before history → IsHistoryAfter MayFollow before (history ++ e ∷ [])
 follows_after {E} MayFollow before [] e may legal = (subst (λ (xs : List E). MayFollow xs e) (append-nil before) may, tt)

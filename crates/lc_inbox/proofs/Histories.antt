@@ -19,7 +19,7 @@ use Rattle.lc_book.specs.Server.{note_taken}
 use Rattle.lc_book.specs.Sums.{server_of, server_after_arrival, server_after_put}
 use Rattle.lc_book.proofs.SumsKept.{books_keep_sums, server_is}
 use Rattle.lc_ring.specs.Ring.{Ring}
-use Rattle.lc_peer.specs.Inbox.{new_inbox, note_front, take_first}
+use Rattle.lc_peer.specs.Inbox.{note_front, take_first}
 use Rattle.lc_peer.specs.Arrivals.{ring_after_arrival}
 use Rattle.lc_inbox.specs.declared.history.Entry.{Entry}
 use Rattle.lc_inbox.specs.declared.history.Entry.TheVariants.{Heard, Refused, Put, Took}
@@ -153,10 +153,6 @@ order_after key before (e ∷ later) order legal = subst (IsInOrder key) (append
 -- the messages that arrived are those that were taken, and then those that wait
 pub in_order : (key : Key) (history : List Entry) → IsHistory (MayFollow key) history → IsInOrder key history
 in_order key history legal = order_after key [] history refl legal
-
--- an inbox in which nothing happened
-pub left_new : (key : Key) (held : Held) → held ≡ record { channel = key.channel; inbox = new_inbox key.capacity; lane = record key.lane.value { put = [] } } → IsLeftBy key held []
-left_new key held is = record { legal = tt; is = is }
 
 -- what one entry more leaves
 module _ (key : Key) (log : List Entry) where

@@ -1,10 +1,9 @@
 -- Lists of seven, and what is made of each of their elements.
-use Rattle.std.proofs.Common.{◌≡◌, ℕ, List, [], ◌∷◌, ◌++◌, length, get_or, map, refl, arith, subst, sym, drop, rules, ap, ◌∙◌, length-append}
-use Rattle.std.specs.List.{All, AllZip}
-use Rattle.lc_frame.specs.declared.version.Version.{Version}
-use Rattle.lc_queue.specs.Parts.{End, QueueId, new_ends}
+use Rattle.std.proofs.Common.{◌≡◌, ℕ, List, [], ◌∷◌, ◌++◌, length, get_or, map, refl, arith, subst, sym, ap, ◌∙◌, length-append}
+use Rattle.std.specs.List.{AllZip}
+use Rattle.lc_queue.specs.Parts.{End}
 use Rattle.lc_inbox.specs.declared.shared_inbox.SharedInbox.{SharedInbox}
-use Rattle.lc_inbox.specs.Inboxes.{IsServerEnd, IsNewShared, incoming_of, outgoing_of, inbox_of, AreParts, AreNew, AreMatched}
+use Rattle.lc_inbox.specs.Inboxes.{IsNewShared, incoming_of, outgoing_of, inbox_of, AreParts, AreNew, AreMatched}
 use Rattle.lc_inbox.specs.Sides.{Side}
 
 -- one element more of each list
@@ -37,10 +36,6 @@ seven_of (x0 ∷ x1 ∷ x2 ∷ x3 ∷ x4 ∷ []) a b c d e f g n h0 h1 h2 h3 h4 
 seven_of (x0 ∷ x1 ∷ x2 ∷ x3 ∷ x4 ∷ x5 ∷ []) a b c d e f g n h0 h1 h2 h3 h4 h5 h6 = absurd (omega arith)
 seven_of (x0 ∷ x1 ∷ x2 ∷ x3 ∷ x4 ∷ x5 ∷ x6 ∷ xs) a b c d e f g n h0 h1 h2 h3 h4 h5 h6 =
     one_more x0 a _ _ h0 (one_more x1 b _ _ h1 (one_more x2 c _ _ h2 (one_more x3 d _ _ h3 (one_more x4 e _ _ h4 (one_more x5 f _ _ h5 (one_more x6 g _ _ h6 (none_left xs (omega arith))))))))
-
--- the ends of the lanes 7 to 13 of a new queue
-pub servers_are : (queue : QueueId) (version : Version) (ends lanes : List End) → ends ≡ new_ends queue version → lanes ≡ drop 7 ends → All IsServerEnd lanes
-servers_are queue version ends lanes is at = search rules
 
 new_from : (capacities : List ℕ) (lanes : List End) (shared : List SharedInbox) → AllZip (IsNewShared capacities) lanes shared → AreNew capacities lanes (map incoming_of shared) (map outgoing_of shared)
 new_from capacities [] [] all = tt

@@ -1,10 +1,9 @@
 -- What a take into a buffer says of the first message.
 use Rattle.std.proofs.Common.{◌≡◌, ℕ, List, [], ◌∷◌, ◌++◌, length, take, drop, Bool, true, false, Option, Some, None, refl, sym, ◌∙◌, ap, subst, zero, suc}
 use Rattle.std.specs.Prelude.{slice_get}
-use Rattle.std.specs.Option.{option_map}
 use Rattle.lc_ring.specs.Ring.{front, with_front}
 use Rattle.lc_book.specs.Server.{Server}
-use Rattle.lc_peer.specs.Inbox.{InboxState, none_waiting, answer_by_length, take_answer, take_first}
+use Rattle.lc_peer.specs.Inbox.{InboxState, none_waiting, take_answer, take_first}
 use Rattle.lc_inbox.specs.Ends.{Held}
 use Rattle.lc_inbox.specs.Lends.{first_taken, taken_entry}
 use Rattle.lc_peer.specs.declared.inbox.Take.{Take}
@@ -75,7 +74,3 @@ none_filled h t buffer filled none is fills =
 -- where none waits nothing is taken
 pub nothing_taken : (h : Held) (t : Take) → IsNone t → t ≡ take_answer h.inbox → first_taken h ≡ []
 nothing_taken h t none is = ap (λ (ms : List (List ℕ)). taken_entry (slice_get ms 0)) (none_first h.inbox.book h.inbox.ring.messages h.inbox.ring.capacity t none is)
-
--- and where no first message is there, a take gives none
-pub none_of : (i : InboxState) (len : ℕ) → front i.ring ≡ None → Took len ≡ take_answer i → ⊥
-none_of i len none is = not_waiting i.book.finished i.book.send_left len (is ∙ ap (λ (o : Option (List ℕ)). answer_by_length i.book (option_map length o)) none)

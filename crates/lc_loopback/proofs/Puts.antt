@@ -1,22 +1,19 @@
 -- What sending ends put.
-use Rattle.std.proofs.Common.{◌≡◌, ℕ, suc, ◌+◌, List, [], ◌∷◌, ◌++◌, map, Option, Some, None, Ok, sym, ap, subst, ◌∙◌, append_assoc, append-nil, arith}
-use Rattle.std.specs.Prelude.{MatchOption}
+use Rattle.std.proofs.Common.{◌≡◌, ℕ, ◌+◌, List, [], ◌∷◌, ◌++◌, map, Ok, sym, ap, subst, ◌∙◌, append-nil}
 use Rattle.std.specs.List.{AllZip, AllByRecursion}
 use Rattle.lc_frame.specs.declared.channel.Channel.{Channel}
 use Rattle.lc_frame.specs.declared.frame.Frame.{Frame}
 use Rattle.lc_frame.specs.declared.frame.Frame.TheVariants.{Send, Finish}
 use Rattle.lc_frame.specs.Stream.{messages}
 use Rattle.lc_frame.proofs.Measures.{messages-append, messages-one}
-use Rattle.lc_book.specs.declared.fault.Refusal.{Refusal}
-use Rattle.lc_book.specs.declared.fault.Refusal.TheVariants.{ChannelFinished}
 use Rattle.lc_queue.specs.Parts.{End}
 use Rattle.lc_credit.specs.Sides.{Outgoing}
 use Rattle.lc_outbox.specs.Outbox.{OutboxState, IsSameOutbox}
-use Rattle.lc_outbox.specs.Calls.{IsSent, IsNotSent, IsRefused, IsFinished}
+use Rattle.lc_outbox.specs.Calls.{IsSent, IsFinished}
 use Rattle.lc_session.specs.Session.{new_outboxes}
 use Rattle.lc_loopback.specs.declared.plan.Plan.{Plan}
 use Rattle.lc_loopback.specs.declared.taken.Taken.{Taken}
-use Rattle.lc_loopback.specs.Plan.{message, due_first, due}
+use Rattle.lc_loopback.specs.Plan.{due_first, due}
 use Rattle.lc_loopback.specs.Played.{PutsAll, Puts, EachGave, HasPut}
 
 -- the messages of an end's channel that it put
@@ -28,13 +25,6 @@ put_by o = messages o.channel o.lane.put
 pub sent_one : (body : List ℕ) (old new : OutboxState) → IsSent body old new → messages old.channel new.lane.put ≡ put_by old ++ body ∷ []
 sent_one body old new h =
     ap (λ (o : OutboxState). messages old.channel o.lane.put) h.after ∙ (messages-append old.channel old.lane.put (Send old.channel body ∷ []) ∙ ap (λ (ms : List (List ℕ)). put_by old ++ ms) (messages-one (Send old.channel body)))
-
-not_sent_at : (waived : Option ℕ) (e : Refusal) (body : List ℕ) (old new : OutboxState) → MatchOption waived (IsNotSent e body old new) (λ _. (e ≡ ChannelFinished) × (new ≡ old)) → new.lane ≡ old.lane
-not_sent_at None e body old new h = ap (λ (o : OutboxState). o.lane) h.after
-not_sent_at (Some n) e body old new h = ap (λ (o : OutboxState). o.lane) h.1
-
-pub not_sent : (e : Refusal) (body : List ℕ) (old new : OutboxState) → IsRefused e old new (IsNotSent e body old new) → new.lane ≡ old.lane
-not_sent e body old new h = not_sent_at old.credit.waived e body old new h
 
 pub finished_none : (old new : OutboxState) → IsFinished old new → messages old.channel new.lane.put ≡ put_by old
 finished_none old new h =
@@ -53,19 +43,6 @@ first_finished first old new lane channel h =
 
 pub record PutSome (p : Plan) (old new : OutboxState) (count : ℕ) : Type 0 where
   pub put_is : messages old.channel new.lane.put ≡ put_by old ++ due_first p old.channel count
-
-pub put_none : (p : Plan) (o : OutboxState) → PutSome p o o 0
-put_none p o = record { put_is = sym (append-nil (put_by o)) }
-
-pub put_one : (p : Plan) (old mid new : OutboxState) (count : ℕ) (body : List ℕ) → PutSome p old mid count → mid.channel ≡ old.channel → messages mid.channel new.lane.put ≡ put_by mid ++ body ∷ [] → body ≡ message p old.channel count → PutSome p old new (count + 1)
-put_one p old mid new count body h same more is =
-    let next : suc count ≡ count + 1 = omega arith in
-    let c = old.channel in
-    let here : messages c new.lane.put ≡ messages c mid.lane.put ++ body ∷ [] = subst (λ (d : Channel). messages d new.lane.put ≡ messages d mid.lane.put ++ body ∷ []) same more in
-    let one : PutSome p old new (suc count) = record {
-      put_is = here ∙ ((λ i. h.put_is i ++ is i ∷ []) ∙ append_assoc (put_by old) (due_first p c count) (message p c count ∷ []));
-    } in
-    subst (λ (k : ℕ). PutSome p old new k) next one
 
 pub put_all : (p : Plan) (old mid new : OutboxState) → PutSome p old mid p.messages → mid.channel ≡ old.channel → messages mid.channel new.lane.put ≡ put_by mid → PutsAll p old new
 put_all p old mid new h same more = record {

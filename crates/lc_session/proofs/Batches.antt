@@ -15,7 +15,7 @@ use Rattle.lc_frame.specs.Held.{held_in}
 use Rattle.lc_frame.specs.Splits.{frames_of}
 use Rattle.lc_frame.proofs.Frames.{joined_law}
 use Rattle.lc_driver.proofs.Frames.{length-split, length-take-more, no_bytes_no_frames}
-use Rattle.lc_session.specs.Batch.{max_batch, new_batch, waiting_in, batch_of, AreWhole, EndsAt, HasBegun, LetsGo}
+use Rattle.lc_session.specs.Batch.{waiting_in, batch_of, AreWhole, EndsAt, HasBegun, LetsGo}
 
 -- the frame behind them
 pub record NextStands (version : Version) (begun : ℕ) (bytes : List ℕ) (gone end : ℕ) : Type 0 where
@@ -44,10 +44,6 @@ pub record IsWritten (version : Version) (begun : ℕ) (bytes : List ℕ) (count
 pub greeted : (version : Version) → AreWhole version (length (greeting version)) (greeting version)
 greeted One = record { within = omega arith; whole = refl; valid = tt }
 greeted Two = record { within = omega arith; whole = refl; valid = tt }
-
-pub greeted_is : (version : Version) → batch_of version (length (greeting version)) (greeting version) (max_batch version - length (greeting version)) ≡ new_batch version
-greeted_is One = refl
-greeted_is Two = refl
 
 module _ (version : Version) where
   -- the bytes of valid frames have these frames

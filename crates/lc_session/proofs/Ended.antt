@@ -1,5 +1,5 @@
 -- A session that ends: the lanes that are joined to its drain, and the frames that are left.
-use Rattle.std.proofs.Common.{◌≡◌, ℕ, ◌+◌, List, [], ◌∷◌, ◌++◌, length, map, sym, ap, subst, ◌∙◌, append_assoc, append-nil, arith, length-append}
+use Rattle.std.proofs.Common.{◌≡◌, ℕ, ◌+◌, List, [], ◌∷◌, ◌++◌, length, map, sym, ap, subst, ◌∙◌}
 use Rattle.std.specs.List.{All, AllByRecursion}
 use Rattle.std.proofs.lemmas.List.Elements.{All-head, All-tail, All-from_recursion, recursion_from_All}
 use Rattle.lc_frame.specs.declared.version.Version.{Version}
@@ -25,16 +25,6 @@ pub record PopsSome (start count : ℕ) (old new : Outlet) : Type 0 where
   pub last : List Frame
   pub count_is : count ≡ start + length last
   pub popped : new ≡ record old { popped = old.popped ++ last }
-
-pub pops_none : (start : ℕ) (o : Outlet) → PopsSome start start o o
-pops_none start o = record { last = []; count_is = omega arith; popped = ap (λ (fs : List Frame). record o { popped = fs }) (sym (append-nil o.popped)) }
-
-pub pops_more : (start count : ℕ) (old o new : Outlet) (f : Frame) → PopsSome start count old o → new ≡ record o { popped = o.popped ++ f ∷ [] } → PopsSome start (count + 1) old new
-pops_more start count old o new f h e = record {
-  last = h.last ++ f ∷ [];
-  count_is = omega (arith, h.count_is, length-append h.last (f ∷ []));
-  popped = e ∙ ap (λ (x : Outlet). record x { popped = x.popped ++ f ∷ [] }) h.popped ∙ ap (λ (fs : List Frame). record old { popped = fs }) (append_assoc old.popped h.last (f ∷ []));
-}
 
 -- ---- the lanes that are joined
 

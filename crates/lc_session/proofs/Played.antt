@@ -3,11 +3,10 @@ use Rattle.std.specs.List.{AllZip}
 use Rattle.std.proofs.Common.{List, [], ◌∷◌}
 use Rattle.lc_inbox.specs.Sides.{IsSameSide}
 use Rattle.lc_outbox.specs.Outbox.{IsSameOutbox}
-use Rattle.lc_session.specs.Report.{SessionState, AreOfOneSession}
+use Rattle.lc_session.specs.Report.{SessionState}
 use Rattle.lc_session.specs.Same.{IsSameSession}
-use Rattle.lc_session.specs.Played.{HasPlayed, WasPlayed, NewSessionsWerePlayed, SessionsArePlayedOn}
-use Rattle.lc_peer.specs.declared.config.Config.{Config}
-use Rattle.lc_session.proofs.Same.{outbox_itself, outbox_then, side_itself, side_then, reading_itself, reading_then, pump_itself, pump_then, session_stays}
+use Rattle.lc_session.specs.Played.{HasPlayed, NewSessionsWerePlayed, SessionsArePlayedOn}
+use Rattle.lc_session.proofs.Same.{outbox_itself, outbox_then, side_itself, side_then, reading_itself, reading_then, pump_itself, pump_then}
 use Rattle.lc_session.proofs.Runs.{hears_nothing, hears_then}
 
 zip_itself : {A : Type 0} (R : A → A → Type 0) → ((x : A) → R x x) → (xs : List A) → AllZip R xs xs
@@ -46,7 +45,3 @@ new_were_played config s new = record { began = s; new = new; played = record { 
 
 pub are_played_on : SessionsArePlayedOn
 are_played_on config old new was played = record { began = was.began; new = was.new; played = played_then was.began old new was.played played }
-
--- what was played is one session still
-pub played_is_one : (config : Config) (s : SessionState) → WasPlayed config s → AreOfOneSession s
-played_is_one config s was = session_stays was.began s was.new.one was.played.same

@@ -37,27 +37,8 @@ outlet_then o xs ys = ap (λ (fs : List Frame). record o { popped = fs }) (appen
 outlet_same : (o : Outlet) → ◌≡◌ {A = Outlet} o (record o { popped = o.popped ++ [] })
 outlet_same o = ap (λ (fs : List Frame). record o { popped = fs }) (sym (append-nil o.popped))
 
-pub pops_nothing : (o : Outlet) (b b' : BatchState) → b'.begun ≡ b.begun → b'.waiting ≡ b.waiting → Pops (pumping_of o b) (pumping_of o b')
-pops_nothing o b b' begun waiting = record { popped = []; drain = outlet_same o; begun = begun; waiting = waiting ∙ sym (append-nil b.waiting) }
-
-pub pops_one : (p : Pumping) (o o' : Outlet) (b b' : BatchState) (f : Frame) → Pops p (pumping_of o b) → o' ≡ record o { popped = o.popped ++ f ∷ [] } → b'.begun ≡ b.begun → b'.waiting ≡ b.waiting ++ f ∷ [] → Pops p (pumping_of o' b')
-pops_one p o o' b b' f h e begun waiting = record {
-  popped = h.popped ++ f ∷ [];
-  drain = e ∙ ap (λ (x : Outlet). record x { popped = x.popped ++ f ∷ [] }) h.drain ∙ outlet_then p.drain h.popped (f ∷ []);
-  begun = begun ∙ h.begun;
-  waiting = waiting ∙ ap (λ (fs : List Frame). fs ++ f ∷ []) h.waiting ∙ append_assoc p.waiting h.popped (f ∷ []);
-}
-
 pub not_empty : (fs : List Frame) (f : Frame) → fs ++ f ∷ [] ≡ [] → ⊥
 not_empty fs f e = omega (arith, ap length e, length-append fs (f ∷ []))
-
--- what a pump keeps, when it pops
-pub pops_keep : (p q : Pumping) → IsPumping p → Pops p q → IsPumping q
-pops_keep p q k h = record {
-  begun_frames = k.begun_frames;
-  popped = ap (λ (o : Outlet). o.popped) h.drain ∙ ap (λ (fs : List Frame). fs ++ h.popped) k.popped ∙ append_assoc k.begun_frames p.waiting h.popped ∙ ap (λ (fs : List Frame). k.begun_frames ++ fs) (sym h.waiting);
-  rest = subst (λ (v : Version). IsRest v k.begun_frames q.begun) (sym (ap (λ (o : Outlet). o.version) h.drain)) (subst (λ (xs : List ℕ). IsRest p.drain.version k.begun_frames xs) (sym h.begun) k.rest);
-}
 
 -- ---- what was written
 
@@ -186,19 +167,6 @@ pumps_same a b p q e k = subst (λ (x : Pumping). Pumps a b x q) e (popped_only 
 
 pub pumps_nothing : (a : Option (List ℕ)) (p : Pumping) → Pumps a a p p
 pumps_nothing a p = pumps_same a a p p refl (keeps_itself a)
-
--- and some of what is pending then was written
-pub pumps_written : (a b : Option (List ℕ)) (p : Pumping) (o : Outlet) (x y : BatchState) → Pops p (pumping_of o x) → x.version ≡ o.version → Writes a b x y → Pumps a b p (pumping_of o y)
-pumps_written a b p o x y h same w = record {
-  taken = w.goes.written;
-  popped = h.popped;
-  grown = w.grown;
-  drain = h.drain;
-  text_is =
-      ap (λ (fs : List Frame). text p.drain.version p.begun fs) (sym h.waiting)
-      ∙ ap (λ (xs : List ℕ). text p.drain.version xs x.waiting) (sym h.begun)
-      ∙ subst (λ (v : Version). text v x.begun x.waiting ≡ w.goes.written ++ text v y.begun y.waiting) (same ∙ ap (λ (o : Outlet). o.version) h.drain) (text_after w.count x y w.goes);
-}
 
 pub pumps_then : (a b c : Option (List ℕ)) (p q r : Pumping) → Pumps a b p q → Pumps b c q r → Pumps a c p r
 pumps_then a b c p q r s t = record {

@@ -27,7 +27,7 @@ use Rattle.lc_driver.specs.Intake.{IntakeState}
 use Rattle.lc_driver.specs.Reading.{ReadsInto, stop_of, end_of}
 use Rattle.lc_session.specs.Pumping.{Pumping, Pumps, IsSamePump}
 use Rattle.lc_session.specs.Reading.{ReadingSide, channel_of_side, ToCredit, ToInbox, Hears, Refuses, Arrives, Violates, IsSameReading}
-use Rattle.lc_session.specs.Report.{SessionState, channel_of_outbox, credit_of_outbox, PutsOn, ServesOn, AreOfOneSession}
+use Rattle.lc_session.specs.Report.{channel_of_outbox, credit_of_outbox, PutsOn, ServesOn}
 use Rattle.lc_session.specs.Same.{SessionsStay}
 use Rattle.lc_session.proofs.Places.{some_map, set_keeps}
 
@@ -191,13 +191,4 @@ session_stays old new one same =
           (matched_in old.reading.side.inboxes new.reading.side.inboxes old.receiving same.reading.inboxes one.inboxes_match);
     }
 
--- the same for a caller that took the ends apart: each end that comes back is that at its place
-pub gathered : (old new : SessionState) (ends : List OutboxState) (sides : List Side) → AreOfOneSession old → old.sending ≡ ends → old.receiving ≡ sides
-    → AllZip IsSameOutbox ends new.sending → AllZip IsSameSide sides new.receiving → IsSameReading old.reading.side new.reading.side → IsSamePump old.writing new.writing
-    → AreOfOneSession new
-gathered old new ends sides one sending receiving outboxes inboxes reading writing = session_stays old new one (record {
-  sending = subst (λ (xs : List OutboxState). AllZip IsSameOutbox xs new.sending) (sym sending) outboxes;
-  receiving = subst (λ (xs : List Side). AllZip IsSameSide xs new.receiving) (sym receiving) inboxes;
-  reading = reading;
-  writing = writing;
 })

@@ -90,11 +90,6 @@ begun_over (f ∷ rest) n l e h =
       | inr le ↦ subst Begun (sym (behind_first f rest n l le)) (begun_over rest (n - size l.version f) (arrive_first l (f ∷ rest)) refl (none_begun l.version rest))
     ]
 
--- a greeting that is gone stays so
-gone_arrives : (frames : List Frame) (l : Line) → l.greeting_left ≡ 0 → (arrive_first l frames).greeting_left ≡ 0
-gone_arrives [] l e = e
-gone_arrives (f ∷ rest) l e = refl
-
 gone_over : (frames : List Frame) (n : ℕ) (l : Line) → l.greeting_left ≡ 0 → (deliver_over frames n l).greeting_left ≡ 0
 gone_over [] n l e = e
 gone_over (f ∷ rest) n l e =
