@@ -14,6 +14,6 @@ abbrev pub handle_owns : Global → Ptr → Option the_row.Denot → Fml
 handle_owns alloc p None = ftrue
 handle_owns alloc p (Some v) = box_owns (ghosts.dealloc_token alloc) the_row p v
 
--- what stands behind a handle, as the prover has it in memory
+-- how what is held behind a handle, nothing or a side, is coded as a ghost value
 abbrev pub held_coded : Coded (Option the_row.Denot)
 held_coded = (option.the_row the_row).coded

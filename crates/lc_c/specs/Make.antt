@@ -22,7 +22,7 @@ fault_answer (BadCapacity c) = record { code = bad_capacity; number = number_of 
 fault_answer BadSlots = only bad_slots
 fault_answer OutOfMemory = refusal_answer refusals.OutOfMemory
 
--- the version of a number, where there is one
+-- the version of a number: 1 is One, 2 is Two, and there is no other
 abbrev pub version_at : ℕ → Option Version
 version_at number = if number == 1 then Some One else if number == 2 then Some Two else None
 
@@ -39,7 +39,7 @@ abbrev pub fault_or_done : Option PeerFault → LcmuxAnswer
 fault_or_done None = only done
 fault_or_done (Some fault) = fault_answer fault
 
--- the same, by the configuration, where its version is one
+-- the same, by the configuration, where there is a version of the number; else that there is none
 abbrev pub bounds_answer : Option Config → LcmuxAnswer
 bounds_answer None = only bad_version
 bounds_answer (Some config) = fault_or_done (config_fault config)

@@ -74,7 +74,7 @@ last_use history = fold last_use_after None history
 abbrev pub IsHeld : ℕ → List Entry → Type 0
 IsHeld word history = word + used history ≡ received history + returned history
 
--- A use is covered: with it, what was used less what was returned is at most what was received before. What is returned is the last use, whole. What is taken waits. An amount is received, and a target asked, at any time
+-- a use is covered: with it, what was used less what was returned is at most what was received before. What is returned is the last use, whole. What is taken waits. An amount is received, and a target asked, at any time
 abbrev pub MayFollow : List Entry → Entry → Type 0
 MayFollow history (Used n) = used history + n ≤ received history + returned history
 MayFollow history (Returned n) = last_use history ≡ Some n

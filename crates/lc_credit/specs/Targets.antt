@@ -10,7 +10,7 @@ AreAmong [] ys = Unit {0}
 AreAmong (x ∷ xs) [] = ⊥
 AreAmong (x ∷ xs) (y ∷ ys) = ((x ≡ y) × AreAmong xs ys) ⊎ AreAmong (x ∷ xs) ys
 
--- The targets taken are some of those asked. What waits is the last that was asked or nothing, and nothing only where none was asked or the last that was taken is the last that was asked
+-- the targets taken are some of those asked, in order, each once. What waits is the last that was asked or nothing, and nothing only where none was asked or the last that was taken is the last that was asked
 pub record AreTakenInTurn (history : List Entry) : Type 0 where
   pub in_order : AreAmong (targets_taken history) (targets_asked history)
   pub waits : (waiting history ≡ None) ⊎ (waiting history ≡ last_or None (targets_asked history))

@@ -31,7 +31,7 @@ opened_as (Some v) bytes = held_in v (drop (length (greeting v)) bytes)
 abbrev pub opened : List ℕ → Held
 opened bytes = opened_as (version_of bytes) bytes
 
--- what is held where the version was known or not, and these are the bytes since then: where it was not, it may be now
+-- what is held with these bytes: those behind a version that is known, or else those of the stream from its start, which may tell it
 abbrev pub held_as : Option Version → List ℕ → Held
 held_as None bytes = opened bytes
 held_as (Some v) bytes = held_in v bytes

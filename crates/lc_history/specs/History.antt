@@ -1,4 +1,4 @@
--- Histories of things that two sides share, whatever their entries are: what both sides did, each by single steps, in one order, so that "before" has a meaning between them; and what each side knows of it. A history is in no memory: it is what the proofs speak of. When an entry may follow those before it, and whose entries are whose, is said by the thing that has the history. These words are this project's own.
+-- Histories of things that two sides share, whatever their entries are: what both sides did, each by single steps, in one order, so that it has a meaning what came before; and what each side knows of it. A history is in no memory: it is what the proofs speak of. When an entry may follow those before it, and whose entries are whose, is said by the thing that has the history. These words are this project's own.
 use Rattle.std.specs.Prelude.{◌≡◌, ℕ, Bool, false, List, [], ◌∷◌, ◌++◌, filter, Option, None}
 use Rattle.std.specs.List.{filter_map}
 

@@ -36,7 +36,7 @@ pub record AreParts (shared : List SharedInbox) (incoming outgoing : List Side) 
   pub incoming_are : incoming ≡ map incoming_of shared
   pub outgoing_are : outgoing ≡ map outgoing_of shared
 
--- of these lanes, in order, each one's inbox has its two sides at its place
+-- of these lanes, in order, each one's new inbox, of its channel's capacity, has its two sides at its place
 abbrev pub AreNew : List ℕ → List End → List Side → List Side → Type 0
 AreNew capacities [] [] [] = Unit {0}
 AreNew capacities (lane ∷ lanes) (i ∷ incoming) (o ∷ outgoing) = IsNew (capacity_of capacities lane) lane i o × AreNew capacities lanes incoming outgoing
@@ -68,6 +68,6 @@ AreFinished incoming outgoing books lanes = ⊥
 abbrev pub capacity_fault : List ℕ → Option PeerFault
 capacity_fault capacities = option_map BadCapacity (first_bad capacities)
 
--- capacities without a fault may still want memory
+-- why there are no inboxes: a capacity that no ring may have, or want of memory where there is none
 abbrev pub IsSharingAnswer : List ℕ → Option PeerFault → Type 0
 IsSharingAnswer capacities answer = (answer ≡ capacity_fault capacities) ⊎ ((capacity_fault capacities ≡ None) × (answer ≡ Some OutOfMemory))

@@ -24,7 +24,7 @@ pub record Finished : Type 0 where
   pub left : ℕ
   pub partly : ℕ
 
--- what `finish` asks for, what the runs of the reading pump said, and what `finish` ensured
+-- what is known of these: that the parts were of one session, which `finish` asks for; that its reading side heard what arrived, as the runs of the pump say; and the report, which `finish` ensures
 pub record IsFinished (r : Finished) : Type 0 where
   pub one : AreOfOneSession r.session
   pub heard : HasHeardAll r.session.reading.side r.arrived

@@ -92,7 +92,7 @@ abbrev pub IsCausal : List Joint → Joint → Type 0
 IsCausal before (at_a step) = HearsNext (of_b before) (of_a before) step
 IsCausal before (at_b step) = HearsNext (of_a before) (of_b before) step
 
--- the premise: an order of the steps of both sessions, each one's own, in which nothing is heard before it was put
+-- the premise: one order of the steps of both sessions, which is an order of each one's own, and in which nothing is heard before it was put
 pub record IsInterleaving (a b : Trace) (order : List Joint) : Type 0 where
   pub a_order : IsOrderOf a (of_a order)
   pub b_order : IsOrderOf b (of_b order)

@@ -16,7 +16,7 @@ use Rattle.lc_interleaving.specs.Promises.{KeepPromises}
 use Rattle.lc_interleaving.specs.Lawful.{IsLawfulAfter, AreBreaches}
 use Rattle.lc_interleaving.specs.Finished.{Finished, IsFinished, trace, FitsRings}
 
--- two sessions that were finished, no ring of which is larger, and one order of the steps of both
+-- all that the laws ask for: two sessions that were finished, a capacity that no ring of theirs passes, and one order of the steps of both
 pub record WereOne (capacity : ℕ) (a b : Finished) (fa : IsFinished a) (fb : IsFinished b) (order : List Joint) : Type 0 where
   pub is_capacity : IsCapacity capacity
   pub a_rings : FitsRings capacity a

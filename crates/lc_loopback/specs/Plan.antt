@@ -36,6 +36,6 @@ due p c = due_first p c p.messages
 abbrev pub config_of : Plan → Version → Config
 config_of p version = record { version = version; capacities = replicate 7 p.capacity; slots = p.slots }
 
--- so many messages of 4 to 16 bytes through rings that are small, and few slots, so that ends wait for both
+-- so many messages of 4 to 16 bytes through rings of 32, with four slots, so that ends wait for both
 abbrev pub small_plan : ℕ → Plan
 small_plan messages = record { capacity = 32; slots = 4; messages = messages; shortest = 4; lengths = 13 }

@@ -39,7 +39,7 @@ EachGave Gives [] [] [] = Unit {0}
 EachGave Gives (w ∷ olds) (o ∷ outcomes) (v ∷ news) = IfOk o (λ n. Gives w n v) × EachGave Gives olds outcomes news
 EachGave Gives olds outcomes news = ⊥
 
--- the same, whatever it counted
+-- an end put all messages that are due, whatever it counted
 abbrev pub Puts : Plan → OutboxState → Taken → OutboxState → Type 0
 Puts p old n new = PutsAll p old new
 

@@ -46,7 +46,7 @@ IsSendAnswer p f answer = (answer ≡ refusal p f) ⊎ ((refusal_by_books p f �
 abbrev pub channel_after_put : Frame → ChannelState → ChannelState
 channel_after_put f s = record { client = client_after_put f s.client; inbox = record s.inbox { book = server_after_put f s.inbox.book } }
 
--- a frame is put: its channel goes on, and it waits as the last
+-- what an accepted call leaves: the channel of its frame goes on, and that waits as the last
 abbrev pub put : PeerState → Frame → PeerState
 put p f = record (set_channel p (channel_of f) (channel_after_put f (channel p (channel_of f)))) { waiting = p.waiting ++ f ∷ [] }
 

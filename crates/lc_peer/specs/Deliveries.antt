@@ -40,7 +40,7 @@ StopsBy None a text piece held taken = TookAll a text piece held taken
 StopsBy (Some (Violated violation)) a text piece held taken = MetViolation violation a text held
 StopsBy (Some (Fault fault)) a text piece held taken = MetFault fault a text held taken
 
--- a piece is delivered to a peer after bytes that are held: the frames of both together arrive, in order, up to the first fault or violation; what was taken is the bytes of those that arrived, and what is held then
+-- a piece is delivered to a peer after bytes that are held: the frames of both together arrive, in order, up to the first fault or violation; what was taken is the bytes of those that arrived, and what is held then; and the answer says why it stopped
 pub record Delivers (p : PeerState) (held : Held) (piece : List ℕ) (p' : PeerState) (held' : Held) (d : Delivery) : Type 0 where
   pub peer : p' ≡ (arrivals p (frames_of (fed held piece))).peer
   pub frames : d.frames ≡ (arrivals p (frames_of (fed held piece))).count

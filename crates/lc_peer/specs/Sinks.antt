@@ -5,7 +5,7 @@ use Rattle.lc_book.specs.declared.fault.Violation.{Violation}
 use Rattle.lc_peer.specs.Peer.{PeerState}
 use Rattle.lc_peer.specs.Arrivals.{violation_at, arrive}
 
--- a frame that is lawful arrives at a peer
+-- a frame that is lawful arrives at a peer, and leaves what `arrive` says
 abbrev pub Arrives : PeerState → Frame → PeerState → Type 0
 Arrives p f q = (violation_at p f ≡ None) × (q ≡ arrive p f)
 

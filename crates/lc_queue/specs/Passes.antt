@@ -21,12 +21,12 @@ terms_of (Lane terms lane put) = terms
 terms_of (Drain terms next popped joined) = terms
 terms_of v = no_terms
 
--- the lane of which a view is the end's, 0 where it is none's
+-- the lane of the end that has this view, 0 where none has
 abbrev pub lane_of_view : View → ℕ
 lane_of_view (Lane terms lane put) = lane
 lane_of_view v = 0
 
--- what was put at the end of which a view is
+-- what was put at the end that has this view
 abbrev pub put_of : View → List Frame
 put_of (Lane terms lane put) = put
 put_of v = []

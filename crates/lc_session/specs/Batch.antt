@@ -29,7 +29,7 @@ new_batch version = record { version = version; begun = greeting version; waitin
 abbrev pub waiting_in : Version → ℕ → List ℕ → List Frame
 waiting_in version begun bytes = frames_of (held_in version (drop begun bytes))
 
--- what a buffer with these bytes has as a batch
+-- the batch that a buffer with these bytes is
 abbrev pub batch_of : Version → ℕ → List ℕ → ℕ → BatchState
 batch_of version begun bytes free = record { version = version; begun = take begun bytes; waiting = waiting_in version begun bytes; free = free }
 

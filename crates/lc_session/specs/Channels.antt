@@ -3,6 +3,6 @@ use Rattle.std.specs.Prelude.{List, [], ◌∷◌}
 use Rattle.lc_frame.specs.declared.channel.Channel.{Channel}
 use Rattle.lc_frame.specs.declared.channel.Channel.TheVariants.{ReconciliationChannel, DataChannel, OverlapChannel, CapabilityChannel, AreaOfInterestChannel, PayloadRequestChannel, StaticTokenChannel}
 
--- all seven, by their numbers
+-- the seven channels, in the order of their numbers
 abbrev pub channels : List Channel
 channels = ReconciliationChannel ∷ DataChannel ∷ OverlapChannel ∷ CapabilityChannel ∷ AreaOfInterestChannel ∷ PayloadRequestChannel ∷ StaticTokenChannel ∷ []

@@ -93,7 +93,7 @@ abbrev pub delivery : Option Violation → ℕ → ℕ → Answer
 delivery None bytes frames = Delivered bytes frames
 delivery (Some v) bytes frames = Violated v
 
--- the delivery of so many of the bytes in flight, of which the last number says how many there are, at the side whose line is the first: how many they were, and how many frames arrived
+-- the answer to a delivery of so many of the bytes in flight, of which the last number says how many there are, at the side whose line is the first: that none is, the first violation, or how many they were, and how many frames arrived
 abbrev pub deliver_answer : ℕ → Line → Line → ℕ → ℕ → Answer
 deliver_answer capacity mine theirs count zero = NothingInFlight
 deliver_answer capacity mine theirs count (suc n) = delivery (delivery_violation capacity mine theirs.in_flight (theirs.begun + (count - theirs.greeting_left)) theirs) (min count (suc n)) (length (deliver_on count theirs).arrived - length theirs.arrived)
@@ -150,7 +150,7 @@ IsUnlessMemory act right answer = (answer ≡ right) ⊎ (MayWantMemory act righ
 abbrev pub IsAnswerOf : ℕ → Line → Line → Act → Answer → Type 0
 IsAnswerOf capacity mine theirs act answer = IsUnlessMemory act (answer_of capacity mine theirs act) answer
 
--- the answer is right in this state
+-- the answer is right in this state, or want of memory where there may be one
 abbrev pub IsAnswer : State → Event → Answer → Type 0
 IsAnswer w event answer = IsAnswerOf w.capacity (line w event.side) (line w (other event.side)) event.act answer
 

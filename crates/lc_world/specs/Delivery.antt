@@ -36,7 +36,7 @@ pub record IsInOrder (l : Line) : Type 0 where
   -- while some of it is, no byte of a frame was delivered
   pub first : 0 < l.greeting_left → (l.arrived ≡ []) × (l.begun ≡ 0)
 
--- what was delivered are the first bytes of the stream, and a frame has arrived exactly where its last byte is among them
+-- the bytes of the stream come in order, what was delivered are its first, and a frame has arrived exactly where its last byte is among them
 pub record IsCutByBytes (l : Line) : Type 0 where
   pub order : IsInOrder l
   -- what came of the greeting, the bytes of the frames that arrived, and those that have begun to come, are the first so many of the stream
