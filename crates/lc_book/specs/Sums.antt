@@ -86,7 +86,7 @@ pub record ServerKeepsSums (capacity : ℕ) (put arrived : List Frame) (taken : 
   pub arrived_here : server_after_arrival f (server_of capacity (channel_of f) put arrived taken) ≡ server_of capacity (channel_of f) put (arrived ++ f ∷ []) taken
   pub arrived_elsewhere : (c : Channel) → is_same c (channel_of f) ≡ false → server_of capacity c put arrived taken ≡ server_of capacity c put (arrived ++ f ∷ []) taken
 
--- so it is of every book, after any frame that is put or arrives
+-- every book of sums is one again after any frame that is put or arrives, on its channel and on every other
 abbrev pub BooksKeepSums : Type 0
 BooksKeepSums = (version : Version) (capacity : ℕ) (put arrived : List Frame) (asked : Option ℕ) (taken : ℕ) (f : Frame) → ClientKeepsSums version put arrived asked f × ServerKeepsSums capacity put arrived taken f
 
@@ -95,7 +95,7 @@ pub record HonourKeepsSums (version : Version) (c : Channel) (put arrived : List
   pub absolves : (amount : ℕ) → amount_to_absolve (client_of version c put arrived asked) ≡ Some amount → honour (client_of version c put arrived asked) ≡ client_of version c (put ++ Absolve c amount ∷ []) arrived None
   pub forgets : amount_to_absolve (client_of version c put arrived asked) ≡ None → honour (client_of version c put arrived asked) ≡ client_of version c put arrived None
 
--- so it is of every client's book of sums
+-- every client's book of sums is one again after an honour
 abbrev pub EveryHonourKeepsSums : Type 0
 EveryHonourKeepsSums = (version : Version) (c : Channel) (put arrived : List Frame) (asked : Option ℕ) → HonourKeepsSums version c put arrived asked
 
@@ -109,7 +109,7 @@ pub record TakeKeepsSums (capacity : ℕ) (c : Channel) (put arrived : List Fram
   pub takes : count < length (messages c arrived) → note_taken (server_of capacity c put arrived (taken_cost c arrived count)) (length (get_or (messages c arrived) count [])) ≡ server_of capacity c put arrived (taken_cost c arrived (count + 1))
   pub stays : (f : Frame) → count ≤ length (messages c arrived) → taken_cost c (arrived ++ f ∷ []) count ≡ taken_cost c arrived count
 
--- so it is of every server's book of sums
+-- every server's book of sums is one again after a take
 abbrev pub EveryTakeKeepsSums : Type 0
 EveryTakeKeepsSums = (capacity : ℕ) (c : Channel) (put arrived : List Frame) (count : ℕ) → TakeKeepsSums capacity c put arrived count
 
@@ -124,7 +124,7 @@ pub record PutsValidFrames (client : Client) (server : Server) (c : Channel) : T
   pub plead : (target : ℕ) → plead_refusal server target ≡ None → IsValid client.version (Plead c target)
   pub limit_receiving : (bound : ℕ) → limit_receiving_refusal server bound ≡ None → IsValid client.version (LimitReceiving c bound)
 
--- so it is of every book
+-- whatever the books of a channel accept, the frame of it is valid in the client's version
 abbrev pub EveryBookPutsValidFrames : Type 0
 EveryBookPutsValidFrames = (client : Client) (server : Server) (c : Channel) → IsClient client → IsServer server → PutsValidFrames client server c
 
@@ -138,6 +138,6 @@ pub record SumsAreOfLanes (c : Channel) (frames : List Frame) : Type 0 where
   pub issued_is : issued_on c (of_lane (7 + number_of c) frames) ≡ issued_on c frames
   pub receive_left_is : receive_left_on c (of_lane (7 + number_of c) frames) ≡ receive_left_on c frames
 
--- so it is of every list of frames
+-- of every list of frames, each sum over all is that over the frames of its lane
 abbrev pub EverySumIsOfItsLane : Type 0
 EverySumIsOfItsLane = (c : Channel) (frames : List Frame) → SumsAreOfLanes c frames

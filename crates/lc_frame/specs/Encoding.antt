@@ -20,7 +20,7 @@ abbrev pub number_bytes : Option Width → ℕ → List ℕ
 number_bytes None number = []
 number_bytes (Some width) number = to_be_bytes width number
 
--- the bytes in front of a message: the tag, and the number
+-- the first bytes of a frame: the tag, and the number
 abbrev pub header : Version → Kind → Channel → ℕ → List ℕ
 header v kind c number = tag_of kind c ∷ number_bytes (width_of v kind) number
 

@@ -102,6 +102,6 @@ pub record Loan : Type 0 where
   pub history : List Entry
   pub held : Held
 
--- so it is in every history
+-- in every history the messages that arrived are those that were taken, and then those that wait
 abbrev pub EveryHistoryIsInOrder : Type 0
 EveryHistoryIsInOrder = (key : Key) (history : List Entry) → IsHistory (MayFollow key) history → IsInOrder key history

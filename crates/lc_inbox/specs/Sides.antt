@@ -141,6 +141,6 @@ pub record IsFinished (incoming outgoing : Side) (book : Server) (lane : End) : 
 abbrev pub TookTheFirst : Side → Side → Type 0
 TookTheFirst incoming outgoing = (others : List (List ℕ)) × (messages incoming.key.channel (heard incoming.seen) ≡ took outgoing.seen ++ others)
 
--- so it is wherever both sides have ended
+-- wherever both sides have ended, the receiving side took the first of the messages that the reading side heard
 abbrev pub EveryFinishIsInOrder : Type 0
 EveryFinishIsInOrder = (incoming outgoing : Side) (book : Server) (lane : End) → IsFinished incoming outgoing book lane → TookTheFirst incoming outgoing

@@ -54,7 +54,7 @@ pub record KeepsBetween (c : Channel) (client server : Finished) (sent received 
   pub somewhere : outstanding book ≡ promised c sent received balance
   pub conserved : promised c sent received balance + buffered book + room book ≡ book.capacity
 
--- the headline of running sessions: so it is on all channels, both ways
+-- the headline of running sessions: what two finished sessions keep, on all channels and both ways
 pub record KeepPromises (a b : Finished) (fa : IsFinished a) (fb : IsFinished b) : Type 0 where
   pub a_sends : (c : Channel) → KeepsBetween c a b (trace a fa) (trace b fb)
   pub b_sends : (c : Channel) → KeepsBetween c b a (trace b fb) (trace a fa)

@@ -21,7 +21,7 @@ pub record KeepTogether (a b : Finished) : Type 0 where
   pub b_finished : IsFinished b
   pub promises : (capacity : ℕ) (fa : IsFinished a) (fb : IsFinished b) (order : List Joint) → WereOne capacity a b fa fb order → KeepPromises a b fa fb
 
--- so it is of two reports of `finish`, whatever frames had arrived at both sessions
+-- two reports of `finish`, whatever frames had arrived at both sessions: they keep together what they promise
 abbrev pub AreTwoReports : SessionState → SessionState → Report → Report → Type 0
 AreTwoReports s t r q = (a_arrived b_arrived : List Frame) → HasHeardAll s.reading.side a_arrived → HasHeardAll t.reading.side b_arrived → KeepTogether (finished s a_arrived r) (finished t b_arrived q)
 
@@ -31,6 +31,6 @@ pub record KeepInOrder (a b : Finished) : Type 0 where
   pub b_finished : IsFinished b
   pub promises : (order : List Joint) → IsInterleaving (trace a a_finished) (trace b b_finished) order → KeepPromises a b a_finished b_finished
 
--- so it is of two sessions that were new and then played: what had arrived is what their reading pumps heard
+-- two reports of sessions that were new and then played: in whatever order, they keep their promises; what had arrived is what their reading pumps heard
 abbrev pub ArePlayedOut : SessionState → SessionState → Report → Report → Type 0
 ArePlayedOut s t r q = (a_config b_config : Config) (a : WasPlayed a_config s) (b : WasPlayed b_config t) → KeepInOrder (finished s a.played.heard.frames r) (finished t b.played.heard.frames q)

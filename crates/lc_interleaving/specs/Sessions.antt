@@ -27,7 +27,7 @@ pub record WereOne (capacity : ℕ) (a b : Finished) (fa : IsFinished a) (fb : I
 abbrev pub ReportsAreAState : Type 0
 ReportsAreAState = (capacity : ℕ) (a b : Finished) (fa : IsFinished a) (fb : IsFinished b) (order : List Joint) → WereOne capacity a b fa fb order → IsStateOfBoth capacity (trace a fa) (trace b fb) (history_of order)
 
--- two such sessions keep their promises
+-- two finished sessions whose steps fell into one order keep their promises
 abbrev pub FinishedSessionsKeepPromises : Type 0
 FinishedSessionsKeepPromises = (capacity : ℕ) (a b : Finished) (fa : IsFinished a) (fb : IsFinished b) (order : List Joint) → WereOne capacity a b fa fb order → KeepPromises a b fa fb
 
@@ -35,7 +35,7 @@ FinishedSessionsKeepPromises = (capacity : ℕ) (a b : Finished) (fa : IsFinishe
 abbrev pub NextFramesAreLawful : Type 0
 NextFramesAreLawful = (capacity : ℕ) (a b : Finished) (fa : IsFinished a) (fb : IsFinished b) (order : List Joint) → WereOne capacity a b fa fb order → (earlier later : List Joint) → order ≡ earlier ++ later → IsLawfulAfter capacity (trace a fa) (trace b fb) earlier
 
--- at each moment of the order a frame that is refused is nothing that the other session had put
+-- at each moment of the order a frame that a session refused is nothing that the other had put
 abbrev pub RefusedFramesAreBreaches : Type 0
 RefusedFramesAreBreaches = (capacity : ℕ) (a b : Finished) (fa : IsFinished a) (fb : IsFinished b) (order : List Joint) → WereOne capacity a b fa fb order → (earlier later : List Joint) → order ≡ earlier ++ later → AreBreaches (trace a fa) (trace b fb) earlier
 
@@ -60,6 +60,6 @@ pub record SomeWereOne : Type 0 where
   pub came_back : HasEntry (trace a a_finished) Returned
   pub honoured : HasEntry (trace a a_finished) Taken
 
--- there are two such sessions, so these laws speak of something
+-- there are two finished sessions and an order of their steps, so that these laws speak of something
 abbrev pub PremisesCanBeMet : Type 0
 PremisesCanBeMet = TableId → Side → SomeWereOne

@@ -52,7 +52,7 @@ abbrev pub arrive_unless : PeerState → Option Violation → Arrival → Arriva
 arrive_unless p None later = record later { count = later.count + 1 }
 arrive_unless p (Some v) later = record { count = 0; peer = p; violation = Some v }
 
--- the frames arrive in order, up to the first that violates, by the books that those before it left; that one and those after it change nothing
+-- what comes of a list of frames: they arrive in order, up to the first that violates, by the books that those before it left; that one and those after it change nothing
 abbrev pub arrivals : PeerState → List Frame → Arrival
 arrivals p [] = record { count = 0; peer = p; violation = None }
 arrivals p (f ∷ frames) = arrive_unless p (violation_at p f) (arrivals (arrive p f) frames)

@@ -98,7 +98,7 @@ pub record StaysBounded (capacity : ℕ) (s : ChannelState) : Type 0 where
   pub bytes : bytes s.inbox.ring ≡ buffered s.inbox.book
   pub fits : buffered s.inbox.book + outstanding s.inbox.book ≤ capacity
 
--- whatever valid frames arrive, each channel stays so
+-- whatever valid frames arrive at a peer, a channel keeps what it kept, and what is buffered and outstanding fits its ring
 abbrev pub ArrivalsStayBounded : Type 0
 ArrivalsStayBounded = (p : PeerState) (frames : List Frame) (c : Channel) → IsChannel (channel p c) → AllByRecursion (IsValid Two) frames → StaysBounded (server p c).capacity (channel (arrivals p frames).peer c)
 
@@ -122,6 +122,6 @@ pub record StopsAtTheFirst (frames : List Frame) (came : Arrival) : Type 0 where
   pub all : came.violation ≡ None → came.count ≡ length frames
   pub stops : (v : Violation) → came.violation ≡ Some v → StopsAt frames came v
 
--- so every list of frames arrives
+-- every list of frames arrives up to the first that violates, by the books that those before it left
 abbrev pub ArrivalsStopAtTheFirst : Type 0
 ArrivalsStopAtTheFirst = (p : PeerState) (frames : List Frame) → StopsAtTheFirst frames (arrivals p frames)

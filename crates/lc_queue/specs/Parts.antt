@@ -57,7 +57,7 @@ lane_of_end end = record { lane = end.lane; put = end.put }
 abbrev pub IsBegun : ℕ → List Frame → JoinedLane → Type 0
 IsBegun slots popped l = (rest : List Frame) × (of_lane l.lane popped ++ rest ≡ l.put) × (length rest < slots)
 
--- the same of all lanes that were joined
+-- of every lane that was joined, what was popped is the beginning of what was put there
 abbrev pub AreBegun : Outlet → Type 0
 AreBegun drain = All (IsBegun (slots_of drain.queue) drain.popped) drain.joined
 

@@ -23,7 +23,7 @@ pub record ReadingSide : Type 0 where
   pub credits : List Incoming
   pub inboxes : List Side
 
--- the pump: that, and what it holds of its stream
+-- the reading pump: its side of the credits and inboxes, and what it holds of its stream
 pub record Reading : Type 0 where
   pub side : ReadingSide
   pub intake : IntakeState

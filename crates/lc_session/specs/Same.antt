@@ -13,6 +13,6 @@ pub record IsSameSession (old new : SessionState) : Type 0 where
   pub reading : IsSameReading old.reading.side new.reading.side
   pub writing : IsSamePump old.writing new.writing
 
--- so parts of one session stay that
+-- parts of one session stay that where every part stays what it was
 abbrev pub SessionsStay : Type 0
 SessionsStay = (old new : SessionState) → AreOfOneSession old → IsSameSession old new → AreOfOneSession new

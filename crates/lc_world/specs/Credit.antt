@@ -19,7 +19,7 @@ IsConserved capacity w s c =
     let book = server w (other s) c in
     promised w s c + buffered book + room book ≡ capacity
 
--- so it is after every legal history, on each channel and both ways
+-- after every legal history, on each channel and both ways, each byte of the ring is in one of these places
 abbrev pub CreditIsConserved : Type 0
 CreditIsConserved = (capacity : ℕ) (versions : Versions) (history : History) → IsHistory capacity versions history → (s : Side) (c : Channel) → IsConserved capacity (state_of capacity versions history) s c
 

@@ -44,7 +44,7 @@ pub record IsCutByBytes (l : Line) : Type 0 where
   -- a frame has arrived exactly where its last byte was delivered
   pub whole : (before behind : List Frame) (f : Frame) → stream l ≡ before ++ f ∷ behind → (length before < length l.arrived) ↔ (length (text_of l.version (before ++ f ∷ [])) ≤ delivered l)
 
--- so it is of both streams after every legal history
+-- after every legal history both streams are cut by bytes
 abbrev pub EveryStreamIsCutByBytes : Type 0
 EveryStreamIsCutByBytes = (capacity : ℕ) (versions : Versions) (history : History) → IsHistory capacity versions history → (s : Side) → IsCutByBytes (line (state_of capacity versions history) s)
 
@@ -57,6 +57,6 @@ pub record DeliversBytes (l : Line) : Type 0 where
   -- the arrival of a frame is the delivery of the bytes that are missing of it, and of the greeting before it
   pub arrives : (f : Frame) (rest : List Frame) → l.in_flight ≡ f ∷ rest → arrive_on l ≡ deliver_on (l.greeting_left + (size l.version f - l.begun)) l
 
--- so it is on every stream whose bytes come in order
+-- on every stream whose bytes come in order, deliveries add up so
 abbrev pub DeliveriesAddUp : Type 0
 DeliveriesAddUp = (l : Line) → IsInOrder l → DeliversBytes l

@@ -26,6 +26,6 @@ pub record IsDrained (capacity : ℕ) (versions : Versions) (history later : His
   pub quiet : IsQuiet (state_of capacity versions (history ++ later))
   pub dry : (s : Side) (c : Channel) → waiting c (line (state_of capacity versions (history ++ later)) s) ≡ []
 
--- every legal history can be gone on with so
+-- every legal history can be gone on with by arrivals and takes alone, until all is taken
 abbrev pub NothingWedges : Type 0
 NothingWedges = (capacity : ℕ) (versions : Versions) (history : History) → IsHistory capacity versions history → (later : History) × IsDrained capacity versions history later
