@@ -117,42 +117,65 @@ impl Refusal {
             Refusal::WrongVersion => 17,
         }
     }
+
+    /// What the refusal says, without the number that it carries.
+    pub fn sentence(self) -> &'static str {
+        match self {
+            Refusal::EmptyBody => "the message is empty",
+            Refusal::BodyTooLong => "the message is too long",
+            Refusal::PastSendLimit { .. } => {
+                "the message is longer than the limit on sending leaves"
+            }
+            Refusal::NoGuarantee { .. } => {
+                "the message is longer than the guarantees that are held"
+            }
+            Refusal::ZeroAmount => "the amount is zero",
+            Refusal::NotHeld { .. } => "more would be absolved than is held",
+            Refusal::BoundTooLarge => "the bound is above 2^62",
+            Refusal::LimitRaised { .. } => "the bound is above what an earlier limit leaves",
+            Refusal::PastReceiveLimit { .. } => {
+                "more would be issued than the limit on receiving leaves"
+            }
+            Refusal::NoRoom { .. } => "more would be issued than the receiving ring has room for",
+            Refusal::NothingToAsk { .. } => "the target is not below the guarantees outstanding",
+            Refusal::TotalReached => "the guarantees of one channel would pass 2^62",
+            Refusal::QueueFull => "the outgoing queue is full",
+            Refusal::OutOfMemory => "out of memory",
+            Refusal::ChannelFinished => "the channel is finished",
+            Refusal::BufferTooSmall { .. } => "the buffer is too small",
+            Refusal::WrongVersion => "version 1 of the format cannot finish a channel",
+        }
+    }
+
+    /// The number that the refusal carries, behind its name.
+    pub fn detail(self) -> Option<(&'static str, u64)> {
+        match self {
+            Refusal::PastSendLimit { left }
+            | Refusal::LimitRaised { left }
+            | Refusal::PastReceiveLimit { left } => Some(("left", left)),
+            Refusal::NoGuarantee { held } | Refusal::NotHeld { held } => Some(("held", held)),
+            Refusal::NoRoom { room } => Some(("room", room)),
+            Refusal::NothingToAsk { outstanding } => Some(("outstanding", outstanding)),
+            Refusal::BufferTooSmall { need } => Some(("need", need as u64)),
+            Refusal::EmptyBody
+            | Refusal::BodyTooLong
+            | Refusal::ZeroAmount
+            | Refusal::BoundTooLarge
+            | Refusal::TotalReached
+            | Refusal::QueueFull
+            | Refusal::OutOfMemory
+            | Refusal::ChannelFinished
+            | Refusal::WrongVersion => None,
+        }
+    }
 }
 
 impl Display for Refusal {
     fn fmt(&self, f: &mut Formatter<'_>) -> fmt::Result {
-        match self {
-            Refusal::EmptyBody => write!(f, "the message is empty"),
-            Refusal::BodyTooLong => write!(f, "the message is too long"),
-            Refusal::PastSendLimit { left } => {
-                write!(f, "the limit on sending leaves {left} bytes")
-            }
-            Refusal::NoGuarantee { held } => write!(f, "guarantees for {held} bytes are held"),
-            Refusal::ZeroAmount => write!(f, "the amount is zero"),
-            Refusal::NotHeld { held } => write!(f, "only {held} guarantees are held"),
-            Refusal::BoundTooLarge => write!(f, "the bound is above 2^62"),
-            Refusal::LimitRaised { left } => write!(
-                f,
-                "the bound is above the {left} that an earlier limit leaves"
-            ),
-            Refusal::PastReceiveLimit { left } => {
-                write!(f, "the limit on receiving leaves {left} bytes")
-            }
-            Refusal::NoRoom { room } => write!(f, "the receiving ring has room for {room} bytes"),
-            Refusal::NothingToAsk { outstanding } => write!(
-                f,
-                "the target is not below the {outstanding} guarantees outstanding"
-            ),
-            Refusal::TotalReached => write!(f, "the guarantees of one channel would pass 2^62"),
-            Refusal::QueueFull => write!(f, "the outgoing queue is full"),
-            Refusal::OutOfMemory => write!(f, "out of memory"),
-            Refusal::ChannelFinished => write!(f, "the channel is finished"),
-            Refusal::BufferTooSmall { need } => {
-                write!(f, "the buffer is too small: {need} bytes are needed")
-            }
-            Refusal::WrongVersion => {
-                write!(f, "version One of the format cannot finish a channel")
-            }
+        let sentence = self.sentence();
+        match self.detail() {
+            Some((name, value)) => write!(f, "{sentence} ({name} {value})"),
+            None => f.write_str(sentence),
         }
     }
 }

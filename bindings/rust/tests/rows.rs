@@ -23,21 +23,9 @@ fn or_none(left: Option<impl ToString>) -> String {
 
 fn refused(refusal: Refusal) -> String {
     let number = refusal.number();
-    match refusal {
-        Refusal::PastSendLimit { left }
-        | Refusal::LimitRaised { left }
-        | Refusal::PastReceiveLimit { left } => {
-            format!("refused {number} left {left}")
-        }
-        Refusal::NoGuarantee { held } | Refusal::NotHeld { held } => {
-            format!("refused {number} held {held}")
-        }
-        Refusal::NoRoom { room } => format!("refused {number} room {room}"),
-        Refusal::NothingToAsk { outstanding } => {
-            format!("refused {number} outstanding {outstanding}")
-        }
-        Refusal::BufferTooSmall { need } => format!("refused {number} need {need}"),
-        _ => format!("refused {number}"),
+    match refusal.detail() {
+        Some((name, value)) => format!("refused {number} {name} {value}"),
+        None => format!("refused {number}"),
     }
 }
 

@@ -1,5 +1,7 @@
--- The numbers of refusals and violations: this project's own.
-use Rattle.std.specs.Prelude.{ℕ}
+-- The numbers of refusals and violations, what they say, and the number that a refusal carries: this
+-- project's own.
+use Rattle.std.specs.Prelude.{ℕ, Option, Some, None, List, [], ◌∷◌, codes}
+use Rattle.lc_frame.specs.FrameFault.{sentence_in}
 use Rattle.lc_book.specs.declared.fault.Refusal.{Refusal}
 use Rattle.lc_book.specs.declared.fault.Refusal.TheVariants.{EmptyBody, BodyTooLong, PastSendLimit, NoGuarantee, ZeroAmount, NotHeld, BoundTooLarge, LimitRaised, PastReceiveLimit, NoRoom, NothingToAsk, TotalReached, QueueFull, OutOfMemory, ChannelFinished, BufferTooSmall, WrongVersion}
 use Rattle.lc_book.specs.declared.fault.Violation.{Violation}
@@ -36,3 +38,51 @@ violation_number TooManyGuarantees = 6
 violation_number ReceiveLimitRaised = 7
 violation_number TotalPassed = 8
 violation_number AfterFinish = 9
+
+-- what the refusal with a number says
+abbrev pub refusal_sentence : ℕ → Option (List ℕ)
+refusal_sentence = sentence_in
+    ((1, codes "the message is empty")
+    ∷ (2, codes "the message is too long")
+    ∷ (3, codes "the message is longer than the limit on sending leaves")
+    ∷ (4, codes "the message is longer than the guarantees that are held")
+    ∷ (5, codes "the amount is zero")
+    ∷ (6, codes "more would be absolved than is held")
+    ∷ (7, codes "the bound is above 2^62")
+    ∷ (8, codes "the bound is above what an earlier limit leaves")
+    ∷ (9, codes "more would be issued than the limit on receiving leaves")
+    ∷ (10, codes "more would be issued than the receiving ring has room for")
+    ∷ (11, codes "the target is not below the guarantees outstanding")
+    ∷ (12, codes "the guarantees of one channel would pass 2^62")
+    ∷ (13, codes "the outgoing queue is full")
+    ∷ (14, codes "out of memory")
+    ∷ (15, codes "the channel is finished")
+    ∷ (16, codes "the buffer is too small")
+    ∷ (17, codes "version 1 of the format cannot finish a channel")
+    ∷ [])
+
+-- what the violation with a number says
+abbrev pub violation_sentence : ℕ → Option (List ℕ)
+violation_sentence = sentence_in
+    ((1, codes "a message longer than the guarantees outstanding")
+    ∷ (2, codes "a message beyond the limit on sending")
+    ∷ (3, codes "more guarantees absolved than are outstanding")
+    ∷ (4, codes "a limit on sending that raises an earlier one")
+    ∷ (5, codes "guarantees beyond the limit on receiving")
+    ∷ (6, codes "more than 2^24 guarantees held")
+    ∷ (7, codes "a limit on receiving that raises an earlier one")
+    ∷ (8, codes "more than 2^62 guarantees on one channel")
+    ∷ (9, codes "a frame of the client behind its Finish")
+    ∷ [])
+
+-- the number that a refusal carries, by its name
+abbrev pub detail_of : Refusal → Option (List ℕ × ℕ)
+detail_of (PastSendLimit left) = Some (codes "left", left)
+detail_of (NoGuarantee held) = Some (codes "held", held)
+detail_of (NotHeld held) = Some (codes "held", held)
+detail_of (LimitRaised left) = Some (codes "left", left)
+detail_of (PastReceiveLimit left) = Some (codes "left", left)
+detail_of (NoRoom room) = Some (codes "room", room)
+detail_of (NothingToAsk outstanding) = Some (codes "outstanding", outstanding)
+detail_of (BufferTooSmall need) = Some (codes "need", need)
+detail_of refusal = None

@@ -1,63 +1,56 @@
 //! Why an own event is refused, and what is wrong with a frame that arrives.
-ghost use Rattle.std.specs.Prelude.{◌≡◌};
-ghost use Rattle.lc_book.specs.Fault.{refusal_number, violation_number};
+ghost use Rattle.std.specs.Prelude.{◌≡◌, Some};
+ghost use Rattle.std.specs.Option.{option_map};
+ghost use Rattle.lc_book.specs.Fault.{refusal_number, refusal_sentence, detail_of, violation_number, violation_sentence};
 
-use thiserror::Error;
+use std::error::Error;
+use std::fmt;
+use std::fmt::Display;
+
+/// A number that a refusal carries, by its name.
+#[derive(Clone, Copy, Debug, PartialEq, Eq)]
+pub struct Detail {
+    pub name: &'static str,
+    pub value: u64,
+}
 
 /// Why an own event was refused; it then changed nothing. `left`, `held`, `room` and `outstanding`
 /// carry the number that was compared with, in bytes. Numbers and order are this project's own.
-#[derive(Clone, Copy, Debug, PartialEq, Eq, Error)]
+#[derive(Clone, Copy, Debug, PartialEq, Eq)]
 pub enum Refusal {
     /// 1. A message has at least 1 byte.
-    #[error("the message is empty")]
     EmptyBody,
     /// 2. A message has at most 65,535 bytes in version One, and 1,048,576 in version Two.
-    #[error("the message is longer than the version allows")]
     BodyTooLong,
     /// 3. The message is longer than what the client's own limit leaves.
-    #[error("the limit on sending leaves {left} bytes")]
     PastSendLimit { left: u64 },
     /// 4. The message is longer than the guarantees that are held.
-    #[error("guarantees for {held} bytes are held")]
     NoGuarantee { held: u64 },
     /// 5. At least 1 guarantee is issued or absolved.
-    #[error("the amount is zero")]
     ZeroAmount,
     /// 6. More would be absolved than is held.
-    #[error("only {held} guarantees are held")]
     NotHeld { held: u64 },
     /// 7. A limit is at most 2^62.
-    #[error("the bound is above 2^62")]
     BoundTooLarge,
     /// 8. A limit is at most what the one before it leaves.
-    #[error("the bound is above the {left} that an earlier limit leaves")]
     LimitRaised { left: u64 },
     /// 9. More would be issued than what the server's own limit leaves.
-    #[error("the limit on receiving leaves {left} bytes")]
     PastReceiveLimit { left: u64 },
     /// 10. More would be issued than is neither buffered nor promised.
-    #[error("the receiving ring has room for {room} bytes")]
     NoRoom { room: u64 },
     /// 11. A plead names less than what is outstanding.
-    #[error("the target is not below the {outstanding} guarantees outstanding")]
     NothingToAsk { outstanding: u64 },
     /// 12. At most 2^62 guarantees are issued on a channel.
-    #[error("the guarantees of one channel would pass 2^62")]
     TotalReached,
     /// 13. No slot for an outgoing frame is free.
-    #[error("the outgoing queue is full")]
     QueueFull,
     /// 14. A growth of memory was refused.
-    #[error("out of memory")]
     OutOfMemory,
     /// 15. The client finished the channel.
-    #[error("the channel is finished")]
     ChannelFinished,
     /// 16. The caller's buffer is shorter than the message; `need` is the message's length.
-    #[error("the buffer is too small: {need} bytes are needed")]
     BufferTooSmall { need: usize },
     /// 17. A stream of version One can't say that a channel is finished.
-    #[error("version One of the format cannot finish a channel")]
     WrongVersion,
 }
 
@@ -86,38 +79,103 @@ impl Refusal {
             Refusal::WrongVersion => 17,
         }
     }
+
+    /// What the refusal with this number says.
+    pub fn sentence_of(number: u32) -> Option<&'static str>
+        ensures { option_map (λ sentence. sentence.now) result ≡ refusal_sentence number }
+    {
+        let sentence = match number {
+            1 => "the message is empty",
+            2 => "the message is too long",
+            3 => "the message is longer than the limit on sending leaves",
+            4 => "the message is longer than the guarantees that are held",
+            5 => "the amount is zero",
+            6 => "more would be absolved than is held",
+            7 => "the bound is above 2^62",
+            8 => "the bound is above what an earlier limit leaves",
+            9 => "more would be issued than the limit on receiving leaves",
+            10 => "more would be issued than the receiving ring has room for",
+            11 => "the target is not below the guarantees outstanding",
+            12 => "the guarantees of one channel would pass 2^62",
+            13 => "the outgoing queue is full",
+            14 => "out of memory",
+            15 => "the channel is finished",
+            16 => "the buffer is too small",
+            17 => "version 1 of the format cannot finish a channel",
+            _ => return None,
+        };
+        Some(sentence)
+    }
+
+    /// What the refusal says, without the number that it carries.
+    pub fn sentence(self) -> &'static str
+        ensures { refusal_sentence (refusal_number self) ≡ Some result.now }
+    {
+        match Refusal::sentence_of(u32::from(self.number())) {
+            Some(sentence) => sentence,
+            None => unreachable!(),
+        }
+    }
+
+    /// The number that the refusal carries.
+    pub fn detail(self) -> Option<Detail>
+        ensures { option_map (λ detail. (detail.name.now, detail.value)) result ≡ detail_of self }
+    {
+        let (name, value) = match self {
+            Refusal::PastSendLimit { left }
+            | Refusal::LimitRaised { left }
+            | Refusal::PastReceiveLimit { left } => ("left", left),
+            Refusal::NoGuarantee { held } | Refusal::NotHeld { held } => ("held", held),
+            Refusal::NoRoom { room } => ("room", room),
+            Refusal::NothingToAsk { outstanding } => ("outstanding", outstanding),
+            Refusal::BufferTooSmall { need } => ("need", need as u64),
+            Refusal::EmptyBody
+            | Refusal::BodyTooLong
+            | Refusal::ZeroAmount
+            | Refusal::BoundTooLarge
+            | Refusal::TotalReached
+            | Refusal::QueueFull
+            | Refusal::OutOfMemory
+            | Refusal::ChannelFinished
+            | Refusal::WrongVersion => return None,
+        };
+        Some(Detail { name, value })
+    }
 }
+
+impl Display for Refusal {
+    fn fmt<W: fmt::Write>(&self, f: &mut fmt::Formatter<W>) -> fmt::Result {
+        let sentence = self.sentence();
+        match self.detail() {
+            Some(Detail { name, value }) => write!(f, "{sentence} ({name} {value})"),
+            None => write!(f, "{sentence}"),
+        }
+    }
+}
+
+impl Error for Refusal {}
 
 /// What is wrong with a frame that arrives from a peer that breaks the rules; the book at which it
 /// arrives stays as it was. Numbers and order are this project's own.
-#[derive(Clone, Copy, Debug, PartialEq, Eq, Error)]
+#[derive(Clone, Copy, Debug, PartialEq, Eq)]
 pub enum Violation {
     /// V1. The message is longer than what is outstanding.
-    #[error("a message longer than the guarantees outstanding")]
     NotGuaranteed,
     /// V2. The message is longer than what the client's limit leaves.
-    #[error("a message beyond the limit on sending")]
     SentPastLimit,
     /// V3. More is absolved than is outstanding.
-    #[error("more guarantees absolved than are outstanding")]
     AbsolvedTooMuch,
     /// V4. The client's limit is above what the one before it leaves.
-    #[error("a limit on sending that raises an earlier one")]
     SendLimitRaised,
     /// V5. More is issued than what the server's limit leaves.
-    #[error("guarantees beyond the limit on receiving")]
     IssuedPastLimit,
     /// V6. More than 2^24 guarantees would be held.
-    #[error("more than 2^24 guarantees held")]
     TooManyGuarantees,
     /// V7. The server's limit is above what the one before it leaves.
-    #[error("a limit on receiving that raises an earlier one")]
     ReceiveLimitRaised,
     /// V8. More than 2^62 guarantees would be received.
-    #[error("more than 2^62 guarantees on one channel")]
     TotalPassed,
     /// V9. A frame of the client comes behind its Finish.
-    #[error("a frame of the client behind its Finish")]
     AfterFinish,
 }
 
@@ -138,4 +196,41 @@ impl Violation {
             Violation::AfterFinish => 9,
         }
     }
+
+    /// What the violation with this number says.
+    pub fn sentence_of(number: u32) -> Option<&'static str>
+        ensures { option_map (λ sentence. sentence.now) result ≡ violation_sentence number }
+    {
+        let sentence = match number {
+            1 => "a message longer than the guarantees outstanding",
+            2 => "a message beyond the limit on sending",
+            3 => "more guarantees absolved than are outstanding",
+            4 => "a limit on sending that raises an earlier one",
+            5 => "guarantees beyond the limit on receiving",
+            6 => "more than 2^24 guarantees held",
+            7 => "a limit on receiving that raises an earlier one",
+            8 => "more than 2^62 guarantees on one channel",
+            9 => "a frame of the client behind its Finish",
+            _ => return None,
+        };
+        Some(sentence)
+    }
+
+    /// What the violation says.
+    pub fn sentence(self) -> &'static str
+        ensures { violation_sentence (violation_number self) ≡ Some result.now }
+    {
+        match Violation::sentence_of(u32::from(self.number())) {
+            Some(sentence) => sentence,
+            None => unreachable!(),
+        }
+    }
 }
+
+impl Display for Violation {
+    fn fmt<W: fmt::Write>(&self, f: &mut fmt::Formatter<W>) -> fmt::Result {
+        f.write_str(self.sentence())
+    }
+}
+
+impl Error for Violation {}

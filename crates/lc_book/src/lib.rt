@@ -11,6 +11,6 @@ mod limit;
 mod server;
 
 pub use client::{ClientBook, ClientParts};
-pub use fault::{Refusal, Violation};
+pub use fault::{Detail, Refusal, Violation};
 pub use limit::{after_message, check_limit};
 pub use server::{ServerBook, ServerParts};

@@ -1,8 +1,8 @@
 -- The codes of what calls answer, and the number that goes with each. They are this project's own.
 use Rattle.std.specs.Prelude.{ℕ, Bool, ◌==◌, Option, Some, None}
+use Rattle.std.specs.Option.{option_map_or}
 use Rattle.lc_book.specs.declared.fault.Refusal.{Refusal}
-use Rattle.lc_book.specs.declared.fault.Refusal.TheVariants.{PastSendLimit, NoGuarantee, NotHeld, LimitRaised, PastReceiveLimit, NoRoom, NothingToAsk, BufferTooSmall}
-use Rattle.lc_book.specs.Fault.{refusal_number}
+use Rattle.lc_book.specs.Fault.{detail_of, refusal_number}
 use Rattle.lc_c.specs.declared.answer.LcmuxAnswer.{LcmuxAnswer}
 
 -- the code of a call that was done
@@ -51,15 +51,7 @@ only code = record { code = code; number = 0 }
 
 -- the number that a refusal carries, 0 where it has none
 abbrev pub number_in : Refusal → ℕ
-number_in (PastSendLimit left) = left
-number_in (NoGuarantee held) = held
-number_in (NotHeld held) = held
-number_in (LimitRaised left) = left
-number_in (PastReceiveLimit left) = left
-number_in (NoRoom room) = room
-number_in (NothingToAsk outstanding) = outstanding
-number_in (BufferTooSmall need) = need
-number_in refusal = 0
+number_in refusal = option_map_or (λ detail. detail.1) (detail_of refusal) 0
 
 -- the answer that is a refusal: its own number is the code
 abbrev pub refusal_answer : Refusal → LcmuxAnswer

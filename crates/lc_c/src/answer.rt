@@ -53,23 +53,9 @@ pub(crate) fn only(code: u32) -> LcmuxAnswer
 fn number_in(refusal: Refusal) -> u64
     ensures { result ≡ number_in refusal }
 {
-    match refusal {
-        Refusal::PastSendLimit { left }
-        | Refusal::LimitRaised { left }
-        | Refusal::PastReceiveLimit { left } => left,
-        Refusal::NoGuarantee { held } | Refusal::NotHeld { held } => held,
-        Refusal::NoRoom { room } => room,
-        Refusal::NothingToAsk { outstanding } => outstanding,
-        Refusal::BufferTooSmall { need } => need as u64,
-        Refusal::EmptyBody
-        | Refusal::BodyTooLong
-        | Refusal::ZeroAmount
-        | Refusal::BoundTooLarge
-        | Refusal::TotalReached
-        | Refusal::QueueFull
-        | Refusal::OutOfMemory
-        | Refusal::ChannelFinished
-        | Refusal::WrongVersion => 0,
+    match refusal.detail() {
+        Some(detail) => detail.value,
+        None => 0,
     }
 }
 

@@ -1,6 +1,6 @@
 //! The line of each answer.
 use crate::output::write_hex_line;
-use lc_world::{Answer, Refusal};
+use lc_world::{Answer, Detail, Refusal};
 use std::io;
 use std::io::Write;
 
@@ -31,30 +31,8 @@ pub fn write_answer<W: Write>(answer: &Answer, out: &mut W) -> io::Result<()> {
 
 fn write_refusal<W: Write>(refusal: Refusal, out: &mut W) -> io::Result<()> {
     let number = refusal.number();
-    match judged_against(refusal) {
-        Some((name, value)) => writeln!(out, "refused {number} {name} {value}"),
+    match refusal.detail() {
+        Some(Detail { name, value }) => writeln!(out, "refused {number} {name} {value}"),
         None => writeln!(out, "refused {number}"),
-    }
-}
-
-// The number that a refusal was judged against, with its name.
-fn judged_against(refusal: Refusal) -> Option<(&'static str, u64)> {
-    match refusal {
-        Refusal::PastSendLimit { left }
-        | Refusal::LimitRaised { left }
-        | Refusal::PastReceiveLimit { left } => Some(("left", left)),
-        Refusal::NoGuarantee { held } | Refusal::NotHeld { held } => Some(("held", held)),
-        Refusal::NoRoom { room } => Some(("room", room)),
-        Refusal::NothingToAsk { outstanding } => Some(("outstanding", outstanding)),
-        Refusal::BufferTooSmall { need } => Some(("need", need as u64)),
-        Refusal::EmptyBody
-        | Refusal::BodyTooLong
-        | Refusal::ZeroAmount
-        | Refusal::BoundTooLarge
-        | Refusal::TotalReached
-        | Refusal::QueueFull
-        | Refusal::OutOfMemory
-        | Refusal::ChannelFinished
-        | Refusal::WrongVersion => None,
     }
 }

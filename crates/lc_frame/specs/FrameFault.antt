@@ -1,5 +1,6 @@
--- The numbers of the faults, which are this project's own.
-use Rattle.std.specs.Prelude.{ℕ}
+-- The numbers of the faults, and what they say, which are this project's own.
+use Rattle.std.specs.Prelude.{ℕ, ◌==◌, Option, List, [], ◌∷◌, codes}
+use Rattle.std.specs.Map.{lookup}
 use Rattle.lc_frame.specs.declared.frame_fault.FrameFault.{FrameFault}
 use Rattle.lc_frame.specs.declared.frame_fault.FrameFault.TheVariants.{BadTag, ZeroLength, BadNumber, Truncated}
 
@@ -9,3 +10,16 @@ fault_number BadTag = 1
 fault_number ZeroLength = 2
 fault_number BadNumber = 3
 fault_number Truncated = 4
+
+-- what a table has beside a number
+abbrev pub sentence_in : List (ℕ × List ℕ) → ℕ → Option (List ℕ)
+sentence_in table number = lookup (λ named. named == number) table
+
+-- what the fault with a number says
+abbrev pub fault_sentence : ℕ → Option (List ℕ)
+fault_sentence = sentence_in
+    ((1, codes "a byte names no kind or channel, or is not the greeting's")
+    ∷ (2, codes "a message has length 0")
+    ∷ (3, codes "a number in a frame is out of its range")
+    ∷ (4, codes "the stream ends within a frame or a greeting")
+    ∷ [])

@@ -1,23 +1,22 @@
 //! Why bytes are no frame.
-ghost use Rattle.std.specs.Prelude.{◌≡◌};
-ghost use Rattle.lc_frame.specs.FrameFault.{fault_number};
+ghost use Rattle.std.specs.Prelude.{◌≡◌, Some};
+ghost use Rattle.std.specs.Option.{option_map};
+ghost use Rattle.lc_frame.specs.FrameFault.{fault_number, fault_sentence};
 
-use thiserror::Error;
+use std::error::Error;
+use std::fmt;
+use std::fmt::Display;
 
 /// Why the bytes of a stream are no frame.
-#[derive(Clone, Copy, Debug, PartialEq, Eq, Error)]
+#[derive(Clone, Copy, Debug, PartialEq, Eq)]
 pub enum FrameFault {
     /// The first byte names no kind of frame or no channel, or a byte differs from the greeting.
-    #[error("the first byte of a frame names no kind or no channel, or a byte differs from the greeting")]
     BadTag,
     /// The length of a message is 0.
-    #[error("a message has length 0")]
     ZeroLength,
     /// A number is out of its range.
-    #[error("a number in a frame is out of its range")]
     BadNumber,
     /// The stream ends within a frame or a greeting.
-    #[error("the stream ends within a frame or a greeting")]
     Truncated,
 }
 
@@ -33,4 +32,36 @@ impl FrameFault {
             FrameFault::Truncated => 4,
         }
     }
+
+    /// What the fault with this number says.
+    pub fn sentence_of(number: u32) -> Option<&'static str>
+        ensures { option_map (λ sentence. sentence.now) result ≡ fault_sentence number }
+    {
+        let sentence = match number {
+            1 => "a byte names no kind or channel, or is not the greeting's",
+            2 => "a message has length 0",
+            3 => "a number in a frame is out of its range",
+            4 => "the stream ends within a frame or a greeting",
+            _ => return None,
+        };
+        Some(sentence)
+    }
+
+    /// What the fault says.
+    pub fn sentence(self) -> &'static str
+        ensures { fault_sentence (fault_number self) ≡ Some result.now }
+    {
+        match FrameFault::sentence_of(u32::from(self.number())) {
+            Some(sentence) => sentence,
+            None => unreachable!(),
+        }
+    }
 }
+
+impl Display for FrameFault {
+    fn fmt<W: fmt::Write>(&self, f: &mut fmt::Formatter<W>) -> fmt::Result {
+        f.write_str(self.sentence())
+    }
+}
+
+impl Error for FrameFault {}

@@ -9,6 +9,6 @@ pub mod laws;
 mod world;
 
 pub use event::{Act, Answer, Event, Side};
-pub use lc_book::{Refusal, Violation};
+pub use lc_book::{Detail, Refusal, Violation};
 pub use lc_ring::NewFault;
 pub use world::{World, run, run_as};

@@ -5,21 +5,21 @@ use super::*;
 const REFUSALS: &str = "\
 1 | EmptyBody | the message is empty
 2 | BodyTooLong | the message is too long
-3 | PastSendLimit { left: 6 } | the limit on sending leaves 6 bytes
-4 | NoGuarantee { held: 6 } | guarantees for 6 bytes are held
+3 | PastSendLimit { left: 6 } | the message is longer than the limit on sending leaves (left 6)
+4 | NoGuarantee { held: 6 } | the message is longer than the guarantees that are held (held 6)
 5 | ZeroAmount | the amount is zero
-6 | NotHeld { held: 6 } | only 6 guarantees are held
+6 | NotHeld { held: 6 } | more would be absolved than is held (held 6)
 7 | BoundTooLarge | the bound is above 2^62
-8 | LimitRaised { left: 6 } | the bound is above the 6 that an earlier limit leaves
-9 | PastReceiveLimit { left: 6 } | the limit on receiving leaves 6 bytes
-10 | NoRoom { room: 6 } | the receiving ring has room for 6 bytes
-11 | NothingToAsk { outstanding: 6 } | the target is not below the 6 guarantees outstanding
+8 | LimitRaised { left: 6 } | the bound is above what an earlier limit leaves (left 6)
+9 | PastReceiveLimit { left: 6 } | more would be issued than the limit on receiving leaves (left 6)
+10 | NoRoom { room: 6 } | more would be issued than the receiving ring has room for (room 6)
+11 | NothingToAsk { outstanding: 6 } | the target is not below the guarantees outstanding (outstanding 6)
 12 | TotalReached | the guarantees of one channel would pass 2^62
 13 | QueueFull | the outgoing queue is full
 14 | OutOfMemory | out of memory
 15 | ChannelFinished | the channel is finished
-16 | BufferTooSmall { need: 6 } | the buffer is too small: 6 bytes are needed
-17 | WrongVersion | version One of the format cannot finish a channel";
+16 | BufferTooSmall { need: 6 } | the buffer is too small (need 6)
+17 | WrongVersion | version 1 of the format cannot finish a channel";
 
 const VIOLATIONS: &str = "\
 101 | NotGuaranteed | a message longer than the guarantees outstanding

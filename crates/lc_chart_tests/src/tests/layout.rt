@@ -8,7 +8,7 @@ const IDEAS_LINES: &str = r#"<line class="arrow c1" x1="638" y1="298" x2="158" y
 <line class="arrow c1" x1="638" y1="518" x2="158" y2="562"/>
 <line class="arrow c1" x1="158" y1="606" x2="638" y2="650"/>
 <line class="arrow c1" x1="158" y1="694" x2="638" y2="738"/>
-<text class="bad" x="176" y="270">refused 4: guarantees for 0 bytes are held</text>
+<text class="bad" x="176" y="270">refused 4: the message is longer than the guarantees that are held (held 0)</text>
 <rect class="held c1" x="20" y="342" width="84" height="44"/>
 <rect class="held c1" x="20" y="386" width="63" height="220"/>
 <rect class="held c1" x="20" y="606" width="21" height="220"/>

@@ -8,7 +8,7 @@ use std::process::Abort;
 const FRAME_FAULTS: [(FrameFault, &str); 4] = [
     (
         FrameFault::BadTag,
-        "1 the first byte of a frame names no kind or no channel, or a byte differs from the greeting",
+        "1 a byte names no kind or channel, or is not the greeting's",
     ),
     (FrameFault::ZeroLength, "2 a message has length 0"),
     (

@@ -9,34 +9,34 @@ const REFUSALS: [(Refusal, &str); 17] = [
     (Refusal::EmptyBody, "1 the message is empty"),
     (
         Refusal::BodyTooLong,
-        "2 the message is longer than the version allows",
+        "2 the message is too long",
     ),
     (
         Refusal::PastSendLimit { left: 7 },
-        "3 the limit on sending leaves 7 bytes",
+        "3 the message is longer than the limit on sending leaves (left 7)",
     ),
     (
         Refusal::NoGuarantee { held: 7 },
-        "4 guarantees for 7 bytes are held",
+        "4 the message is longer than the guarantees that are held (held 7)",
     ),
     (Refusal::ZeroAmount, "5 the amount is zero"),
-    (Refusal::NotHeld { held: 7 }, "6 only 7 guarantees are held"),
+    (Refusal::NotHeld { held: 7 }, "6 more would be absolved than is held (held 7)"),
     (Refusal::BoundTooLarge, "7 the bound is above 2^62"),
     (
         Refusal::LimitRaised { left: 7 },
-        "8 the bound is above the 7 that an earlier limit leaves",
+        "8 the bound is above what an earlier limit leaves (left 7)",
     ),
     (
         Refusal::PastReceiveLimit { left: 7 },
-        "9 the limit on receiving leaves 7 bytes",
+        "9 more would be issued than the limit on receiving leaves (left 7)",
     ),
     (
         Refusal::NoRoom { room: 7 },
-        "10 the receiving ring has room for 7 bytes",
+        "10 more would be issued than the receiving ring has room for (room 7)",
     ),
     (
         Refusal::NothingToAsk { outstanding: 7 },
-        "11 the target is not below the 7 guarantees outstanding",
+        "11 the target is not below the guarantees outstanding (outstanding 7)",
     ),
     (
         Refusal::TotalReached,
@@ -47,11 +47,11 @@ const REFUSALS: [(Refusal, &str); 17] = [
     (Refusal::ChannelFinished, "15 the channel is finished"),
     (
         Refusal::BufferTooSmall { need: 7 },
-        "16 the buffer is too small: 7 bytes are needed",
+        "16 the buffer is too small (need 7)",
     ),
     (
         Refusal::WrongVersion,
-        "17 version One of the format cannot finish a channel",
+        "17 version 1 of the format cannot finish a channel",
     ),
 ];
 
