@@ -13,6 +13,7 @@ mod number;
 mod output;
 mod replaying;
 mod script;
+mod words;
 
 pub use answer::write_answer;
 pub use argument::{parse_capacity, parse_version};

@@ -5,6 +5,7 @@ ghost use Rattle.lc_frame.specs.Held.{IsUndecided};
 use crate::fault::{Fault, Status};
 use crate::input::{MAX_INPUT, PIECE};
 use crate::output::{buffered, write_hex_line};
+use crate::words::{ABSOLVE, FINISH, ISSUE, LIMIT_RECEIVING, LIMIT_SENDING, PLEAD, SEND};
 use lc_frame::{FrameFault, FrameRef, StreamDecoder};
 use std::alloc::{AllocError, Global};
 use std::io;
@@ -43,15 +44,15 @@ fn write_frame<W: Write>(frame: &FrameRef<'_>, out: &mut W) -> io::Result<()> {
     let number = frame.channel().number();
     let (word, value) = match frame {
         FrameRef::Send { body, .. } => {
-            write!(out, "send {number} ")?;
+            write!(out, "{SEND} {number} ")?;
             return write_hex_line(body, out);
         }
-        FrameRef::Issue { amount, .. } => ("issue", u64::from(*amount)),
-        FrameRef::Absolve { amount, .. } => ("absolve", u64::from(*amount)),
-        FrameRef::Plead { target, .. } => ("plead", u64::from(*target)),
-        FrameRef::LimitSending { bound, .. } => ("limit-sending", *bound),
-        FrameRef::LimitReceiving { bound, .. } => ("limit-receiving", *bound),
-        FrameRef::Finish { .. } => return writeln!(out, "finish {number}"),
+        FrameRef::Issue { amount, .. } => (ISSUE, u64::from(*amount)),
+        FrameRef::Absolve { amount, .. } => (ABSOLVE, u64::from(*amount)),
+        FrameRef::Plead { target, .. } => (PLEAD, u64::from(*target)),
+        FrameRef::LimitSending { bound, .. } => (LIMIT_SENDING, *bound),
+        FrameRef::LimitReceiving { bound, .. } => (LIMIT_RECEIVING, *bound),
+        FrameRef::Finish { .. } => return writeln!(out, "{FINISH} {number}"),
     };
     writeln!(out, "{word} {number} {value}")
 }

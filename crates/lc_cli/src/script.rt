@@ -3,6 +3,10 @@ ghost use Rattle.std.specs.Prelude.{◌≡◌, Err};
 
 use crate::fault::Fault;
 use crate::number::parse_decimal;
+use crate::words::{
+    ABSOLVE, ARRIVE, DELIVER, FINISH, HONOUR, ISSUE, LIMIT_RECEIVING, LIMIT_SENDING, PLEAD, SEND,
+    TAKE,
+};
 use hex::FromHexError;
 use lc_frame::{Body, Channel};
 use lc_world::{Act, Event, Side};
@@ -70,8 +74,8 @@ impl<'a> Fields<'a> {
 
     fn act(&mut self, alloc: Global) -> Result<Act, LineFault> {
         match self.field()? {
-            "arrive" => Ok(Act::Arrive),
-            "deliver" => Ok(Act::Deliver {
+            ARRIVE => Ok(Act::Arrive),
+            DELIVER => Ok(Act::Deliver {
                 count: self.amount()?,
             }),
             word => self.act_on_channel(alloc, word),
@@ -82,33 +86,33 @@ impl<'a> Fields<'a> {
     fn act_on_channel(&mut self, alloc: Global, word: &str) -> Result<Act, LineFault> {
         let channel = self.channel()?;
         match word {
-            "send" => Ok(Act::Send {
+            SEND => Ok(Act::Send {
                 channel,
                 body: self.body(alloc)?,
             }),
-            "issue" => Ok(Act::Issue {
+            ISSUE => Ok(Act::Issue {
                 channel,
                 amount: self.amount()?,
             }),
-            "plead" => Ok(Act::Plead {
+            PLEAD => Ok(Act::Plead {
                 channel,
                 target: self.amount()?,
             }),
-            "absolve" => Ok(Act::Absolve {
+            ABSOLVE => Ok(Act::Absolve {
                 channel,
                 amount: self.amount()?,
             }),
-            "honour" => Ok(Act::Honour { channel }),
-            "limit-sending" => Ok(Act::LimitSending {
+            HONOUR => Ok(Act::Honour { channel }),
+            LIMIT_SENDING => Ok(Act::LimitSending {
                 channel,
                 bound: self.bound()?,
             }),
-            "limit-receiving" => Ok(Act::LimitReceiving {
+            LIMIT_RECEIVING => Ok(Act::LimitReceiving {
                 channel,
                 bound: self.bound()?,
             }),
-            "finish" => Ok(Act::Finish { channel }),
-            "take" => Ok(Act::Take { channel }),
+            FINISH => Ok(Act::Finish { channel }),
+            TAKE => Ok(Act::Take { channel }),
             _ => Err(LineFault::Bad),
         }
     }
