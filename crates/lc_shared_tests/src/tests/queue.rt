@@ -133,8 +133,10 @@ fn rooms(
     Some((before, taken, room(rt, slots, &mut parts.ends[13])))
 }
 
+// No clause says that a push came back from a full queue alone, nor, while no lane has ended, that a
+// pop found nothing in an empty one alone.
 #[test]
-fn a_frame_comes_back_exactly_where_all_slots_are_taken(rt: HostRuntime) {
+fn a_queue_is_found_full_and_empty_exactly_where_it_is(rt: HostRuntime) {
     for (slots, pops, wanted) in [
         (1, 0, (1, 0, 0)),
         (1, 2, (1, 1, 1)),
@@ -142,6 +144,7 @@ fn a_frame_comes_back_exactly_where_all_slots_are_taken(rt: HostRuntime) {
         (2, 3, (2, 2, 2)),
         (5, 3, (5, 3, 3)),
         (65_536, 7, (65_536, 7, 7)),
+        (65_536, 65_537, (65_536, 65_536, 65_536)),
     ] {
         let found = rooms(&rt, rt.alloc(), slots, pops);
         assert!(rt; found == Some(wanted), "{slots} slots, {pops} pops");
