@@ -1,6 +1,7 @@
 //! The subjects of the tests, and the comparisons that all of them make.
 mod decoders;
 mod frames;
+mod memory;
 mod rings;
 mod texts;
 mod values;
