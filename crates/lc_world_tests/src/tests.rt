@@ -1,5 +1,6 @@
 //! The subjects of the tests, and the comparisons that all of them make.
 mod books;
+mod memory;
 mod restored;
 mod texts;
 mod worlds;
