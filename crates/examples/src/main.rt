@@ -7,7 +7,7 @@ use lc_frame::Version;
 use std::{fs, io};
 
 // The scripts of `data/`, each with the bytes of its receiving rings and the version of its streams.
-const SCRIPTS: [(&str, u32, Version); 7] = [
+const SCRIPTS: [(&str, u32, Version); 9] = [
     ("first.script", 8, Version::One),
     ("limits.script", 8, Version::One),
     ("pleads.script", 16, Version::One),
@@ -15,6 +15,8 @@ const SCRIPTS: [(&str, u32, Version); 7] = [
     ("ideas.script", 8, Version::One),
     ("greeting.script", 8, Version::Two),
     ("finish.script", 8, Version::Two),
+    ("channels.script", 999, Version::Two),
+    ("bounds.script", 1000, Version::One),
 ];
 
 // How a command line names a version.
