@@ -7,10 +7,7 @@ use std::process::Abort;
 
 const REFUSALS: [(Refusal, &str); 17] = [
     (Refusal::EmptyBody, "1 the message is empty"),
-    (
-        Refusal::BodyTooLong,
-        "2 the message is too long",
-    ),
+    (Refusal::BodyTooLong, "2 the message is too long"),
     (
         Refusal::PastSendLimit { left: 7 },
         "3 the message is longer than the limit on sending leaves (left 7)",
@@ -20,7 +17,10 @@ const REFUSALS: [(Refusal, &str); 17] = [
         "4 the message is longer than the guarantees that are held (held 7)",
     ),
     (Refusal::ZeroAmount, "5 the amount is zero"),
-    (Refusal::NotHeld { held: 7 }, "6 more would be absolved than is held (held 7)"),
+    (
+        Refusal::NotHeld { held: 7 },
+        "6 more would be absolved than is held (held 7)",
+    ),
     (Refusal::BoundTooLarge, "7 the bound is above 2^62"),
     (
         Refusal::LimitRaised { left: 7 },
