@@ -1,6 +1,11 @@
-// Preloaded into a program, refuses it the request for memory whose number, from 1 on, is in REFUSED.
-// Where the program ends, it says on standard error how many pieces of memory were not given back. A
-// program that starts threads gets some from the C library that this does not count.
+// Preloaded into a program, refuses it the request for memory whose number, from 1 on, is in REFUSED, and
+// the thread whose number is in REFUSED_THREAD. Where the program ends, it says on standard error how
+// many pieces of memory were not given back, of how many requests, and how many threads were asked for.
+// A program that starts threads gets some memory from the C library that this does not count.
+#define _GNU_SOURCE
+#include <dlfcn.h>
+#include <errno.h>
+#include <pthread.h>
 #include <stdio.h>
 #include <stdlib.h>
 #include <sys/syscall.h>
@@ -10,8 +15,10 @@ void *__libc_malloc(size_t size);
 void *__libc_realloc(void *piece, size_t size);
 void __libc_free(void *piece);
 
+static int (*create)(pthread_t *, const pthread_attr_t *, void *(*)(void *), void *);
 static int ready;
-static long requests, refused, kept;
+static long refused, refused_thread;
+static _Atomic long requests, kept, threads;
 
 static int is_refused(void) {
     return ready && ++requests == refused;
@@ -34,15 +41,25 @@ void free(void *piece) {
     __libc_free(piece);
 }
 
+int pthread_create(pthread_t *thread, const pthread_attr_t *how, void *(*run)(void *), void *with) {
+    return ++threads == refused_thread ? EAGAIN : create(thread, how, run, with);
+}
+
+static long number_in(const char *name) {
+    const char *number = getenv(name);
+    return number ? atol(number) : 0;
+}
+
 __attribute__((constructor)) static void begin(void) {
-    const char *number = getenv("REFUSED");
-    refused = number ? atol(number) : 0;
+    *(void **)&create = dlsym(RTLD_NEXT, "pthread_create");
+    refused = number_in("REFUSED");
+    refused_thread = number_in("REFUSED_THREAD");
     ready = 1;
 }
 
 __attribute__((destructor)) static void end(void) {
     ready = 0;
-    dprintf(2, "kept %ld of %ld\n", kept, requests);
+    dprintf(2, "kept %ld of %ld, %ld threads\n", kept, requests, threads);
 }
 
 void _exit(int status) {
