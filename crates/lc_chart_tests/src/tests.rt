@@ -1,21 +1,46 @@
 //! What a run shows, and the scripts and the stream that are drawn.
+mod devices;
 mod faults;
 mod layout;
 
 use lc_chart::run;
 use std::alloc::Global;
 use std::env::Args;
+use std::io;
+use std::io::{Read, Write};
 use std::process::Abort;
 
 /// What a command line shows on an input: standard output, behind it standard error, and the status.
 fn shown(alloc: Global, command: &str, mut input: &[u8]) -> Option<String> {
-    let (mut out, mut err) = (Vec::new(alloc), Vec::new(alloc));
-    let arguments = Ok(arguments(alloc, command)?);
-    let status = run(alloc, arguments, &mut input, &mut out, &mut err);
-    out.extend_from_slice(err.as_slice()).ok()?;
-    let mut shown = String::from_utf8(out).ok()?;
-    writeln!(shown, "= {status}").ok()?;
-    Some(shown)
+    let mut out = Vec::new(alloc);
+    let end = end(alloc, Ok(arguments(alloc, command)?), &mut input, &mut out)?;
+    out.extend_from_slice(end.as_bytes()).ok()?;
+    String::from_utf8(out).ok()
+}
+
+/// How a run with these arguments ends: standard error, and the status.
+fn end<R: Read, W: Write>(
+    alloc: Global,
+    arguments: io::Result<Args>,
+    input: &mut R,
+    out: &mut W,
+) -> Option<String> {
+    let mut err = Vec::new(alloc);
+    let status = run(alloc, arguments, input, out, &mut err);
+    with_status(err, status)
+}
+
+/// What was written to standard error, and the status.
+fn with_status(err: Vec<u8>, status: u8) -> Option<String> {
+    let mut end = String::from_utf8(err).ok()?;
+    writeln!(end, "= {status}").ok()?;
+    Some(end)
+}
+
+/// Fails where there is no text, or not the one that is wanted, and names what was compared.
+fn same(rt: &impl Abort, what: &str, found: Option<String>, wanted: &str) {
+    let found = found.as_deref().unwrap_or("nothing");
+    assert!(rt; found == wanted, "{what}: {found}, not {wanted}");
 }
 
 // The arguments of a command line.
@@ -119,6 +144,13 @@ A limit-sending 1 4611686018427387904
 B limit-receiving 1 4611686018427387903
 B limit-receiving 1 4611686018427387904
 ";
+
+/// The least ring, full, and rings that are a quarter and three quarters full of promises.
+const LEAST: &str = "A issue 6 1\n";
+
+const QUARTER: &str = "A issue 4 16384\n";
+
+const THREE_QUARTERS: &str = "B issue 0 12582912\nA arrive\n";
 
 /// A LimitReceiving of 2^62 on channel 4, a Send of a byte on channel 5, and a tag that is none.
 const STREAM: &str = "\x64\x40\0\0\0\0\0\0\0\x15\0\x01a\0";

@@ -1,7 +1,10 @@
 //! What stands in place of a picture, and what a picture leaves out.
-use super::{has_lines, shown};
-use std::alloc::Global;
-use std::process::Abort;
+use super::{end, has_lines, same, shown, with_status};
+use lc_chart::{ChartFault, Command, chart};
+use lc_frame::Version;
+use std::alloc::{AllocError, AllocFailed, Global};
+use std::io;
+use std::io::ErrorKind;
 use std::test::Fail;
 
 const USAGE: &str = "lcmux_chart: usage: lcmux_chart CAPACITY [2], lcmux_chart frames\n= 2\n";
@@ -22,11 +25,6 @@ lcmux_chart frames 2
 lcmux_chart frames 8
 lcmux_chart Frames";
 
-fn same(rt: &impl Abort, what: &str, found: Option<String>, wanted: &str) {
-    let found = found.as_deref().unwrap_or("nothing");
-    assert!(rt; found == wanted, "{what}: {found}, not {wanted}");
-}
-
 #[test]
 fn what_names_no_command_is_answered_by_the_usage(rt: HostRuntime) {
     for command in NO_COMMANDS.split('\n') {
@@ -37,6 +35,56 @@ fn what_names_no_command_is_answered_by_the_usage(rt: HostRuntime) {
             USAGE,
         );
     }
+}
+
+// How a run ends whose arguments could not be read.
+fn without_arguments(alloc: Global, kind: ErrorKind) -> Option<String> {
+    let mut out = Vec::new(alloc);
+    let arguments = Err(io::Error::from(kind));
+    end(alloc, arguments, &mut b"A arrive\n".as_slice(), &mut out)
+}
+
+// How a session ends whose receiving rings have so many bytes.
+fn with_rings_of(alloc: Global, capacity: u32) -> Option<String> {
+    let (mut out, mut err) = (Vec::new(alloc), Vec::new(alloc));
+    let version = Version::One;
+    let command = Command::Session { capacity, version };
+    let status = chart(
+        alloc,
+        command,
+        &mut b"A arrive\n".as_slice(),
+        &mut out,
+        &mut err,
+    );
+    with_status(err, status)
+}
+
+#[test]
+fn a_run_that_cannot_begin_is_answered_by_the_usage(rt: HostRuntime) {
+    let found = without_arguments(rt.alloc(), ErrorKind::InvalidData);
+    same(&rt, "no text", found, USAGE);
+    for &capacity in &[0, 16_777_217, u32::MAX] {
+        same(&rt, "no rings", with_rings_of(rt.alloc(), capacity), USAGE);
+    }
+}
+
+const OUT_OF_MEMORY: &str = "lcmux_chart: out of memory\n= 1\n";
+
+fn reported(alloc: Global, fault: ChartFault) -> Option<String> {
+    let mut err = Vec::new(alloc);
+    let status = fault.report(&mut err);
+    with_status(err, status)
+}
+
+#[test]
+fn want_of_memory_is_named(rt: HostRuntime) {
+    let found = without_arguments(rt.alloc(), ErrorKind::OutOfMemory);
+    same(&rt, "arguments", found, OUT_OF_MEMORY);
+    let found = reported(rt.alloc(), ChartFault::from(AllocError));
+    same(&rt, "a growth", found, OUT_OF_MEMORY);
+    let refused = AllocFailed { value: 1u8 };
+    let found = reported(rt.alloc(), ChartFault::from(refused));
+    same(&rt, "a push", found, OUT_OF_MEMORY);
 }
 
 #[test]
@@ -62,30 +110,65 @@ fn shown_of(alloc: Global, command: &str, piece: &str, count: usize) -> Option<S
     shown(alloc, command, input.as_bytes())
 }
 
+// What is drawn 2000 times, with the last of it in the description.
+const MOST: [(&str, &str, &str); 3] = [
+    (
+        "lcmux_chart 8",
+        "A arrive\n",
+        "2000. A: arrive: nothing in flight.",
+    ),
+    (
+        "lcmux_chart 8",
+        "A limit-sending 0 5\n",
+        "The frame of event 2000 is in flight at the end.",
+    ),
+    (
+        "lcmux_chart frames",
+        "\x21\0\0\0\x05",
+        "2000. At byte 9995: issue 5 on channel 1.",
+    ),
+];
+
+// One more is too much, unless another fault comes before it.
+const TOO_MANY: [(&str, &str, &str); 3] = [
+    (
+        "lcmux_chart 8",
+        "A arrive\n",
+        "lcmux_chart: more than 2000 events\n= 2\n",
+    ),
+    (
+        "lcmux_chart frames",
+        "\x21\0\0\0\x05",
+        "lcmux_chart: more than 2000 events\n= 2\n",
+    ),
+    (
+        "lcmux_chart 8",
+        "A arrive\nA leave\n",
+        "lcmux_chart: line 2: bad script line\n= 2\n",
+    ),
+];
+
 #[test]
 fn a_picture_has_a_most_of_events(rt: HostRuntime) -> Result<(), Fail> {
-    for &(command, piece, last) in &[
-        (
-            "lcmux_chart 8",
-            "A arrive\n",
-            "2000. A: arrive: nothing in flight.",
-        ),
-        (
-            "lcmux_chart frames",
-            "\x21\0\0\0\x05",
-            "2000. At byte 9995: issue 5 on channel 1.",
-        ),
-    ] {
+    for &(command, piece, last) in &MOST {
         let most = shown_of(rt.alloc(), command, piece, 2000).ok_or("no picture")?;
         has_lines(&rt, most.as_str(), last);
         has_lines(&rt, most.as_str(), "</svg>\n= 0");
-        let more = shown_of(rt.alloc(), command, piece, 2001);
-        same(
-            &rt,
-            command,
-            more,
-            "lcmux_chart: more than 2000 events\n= 2\n",
-        );
+    }
+    for &(command, piece, wanted) in &TOO_MANY {
+        let found = shown_of(rt.alloc(), command, piece, 2001);
+        same(&rt, command, found, wanted);
+    }
+    Ok(())
+}
+
+// Each byte is a line that is none, and the tag of no frame: the input is read whole before that is seen.
+#[test]
+fn too_long_an_input_is_named_first(rt: HostRuntime) -> Result<(), Fail> {
+    let input = vec![in rt.alloc(); b'w'; 16_777_217]?;
+    for command in ["lcmux_chart 8", "lcmux_chart frames"] {
+        let found = shown(rt.alloc(), command, input.as_slice());
+        same(&rt, command, found, "lcmux_chart: input too long\n= 2\n");
     }
     Ok(())
 }

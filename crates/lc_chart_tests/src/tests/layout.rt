@@ -1,5 +1,8 @@
 //! Where arrows, bars and labels stand.
-use super::{CUT, FINISHED, FULL, IDEAS, LONGEST, STREAM, WIDE, has_lines, shown};
+use super::{
+    CUT, FINISHED, FULL, IDEAS, LEAST, LONGEST, QUARTER, STREAM, THREE_QUARTERS, WIDE, has_lines,
+    shown,
+};
 use std::test::Fail;
 
 // Event n stands at 210 + 44 n, A at 158 and B at 638; a bar that is full has a length of 84.
@@ -68,6 +71,55 @@ const WIDE_LINES: &str = r#"<line class="arrow c0" x1="1286" y1="254" x2="1766" 
 <line class="flight c1" x1="1286" y1="298" x2="1646" y2="1134"/>
 <line class="flight c3" x1="1766" y1="958" x2="1406" y2="1134"/>"#;
 
+// A picture of no event has a column for bars on each side, and nothing in it.
+const EMPTY_LINES: &str =
+    r#"<svg xmlns="http://www.w3.org/2000/svg" role="img" aria-labelledby="title desc" viewBox="0 0 796 294" width="796" height="294">
+<title id="title">Two peers with receiving rings of 8 bytes: 0 events</title>
+<line class="life" x1="158" y1="210" x2="158" y2="254"/>
+<line class="life" x1="638" y1="210" x2="638" y2="254"/>
+= 0"#;
+
+// B is the client of what A issues: A has the ring, and 84 units are all of it.
+const LEAST_LINES: &str =
+    r#"<text class="soft" x="20" y="54">Time runs down, event by event. Numbers in a ring: buffered + outstanding + room = 1</text>
+<rect class="outstanding c6" x="20" y="254" width="84" height="44"/>
+<text class="sum" x="24" y="222">0+0+1</text>
+<text class="sum" x="24" y="266">0+1+0</text>
+<text class="sum" x="696" y="222">0</text>
+<line class="flight c6" x1="158" y1="254" x2="518" y2="298"/>
+= 0"#;
+
+const QUARTER_LINES: &str = r#"<rect class="outstanding c4" x="20" y="254" width="21" height="44"/>
+<text class="sum" x="24" y="266">0</text>
+<text class="sum" x="24" y="278">16384</text>
+<text class="sum" x="24" y="290">49152</text>
+= 0"#;
+
+const THREE_QUARTERS_LINES: &str = r#"<rect class="held c0" x="20" y="298" width="63" height="44"/>
+<rect class="outstanding c0" x="692" y="254" width="63" height="88"/>
+<text class="sum" x="24" y="310">12582912</text>
+<text class="sum" x="696" y="266">0</text>
+<text class="sum" x="696" y="278">12582912</text>
+<text class="sum" x="696" y="290">4194304</text>
+= 0"#;
+
+// A stream of version One has no greeting: its first frame is at byte 0.
+const STREAM_LINES: &str = r#"<title id="title">A stream with 2 whole frames</title>
+1. At byte 0: limit receiving to 4611686018427387904 on channel 4.
+2. At byte 9: send 1 byte on channel 5.
+<line class="life" x1="140" y1="60" x2="140" y2="192"/>
+<line class="arrow c4" x1="140" y1="104" x2="460" y2="104"/>
+<text class="asked c4" x="158" y="96">limit receiving to 4611686018427387904</text>
+<text class="soft" x="480" y="108">AreaOfInterest</text>
+<line class="arrow c5" x1="140" y1="148" x2="460" y2="148"/>
+<circle class="mark c5" cx="140" cy="148" r="10"/>
+<text class="in" x="140" y="152">5</text>
+<text class="soft end" x="122" y="152">byte 9</text>
+<circle class="wrong" cx="140" cy="192" r="6"/>
+<text class="bad" x="158" y="196">F1 in the frame at byte 13</text>
+lcmux_chart: F1 in the frame at byte 13
+= 2"#;
+
 #[test]
 fn arrows_and_bars_end_where_the_answers_say(rt: HostRuntime) -> Result<(), Fail> {
     for &(command, script, lines) in &[
@@ -76,6 +128,11 @@ fn arrows_and_bars_end_where_the_answers_say(rt: HostRuntime) -> Result<(), Fail
         ("lcmux_chart 8 2", FINISHED, FINISHED_LINES),
         ("lcmux_chart 16777216", FULL, FULL_LINES),
         ("lcmux_chart 16777216", WIDE, WIDE_LINES),
+        ("lcmux_chart 8", "", EMPTY_LINES),
+        ("lcmux_chart 1", LEAST, LEAST_LINES),
+        ("lcmux_chart 65536", QUARTER, QUARTER_LINES),
+        ("lcmux_chart 16777216", THREE_QUARTERS, THREE_QUARTERS_LINES),
+        ("lcmux_chart frames", STREAM, STREAM_LINES),
     ] {
         let picture = shown(rt.alloc(), command, script.as_bytes()).ok_or("no picture")?;
         has_lines(&rt, picture.as_str(), lines);
