@@ -5,12 +5,12 @@ use crate::plan::Plan;
 use lc_inbox::{InboxIn, InboxOut, SharedInbox};
 use lc_peer::{Inbox, Take};
 use lc_queue::Drain;
-use lc_sharing::{hear, new_pair};
 use std::alloc::Global;
 use std::sync::{Arc, Mutex, Wait};
 use std::thread::Threads;
 use std::time::{Clock, Instant};
 use std::{io, thread};
+use test_threads::{hear, new_pair};
 
 /// The bytes of a message.
 const LENGTH: usize = 16;

@@ -6,7 +6,7 @@ use crate::looping::print_loopback;
 use crate::number::parse_decimal;
 use crate::replaying::replay_as;
 use lc_frame::Version;
-use lc_report::{LoopFault, LoopReport};
+use lc_loopback_report::{LoopFault, LoopReport};
 use std::alloc::Global;
 use std::env::Args;
 use std::io;

@@ -5,7 +5,7 @@ ghost use Rattle.lc_cli.specs.Fault.{code_of};
 
 use crate::fault::{Fault, Status};
 use crate::output::buffered;
-use lc_report::{LoopFault, LoopReport};
+use lc_loopback_report::{LoopFault, LoopReport};
 use std::alloc::Global;
 use std::io;
 use std::io::Write;

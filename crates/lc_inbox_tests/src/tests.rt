@@ -5,9 +5,9 @@ mod pair;
 mod seven;
 mod worked;
 
-use lc_sharing::takes_what_arrives;
 use std::process::Abort;
 use std::test::Fail;
+use test_threads::takes_what_arrives;
 
 /// Fails where there is no text, or not the one that is wanted, and names what was compared.
 fn same(rt: &impl Abort, what: &str, found: Option<String>, wanted: &str) {

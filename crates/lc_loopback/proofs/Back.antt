@@ -14,8 +14,8 @@ use Rattle.lc_session.specs.Played.{WasPlayed}
 use Rattle.lc_session.specs.Pumping.{Pumping, IsSamePump}
 use Rattle.lc_session.specs.Report.{SessionState, outgoing_of}
 use Rattle.lc_interleaving.specs.Reports.{ArePlayedOut}
-use Rattle.lc_report.specs.declared.fault.LoopFault.{LoopFault}
-use Rattle.lc_report.specs.declared.report.LoopReport.{LoopReport}
+use Rattle.lc_loopback_report.specs.declared.fault.LoopFault.{LoopFault}
+use Rattle.lc_loopback_report.specs.declared.report.LoopReport.{LoopReport}
 use Rattle.lc_loopback.specs.declared.exchange.Exchange.{Exchange}
 use Rattle.lc_loopback.specs.declared.plan.Plan.{Plan}
 use Rattle.lc_loopback.specs.declared.sending.Sender.{Sender}

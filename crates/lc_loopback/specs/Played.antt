@@ -12,8 +12,8 @@ use Rattle.lc_session.specs.Report.{SessionState}
 use Rattle.lc_session.specs.Session.{IsNewSession}
 use Rattle.lc_session.specs.Played.{HasPlayed, WasPlayed}
 use Rattle.lc_interleaving.specs.Reports.{finished, KeepInOrder}
-use Rattle.lc_report.specs.declared.fault.LoopFault.{LoopFault}
-use Rattle.lc_report.specs.declared.report.LoopReport.{LoopReport}
+use Rattle.lc_loopback_report.specs.declared.fault.LoopFault.{LoopFault}
+use Rattle.lc_loopback_report.specs.declared.report.LoopReport.{LoopReport}
 use Rattle.lc_loopback.specs.declared.plan.Plan.{Plan}
 use Rattle.lc_loopback.specs.declared.taken.Taken.{Taken}
 use Rattle.lc_loopback.specs.Plan.{due, config_of}

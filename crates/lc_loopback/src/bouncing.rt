@@ -14,7 +14,7 @@ use crate::taking::{issue, take};
 use crate::worker::{Outcome, Part, Worker, join_outcome, start};
 use lc_frame::Version;
 use lc_inbox::apart;
-use lc_report::LoopFault;
+use lc_loopback_report::LoopFault;
 use lc_session::{Parts, ReadPump, RecvEnd, SendEnd, WritePump};
 use std::alloc::Global;
 use std::io::{Read, Write};

@@ -1,5 +1,5 @@
 //! The connections between both sessions.
-use lc_report::LoopFault;
+use lc_loopback_report::LoopFault;
 use std::io;
 use std::io::ErrorKind;
 use std::net::{Ipv4Addr, Net, OpenListener, OpenStream, TcpListener, TcpStream};

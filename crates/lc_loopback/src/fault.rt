@@ -1,7 +1,7 @@
 //! Which faults end a run, and which comes first.
 use crate::worker::Outcome;
 use lc_book::Refusal;
-use lc_report::LoopFault;
+use lc_loopback_report::LoopFault;
 
 /// Whether the call may be made again once something came; else the fault that its refusal is.
 pub(crate) fn judge(refusal: Refusal) -> Result<(), LoopFault> {

@@ -21,6 +21,6 @@ mod taking;
 mod worker;
 
 pub use bouncing::ping_pong;
-pub use lc_report::{LoopFault, LoopReport};
+pub use lc_loopback_report::{LoopFault, LoopReport};
 pub use plan::Plan;
 pub use stage::{loopback, loopback_as, loopback_of};

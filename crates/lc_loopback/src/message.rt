@@ -6,7 +6,7 @@ ghost use Rattle.lc_loopback.specs.Plan.{IsPlan, message};
 use crate::exchange::Exchange;
 use crate::plan::Plan;
 use lc_frame::Channel;
-use lc_report::LoopFault;
+use lc_loopback_report::LoopFault;
 use std::alloc::Global;
 
 /// So many bytes.

@@ -7,7 +7,7 @@ ghost use Rattle.lc_loopback.specs.Plan.{config_of};
 use crate::hold::Hold;
 use crate::plan::Plan;
 use lc_frame::Version;
-use lc_report::LoopFault;
+use lc_loopback_report::LoopFault;
 use lc_session::{Parts, Session};
 use std::alloc::Global;
 

@@ -2,7 +2,7 @@
 ghost use Rattle.std.specs.Prelude.{◌≡◌};
 
 use crate::hold::Hold;
-use lc_report::LoopFault;
+use lc_loopback_report::LoopFault;
 use lc_session::{RecvEnd, SendEnd};
 use lc_wake::Wake;
 use std::sync::Wait;

@@ -8,7 +8,7 @@ use crate::hold::Hold;
 use crate::taken::Taken;
 use crate::worker::{Done, Outcome, Part, Work, Worker, join, join_outcome, start};
 use lc_driver::{Counted, ReadEnd, Uninterrupted};
-use lc_report::LoopFault;
+use lc_loopback_report::LoopFault;
 use lc_session::{ReadPump, WriteEnd, WritePump};
 use std::io::{Read, Write};
 use std::sync::Wait;

@@ -12,7 +12,7 @@ use crate::message::Message;
 use crate::patience::Patience;
 use crate::taken::Taken;
 use crate::worker::{Outcome, Part, Worker};
-use lc_report::LoopFault;
+use lc_loopback_report::LoopFault;
 use lc_session::SendEnd;
 use std::sync::Wait;
 

@@ -24,7 +24,7 @@ use lc_credit::Balance;
 use lc_frame::Version;
 use lc_inbox::apart;
 use lc_interleaving::finish_both;
-use lc_report::{LoopFault, LoopReport};
+use lc_loopback_report::{LoopFault, LoopReport};
 use lc_session::{Parts, ReadPump, Session, WritePump};
 use std::alloc::Global;
 use std::io::{Read, Write};

@@ -15,8 +15,8 @@ use crate::patience::Patience;
 use crate::taken::Taken;
 use crate::worker::{Outcome, Part, Worker};
 use lc_book::Refusal;
+use lc_loopback_report::LoopFault;
 use lc_peer::Take;
-use lc_report::LoopFault;
 use lc_session::RecvEnd;
 use std::sync::Wait;
 

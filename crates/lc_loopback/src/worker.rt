@@ -1,11 +1,11 @@
 //! A part of a session at work in a thread of its own.
 ghost use Rattle.std.specs.Prelude.{◌≡◌, Err, IfOk};
-ghost use Rattle.lc_report.specs.declared.fault.LoopFault.TheVariants.{OutOfMemory as NoMemory};
+ghost use Rattle.lc_loopback_report.specs.declared.fault.LoopFault.TheVariants.{OutOfMemory as NoMemory};
 ghost use Rattle.lc_loopback.specs.declared.taken.Taken.{Taken as Count};
 
 use crate::hold::Hold;
 use crate::taken::Taken;
-use lc_report::LoopFault;
+use lc_loopback_report::LoopFault;
 use std::marker::Model;
 use std::snapshot::Snapshot;
 use std::sync::Wait;

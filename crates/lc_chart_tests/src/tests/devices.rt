@@ -1,10 +1,10 @@
 //! Devices that fail at one call and would go on after it.
 use super::{IDEAS, STREAM, arguments, end, same, shown};
 use lc_chart::run;
-use lc_testing::{Odd, Pipe, PipeReader, PipeWriter, Plan};
 use std::alloc::Global;
 use std::process::Abort;
 use std::test::Fail;
+use test_devices::{Odd, Pipe, PipeReader, PipeWriter, Plan};
 
 // A picture that ends well, and one with a fault behind it, which a failed write comes before.
 const PICTURES: [(&str, &str); 2] = [("lcmux_chart 8", IDEAS), ("lcmux_chart frames", STREAM)];

@@ -3,11 +3,11 @@ use crate::tests::side::Side;
 use lc_driver::{ReadEnd, WriteFault};
 use lc_frame::{Channel, Version};
 use lc_peer::{Peer, Take};
-use lc_testing::{Odd, Pipe, Plan};
 use std::alloc::Global;
 use std::io::ErrorKind;
 use std::process::Abort;
 use std::test::Fail;
+use test_devices::{Odd, Pipe, Plan};
 
 /// The messages of a session.
 const MESSAGES: u8 = 20;

@@ -3,10 +3,10 @@ use crate::tests::script::run;
 use crate::tests::side::Side;
 use lc_frame::{Channel, Version};
 use lc_peer::{Peer, Take};
-use lc_testing::{FINISHED, HOSTILE, Hostile, Pipe, Plan};
 use std::alloc::{AllocError, Global};
 use std::process::Abort;
 use std::test::Fail;
+use test_devices::{FINISHED, HOSTILE, Hostile, Pipe, Plan};
 
 // What a reading that may make no reads answers after one that ended so.
 fn without_reads(end: &str) -> &str {

@@ -3,10 +3,10 @@ ghost use Rattle.std.specs.Prelude.{◌≤◌, IfOk};
 
 use crate::tests::script::same;
 use lc_driver::Uninterrupted;
-use lc_testing::number;
 use std::alloc::Global;
 use std::io;
 use std::io::{Read, Write};
+use test_devices::number;
 
 /// A device whose first calls a signal interrupts; every later one answers this count of bytes, or
 /// this error of the system.

@@ -3,11 +3,11 @@ use crate::tests::side::Side;
 use lc_driver::ReadEnd;
 use lc_frame::{Channel, Version};
 use lc_peer::{Peer, Take};
-use lc_testing::{Pipe, Plan, channel, number, plan_of, text};
 use std::alloc::Global;
 use std::mem::replace;
 use std::process::Abort;
 use std::test::Fail;
+use test_devices::{Pipe, Plan, channel, number, plan_of, text};
 
 // What the first message of a channel is.
 fn take(alloc: Global, peer: &mut Peer, at: Channel) -> Option<String> {

@@ -2,11 +2,11 @@
 use lc_driver::{Counted, Intake, Outgo, ReadEnd, Uninterrupted, WriteFault, read_in, write_out};
 use lc_frame::Version;
 use lc_peer::{Config, Peer};
-use lc_testing::{Odd, Pipe, PipeReader, PipeWriter, Plan};
 use std::alloc::Global;
 use std::io;
 use std::io::{ErrorKind, Read, Write};
 use std::test::Fail;
+use test_devices::{Odd, Pipe, PipeReader, PipeWriter, Plan};
 
 /// A device that says of each failure of the one below that it was of this kind.
 #[derive(Drop)]

@@ -3,11 +3,11 @@ use crate::tests::script::{run, run_in_two};
 use crate::tests::side::{Side, unflushed};
 use lc_driver::{Counted, CountedRead, CountedWrite, Failures, ReadEnd};
 use lc_frame::{Channel, Version};
-use lc_testing::{FAILED_WRITES, Odd, Pipe, PipeReader, Plan, THREE_FRAMES};
 use std::alloc::Global;
 use std::io::{Read, Write};
 use std::process::Abort;
 use std::test::Fail;
+use test_devices::{FAILED_WRITES, Odd, Pipe, PipeReader, Plan, THREE_FRAMES};
 
 /// Of each example: the bytes of the stream that comes, and the calls with what they answer.
 const WORKED: [(&str, &str); 12] = [

@@ -1,9 +1,9 @@
 //! What one side of an inbox did stays, where the other goes away or never comes.
 use crate::tests::pair::{Receiver, reads, receives};
 use lc_inbox::SharedInbox;
-use lc_sharing::new_pair;
 use std::sync::atomic::AtomicU64;
 use std::test::Fail;
+use test_threads::new_pair;
 
 /// The receiving side begins, and goes on after the reading side is gone.
 const BEGINS: &str = "issue 8 => Ok(())";

@@ -1,11 +1,11 @@
 //! Messages that one thread is given and another takes.
 use crate::tests::same;
 use lc_frame::Body;
-use lc_sharing::carries;
 use std::alloc::Global;
 use std::sync::Wait;
 use std::test::Fail;
 use std::thread::Threads;
+use test_threads::carries;
 
 /// Bodies in hexadecimal that are given, and those that are taken: all up to the first that is
 /// empty, or longer than the ring of 32 bytes.

@@ -1,11 +1,11 @@
 //! Worked sequences of calls on both sides of one inbox, each side in a thread of its own.
 use crate::tests::pair::works;
 use crate::tests::same;
-use lc_sharing::new_pair;
 use std::alloc::Global;
 use std::process::Abort;
 use std::sync::Wait;
 use std::thread::Threads;
+use test_threads::new_pair;
 
 /// Of each example: the channel, the bytes of the ring, the calls with what they answer, and what
 /// is outstanding, buffered and free at the end.

@@ -17,12 +17,12 @@ use lc_driver::Counted;
 use lc_frame::{Channel, Version};
 use lc_peer::{Config, Take};
 use lc_session::{Parts, ReadPump, RecvEnd, Report, SendEnd, Session, WritePump, finish};
-use lc_testing::{Odd, Pipe, PipeReader, PipeWriter, Plan, channel, number, plan_of, text};
 use std::alloc::Global;
 use std::mem::replace;
 use std::process::Abort;
 use std::sync::Wait;
 use std::test::Fail;
+use test_devices::{Odd, Pipe, PipeReader, PipeWriter, Plan, channel, number, plan_of, text};
 
 /// The parts of a session, and the bytes that come.
 #[derive(Drop)]

@@ -1,10 +1,10 @@
 //! Devices that fail, move nothing or stop short.
 use crate::tests::desk::run;
-use lc_testing::{FAILED_WRITES, THREE_FRAMES};
 use std::alloc::Global;
 use std::process::Abort;
 use std::sync::Wait;
 use std::test::Fail;
+use test_devices::{FAILED_WRITES, THREE_FRAMES};
 
 // Two guarantees are written, and the write of one byte fails or takes nothing. The session goes on
 // and ends, or ends at once.

@@ -1,10 +1,10 @@
 //! Streams of a hostile peer through the reading pump, whole and cut in two after each byte.
 use crate::tests::desk::run;
-use lc_testing::{FINISHED, HOSTILE, Hostile};
 use std::alloc::Global;
 use std::process::Abort;
 use std::sync::Wait;
 use std::test::Fail;
+use test_devices::{FINISHED, HOSTILE, Hostile};
 
 // What a further run answers that may make no read.
 fn without_reads(end: &str) -> &str {

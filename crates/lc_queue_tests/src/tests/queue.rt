@@ -1,0 +1,231 @@
+//! Worked examples, and threads.
+ghost use Rattle.std.specs.Prelude.{IfOk};
+ghost use Rattle.std.specs.List.{All};
+ghost use Rattle.lc_queue.specs.Parts.{IsSame, IsSameEnd};
+
+use lc_frame::{Body, Channel, Frame, Version};
+use lc_queue::{Drain, LaneEnd, Lanes, LanesFault, lanes};
+use std::alloc::Global;
+use std::process::Abort;
+use std::sync::Wait;
+use std::test::Fail;
+use test_threads::keeps_order;
+
+const RECONCILIATION: Channel = Channel::ReconciliationChannel;
+
+const DATA: Channel = Channel::DataChannel;
+
+fn send(alloc: Global, channel: Channel, text: &[u8]) -> Result<Frame, Fail> {
+    let mut bytes = Vec::new(alloc);
+    bytes.extend_from_slice(text)?;
+    let body = Body::from_vec(bytes);
+    Ok(Frame::Send { channel, body })
+}
+
+fn push(rt: &(impl Wait + Abort), end: &mut LaneEnd, frame: Frame) -> Result<(), Frame>
+    ensures { IsSameEnd end.old end.new }
+{
+    assert!(rt; frame.is_valid(end.version()) && frame.lane() == end.lane());
+    end.push(rt, frame)
+}
+
+fn put(rt: &(impl Wait + Abort), end: &mut LaneEnd, frame: Frame)
+    ensures { IsSameEnd end.old end.new }
+{
+    assert!(rt; push(rt, end, frame).is_ok());
+}
+
+fn issue() -> Frame {
+    Frame::Issue {
+        channel: DATA,
+        amount: 5,
+    }
+}
+
+// Two slots, taken by an Issue of lane 8 and then a Send of lane 1.
+fn two_put(rt: &(impl Wait + Abort), alloc: Global) -> Result<Lanes, Fail>
+    ensures { IfOk result (λ parts. All (λ end. IsSame parts.drain.queue end.queue) parts.ends) }
+{
+    let mut parts = lanes(alloc, 2, Version::One)?;
+    let hi = send(alloc, DATA, b"hi")?;
+    put(rt, &mut parts.ends[8], issue());
+    put(rt, &mut parts.ends[1], hi);
+    Ok(parts)
+}
+
+// Pops these two, and then nothing.
+fn pop_two(rt: &(impl Wait + Abort), alloc: Global, drain: &mut Drain) -> Result<(), Fail> {
+    let hi = send(alloc, DATA, b"hi")?;
+    assert!(rt; drain.pop(rt) == Some(issue()));
+    assert!(rt; drain.pop(rt) == Some(hi));
+    assert!(rt; drain.pop(rt).is_none());
+    Ok(())
+}
+
+fn join_all(drain: &mut Drain, ends: [LaneEnd; 14])
+    requires { All (λ end. IsSame drain.old.queue end.queue) ends }
+{
+    for end in ends {
+        drain.join(end);
+    }
+}
+
+// The queue has no room for this frame.
+fn comes_back(rt: &(impl Wait + Abort), alloc: Global, end: &mut LaneEnd) -> Result<(), Fail> {
+    let frame = send(alloc, RECONCILIATION, b"a")?;
+    let same = send(alloc, RECONCILIATION, b"a")?;
+    assert!(rt; push(rt, end, frame) == Err(same));
+    Ok(())
+}
+
+#[test]
+fn a_full_queue_gives_the_frame_back(rt: HostRuntime) -> Result<(), Fail> {
+    let mut parts = two_put(&rt, rt.alloc())?;
+    comes_back(&rt, rt.alloc(), &mut parts.ends[0])?;
+    pop_two(&rt, rt.alloc(), &mut parts.drain)
+}
+
+#[test]
+fn what_ended_lanes_put_is_popped(rt: HostRuntime) -> Result<(), Fail> {
+    let parts = two_put(&rt, rt.alloc())?;
+    let mut drain = parts.drain;
+    join_all(&mut drain, parts.ends);
+    pop_two(&rt, rt.alloc(), &mut drain)
+}
+
+// How many frames are put, of one more than there are slots, until one comes back.
+fn room(rt: &(impl Wait + Abort), slots: u32, end: &mut LaneEnd) -> u32 {
+    let mut room = 0u32;
+    for _ in 0..=slots {
+        let frame = Frame::Plead {
+            channel: Channel::StaticTokenChannel,
+            target: 0,
+        };
+        if push(rt, end, frame).is_err() {
+            break;
+        }
+        room = room.saturating_add(1);
+    }
+    room
+}
+
+// How many of so many pops take a frame.
+fn taken(rt: &impl Wait, drain: &mut Drain, pops: u32) -> u32 {
+    let mut taken = 0u32;
+    for _ in 0..pops {
+        if drain.pop(rt).is_some() {
+            taken = taken.saturating_add(1);
+        }
+    }
+    taken
+}
+
+// The room of a new queue, what so many pops then take, and the room after them.
+fn rooms(
+    rt: &(impl Wait + Abort),
+    alloc: Global,
+    slots: u32,
+    pops: u32,
+) -> Option<(u32, u32, u32)> {
+    let mut parts = lanes(alloc, slots, Version::One).ok()?;
+    let before = room(rt, slots, &mut parts.ends[13]);
+    let taken = taken(rt, &mut parts.drain, pops);
+    Some((before, taken, room(rt, slots, &mut parts.ends[13])))
+}
+
+// No clause says that a push came back from a full queue alone, nor, while no lane has ended, that a
+// pop found nothing in an empty one alone.
+#[test]
+fn a_queue_is_found_full_and_empty_exactly_where_it_is(rt: HostRuntime) {
+    for (slots, pops, wanted) in [
+        (1, 0, (1, 0, 0)),
+        (1, 2, (1, 1, 1)),
+        (2, 1, (2, 1, 1)),
+        (2, 3, (2, 2, 2)),
+        (5, 3, (5, 3, 3)),
+        (65_536, 7, (65_536, 7, 7)),
+        (65_536, 65_537, (65_536, 65_536, 65_536)),
+    ] {
+        let found = rooms(&rt, rt.alloc(), slots, pops);
+        assert!(rt; found == Some(wanted), "{slots} slots, {pops} pops");
+    }
+}
+
+// Puts a frame and pops it, though no lane has ended, and then finds nothing more.
+fn put_and_pop(rt: &(impl Wait + Abort), end: &mut LaneEnd, drain: &mut Drain) {
+    put(rt, end, issue());
+    assert!(rt; drain.pop(rt) == Some(issue()));
+    assert!(rt; drain.pop(rt).is_none());
+}
+
+#[test]
+fn a_frame_is_popped_at_once(rt: HostRuntime) -> Result<(), Fail> {
+    let Lanes {
+        mut ends,
+        mut drain,
+    } = lanes(rt.alloc(), 2, Version::One)?;
+    assert!(rt; drain.pop(&rt).is_none());
+    for _ in 0..5 {
+        put_and_pop(&rt, &mut ends[8], &mut drain);
+    }
+    Ok(())
+}
+
+// An end and the drain as texts.
+fn shown(alloc: Global, parts: &Lanes) -> Option<String> {
+    format!(in alloc; "{:?}, {:?}", parts.ends[8], parts.drain).ok()
+}
+
+#[test]
+fn ends_show_their_lane(rt: HostRuntime) -> Result<(), Fail> {
+    let parts = lanes(rt.alloc(), 1, Version::One)?;
+    let shown = shown(rt.alloc(), &parts).ok_or("no text")?;
+    assert!(rt; shown.as_str() == "LaneEnd { lane: 8, .. }, Drain { .. }");
+    Ok(())
+}
+
+#[test]
+fn no_queue_has_these_slots(rt: HostRuntime) {
+    for slots in [0, 65_537, 4_294_967_295] {
+        assert!(rt;
+            matches!(
+                lanes(rt.alloc(), slots, Version::One),
+                Err(LanesFault::BadSlots)
+            ),
+            "{slots}"
+        );
+    }
+}
+
+fn are_in_order(ends: &[LaneEnd; 14]) -> bool {
+    for (lane, end) in ends.iter().enumerate() {
+        if usize::from(end.lane()) != lane {
+            return false;
+        }
+    }
+    true
+}
+
+#[test]
+fn ends_have_their_lanes_in_order(rt: HostRuntime) -> Result<(), Fail> {
+    let parts = lanes(rt.alloc(), 1, Version::One)?;
+    assert!(rt; are_in_order(&parts.ends));
+    Ok(())
+}
+
+fn texts(alloc: Global) -> Option<String> {
+    format!(in alloc; "{}, {}", LanesFault::BadSlots, LanesFault::OutOfMemory).ok()
+}
+
+#[test]
+fn faults_have_texts(rt: HostRuntime) -> Result<(), Fail> {
+    let texts = texts(rt.alloc()).ok_or("no text")?;
+    assert!(rt; texts.as_str() == "a queue has 1 to 65536 slots, out of memory");
+    Ok(())
+}
+
+#[test]
+fn lanes_keep_their_order_in_threads(rt: HostRuntime) -> Result<(), Fail> {
+    assert!(rt; keeps_order(rt, rt.alloc(), 4, 2_000)?);
+    Ok(())
+}

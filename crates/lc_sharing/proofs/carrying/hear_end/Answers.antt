@@ -1,5 +1,0 @@
-use Rattle.lc_sharing.proofs.Arrivals.{limit_answered}
-use Rattle.lc_sharing.proofs.carrying.hear_end.Goals as goal
-
-pub returns-clause-arrived : goal.returns-clause-arrived
-returns-clause-arrived g c = limit_answered c.arrive-answer.result _ 0 _ _ c.channel-channel.ensures c.arrive-answer.ensures.same c.arrive-answer.ensures.ok c.arrive-answer.ensures.err

@@ -1,5 +1,0 @@
-use Rattle.lc_queue.specs.Parts.{IsSameEnd}
-use Rattle.lc_sharing.proofs.order.push_all.Given as goal
-
-abbrev pub invariant-loop-number : goal.invariant-loop-number
-invariant-loop-number g l = IsSameEnd l.initial.end l.end

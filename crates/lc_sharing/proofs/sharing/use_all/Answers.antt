@@ -1,5 +1,0 @@
-use Rattle.lc_sharing.proofs.Channels.{same_ends}
-use Rattle.lc_sharing.proofs.sharing.use_all.Goals as goal
-
-pub returns-clause-same : goal.returns-clause-same
-returns-clause-same g c = same_ends _ _ c.use_each.ensures.len c.use_each.ensures.same

@@ -1,6 +1,0 @@
-use Rattle.lc_inbox.specs.Sides.{IsSameSide}
-use Rattle.lc_threads.proofs.Zips.{zip_from_places}
-use Rattle.lc_threads.proofs.waking.take_meanwhile.Goals as goal
-
-pub returns : goal.returns
-returns g c = zip_from_places IsSameSide _ _ c.take_each.ensures.len c.take_each.ensures.same

@@ -1,0 +1,5 @@
+use Rattle.lc_outbox.specs.Outbox.{IsSameOutbox}
+use Rattle.load.proofs.waking.send_all.Given as goal
+
+abbrev pub invariant-loop : goal.invariant-loop
+invariant-loop g l = IsSameOutbox l.initial.end l.end

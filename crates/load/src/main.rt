@@ -1,0 +1,160 @@
+//! Runs what threads share, under load. The arguments are words, each with a number behind it:
+//! `queue FRAMES` sends so many frames through each lane of a queue, `credits ROUNDS` gives so many
+//! rounds of guarantees to the ends of seven credits, which use them up, and `inbox MESSAGES` reads
+//! so many messages into an inbox in one thread and takes them out in another.
+//!
+//! `ends ROUNDS`, `pump ROUNDS`, `both ROUNDS` and `over ROUNDS` have the threads of a session wait
+//! for each other so often: an end for a pump, the writing pump for an end, all ends and the pump for
+//! each other, and an end for the end of a pump's run.
+//!
+//! `finishes MESSAGES` sends so many messages each way through each channel of two sessions, finishes
+//! all of them behind the last one, and takes until each has ended.
+//!
+//! `lanes SLOTS` makes a queue, and `inboxes SLOTS` seven inboxes over one, which then end: both say
+//! whether there was memory.
+#![tactic(auto)]
+
+mod waking;
+
+use crate::waking::{Load, wakes_all, wakes_at_ends};
+use lc_frame::Version;
+use lc_inbox::{finish_all, share_all};
+use lc_loopback::loopback_as;
+use lc_queue::{LanesFault, lanes};
+use std::alloc::{AllocError, Global};
+use std::fs::Files;
+use std::net::Net;
+use std::sync::Wait;
+use std::thread::Threads;
+use std::{env, io};
+use test_threads::{balances_agree, keeps_order, takes_what_arrives};
+
+/// The slots through which fourteen threads push.
+const SLOTS: u32 = 4;
+
+/// The bytes of each ring.
+const CAPACITY: u32 = 8;
+
+fn run_queue<R>(rt: R, alloc: Global, frames: u32) -> &'static str
+where
+    R: Threads + Wait + Copy + Send + 'static,
+{
+    match keeps_order(rt, alloc, SLOTS, frames) {
+        Ok(true) => "each lane in order",
+        Ok(false) => "a lane lost its order",
+        Err(LanesFault::BadSlots) => "bad slots",
+        Err(LanesFault::OutOfMemory) => "out of memory",
+    }
+}
+
+fn run_credits<R: Threads + Sync>(rt: &R, alloc: Global, rounds: u32) -> &'static str {
+    match balances_agree(rt, alloc, rounds) {
+        Ok(true) => "each balance agrees",
+        Ok(false) => "a balance is wrong",
+        Err(AllocError) => "out of memory",
+    }
+}
+
+fn run_inbox<R: Threads + Wait + Sync>(rt: &R, alloc: Global, messages: u32) -> &'static str {
+    match takes_what_arrives(rt, alloc, messages) {
+        Ok(true) => "each message in place",
+        Ok(false) => "a message was lost",
+        Err(AllocError) => "out of memory",
+    }
+}
+
+// What it is that waits in a session, by the word for it.
+fn load_of(what: &str, rounds: u32) -> Load {
+    let (capacity, slots, channels) = match what {
+        // A ring of one message: its sender waits for guarantees, and its taker for the message.
+        "ends" => (4, 16, 1),
+        // One slot: the pump waits for a frame, and who puts one for the slot.
+        "pump" => (1 << 16, 1, 1),
+        // Both, on all channels.
+        _ => (4, 1, 7),
+    };
+    Load {
+        capacity,
+        slots,
+        channels,
+        messages: rounds / channels as u32,
+    }
+}
+
+fn waked(answer: Option<bool>) -> &'static str {
+    match answer {
+        Some(true) => "all were woken",
+        Some(false) => "some gave up",
+        None => "no session",
+    }
+}
+
+fn finish_channels<N, R>(net: &N, rt: R, alloc: Global, messages: u32) -> &'static str
+where
+    N: Net,
+    N::Stream: Send + 'static,
+    R: Threads + Wait + Copy + Send + 'static,
+{
+    match loopback_as(net, rt, alloc, messages, [Version::Two; 2]) {
+        Ok(_) => "each channel ended",
+        Err(_) => "a channel did not end",
+    }
+}
+
+fn make_inboxes(alloc: Global, slots: u32) -> &'static str {
+    let Ok(parts) = lanes(alloc, slots, Version::One) else {
+        return "out of memory";
+    };
+    let ends = parts.ends;
+    match share_all(alloc, [CAPACITY; 7], ends) {
+        Ok(inboxes) => {
+            let incoming = inboxes.incoming;
+            let outgoing = inboxes.outgoing;
+            let _ended = finish_all(incoming, outgoing);
+            "made and ended"
+        }
+        Err(_) => "out of memory",
+    }
+}
+
+fn make_lanes(alloc: Global, slots: u32) -> &'static str {
+    match lanes(alloc, slots, Version::One) {
+        Ok(_) => "made",
+        Err(LanesFault::BadSlots) => "bad slots",
+        Err(LanesFault::OutOfMemory) => "out of memory",
+    }
+}
+
+// What the program says of so many rounds, if it knows the word.
+fn answer_to<R, H>(rt: R, host: &H, alloc: Global, what: &str, count: u32) -> &'static str
+where
+    R: Threads + Wait + Copy + Send + Sync + 'static,
+    H: Files + Net,
+    H::Stream: Send + 'static,
+{
+    match what {
+        "queue" => run_queue(rt, alloc, count),
+        "credits" => run_credits(&rt, alloc, count),
+        "inbox" => run_inbox(&rt, alloc, count),
+        "lanes" => make_lanes(alloc, count),
+        "inboxes" => make_inboxes(alloc, count),
+        "ends" | "pump" | "both" => { waked(wakes_all(&rt, host, alloc, load_of(what, count))) }
+        "over" => waked(wakes_at_ends(&rt, host, alloc, count)),
+        "finishes" => finish_channels(host, rt, alloc, count),
+        _ => "not known",
+    }
+}
+
+fn main(rt: HostRuntime) -> io::Result<()> {
+    let mut word = None;
+    for argument in env::args(&rt)?.skip(1) {
+        let Some(what) = word.replace(argument) else {
+            continue;
+        };
+        let text = word.take().unwrap_or(String::new(rt.alloc()));
+        let count = text.parse::<u32>().unwrap_or(0);
+        let answer = answer_to(rt, &rt, rt.alloc(), what.as_str(), count);
+        println!(rt; "{what}: {answer}")?;
+    }
+    Ok(())
+}

@@ -1,5 +1,0 @@
-use Rattle.lc_inbox.specs.Sides.{IsSameSide}
-use Rattle.two_sessions.proofs.take.Given as goal
-
-abbrev pub invariant-loop : goal.invariant-loop
-invariant-loop g l = IsSameSide l.initial.end l.end
