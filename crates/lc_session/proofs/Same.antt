@@ -190,5 +190,3 @@ session_stays old new one same =
       inboxes_match = matched_out new.reading.side.inboxes old.receiving new.receiving (zip_sides old.receiving new.receiving same.receiving)
           (matched_in old.reading.side.inboxes new.reading.side.inboxes old.receiving same.reading.inboxes one.inboxes_match);
     }
-
-})
