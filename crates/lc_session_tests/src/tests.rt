@@ -5,6 +5,9 @@ mod exchange;
 mod faults;
 mod hostile;
 mod memory;
+mod slots;
+mod staged;
+mod ticks;
 mod waking;
 mod worked;
 

@@ -13,6 +13,7 @@ ghost use Rattle.std.specs.List.{AllZip};
 ghost use Rattle.lc_session.specs.Pumping.{IsSamePump};
 
 use crate::tests::same;
+use crate::tests::ticks::Ticks;
 use lc_driver::Counted;
 use lc_frame::{Channel, Version};
 use lc_peer::{Config, Take};
@@ -22,6 +23,7 @@ use std::mem::replace;
 use std::process::Abort;
 use std::sync::Wait;
 use std::test::Fail;
+use std::time::Duration;
 use test_devices::{Odd, Pipe, PipeReader, PipeWriter, Plan, channel, number, plan_of, text};
 
 /// The parts of a session, and the bytes that come.
@@ -46,6 +48,11 @@ pub fn new_desk(alloc: Global, version: Version, slots: u32, digits: &str) -> Op
     Some(Desk { parts, input })
 }
 
+// A number of microseconds.
+fn micros(word: &str) -> Option<Duration> {
+    Some(Duration::from_micros(number(word)?))
+}
+
 // What a call of a sending end answers.
 fn send<R: Wait>(rt: &R, alloc: Global, end: &mut SendEnd, verb: &str, word: &str) -> Option<String>
     ensures { IsSameOutbox end.old end.new }
@@ -59,6 +66,11 @@ fn send<R: Wait>(rt: &R, alloc: Global, end: &mut SendEnd, verb: &str, word: &st
         "finished" => text(alloc, &end.is_finished()),
         "held" => text(alloc, &end.held()),
         "wait" => text(alloc, &end.wait(rt)),
+        "nap-sending" => {
+            let clock = Ticks::new(rt);
+            let wake = end.wait_timeout(&clock, micros(word)?);
+            clock.told(alloc, wake)
+        }
         _ => None,
     }
 }
@@ -99,11 +111,17 @@ fn receive<R: Wait>(
         "limit-receiving" => text(alloc, &end.limit(rt, number(word)?)),
         "take" => take(rt, alloc, end),
         "server" => server(rt, alloc, end),
+        "nap-receiving" => {
+            let clock = Ticks::new(rt);
+            let wake = end.wait_timeout(&clock, micros(word)?);
+            clock.told(alloc, wake)
+        }
         _ => None,
     }
 }
 
-fn at_sender<R: Wait>(
+/// What a call of a channel's sending end answers.
+pub fn at_sender<R: Wait>(
     rt: &R,
     alloc: Global,
     ends: &mut [SendEnd; 7],
@@ -117,7 +135,8 @@ fn at_sender<R: Wait>(
     send(rt, alloc, end, verb, word)
 }
 
-fn at_receiver<R: Wait>(
+/// What a call of a channel's receiving end answers.
+pub fn at_receiver<R: Wait>(
     rt: &R,
     alloc: Global,
     ends: &mut [RecvEnd; 7],
@@ -238,8 +257,8 @@ fn reported(alloc: Global, report: &Report, call: &str) -> Option<String> {
     }
 }
 
-// A line of a script: the call, and what it answers.
-fn call_of(line: &str) -> (&str, &str) {
+/// A line of a script: the call, and what it answers.
+pub fn call_of(line: &str) -> (&str, &str) {
     let line = line.trim();
     line.split_once(" => ").unwrap_or((line, "an answer"))
 }

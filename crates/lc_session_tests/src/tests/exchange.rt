@@ -43,8 +43,13 @@ pub fn session(alloc: Global, ring: u32, slots: u32) -> Result<Parts, PeerFault>
     session_as(alloc, Version::One, ring, slots)
 }
 
-// And one of this version.
-fn session_as(alloc: Global, version: Version, ring: u32, slots: u32) -> Result<Parts, PeerFault>
+/// And one of this version.
+pub fn session_as(
+    alloc: Global,
+    version: Version,
+    ring: u32,
+    slots: u32,
+) -> Result<Parts, PeerFault>
     ensures { IfOk result (λ parts. AreOfOneSession (state_of parts)) }
 {
     let config = Config {

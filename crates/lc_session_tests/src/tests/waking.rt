@@ -2,6 +2,7 @@
 use crate::parted::Ends;
 use crate::tests::ends::{await_end, issue, send, take};
 use crate::tests::exchange::{connection, run_both, session, taken_apart, wires};
+use crate::tests::staged::{await_count, in_time};
 use lc_driver::{Counted, ReadEnd};
 use lc_frame::Channel;
 use lc_session::{ReadPump, RecvEnd, SendEnd, Session, WriteEnd, WritePump};
@@ -11,10 +12,11 @@ use std::io::{Read, Write};
 use std::net::TcpStream;
 use std::process::Abort;
 use std::sync::Wait;
+use std::sync::atomic::{AtomicU64, Ordering};
 use std::test::Fail;
-use std::thread;
 use std::thread::{Threads, join};
 use std::time::{Clock, Duration};
+use std::{io, thread};
 
 /// What two sessions do in turns.
 #[derive(Clone, Copy)]
@@ -202,29 +204,33 @@ fn a_freed_slot_wakes_an_end(rt: HostRuntime) -> Result<(), Fail> {
     Ok(())
 }
 
-// Waits until the end of a pump's run is told.
-fn sleep_sending<R: Wait>(rt: &R, end: &mut SendEnd) {
+// Waits until the end of a pump's run is told, and counts the waits that ended before.
+fn sleep_sending<R: Wait>(rt: &R, end: &mut SendEnd, waits: &AtomicU64) {
     for _ in rt.forever() {
         if end.wait(rt) == Wake::Over {
             return;
         }
+        waits.fetch_add(1, Ordering::SeqCst);
     }
 }
 
-fn sleep_receiving<R: Wait>(rt: &R, end: &mut RecvEnd) {
+fn sleep_receiving<R: Wait>(rt: &R, end: &mut RecvEnd, waits: &AtomicU64) {
     for _ in rt.forever() {
         if end.wait(rt) == Wake::Over {
             return;
         }
+        waits.fetch_add(1, Ordering::SeqCst);
     }
 }
 
 fn sleep_each_sending<R: Threads + Wait + Sync>(rt: &R, mut ends: [SendEnd; 7]) {
-    thread::for_each_mut(rt, &mut ends, 7, &|_, end| sleep_sending(rt, end));
+    let waits = AtomicU64::new(0);
+    thread::for_each_mut(rt, &mut ends, 7, &|_, end| sleep_sending(rt, end, &waits));
 }
 
 fn sleep_each_receiving<R: Threads + Wait + Sync>(rt: &R, mut ends: [RecvEnd; 7]) {
-    thread::for_each_mut(rt, &mut ends, 7, &|_, end| sleep_receiving(rt, end));
+    let waits = AtomicU64::new(0);
+    thread::for_each_mut(rt, &mut ends, 7, &|_, end| sleep_receiving(rt, end, &waits));
 }
 
 // All ends wait, each in a thread of its own.
@@ -336,4 +342,78 @@ fn a_further_run_is_not_over(rt: HostRuntime) -> Result<(), Fail> {
         || read(&rt, &mut pumps.reading, reader),
     );
     Ok(())
+}
+
+/// How many frames a paced reader gives.
+const PACED: u64 = 10;
+
+/// A reader that gives a frame again and again. Before each it lets the others get on, and finds that
+/// as many waits have ended as frames were given.
+#[derive(Drop)]
+struct Paced<'a, R> {
+    rt: &'a R,
+    frame: &'a [u8],
+    given: u64,
+    waits: &'a AtomicU64,
+}
+
+impl<R: Wait + Abort> Read for Paced<'_, R> {
+    fn read(&mut self, buf: &mut [u8]) -> io::Result<usize> {
+        await_count(self.rt, self.waits, self.given);
+        for _ in 0..10 {
+            thread::yield_now();
+        }
+        let waits = self.waits.load(Ordering::SeqCst);
+        assert!(self.rt;
+            waits == self.given,
+            "{waits} waits ended of {}",
+            self.given
+        );
+        if self.given == PACED {
+            return Ok(0);
+        }
+        self.given = self.given.saturating_add(1);
+        let mut frame = self.frame;
+        frame.read(buf)
+    }
+}
+
+// An end of channel 1 waits for frames that come one by one.
+fn wait_for_each<R>(rt: &R, alloc: Global, frame: &[u8], sends: bool) -> Option<()>
+where
+    R: Threads + Wait + Abort + Sync,
+{
+    let (ends, mut pumps, _session) = taken_apart(session(alloc, 8, 4).ok()?);
+    let Ends {
+        mut sending,
+        mut receiving,
+    } = ends;
+    let waits = AtomicU64::new(0);
+    let reader = Paced {
+        rt,
+        frame,
+        given: 0,
+        waits: &waits,
+    };
+    join(
+        rt,
+        || {
+            if sends {
+                sleep_sending(rt, &mut sending[1], &waits);
+            } else {
+                sleep_receiving(rt, &mut receiving[1], &waits);
+            }
+        },
+        || read(rt, &mut pumps.reading, reader),
+    );
+    Some(())
+}
+
+#[test]
+fn each_frame_ends_one_wait(rt: HostRuntime) {
+    in_time(&rt, || {
+        let issued = wait_for_each(&rt, rt.alloc(), &[0x21, 0, 0, 0, 1], true);
+        let limited = wait_for_each(&rt, rt.alloc(), &[0x51, 0, 0, 0, 0, 0, 0, 0, 9], false);
+        assert_eq!(rt; (issued, limited), (Some(()), Some(())));
+    });
 }

@@ -1,0 +1,197 @@
+//! Ends that wait side by side, and a pump, all in one thread: one end waits while the other's clock is
+//! read, and what wakes them comes while its own is read.
+use crate::tests::staged::in_time;
+use crate::tests::ticks::Ticks;
+use lc_frame::Channel;
+use lc_wake::{End, Pump, PumpWaiter, Waiter, Wakers, Waking};
+use std::io;
+use std::process::Abort;
+use std::sync::{Mutex, Wait};
+use std::test::Fail;
+use std::time::{Clock, Duration};
+
+/// What comes while ends sleep.
+#[derive(Clone, Copy, Debug)]
+enum News {
+    /// So many slots are freed.
+    Freed(usize),
+    /// The pump is about to sleep.
+    Rests,
+    /// A frame that concerns an end.
+    Came(End),
+    /// The end of a pump's run.
+    Ended(Pump),
+}
+
+/// A clock at whose first reading there are news.
+#[derive(Drop)]
+struct Busy<'a, R> {
+    rt: &'a R,
+    ticks: Ticks<&'a R>,
+    news: News,
+    pump: &'a Mutex<PumpWaiter>,
+    wakers: &'a Wakers,
+}
+
+// The pump goes on until it is about to sleep.
+fn rest(pump: &mut PumpWaiter) {
+    for _ in 0..10 {
+        if pump.is_to_sleep() {
+            return;
+        }
+    }
+}
+
+impl<'a, R: Wait> Busy<'a, R> {
+    fn new(rt: &'a R, pump: &'a Mutex<PumpWaiter>, wakers: &'a Wakers, news: News) -> Busy<'a, R> {
+        Busy {
+            rt,
+            ticks: Ticks::new(rt),
+            news,
+            pump,
+            wakers,
+        }
+    }
+
+    fn come(&self) {
+        let mut pump = self.pump.lock(self.rt);
+        match self.news {
+            News::Freed(count) => pump.slots_freed(count),
+            News::Rests => rest(&mut pump),
+            News::Came(end) => self.wakers.frame_came(end),
+            News::Ended(pump) => self.wakers.end_run(pump),
+        }
+    }
+}
+
+impl<R: Wait> Wait for Busy<'_, R> {}
+
+impl<R: Wait> Clock for Busy<'_, R> {
+    fn monotonic(&self) -> io::Result<Duration> {
+        if self.ticks.readings() == 0 {
+            self.come();
+        }
+        self.ticks.monotonic()
+    }
+
+    fn since_1970(&self) -> io::Result<Duration> {
+        self.monotonic()
+    }
+}
+
+/// A clock at whose first reading another end waits, by a clock of its own.
+#[derive(Drop)]
+struct Beside<'a, R> {
+    ticks: Ticks<&'a R>,
+    others: &'a Mutex<[Waiter; 7]>,
+    clock: Busy<'a, R>,
+}
+
+// The receiving end of channel 2 waits.
+fn wait_second<R: Wait>(rt: &R, others: &Mutex<[Waiter; 7]>, clock: &Busy<'_, R>) {
+    let mut others = others.lock(rt);
+    others[2].met_full_queue();
+    others[2].wait_timeout(clock, Duration::from_micros(1));
+}
+
+impl<R: Wait> Wait for Beside<'_, R> {}
+
+impl<R: Wait> Clock for Beside<'_, R> {
+    fn monotonic(&self) -> io::Result<Duration> {
+        if self.ticks.readings() == 0 {
+            wait_second(self.clock.rt, self.others, &self.clock);
+        }
+        self.ticks.monotonic()
+    }
+
+    fn since_1970(&self) -> io::Result<Duration> {
+        self.monotonic()
+    }
+}
+
+const FIRST: End = End::Sending(Channel::DataChannel);
+
+const SECOND: End = End::Receiving(Channel::OverlapChannel);
+
+/// Whether the first of two ends met a full queue, as the second did, what comes while both wait, and how
+/// often each reads its clock: once where it was woken, and else twice.
+const ROUNDS: [(bool, News, (u64, u64)); 11] = [
+    // One slot wakes an end that wants one, and another each time.
+    (false, News::Freed(1), (2, 1)),
+    (true, News::Freed(1), (1, 2)),
+    (true, News::Freed(1), (2, 1)),
+    (true, News::Freed(1), (1, 2)),
+    (true, News::Freed(2), (1, 1)),
+    (true, News::Rests, (1, 1)),
+    (true, News::Came(FIRST), (1, 2)),
+    (true, News::Came(SECOND), (2, 1)),
+    (
+        true,
+        News::Came(End::Sending(Channel::OverlapChannel)),
+        (2, 2),
+    ),
+    (
+        true,
+        News::Came(End::Receiving(Channel::DataChannel)),
+        (2, 2),
+    ),
+    (true, News::Ended(Pump::Reading), (1, 1)),
+];
+
+// Two ends wait side by side, in all rounds.
+fn wait_in_rounds<R: Wait + Abort>(rt: &R, waking: Waking) {
+    let Waking {
+        mut sending,
+        receiving,
+        pump,
+        wakers,
+    } = waking;
+    let (others, pump) = (Mutex::new(receiving), Mutex::new(pump));
+    let first = &mut sending[1];
+    // An end that no longer waits for a slot is not woken for it in place of another.
+    first.met_full_queue();
+    first.wait_timeout(&Ticks::new(rt), Duration::from_micros(1));
+    let alone = Busy::new(rt, &pump, &wakers, News::Freed(1));
+    wait_second(rt, &others, &alone);
+    assert!(rt; alone.ticks.readings() == 1, "another end is woken");
+    first.wait_timeout(&Ticks::new(rt), Duration::from_micros(1));
+    for &(wants, news, wanted) in &ROUNDS {
+        if wants {
+            first.met_full_queue();
+        }
+        let clock = Beside {
+            ticks: Ticks::new(rt),
+            others: &others,
+            clock: Busy::new(rt, &pump, &wakers, news),
+        };
+        first.wait_timeout(&clock, Duration::from_micros(1));
+        let found = (clock.ticks.readings(), clock.clock.ticks.readings());
+        assert!(rt; found == wanted, "{news:?}: {found:?}, not {wanted:?}");
+    }
+}
+
+// A pump is about to sleep twice: a frame is put, and then it is asked to stop.
+fn sleep_twice<R: Wait>(rt: &R, waking: Waking) {
+    let Waking {
+        sending,
+        receiving: _,
+        mut pump,
+        wakers,
+    } = waking;
+    rest(&mut pump);
+    sending[1].frame_put();
+    pump.sleep(rt);
+    rest(&mut pump);
+    wakers.stop();
+    pump.sleep(rt);
+}
+
+#[test]
+fn what_wakes_ends_and_a_pump(rt: HostRuntime) -> Result<(), Fail> {
+    let (ends, pump) = (Waking::new(rt.alloc())?, Waking::new(rt.alloc())?);
+    in_time(&rt, || {
+        wait_in_rounds(&rt, ends);
+        sleep_twice(&rt, pump);
+    });
+    Ok(())
+}
