@@ -3,6 +3,7 @@ mod alone;
 mod carried;
 mod pair;
 mod seven;
+mod sleeping;
 mod worked;
 
 use std::process::Abort;

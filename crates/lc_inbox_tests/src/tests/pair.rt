@@ -125,8 +125,8 @@ fn call_of(line: &str) -> (&str, &str) {
     line.split_once(" => ").unwrap_or((line, "an answer"))
 }
 
-// Waits until it is the turn of the line with this number.
-fn await_turn<R: Wait>(rt: &R, turn: &AtomicU64, number: u64) {
+/// Waits until it is the turn of the line with this number.
+pub fn await_turn<R: Wait>(rt: &R, turn: &AtomicU64, number: u64) {
     for _ in rt.forever() {
         if turn.load(Ordering::SeqCst) == number {
             return;
