@@ -1,7 +1,7 @@
 use crate::Channel;
 use std::error::Error;
 use std::fmt::{self, Display, Formatter};
-use std::io;
+use std::io::{self, ErrorKind};
 
 /// Why a call was refused; it then changed nothing. Numbers are bytes of messages.
 #[derive(Clone, Copy, Debug, PartialEq, Eq)]
@@ -361,27 +361,93 @@ impl Error for PeerFault {}
 
 /// Why [`Peer::read_from`](crate::Peer::read_from) stopped. The frames before a stop have arrived.
 #[derive(Debug)]
+#[non_exhaustive]
 pub enum ReadError {
-    /// The read failed. A further call goes on with the next byte.
+    /// The read failed, and nothing arrived. A further call goes on with the next byte.
     Io(io::Error),
     /// The stream was given up, or ended inside a frame.
-    Stopped(Stop),
+    #[non_exhaustive]
+    Stopped {
+        /// Why.
+        stop: Stop,
+        /// How many frames arrived in this call, before the one that stopped it.
+        frames: u64,
+    },
+}
+
+impl ReadError {
+    /// How many frames arrived in this call, before it stopped.
+    pub fn frames(&self) -> u64 {
+        match self {
+            ReadError::Io(_) => 0,
+            ReadError::Stopped { frames, .. } => *frames,
+        }
+    }
 }
 
 impl Display for ReadError {
     fn fmt(&self, f: &mut Formatter<'_>) -> fmt::Result {
         match self {
             ReadError::Io(error) => error.fmt(f),
-            ReadError::Stopped(stop) => stop.fmt(f),
+            ReadError::Stopped { stop, .. } => stop.fmt(f),
         }
     }
 }
 
-impl Error for ReadError {}
+impl Error for ReadError {
+    fn source(&self) -> Option<&(dyn Error + 'static)> {
+        match self {
+            ReadError::Io(error) => error.source(),
+            ReadError::Stopped { .. } => None,
+        }
+    }
+}
 
 impl From<io::Error> for ReadError {
     fn from(error: io::Error) -> ReadError {
         ReadError::Io(error)
+    }
+}
+
+/// A read that failed is its own error. A stop is the source of one: of kind `UnexpectedEof` where the
+/// stream ended inside a frame, else `InvalidData`.
+impl From<ReadError> for io::Error {
+    fn from(error: ReadError) -> io::Error {
+        match error {
+            ReadError::Io(error) => error,
+            ReadError::Stopped {
+                stop: Stop::Fault(Fault::Truncated),
+                ..
+            } => io::Error::new(ErrorKind::UnexpectedEof, error),
+            ReadError::Stopped { .. } => io::Error::new(ErrorKind::InvalidData, error),
+        }
+    }
+}
+
+/// A count of bytes that is above what there was, as a reader or a writer claims it that breaks the
+/// rules of its trait.
+#[derive(Clone, Copy, Debug, PartialEq, Eq)]
+#[non_exhaustive]
+pub struct Overrun {
+    /// The count.
+    pub claimed: usize,
+    /// What there was.
+    pub offered: usize,
+}
+
+impl Display for Overrun {
+    fn fmt(&self, f: &mut Formatter<'_>) -> fmt::Result {
+        let Overrun { claimed, offered } = self;
+        write!(f, "{claimed} bytes are claimed, where there were {offered}")
+    }
+}
+
+impl Error for Overrun {}
+
+/// An error of kind `InvalidData`.
+impl From<Overrun> for io::Error {
+    fn from(overrun: Overrun) -> io::Error {
+        io::Error::new(ErrorKind::InvalidData, overrun)
     }
 }
 

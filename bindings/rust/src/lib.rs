@@ -44,7 +44,7 @@ mod peer;
 mod sys;
 
 pub use channel::Channel;
-pub use error::{Fault, PeerFault, ReadError, Refusal, Stop, Violation};
+pub use error::{Fault, Overrun, PeerFault, ReadError, Refusal, Stop, Violation};
 pub use peer::{ClientBook, Config, Delivery, Peer, ServerBook, Take, Version};
 
 /// The version of the library that is linked: 65,536 times its first number, 256 times its second, and

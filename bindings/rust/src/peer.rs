@@ -1,5 +1,5 @@
 use crate::sys::{self, Answer, Handle};
-use crate::{Channel, PeerFault, ReadError, Refusal, Stop};
+use crate::{Channel, Overrun, PeerFault, ReadError, Refusal, Stop};
 use std::fmt::{self, Formatter};
 use std::io::{self, ErrorKind, Read, Write};
 
@@ -312,9 +312,8 @@ impl Peer {
     /// that was interrupted is made again. After any other error nothing is lost: a further call goes
     /// on with the next byte, also where the writer was one that would block.
     ///
-    /// # Panics
-    ///
-    /// Where the writer says that it took more than it was offered. Nothing is lost then.
+    /// A writer that says that it took more than it was offered is an error of kind `InvalidData`, with
+    /// an [`Overrun`] in it. All that it was offered then counts as written, and no byte goes out twice.
     ///
     /// ```
     /// # use lcmux::{Channel::Data, Config, Peer};
@@ -337,10 +336,13 @@ impl Peer {
             }
             match writer.write(&self.unsent[self.start..self.end]) {
                 Ok(0) => return Err(ErrorKind::WriteZero.into()),
-                Ok(count) => {
-                    assert!(count <= self.end - self.start, "the writer took too much");
-                    self.start += count;
-                    written += count as u64;
+                Ok(claimed) => {
+                    let offered = self.end - self.start;
+                    self.start += claimed.min(offered);
+                    if claimed > offered {
+                        return Err(Overrun { claimed, offered }.into());
+                    }
+                    written += claimed as u64;
                 }
                 Err(error) if error.kind() == ErrorKind::Interrupted => {}
                 Err(error) => return Err(error),
@@ -352,6 +354,9 @@ impl Peer {
     /// the stream ended after a whole frame or before the first. A read that was interrupted is made
     /// again. Of a stream that was given up nothing is read.
     ///
+    /// A reader that says that it read more than it was asked for is an error of kind `InvalidData`, with
+    /// an [`Overrun`] in it, and nothing of it arrives.
+    ///
     /// ```
     /// # use lcmux::{Channel::Data, Config, Fault, Peer, ReadError, Stop};
     /// # let mut peer = Peer::new(&Config::new([8; 7], 4))?;
@@ -359,12 +364,12 @@ impl Peer {
     /// assert_eq!(peer.read_from(&mut wire)?, 6);
     /// assert_eq!(peer.client(Data).held, 5);
     /// let end = peer.read_from(&mut wire).unwrap_err();
-    /// assert!(matches!(end, ReadError::Stopped(Stop::Fault(Fault::Truncated))));
+    /// assert!(matches!(end, ReadError::Stopped { stop: Stop::Fault(Fault::Truncated), .. }));
     /// # Ok::<(), Box<dyn std::error::Error>>(())
     /// ```
     pub fn read_from(&mut self, reader: &mut impl Read) -> Result<usize, ReadError> {
         if let Some(stop) = self.deliver(&[]).stop {
-            return Err(ReadError::Stopped(stop));
+            return Err(ReadError::Stopped { stop, frames: 0 });
         }
         self.piece.resize(PIECE, 0);
         let count = loop {
@@ -373,11 +378,22 @@ impl Peer {
                 answer => break answer?,
             }
         };
-        let stop = match count {
-            0 => self.end().err(),
-            _ => Stop::of(self.handle.deliver(&self.piece[..count]).code),
+        if count == 0 {
+            let end = self.end().map(|()| 0);
+            return end.map_err(|stop| ReadError::Stopped { stop, frames: 0 });
+        }
+        let Some(bytes) = self.piece.get(..count) else {
+            let (claimed, offered) = (count, self.piece.len());
+            return Err(ReadError::Io(Overrun { claimed, offered }.into()));
         };
-        stop.map_or(Ok(count), |stop| Err(ReadError::Stopped(stop)))
+        let delivery = self.handle.deliver(bytes);
+        match Stop::of(delivery.code) {
+            None => Ok(count),
+            Some(stop) => Err(ReadError::Stopped {
+                stop,
+                frames: delivery.frames,
+            }),
+        }
     }
 
     /// The length of the first message, which stays; `None` where none waits.

@@ -5,7 +5,7 @@ mod common;
 use common::{hex, rows};
 use lcmux::{
     Channel::{Capability, Data, Overlap},
-    Config, Fault, Peer, ReadError, Stop, Take, Version,
+    Config, Overrun, Peer, ReadError, Take, Version,
 };
 use std::collections::VecDeque;
 use std::io::{self, ErrorKind, Read, Write};
@@ -137,12 +137,25 @@ fn a_write_offers_all_that_waits_up_to_a_whole_frame_of_version_one() {
     assert_eq!(writer.offered, [65_538, 8, 65_538, 5]);
 }
 
-/// Says that it took a byte more than it was offered.
-struct Boaster;
+/// Takes what it is offered, or fills what it is asked for, and claims some bytes more.
+struct Boaster {
+    more: usize,
+    taken: Vec<u8>,
+}
+
+impl Boaster {
+    fn new(more: usize) -> Boaster {
+        Boaster {
+            more,
+            taken: Vec::new(),
+        }
+    }
+}
 
 impl Write for Boaster {
     fn write(&mut self, buffer: &[u8]) -> io::Result<usize> {
-        Ok(buffer.len() + 1)
+        self.taken.extend(buffer);
+        Ok(buffer.len().saturating_add(self.more))
     }
 
     fn flush(&mut self) -> io::Result<()> {
@@ -150,15 +163,97 @@ impl Write for Boaster {
     }
 }
 
+impl Read for Boaster {
+    fn read(&mut self, buffer: &mut [u8]) -> io::Result<usize> {
+        for (byte, put) in buffer.iter_mut().zip(ISSUE.iter().cycle()) {
+            *byte = *put;
+        }
+        Ok(buffer.len().saturating_add(self.more))
+    }
+}
+
+fn overrun(error: &io::Error) -> Option<&Overrun> {
+    error.get_ref().and_then(|inner| inner.downcast_ref())
+}
+
 #[test]
-fn a_writer_that_took_more_than_it_was_offered_is_no_loss() {
-    let mut peer = peer();
+fn a_writer_that_claims_more_than_it_was_offered_has_no_byte_twice() {
+    for more in [1, 70_000, usize::MAX - 5, usize::MAX] {
+        let (mut peer, mut boaster) = (peer(), Boaster::new(more));
+        peer.issue(Data, 5).unwrap();
+        let error = peer.write_to(&mut boaster).unwrap_err();
+        assert_eq!(error.kind(), ErrorKind::InvalidData);
+        let counts = overrun(&error).map(|it| (it.claimed, it.offered));
+        assert_eq!(counts, Some((more.saturating_add(5), 5)));
+        assert_eq!((&boaster.taken[..], peer.pending()), (&ISSUE[..], 0));
+
+        peer.issue(Data, 1).unwrap();
+        let mut wire = [0; 16];
+        assert_eq!((peer.pending(), peer.write(&mut wire)), (5, 5));
+        assert_eq!(wire[..5], [0x21, 0, 0, 0, 1]);
+        assert_eq!(peer.write_to(&mut boaster).unwrap(), 0);
+    }
+}
+
+#[test]
+fn of_a_read_that_claims_more_than_was_asked_for_nothing_arrives() {
+    for more in [1, usize::MAX] {
+        let mut peer = peer();
+        let error = io::Error::from(peer.read_from(&mut Boaster::new(more)).unwrap_err());
+        assert_eq!(error.kind(), ErrorKind::InvalidData);
+        let claimed = overrun(&error).map(|it| (it.claimed > it.offered, it.offered > 0));
+        assert_eq!(claimed, Some((true, true)));
+        assert_eq!(peer.client(Data).held, 0);
+        assert_eq!(peer.read_from(&mut &ISSUE[..]).unwrap(), 5);
+        assert_eq!(peer.client(Data).held, 5);
+    }
+}
+
+/// Takes or gives the bytes of an issue but the last, and panics at the second call.
+struct Broken(bool);
+
+impl Broken {
+    fn call(&mut self) -> usize {
+        assert!(!self.0, "the device is broken");
+        self.0 = true;
+        4
+    }
+}
+
+impl Write for Broken {
+    fn write(&mut self, _: &[u8]) -> io::Result<usize> {
+        Ok(self.call())
+    }
+
+    fn flush(&mut self) -> io::Result<()> {
+        Ok(())
+    }
+}
+
+impl Read for Broken {
+    fn read(&mut self, buffer: &mut [u8]) -> io::Result<usize> {
+        buffer.fill(0x77);
+        buffer[..4].copy_from_slice(&ISSUE[..4]);
+        Ok(self.call())
+    }
+}
+
+#[test]
+fn a_device_that_panics_leaves_both_streams_as_they_were() {
+    let (mut peer, mut device) = (peer(), Broken(false));
     peer.issue(Data, 5).unwrap();
-    let write = panic::AssertUnwindSafe(|| peer.write_to(&mut Boaster));
+    let write = panic::AssertUnwindSafe(|| peer.write_to(&mut device));
     assert!(panic::catch_unwind(write).is_err());
     let mut wire = Vec::new();
-    assert_eq!((peer.pending(), peer.write_to(&mut wire).unwrap()), (5, 5));
-    assert_eq!(wire, ISSUE);
+    assert_eq!((peer.pending(), peer.write_to(&mut wire).unwrap()), (1, 1));
+    assert_eq!(wire, ISSUE[4..]);
+
+    let mut device = Broken(false);
+    assert_eq!(peer.read_from(&mut device).unwrap(), 4);
+    let read = panic::AssertUnwindSafe(|| peer.read_from(&mut device));
+    assert!(panic::catch_unwind(read).is_err());
+    assert_eq!(peer.read_from(&mut &ISSUE[4..]).unwrap(), 1);
+    assert_eq!(peer.client(Data).held, 5);
 }
 
 /// Two frames of which a writer took six bytes, and a third behind them.
@@ -185,7 +280,8 @@ fn a_buffer_gets_what_no_writer_took_and_then_what_waits() {
     }
 }
 
-// What the reader answers, then what `read_from` does, call by call, and how much is held then.
+// What the reader answers, then what `read_from` does, call by call, and how much is held then. Behind a
+// stop stands how many frames arrived in that call.
 const READS: &str = "\
 - => 0 0, held 0
 2100000005 => 5 0 0, held 5
@@ -193,15 +289,17 @@ Interrupted Interrupted 2100000005 => 5 0, held 5
 2100 Interrupted 000005 => 2 3 0, held 5
 2100 WouldBlock 000005 => 2 WouldBlock 3 0, held 5
 2100000005 ConnectionReset => 5 ConnectionReset, held 5
-2100000005 2100 => 5 2 Fault(Truncated), held 5
-2100000005 77 2100000005 => 5 Fault(BadTag) Fault(BadTag), held 5
-210000000331000000012100000005 2100000005 => Violated(AbsolvedTooMuch) Violated(AbsolvedTooMuch), held 3";
+2100000005 2100 => 5 2 Fault(Truncated):0, held 5
+2100000005 77 2100000005 => 5 Fault(BadTag):0 Fault(BadTag):0, held 5
+2100000002210000000477 2100000005 => Fault(BadTag):2 Fault(BadTag):0, held 6
+210000000331000000012100000005 2100000005 => Violated(AbsolvedTooMuch):1 Violated(AbsolvedTooMuch):0, held 3";
 
 fn answer(read: Result<usize, ReadError>) -> String {
     match read {
         Ok(count) => count.to_string(),
         Err(ReadError::Io(error)) => format!("{:?}", error.kind()),
-        Err(ReadError::Stopped(stop)) => format!("{stop:?}"),
+        Err(ReadError::Stopped { stop, frames, .. }) => format!("{stop:?}:{frames}"),
+        Err(error) => panic!("{error}"),
     }
 }
 
@@ -276,6 +374,6 @@ fn a_stream_that_was_given_up_is_not_read() {
 fn a_read_error_says_what_befell() {
     let failed = ReadError::from(io::Error::other("the cable is cut"));
     assert_eq!(failed.to_string(), "the cable is cut");
-    let stopped = ReadError::Stopped(Stop::Fault(Fault::ZeroLength));
+    let stopped = peer().read_from(&mut &[0x11, 0, 0][..]).unwrap_err();
     assert_eq!(stopped.to_string(), "a message has length 0");
 }

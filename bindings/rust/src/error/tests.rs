@@ -97,6 +97,50 @@ fn each_fault_of_a_configuration() {
     }
 }
 
+#[test]
+fn an_overrun_says_both_counts_and_is_invalid_data() {
+    let overrun = Overrun {
+        claimed: 6,
+        offered: 5,
+    };
+    let error = io::Error::from(overrun);
+    assert_eq!(error.kind(), ErrorKind::InvalidData);
+    let said = "6 bytes are claimed, where there were 5";
+    assert_eq!(
+        (overrun.to_string(), error.to_string()),
+        (said.into(), said.into())
+    );
+    let inner = error.get_ref().and_then(|inner| inner.downcast_ref());
+    assert_eq!(inner, Some(&overrun));
+}
+
+// Each stop as an error of a device.
+const DEVICE_ERRORS: [(Stop, ErrorKind); 3] = [
+    (Stop::Fault(Fault::Truncated), ErrorKind::UnexpectedEof),
+    (Stop::Fault(Fault::BadTag), ErrorKind::InvalidData),
+    (
+        Stop::Violated(Violation::AfterFinish),
+        ErrorKind::InvalidData,
+    ),
+];
+
+#[test]
+fn a_read_error_becomes_an_error_of_a_device() {
+    for (stop, kind) in DEVICE_ERRORS {
+        let stopped = ReadError::Stopped { stop, frames: 3 };
+        assert_eq!(stopped.frames(), 3);
+        let error = io::Error::from(stopped);
+        assert_eq!((error.kind(), error.to_string()), (kind, stop.to_string()));
+        let inner = error.get_ref().and_then(|inner| inner.downcast_ref());
+        assert_eq!(inner.map(ReadError::frames), Some(3));
+    }
+    let failed = ReadError::from(io::Error::new(ErrorKind::BrokenPipe, Fault::BadTag));
+    assert_eq!(failed.frames(), 0);
+    let error = io::Error::from(failed);
+    assert_eq!(error.kind(), ErrorKind::BrokenPipe);
+    assert!(error.get_ref().is_some_and(|inner| inner.is::<Fault>()));
+}
+
 // `LCMUX_NO_ROOM = 10, ..` of the C header as `10 NoRoom`, `LCMUX_V1_NOT_GUARANTEED` as `NotGuaranteed`.
 fn named(line: &str) -> Option<String> {
     let (name, rest) = line.trim().strip_prefix("LCMUX_")?.split_once(" = ")?;
