@@ -1,7 +1,8 @@
 //! What a round of two peers on one thread costs through this crate: a message of 16, 1,024 or 61,440
-//! bytes there, and its guarantees back. `cargo bench --bench rounds` prints a line `name value unit`
-//! for each. With BENCH_FIXED=TURNS nothing is timed, and each figure has that many rounds; an argument
-//! is what the names of the figures begin with that are taken.
+//! bytes there, and its guarantees back, as `peer` through `write_to` and `read_from`, as `pieces` through
+//! `write` and `deliver`. `cargo bench --bench rounds` prints a line `name value unit` for each. With
+//! BENCH_FIXED=TURNS nothing is timed, and each figure has that many rounds; an argument is what the names
+//! of the figures begin with that are taken.
 
 use lcmux::{Channel, Config, Peer, Take};
 use std::env;
@@ -11,36 +12,54 @@ use std::time::{Duration, Instant};
 
 const CHANNEL: Channel = Channel::Data;
 
+/// The bytes that the wire holds.
+const WIRE: usize = 70_000;
+
 /// How long a repetition lasts about, and how many there are, of which the middle one counts.
 const TARGET: Duration = Duration::from_millis(20);
 const REPETITIONS: usize = 3;
+
+/// Moves all that waits at one peer to the other.
+type Carry = fn(&mut Peer, &mut Peer, &mut Vec<u8>) -> Result<(), Box<dyn Error>>;
 
 /// A message goes from the client to the server, over a wire in memory.
 struct Exchange {
     client: Peer,
     server: Peer,
+    carry: Carry,
     wire: Vec<u8>,
     body: Vec<u8>,
     buffer: Vec<u8>,
 }
 
 // Writes all that waits at one peer, and reads it in at the other.
-fn carry(from: &mut Peer, to: &mut Peer, wire: &mut Vec<u8>) -> Result<(), Box<dyn Error>> {
+fn streams(from: &mut Peer, to: &mut Peer, wire: &mut Vec<u8>) -> Result<(), Box<dyn Error>> {
     wire.clear();
     from.write_to(wire)?;
     let mut rest = wire.as_slice();
-    while to.read_from(&mut rest)? > 0 {}
+    while !rest.is_empty() {
+        to.read_from(&mut rest)?;
+    }
+    Ok(())
+}
+
+// The same without a reader and a writer, by one piece.
+fn pieces(from: &mut Peer, to: &mut Peer, wire: &mut Vec<u8>) -> Result<(), Box<dyn Error>> {
+    wire.resize(WIRE, 0);
+    let count = from.write(wire);
+    assert_eq!(to.deliver(&wire[..count]).taken, count);
     Ok(())
 }
 
 impl Exchange {
     // The first guarantees are there.
-    fn new(len: usize) -> Result<Exchange, Box<dyn Error>> {
+    fn new(carry: Carry, len: usize) -> Result<Exchange, Box<dyn Error>> {
         let config = Config::new([65_536; 7], 4);
         let mut exchange = Exchange {
             client: Peer::new(&config)?,
             server: Peer::new(&config)?,
-            wire: Vec::with_capacity(70_000),
+            carry,
+            wire: Vec::with_capacity(WIRE),
             body: vec![0x5a; len],
             buffer: vec![0; len],
         };
@@ -51,13 +70,13 @@ impl Exchange {
     // The server promises the room of one message.
     fn promise(&mut self) -> Result<(), Box<dyn Error>> {
         self.server.issue(CHANNEL, self.body.len() as u32)?;
-        carry(&mut self.server, &mut self.client, &mut self.wire)
+        (self.carry)(&mut self.server, &mut self.client, &mut self.wire)
     }
 
     // One message there, and its guarantees back.
     fn round(&mut self) -> Result<(), Box<dyn Error>> {
         self.client.send(CHANNEL, black_box(&self.body))?;
-        carry(&mut self.client, &mut self.server, &mut self.wire)?;
+        (self.carry)(&mut self.client, &mut self.server, &mut self.wire)?;
         let taken = self.server.take_into(CHANNEL, &mut self.buffer)?;
         assert_eq!(taken, Take::Took(self.body.len()));
         black_box(&self.buffer);
@@ -88,6 +107,15 @@ impl Exchange {
     }
 }
 
+const FIGURES: [(&str, Carry, usize); 6] = [
+    ("peer.16", streams, 16),
+    ("peer.1k", streams, 1_024),
+    ("peer.60k", streams, 61_440),
+    ("pieces.16", pieces, 16),
+    ("pieces.1k", pieces, 1_024),
+    ("pieces.60k", pieces, 61_440),
+];
+
 fn main() -> Result<(), Box<dyn Error>> {
     let fixed = env::var("BENCH_FIXED")
         .ok()
@@ -97,11 +125,11 @@ fn main() -> Result<(), Box<dyn Error>> {
         .skip(1)
         .find(|argument| argument != "--bench")
         .unwrap_or_default();
-    for (name, len) in [("peer.16", 16), ("peer.1k", 1_024), ("peer.60k", 61_440)] {
+    for (name, carry, len) in FIGURES {
         if !name.starts_with(&prefix) {
             continue;
         }
-        let mut exchange = Exchange::new(len)?;
+        let mut exchange = Exchange::new(carry, len)?;
         match fixed {
             Some(count) => {
                 exchange.rounds(count)?;

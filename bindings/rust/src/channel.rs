@@ -31,6 +31,7 @@ impl Channel {
     ];
 
     /// The channel's number, 0 to 6.
+    #[inline]
     pub fn number(self) -> u8 {
         self as u8
     }

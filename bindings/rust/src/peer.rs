@@ -3,8 +3,8 @@ use crate::{Channel, Overrun, PeerFault, ReadError, Refusal, Stop};
 use std::fmt::{self, Formatter};
 use std::io::{self, ErrorKind, Read, Write};
 
-/// The bytes asked for per read, and written at most per write.
-const PIECE: usize = 65_538;
+/// The bytes asked for per read, and written at most per write. A peer keeps two buffers this long.
+const PIECE: usize = 16_384;
 
 /// A version of the format.
 #[derive(Clone, Copy, Debug, Default, PartialEq, Eq)]
@@ -175,6 +175,8 @@ fn some_unless_none(number: u64) -> Option<u64> {
 /// ```
 pub struct Peer {
     handle: Handle,
+    // Why the stream that comes was given up: kept on this side, so that no call asks for it.
+    stop: Option<Stop>,
     // What was written out and no writer took yet: the bytes from start to end.
     unsent: Vec<u8>,
     start: usize,
@@ -201,6 +203,7 @@ impl Peer {
         match Handle::new(&bounds) {
             Ok(handle) => Ok(Peer {
                 handle,
+                stop: None,
                 unsent: Vec::new(),
                 start: 0,
                 end: 0,
@@ -212,22 +215,26 @@ impl Peer {
 
     /// A copy of 1 to 65,535 bytes is sent as one message, in version Two of 1 to 1,048,576. Refused by
     /// 15, 1, 2, 3, 4, 14 and 13, in this order.
+    #[inline]
     pub fn send(&mut self, channel: Channel, body: &[u8]) -> Result<(), Refusal> {
         done(self.handle.send(channel.number().into(), body))
     }
 
     /// `amount` guarantees are issued. Refused by 15, 5, 9, 10, 12 and 13, in this order.
+    #[inline]
     pub fn issue(&mut self, channel: Channel, amount: u32) -> Result<(), Refusal> {
         done(self.handle.issue(channel.number().into(), amount))
     }
 
     /// `amount` guarantees are given up. Refused by 15, 5, 6 and 13, in this order.
+    #[inline]
     pub fn absolve(&mut self, channel: Channel, amount: u32) -> Result<(), Refusal> {
         done(self.handle.absolve(channel.number().into(), amount))
     }
 
     /// The other side is asked to absolve until it holds at most `target`. Refused by 15, 11 and 13, in
     /// this order.
+    #[inline]
     pub fn plead(&mut self, channel: Channel, target: u32) -> Result<(), Refusal> {
         done(self.handle.plead(channel.number().into(), target))
     }
@@ -235,6 +242,7 @@ impl Peer {
     /// The plead that is kept is honoured and forgotten: what is held above its target is absolved,
     /// which is the answer, `None` where there is nothing. Refused by 15, and by 13, which keeps the
     /// plead.
+    #[inline]
     pub fn honour(&mut self, channel: Channel) -> Result<Option<u32>, Refusal> {
         let answer = self.handle.honour(channel.number().into());
         done(answer)?;
@@ -243,11 +251,13 @@ impl Peer {
 
     /// At most `bound` bytes are sent from here on; 0 ends the channel. Refused by 15, 7, 8 and 13, in
     /// this order.
+    #[inline]
     pub fn limit_sending(&mut self, channel: Channel, bound: u64) -> Result<(), Refusal> {
         done(self.handle.limit_sending(channel.number().into(), bound))
     }
 
     /// At most `bound` guarantees are issued from here on. Refused by 15, 7, 8 and 13, in this order.
+    #[inline]
     pub fn limit_receiving(&mut self, channel: Channel, bound: u64) -> Result<(), Refusal> {
         done(self.handle.limit_receiving(channel.number().into(), bound))
     }
@@ -268,6 +278,7 @@ impl Peer {
     /// assert_eq!(bob.take_into(Data, &mut [])?, Take::Ended);
     /// # Ok::<(), Box<dyn std::error::Error>>(())
     /// ```
+    #[inline]
     pub fn finish(&mut self, channel: Channel) -> Result<(), Refusal> {
         done(self.handle.finish(channel.number().into()))
     }
@@ -275,32 +286,38 @@ impl Peer {
     /// The next bytes of the stream that comes, cut anywhere. Whole frames arrive, and part of one is
     /// kept. After a stop the stream is given up: the frames before it have arrived, each further call
     /// takes nothing and answers the same, and all other calls still work.
+    #[inline]
     pub fn deliver(&mut self, piece: &[u8]) -> Delivery {
-        let sys::Delivery {
-            code,
-            taken,
-            frames,
-        } = self.handle.deliver(piece);
-        Delivery {
-            taken,
-            frames,
-            stop: Stop::of(code),
+        if self.stop.is_some() {
+            return Delivery {
+                taken: 0,
+                frames: 0,
+                stop: self.stop,
+            };
         }
+        delivered(&mut self.handle, &mut self.stop, piece)
     }
 
     /// What it means that the stream ends here: nothing between two frames, `Fault::Truncated` inside
     /// one or inside a greeting, and the stop of the delivery that stopped, where one did.
+    #[inline]
     pub fn end(&self) -> Result<(), Stop> {
         Stop::of(self.handle.end().code).map_or(Ok(()), Err)
     }
 
     /// The next bytes that go out, to the front of `buffer`: as many as there are and have room, which
     /// is the answer. A frame that does not fit goes on in the next call.
+    #[inline]
     pub fn write(&mut self, buffer: &mut [u8]) -> usize {
         let count = buffer.len().min(self.end - self.start);
-        buffer[..count].copy_from_slice(&self.unsent[self.start..self.start + count]);
-        self.start += count;
-        count + self.handle.write(&mut buffer[count..]).number as usize
+        if count > 0 {
+            buffer[..count].copy_from_slice(&self.unsent[self.start..self.start + count]);
+            self.start += count;
+        }
+        match &mut buffer[count..] {
+            [] => count,
+            room => count + self.handle.write(room).number as usize,
+        }
     }
 
     /// How many bytes are to go out. It looks at each frame that waits.
@@ -324,12 +341,16 @@ impl Peer {
     /// assert_eq!(wire, [0x21, 0, 0, 0, 5]);
     /// # Ok::<(), Box<dyn std::error::Error>>(())
     /// ```
+    #[inline]
     pub fn write_to(&mut self, writer: &mut impl Write) -> io::Result<u64> {
         let mut written = 0;
+        let mut last = false;
         loop {
             if self.start == self.end {
-                self.unsent.resize(PIECE, 0);
-                (self.start, self.end) = (0, self.handle.write(&mut self.unsent).number as usize);
+                if last {
+                    return Ok(written);
+                }
+                last = self.fill();
                 if self.end == 0 {
                     return Ok(written);
                 }
@@ -337,20 +358,37 @@ impl Peer {
             match writer.write(&self.unsent[self.start..self.end]) {
                 Ok(0) => return Err(ErrorKind::WriteZero.into()),
                 Ok(claimed) => {
-                    let offered = self.end - self.start;
-                    self.start += claimed.min(offered);
-                    if claimed > offered {
-                        return Err(Overrun { claimed, offered }.into());
-                    }
+                    self.took(claimed)?;
                     written += claimed as u64;
                 }
-                Err(error) if error.kind() == ErrorKind::Interrupted => {}
-                Err(error) => return Err(error),
+                Err(error) => uninterrupted(error)?,
             }
         }
     }
 
-    /// Reads once, at most 65,538 bytes, and delivers them. The answer is how many they were, 0 where
+    // The next bytes that go out come to this side, where none are here. Whether no more wait behind them.
+    #[inline]
+    fn fill(&mut self) -> bool {
+        if self.unsent.is_empty() {
+            self.unsent = new_piece();
+        }
+        (self.start, self.end) = (0, self.handle.write(&mut self.unsent).number as usize);
+        self.end < PIECE
+    }
+
+    // What a writer took of the bytes on this side. All of them, where it claims more.
+    #[inline]
+    fn took(&mut self, claimed: usize) -> io::Result<()> {
+        let offered = self.end - self.start;
+        if claimed > offered {
+            self.start = self.end;
+            return Err(overrun(claimed, offered));
+        }
+        self.start += claimed;
+        Ok(())
+    }
+
+    /// Reads once, at most 16,384 bytes, and delivers them. The answer is how many they were, 0 where
     /// the stream ended after a whole frame or before the first. A read that was interrupted is made
     /// again. Of a stream that was given up nothing is read.
     ///
@@ -367,36 +405,41 @@ impl Peer {
     /// assert!(matches!(end, ReadError::Stopped { stop: Stop::Fault(Fault::Truncated), .. }));
     /// # Ok::<(), Box<dyn std::error::Error>>(())
     /// ```
+    #[inline]
     pub fn read_from(&mut self, reader: &mut impl Read) -> Result<usize, ReadError> {
-        if let Some(stop) = self.deliver(&[]).stop {
+        if let Some(stop) = self.stop {
             return Err(ReadError::Stopped { stop, frames: 0 });
         }
-        self.piece.resize(PIECE, 0);
+        if self.piece.is_empty() {
+            self.piece = new_piece();
+        }
         let count = loop {
             match reader.read(&mut self.piece) {
-                Err(error) if error.kind() == ErrorKind::Interrupted => {}
-                answer => break answer?,
+                Ok(count) => break count,
+                Err(error) => uninterrupted(error)?,
             }
         };
         if count == 0 {
-            let end = self.end().map(|()| 0);
-            return end.map_err(|stop| ReadError::Stopped { stop, frames: 0 });
+            return self.ended();
         }
         let Some(bytes) = self.piece.get(..count) else {
-            let (claimed, offered) = (count, self.piece.len());
-            return Err(ReadError::Io(Overrun { claimed, offered }.into()));
+            return Err(overrun(count, self.piece.len()).into());
         };
-        let delivery = self.handle.deliver(bytes);
-        match Stop::of(delivery.code) {
+        let Delivery { frames, stop, .. } = delivered(&mut self.handle, &mut self.stop, bytes);
+        match stop {
             None => Ok(count),
-            Some(stop) => Err(ReadError::Stopped {
-                stop,
-                frames: delivery.frames,
-            }),
+            Some(stop) => Err(ReadError::Stopped { stop, frames }),
         }
     }
 
+    #[cold]
+    fn ended(&self) -> Result<usize, ReadError> {
+        let end = self.end().map(|()| 0);
+        end.map_err(|stop| ReadError::Stopped { stop, frames: 0 })
+    }
+
     /// The length of the first message, which stays; `None` where none waits.
+    #[inline]
     pub fn front_len(&self, channel: Channel) -> Option<usize> {
         match self.handle.front_len(channel.number().into()) {
             Answer { code: 0, number } => Some(number as usize),
@@ -406,6 +449,7 @@ impl Peer {
 
     /// Takes the first message, to the front of `buffer`; its bytes are room of the ring again. Refused
     /// by 16 alone, where the buffer is shorter than the message, and then takes nothing.
+    #[inline]
     pub fn take_into(&mut self, channel: Channel, buffer: &mut [u8]) -> Result<Take, Refusal> {
         take(self.handle.take(channel.number().into(), buffer))
     }
@@ -460,6 +504,45 @@ impl fmt::Debug for Peer {
     }
 }
 
+// A buffer whose pages are the system's until they are used.
+#[cold]
+fn new_piece() -> Vec<u8> {
+    vec![0; PIECE]
+}
+
+// A call that was interrupted is made again.
+#[cold]
+fn uninterrupted(error: io::Error) -> io::Result<()> {
+    match error.kind() {
+        ErrorKind::Interrupted => Ok(()),
+        _ => Err(error),
+    }
+}
+
+#[cold]
+fn overrun(claimed: usize, offered: usize) -> io::Error {
+    Overrun { claimed, offered }.into()
+}
+
+// A piece goes over the edge, and a stop is kept.
+#[inline]
+fn delivered(handle: &mut Handle, kept: &mut Option<Stop>, piece: &[u8]) -> Delivery {
+    let sys::Delivery {
+        code,
+        taken,
+        frames,
+    } = handle.deliver(piece);
+    if code != 0 {
+        *kept = Stop::of(code);
+    }
+    Delivery {
+        taken,
+        frames,
+        stop: *kept,
+    }
+}
+
+#[inline]
 fn done(answer: Answer) -> Result<(), Refusal> {
     match answer {
         Answer { code: 0, .. } => Ok(()),
@@ -467,6 +550,7 @@ fn done(answer: Answer) -> Result<(), Refusal> {
     }
 }
 
+#[inline]
 fn take(answer: Answer) -> Result<Take, Refusal> {
     match answer.code {
         0 => Ok(Take::Took(answer.number as usize)),

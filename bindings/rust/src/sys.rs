@@ -112,68 +112,84 @@ impl Handle {
         }
     }
 
+    #[inline]
     pub fn send(&mut self, channel: u32, body: &[u8]) -> Answer {
         unsafe { lcmux_peer_send(self.0.get(), channel, body.as_ptr(), body.len()) }
     }
 
+    #[inline]
     pub fn issue(&mut self, channel: u32, amount: u32) -> Answer {
         unsafe { lcmux_peer_issue(self.0.get(), channel, amount) }
     }
 
+    #[inline]
     pub fn absolve(&mut self, channel: u32, amount: u32) -> Answer {
         unsafe { lcmux_peer_absolve(self.0.get(), channel, amount) }
     }
 
+    #[inline]
     pub fn plead(&mut self, channel: u32, target: u32) -> Answer {
         unsafe { lcmux_peer_plead(self.0.get(), channel, target) }
     }
 
+    #[inline]
     pub fn honour(&mut self, channel: u32) -> Answer {
         unsafe { lcmux_peer_honour(self.0.get(), channel) }
     }
 
+    #[inline]
     pub fn limit_sending(&mut self, channel: u32, bound: u64) -> Answer {
         unsafe { lcmux_peer_limit_sending(self.0.get(), channel, bound) }
     }
 
+    #[inline]
     pub fn limit_receiving(&mut self, channel: u32, bound: u64) -> Answer {
         unsafe { lcmux_peer_limit_receiving(self.0.get(), channel, bound) }
     }
 
+    #[inline]
     pub fn finish(&mut self, channel: u32) -> Answer {
         unsafe { lcmux_peer_finish(self.0.get(), channel) }
     }
 
+    #[inline]
     pub fn deliver(&mut self, piece: &[u8]) -> Delivery {
         unsafe { lcmux_peer_deliver(self.0.get(), piece.as_ptr(), piece.len()) }
     }
 
+    #[inline]
     pub fn end(&self) -> Answer {
         unsafe { lcmux_peer_end(self.0.get()) }
     }
 
+    #[inline]
     pub fn write(&mut self, buffer: &mut [u8]) -> Answer {
         unsafe { lcmux_peer_write(self.0.get(), buffer.as_mut_ptr(), buffer.len()) }
     }
 
+    #[inline]
     pub fn pending(&self) -> Answer {
         unsafe { lcmux_peer_pending(self.0.get()) }
     }
 
+    #[inline]
     pub fn front_len(&self, channel: u32) -> Answer {
         unsafe { lcmux_peer_front_len(self.0.get(), channel) }
     }
 
+    #[inline]
     pub fn take(&mut self, channel: u32, buffer: &mut [u8]) -> Answer {
         unsafe { lcmux_peer_take(self.0.get(), channel, buffer.as_mut_ptr(), buffer.len()) }
     }
 
+    #[inline]
     pub fn client(&self, channel: u32) -> Client {
         let mut client = Client::default();
         unsafe { lcmux_peer_client(self.0.get(), channel, &mut client) };
         client
     }
 
+    #[inline]
     pub fn server(&self, channel: u32) -> Server {
         let mut server = Server::default();
         unsafe { lcmux_peer_server(self.0.get(), channel, &mut server) };

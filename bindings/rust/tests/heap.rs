@@ -1,5 +1,5 @@
-//! What peers ask memory for and give back: the `malloc`, `realloc` and `free` of this program count what
-//! a thread asks for, and refuse it a request.
+//! What peers ask memory for and give back: the `malloc`, `calloc`, `realloc` and `free` of this program
+//! count what a thread asks for, and refuse it a request.
 use lcmux::{Channel::Data, Config, Peer, PeerFault, Refusal};
 use std::cell::Cell;
 use std::ffi::c_void;
@@ -23,6 +23,7 @@ thread_local! {
 
 extern "C" {
     fn __libc_malloc(size: usize) -> *mut c_void;
+    fn __libc_calloc(count: usize, size: usize) -> *mut c_void;
     fn __libc_realloc(at: *mut c_void, size: usize) -> *mut c_void;
     fn __libc_free(at: *mut c_void);
 }
@@ -42,6 +43,14 @@ fn is_granted(size: usize, blocks: isize) -> bool {
 unsafe extern "C" fn malloc(size: usize) -> *mut c_void {
     match is_granted(size, 1) {
         true => __libc_malloc(size),
+        false => ptr::null_mut(),
+    }
+}
+
+#[no_mangle]
+unsafe extern "C" fn calloc(count: usize, size: usize) -> *mut c_void {
+    match is_granted(count * size, 1) {
+        true => __libc_calloc(count, size),
         false => ptr::null_mut(),
     }
 }
@@ -71,7 +80,10 @@ fn watched<T>(refused: usize, call: impl FnOnce() -> T) -> (T, Heap) {
         live: 0,
     });
     let answer = call();
-    (answer, HEAP.get())
+    let heap = HEAP.get();
+    // What comes behind the call is refused nothing.
+    HEAP.set(Heap { refused: 0, ..heap });
+    (answer, heap)
 }
 
 #[test]
@@ -120,6 +132,21 @@ fn a_peer_gives_back_what_waits_in_it() {
         assert_eq!(peer.write(&mut [0; 1]), 1);
     });
     assert_eq!(heap.live, 0);
+}
+
+#[test]
+fn the_first_write_and_the_first_read_ask_for_16_kib_and_no_later_one_for_any() {
+    let mut peer = Peer::new(&Config::new([8; 7], 4)).unwrap();
+    let mut wire = Vec::with_capacity(64);
+    for requests in [1, 0] {
+        peer.issue(Data, 4).unwrap();
+        let (_, heap) = watched(0, || peer.write_to(&mut wire).unwrap());
+        assert_eq!((heap.requests, heap.size), (requests, 16_384 * requests));
+        let (_, heap) = watched(0, || peer.read_from(&mut wire.as_slice()).unwrap());
+        assert_eq!((heap.requests, heap.size), (requests, 16_384 * requests));
+    }
+    let ((), heap) = watched(0, || drop(peer));
+    assert_eq!(heap.live, -20);
 }
 
 /// What the archive calls in place of `malloc`, `realloc` and `free`.

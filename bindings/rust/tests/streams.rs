@@ -5,7 +5,7 @@ mod common;
 use common::{hex, rows};
 use lcmux::{
     Channel::{Capability, Data, Overlap},
-    Config, Overrun, Peer, ReadError, Take, Version,
+    Config, Fault, Overrun, Peer, ReadError, Stop, Take, Version,
 };
 use std::collections::VecDeque;
 use std::io::{self, ErrorKind, Read, Write};
@@ -122,19 +122,39 @@ fn a_write_that_stops_loses_nothing() {
     }
 }
 
+/// What waits is asked for in pieces, of which the first that is not full is the last.
 #[test]
-fn a_write_offers_all_that_waits_up_to_a_whole_frame_of_version_one() {
-    let mut peer = peer();
-    assert_eq!(peer.deliver(&[0x21, 0, 1, 0xff, 0xfe]).frames, 1);
-    for _ in 0..2 {
-        peer.send(Data, &[7; 65_535]).unwrap();
+fn a_write_offers_all_that_waits_by_pieces_of_16_kib() {
+    for (body, offered) in [
+        (16_380, &[16_383][..]),
+        (16_381, &[16_384]),
+        (16_382, &[16_384, 1]),
+        (32_765, &[16_384, 16_384]),
+        (65_535, &[16_384, 16_384, 16_384, 16_384, 2]),
+    ] {
+        let mut peer = peer();
+        assert_eq!(peer.deliver(&[0x21, 0, 1, 0, 0]).frames, 1);
+        peer.send(Data, &vec![7; body]).unwrap();
+        let mut writer = Writer::new("");
+        assert_eq!(peer.write_to(&mut writer).unwrap(), 3 + body as u64);
+        assert_eq!(
+            (&writer.offered[..], writer.taken.len()),
+            (offered, 3 + body)
+        );
+        assert!(writer.taken[3..].iter().all(|byte| *byte == 7));
+        assert_eq!(peer.write_to(&mut writer).unwrap(), 0);
     }
+}
+
+#[test]
+fn a_short_piece_that_waited_for_the_writer_is_not_the_last() {
+    let mut peer = peer();
     peer.issue(Data, 5).unwrap();
-    let mut writer = Writer::new("65530 8 65538");
-    assert_eq!(peer.write_to(&mut writer).unwrap(), 2 * 65_538 + 5);
-    assert_eq!(writer.taken[2 * 65_538..], ISSUE);
-    assert_eq!(peer.write_to(&mut writer).unwrap(), 0);
-    assert_eq!(writer.offered, [65_538, 8, 65_538, 5]);
+    assert!(peer.write_to(&mut Writer::new("WouldBlock")).is_err());
+    peer.issue(Overlap, 7).unwrap();
+    let mut writer = Writer::new("");
+    assert_eq!(peer.write_to(&mut writer).unwrap(), 10);
+    assert_eq!((writer.offered, peer.pending()), (vec![5, 5], 0));
 }
 
 /// Takes what it is offered, or fills what it is asked for, and claims some bytes more.
@@ -315,7 +335,7 @@ fn each_read_is_answered() {
             answers,
             "{words}"
         );
-        assert!(reader.asked.iter().all(|count| *count == 65_538));
+        assert!(reader.asked.iter().all(|count| *count == 16_384));
     }
 }
 
@@ -356,6 +376,24 @@ fn messages_of_every_length_that_a_frame_has() {
             assert_eq!(server.take_into(Data, &mut message), Ok(Take::Took(len)));
             assert_eq!(message, body);
         }
+    }
+}
+
+#[test]
+fn a_stop_is_the_same_for_each_way_to_bring_bytes() {
+    let stop = Stop::Fault(Fault::BadTag);
+    for by_read in [true, false] {
+        let mut peer = peer();
+        match by_read {
+            true => assert!(peer.read_from(&mut &[0x77][..]).is_err()),
+            false => assert_eq!(peer.deliver(&[0x77]).stop, Some(stop)),
+        }
+        let again = peer.deliver(&ISSUE);
+        assert_eq!((again.taken, again.frames, again.stop), (0, 0, Some(stop)));
+        assert_eq!(answer(peer.read_from(&mut &ISSUE[..])), "Fault(BadTag):0");
+        assert_eq!((peer.end(), peer.client(Data).held), (Err(stop), 0));
+        peer.issue(Data, 5).unwrap();
+        assert_eq!(peer.write_to(&mut Vec::new()).unwrap(), 5);
     }
 }
 
