@@ -424,8 +424,8 @@ impl From<ReadError> for io::Error {
     }
 }
 
-/// A count of bytes that is above what there was, as a reader or a writer claims it that breaks the
-/// rules of its trait.
+/// A count of bytes that is above what there was: that of a call of [`Peer::advance`](crate::Peer::advance),
+/// or of a reader or a writer that breaks the rules of its trait.
 #[derive(Clone, Copy, Debug, PartialEq, Eq)]
 #[non_exhaustive]
 pub struct Overrun {

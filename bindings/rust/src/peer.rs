@@ -320,6 +320,42 @@ impl Peer {
         }
     }
 
+    /// The next bytes that go out, at most 16,384; none where nothing waits. They stay the next until
+    /// [`Peer::advance`] says how many of them went out: so a write that is given up, or that would
+    /// block, loses nothing.
+    ///
+    /// ```
+    /// # use lcmux::{Channel::Data, Config, Peer};
+    /// # let mut peer = Peer::new(&Config::new([8; 7], 4))?;
+    /// peer.issue(Data, 5)?;
+    /// assert_eq!(peer.chunk(), [0x21, 0, 0, 0, 5]);
+    /// peer.advance(3)?;
+    /// assert_eq!(peer.chunk(), [0, 5]);
+    /// peer.advance(2)?;
+    /// assert!(peer.chunk().is_empty());
+    /// # Ok::<(), Box<dyn std::error::Error>>(())
+    /// ```
+    #[inline]
+    #[must_use = "bytes that are not written go out later"]
+    pub fn chunk(&mut self) -> &[u8] {
+        if self.start == self.end {
+            self.fill();
+        }
+        &self.unsent[self.start..self.end]
+    }
+
+    /// So many bytes of the [`Peer::chunk`] went out. More than it has are an error that changes nothing.
+    #[inline]
+    pub fn advance(&mut self, count: usize) -> Result<(), Overrun> {
+        let offered = self.end - self.start;
+        if count > offered {
+            let claimed = count;
+            return Err(Overrun { claimed, offered });
+        }
+        self.start += count;
+        Ok(())
+    }
+
     /// How many bytes are to go out. It looks at each frame that waits.
     pub fn pending(&self) -> usize {
         self.end - self.start + self.handle.pending().number as usize
@@ -379,13 +415,11 @@ impl Peer {
     // What a writer took of the bytes on this side. All of them, where it claims more.
     #[inline]
     fn took(&mut self, claimed: usize) -> io::Result<()> {
-        let offered = self.end - self.start;
-        if claimed > offered {
+        let took = self.advance(claimed);
+        if took.is_err() {
             self.start = self.end;
-            return Err(overrun(claimed, offered));
         }
-        self.start += claimed;
-        Ok(())
+        took.map_err(io::Error::from)
     }
 
     /// Reads once, at most 16,384 bytes, and delivers them. The answer is how many they were, 0 where

@@ -276,6 +276,35 @@ fn a_device_that_panics_leaves_both_streams_as_they_were() {
     assert_eq!(peer.client(Data).held, 5);
 }
 
+/// Three frames, of which the chunk had two when the third came.
+#[test]
+fn a_chunk_stays_until_it_is_advanced_over() {
+    let mut peer = peer();
+    assert!(peer.chunk().is_empty());
+    assert_eq!(peer.advance(0), Ok(()));
+    assert!(peer.advance(1).is_err());
+    peer.issue(Data, 5).unwrap();
+    assert!(peer.advance(1).is_err());
+    peer.issue(Overlap, 7).unwrap();
+    let both = [[0x21, 0, 0, 0, 5], [0x22, 0, 0, 0, 7]].concat();
+    assert_eq!(peer.chunk(), both);
+    peer.issue(Capability, 8).unwrap();
+    assert_eq!((peer.pending(), peer.chunk()), (15, &both[..]));
+
+    peer.advance(4).unwrap();
+    for count in [7, 16_384, usize::MAX] {
+        let overrun = peer.advance(count).unwrap_err();
+        assert_eq!((overrun.claimed, overrun.offered), (count, 6));
+        assert_eq!((peer.pending(), peer.chunk()), (11, &both[4..]));
+    }
+    peer.advance(6).unwrap();
+    assert_eq!((peer.pending(), peer.chunk()), (5, &[0x23, 0, 0, 0, 8][..]));
+    peer.advance(1).unwrap();
+    let mut wire = Vec::new();
+    assert_eq!(peer.write_to(&mut wire).unwrap(), 4);
+    assert_eq!((&wire[..], peer.chunk()), (&[0, 0, 0, 8][..], &[][..]));
+}
+
 /// Two frames of which a writer took six bytes, and a third behind them.
 #[test]
 fn a_buffer_gets_what_no_writer_took_and_then_what_waits() {
