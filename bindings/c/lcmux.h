@@ -24,6 +24,10 @@
  * number is 0 with all others. After a code other than LCMUX_OK nothing has changed, unless the call
  * says so. lcmux_peer_deliver answers more than that, in a struct of its own.
  *
+ * Waiting. Read also while there is something to write. Two sides that each write all before they read
+ * wait for each other for ever, once both have more to write than the sockets between them hold: let
+ * poll wait for both directions of a socket that does not block, and keep what a write did not take.
+ *
  * Memory. The library asks for memory in lcmux_peer_new and lcmux_peer_send alone, by the three
  * functions of heap.c. A program may bring its own: lcmux_heap.h says how.
  *

@@ -42,7 +42,9 @@ fn take_all(mut stream: TcpStream) -> Result<u32, Box<dyn Error>> {
             Take::Took(len) => {
                 assert_eq!(message[..len], next.to_be_bytes());
                 next += 1;
-                peer.issue(Data, len as u32)?;
+                if !peer.server(Data).finished {
+                    peer.issue(Data, len as u32)?;
+                }
             }
             Take::Ended => return Ok(next),
             Take::Empty => {

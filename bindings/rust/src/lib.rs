@@ -10,27 +10,38 @@
 //! at that edge stands in the repository's `docs/promises.md`.
 //!
 //! [`Peer`] is pure: bytes in by [`Peer::deliver`], bytes out by [`Peer::write`]. [`Peer::read_from`]
-//! and [`Peer::write_to`] do the same over any reader and writer. `examples/tcp.rs` runs two peers in
-//! two processes over TCP.
+//! and [`Peer::write_to`] do the same over any reader and writer, and [`Peer::drive`] both over one stream,
+//! so that neither direction waits for the other. `examples/tcp.rs` runs two peers in two processes over
+//! TCP.
 //!
 //! ```no_run
-//! use lcmux::{Channel::Data, Config, Peer, Take};
+//! use lcmux::{Channel::Data, Config, Incoming, Peer, Refusal, Take};
+//! use std::{error::Error, net::TcpStream, time::Duration};
 //!
-//! fn serve(mut stream: std::net::TcpStream) -> Result<(), Box<dyn std::error::Error>> {
+//! fn serve(mut stream: TcpStream) -> Result<(), Box<dyn Error>> {
+//!     // By the timeouts neither direction holds up the other: `drive` goes on with what it can do.
+//!     stream.set_read_timeout(Some(Duration::from_millis(10)))?;
+//!     stream.set_write_timeout(Some(Duration::from_millis(10)))?;
 //!     let mut peer = Peer::new(&Config::new([1024; 7], 16))?;
-//!     peer.issue(Data, 1024)?; // room for 1,024 bytes is promised
-//!     let mut message = [0; 1024];
+//!     let mut owed = 1024; // the room that is to be promised
 //!     loop {
-//!         peer.write_to(&mut stream)?;
-//!         match peer.take_into(Data, &mut message)? {
-//!             Take::Took(len) => {
-//!                 println!("{}", String::from_utf8_lossy(&message[..len]));
-//!                 if !peer.server(Data).finished {
-//!                     peer.issue(Data, len as u32)?; // and anew once it was taken
-//!                 }
+//!         match peer.issue(Data, owed) {
+//!             Ok(()) => owed = 0,
+//!             Err(Refusal::QueueFull) => {} // later, when frames went out
+//!             Err(Refusal::ZeroAmount | Refusal::ChannelFinished) => {} // nothing to be done
+//!             Err(refusal) => return Err(refusal.into()),
+//!         }
+//!         match peer.take(Data) {
+//!             Take::Took(message) => {
+//!                 println!("{}", String::from_utf8_lossy(&message));
+//!                 owed += message.len() as u32; // and anew once it was taken
 //!             }
-//!             Take::Empty if peer.read_from(&mut stream)? > 0 => {}
-//!             Take::Empty | Take::Ended => return Ok(()),
+//!             Take::Ended => return Ok(()),
+//!             Take::Empty => match peer.drive(&mut stream)?.incoming {
+//!                 Incoming::Stopped { stop, .. } => return Err(stop.into()),
+//!                 Incoming::Ended => return Ok(()),
+//!                 _ => {}
+//!             },
 //!         }
 //!     }
 //! }
@@ -45,7 +56,7 @@ mod sys;
 
 pub use channel::Channel;
 pub use error::{Fault, Overrun, PeerFault, ReadError, Refusal, Stop, Violation};
-pub use peer::{ClientBook, Config, Delivery, Peer, ServerBook, Take, Version};
+pub use peer::{ClientBook, Config, Delivery, Incoming, Peer, Progress, ServerBook, Take, Version};
 
 /// The version of the library that is linked: 65,536 times its first number, 256 times its second, and
 /// its third.

@@ -6,6 +6,9 @@ use std::io::{self, ErrorKind, Read, Write};
 /// The bytes asked for per read, and written at most per write. A peer keeps two buffers this long.
 const PIECE: usize = 16_384;
 
+/// How many pieces a drive reads at most.
+const PIECES: usize = 16;
+
 /// A version of the format.
 #[derive(Clone, Copy, Debug, Default, PartialEq, Eq)]
 #[non_exhaustive]
@@ -88,15 +91,59 @@ pub struct Delivery {
     pub stop: Option<Stop>,
 }
 
-/// What a take answers.
+/// What a take answers: of [`Peer::take_into`] how long the message is, of [`Peer::take`] the message.
 #[derive(Clone, Copy, Debug, PartialEq, Eq)]
-pub enum Take {
-    /// The first message was taken; its length in bytes.
-    Took(usize),
+pub enum Take<T = usize> {
+    /// The first message was taken.
+    Took(T),
     /// No message waits.
     Empty,
     /// No message waits, and none will come: the other side's limit on sending is used up, or it finished.
     Ended,
+}
+
+impl<T> Take<T> {
+    /// What was taken, where no difference is made between `Empty` and `Ended`.
+    pub fn took(self) -> Option<T> {
+        match self {
+            Take::Took(message) => Some(message),
+            Take::Empty | Take::Ended => None,
+        }
+    }
+}
+
+/// What a [`Peer::drive`] did.
+#[derive(Clone, Copy, Debug, PartialEq, Eq)]
+#[non_exhaustive]
+#[must_use]
+pub struct Progress {
+    /// How many bytes went out.
+    pub written: u64,
+    /// How many bytes came before the stream stopped, where it did.
+    pub read: usize,
+    /// Whether bytes are left that the stream does not take now: drive on once it may be written.
+    pub blocked: bool,
+    /// How the read went.
+    pub incoming: Incoming,
+}
+
+/// How the read of a [`Peer::drive`] went.
+#[derive(Clone, Copy, Debug, PartialEq, Eq)]
+#[non_exhaustive]
+pub enum Incoming {
+    /// Bytes came, and more may.
+    Open,
+    /// None is there now: the read would block, or its timeout is over.
+    WouldBlock,
+    /// The stream ended, after a whole frame or before the first.
+    Ended,
+    /// The stream was given up, or ended inside a frame.
+    Stopped {
+        /// Why.
+        stop: Stop,
+        /// How many frames arrived by the read that stopped it.
+        frames: u64,
+    },
 }
 
 /// The balances of a channel as client, the side that sends. All count bytes of messages.
@@ -365,6 +412,9 @@ impl Peer {
     /// that was interrupted is made again. After any other error nothing is lost: a further call goes
     /// on with the next byte, also where the writer was one that would block.
     ///
+    /// It reads nothing meanwhile. Where both sides do so over streams that block, each waits for the
+    /// other for ever once both have more to write than the sockets hold: [`Peer::drive`] does not.
+    ///
     /// A writer that says that it took more than it was offered is an error of kind `InvalidData`, with
     /// an [`Overrun`] in it. All that it was offered then counts as written, and no byte goes out twice.
     ///
@@ -380,22 +430,29 @@ impl Peer {
     #[inline]
     pub fn write_to(&mut self, writer: &mut impl Write) -> io::Result<u64> {
         let mut written = 0;
+        self.write_counted(writer, &mut written)?;
+        Ok(written)
+    }
+
+    // `write_to`, that says how many bytes it wrote also where it failed.
+    #[inline]
+    fn write_counted(&mut self, writer: &mut impl Write, written: &mut u64) -> io::Result<()> {
         let mut last = false;
         loop {
             if self.start == self.end {
                 if last {
-                    return Ok(written);
+                    return Ok(());
                 }
                 last = self.fill();
                 if self.end == 0 {
-                    return Ok(written);
+                    return Ok(());
                 }
             }
             match writer.write(&self.unsent[self.start..self.end]) {
                 Ok(0) => return Err(ErrorKind::WriteZero.into()),
                 Ok(claimed) => {
                     self.took(claimed)?;
-                    written += claimed as u64;
+                    *written += claimed as u64;
                 }
                 Err(error) => uninterrupted(error)?,
             }
@@ -472,6 +529,61 @@ impl Peer {
         end.map_err(|stop| ReadError::Stopped { stop, frames: 0 })
     }
 
+    /// Moves both directions once: writes until all is written or the stream takes no more now, then
+    /// reads pieces of 16,384 bytes until one is not full, at most 16, and delivers them. A call that would
+    /// block, or whose timeout is over, is no error, and nothing is lost by it.
+    ///
+    /// Over a stream that does not block, or that has a timeout for reads and one for writes, neither
+    /// side holds up the other, whatever both have to write. Over one that blocks without a timeout the
+    /// write waits until the other side reads, and the read until it writes.
+    ///
+    /// After a stop it goes on to write, and reads nothing. An error of the write comes before the read: what came
+    /// is still to be had by [`Peer::read_from`].
+    ///
+    /// ```
+    /// # use lcmux::{Channel::Data, Config, Incoming, Peer};
+    /// # let mut peer = Peer::new(&Config::new([8; 7], 4))?;
+    /// let (mut stream, _other) = std::os::unix::net::UnixStream::pair()?;
+    /// stream.set_nonblocking(true)?;
+    /// peer.issue(Data, 5)?;
+    /// let progress = peer.drive(&mut stream)?;
+    /// assert_eq!((progress.written, progress.blocked), (5, false));
+    /// assert_eq!(progress.incoming, Incoming::WouldBlock);
+    /// # Ok::<(), Box<dyn std::error::Error>>(())
+    /// ```
+    pub fn drive(&mut self, stream: &mut (impl Read + Write)) -> io::Result<Progress> {
+        let mut written = 0;
+        let blocked = match self.write_counted(stream, &mut written) {
+            Ok(()) => false,
+            Err(error) if is_for_later(&error) => true,
+            Err(error) => return Err(error),
+        };
+        let (mut read, mut incoming) = (0, Incoming::WouldBlock);
+        for _ in 0..PIECES {
+            match self.read_from(stream) {
+                Ok(0) => incoming = Incoming::Ended,
+                Ok(count) => {
+                    (read, incoming) = (read + count, Incoming::Open);
+                    if count == PIECE {
+                        continue;
+                    }
+                }
+                Err(ReadError::Stopped { stop, frames }) => {
+                    incoming = Incoming::Stopped { stop, frames };
+                }
+                Err(ReadError::Io(error)) if is_for_later(&error) => {}
+                Err(ReadError::Io(error)) => return Err(error),
+            }
+            break;
+        }
+        Ok(Progress {
+            written,
+            read,
+            blocked,
+            incoming,
+        })
+    }
+
     /// The length of the first message, which stays; `None` where none waits.
     #[inline]
     pub fn front_len(&self, channel: Channel) -> Option<usize> {
@@ -488,13 +600,26 @@ impl Peer {
         take(self.handle.take(channel.number().into(), buffer))
     }
 
-    /// Takes the first message, where one waits.
-    pub fn take(&mut self, channel: Channel) -> Option<Vec<u8>> {
-        let mut message = vec![0; self.front_len(channel)?];
-        match self.take_into(channel, &mut message) {
-            Ok(Take::Took(_)) => Some(message),
-            _ => None,
-        }
+    /// Takes the first message, into a vector of its own.
+    ///
+    /// ```
+    /// # use lcmux::{Channel::Data, Config, Peer, Take};
+    /// # let mut peer = Peer::new(&Config::new([8; 7], 4))?;
+    /// peer.issue(Data, 8)?;
+    /// let _ = peer.deliver(b"\x11\0\x02hi\x51\0\0\0\0\0\0\0\0");
+    /// assert_eq!(peer.take(Data), Take::Took(b"hi".to_vec()));
+    /// assert_eq!(peer.take(Data), Take::Ended);
+    /// # Ok::<(), Box<dyn std::error::Error>>(())
+    /// ```
+    pub fn take(&mut self, channel: Channel) -> Take<Vec<u8>> {
+        let front = self.handle.front_len(channel.number().into());
+        let mut message = match front.code {
+            0 => vec![0; front.number as usize],
+            49 => return Take::Ended,
+            _ => return Take::Empty,
+        };
+        self.handle.take(channel.number().into(), &mut message);
+        Take::Took(message)
     }
 
     /// The balances of a channel as client.
@@ -551,6 +676,10 @@ fn uninterrupted(error: io::Error) -> io::Result<()> {
         ErrorKind::Interrupted => Ok(()),
         _ => Err(error),
     }
+}
+
+fn is_for_later(error: &io::Error) -> bool {
+    matches!(error.kind(), ErrorKind::WouldBlock | ErrorKind::TimedOut)
 }
 
 #[cold]

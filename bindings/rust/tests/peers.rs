@@ -134,7 +134,7 @@ fn an_honour_absolves_what_is_held_above_the_target() {
 #[test]
 fn messages_are_taken_one_by_one() {
     let mut peer = peer();
-    assert_eq!((peer.front_len(Data), peer.take(Data)), (None, None));
+    assert_eq!((peer.front_len(Data), peer.take(Data)), (None, Take::Empty));
     assert_eq!(peer.take_into(Data, &mut [7; 4]), Ok(Take::Empty));
     peer.issue(Data, 9).unwrap();
     peer.issue(Overlap, 6).unwrap();
@@ -143,20 +143,20 @@ fn messages_are_taken_one_by_one() {
 
     let fronts = [Data, Overlap, Channel::Capability].map(|channel| peer.front_len(channel));
     assert_eq!(fronts, [Some(5), Some(6), None]);
-    assert_eq!(peer.take(Overlap).as_deref(), Some(&b"beside"[..]));
-    assert_eq!(peer.take(Data).as_deref(), Some(&b"first"[..]));
+    assert_eq!(peer.take(Overlap).took().as_deref(), Some(&b"beside"[..]));
+    assert_eq!(peer.take(Data).took().as_deref(), Some(&b"first"[..]));
     assert_eq!(peer.server(Data).buffered, 4);
     let mut buffer = [7; 6];
     let short = peer.take_into(Data, &mut buffer[..3]);
     assert_eq!(short, Err(Refusal::BufferTooSmall { need: 4 }));
     assert_eq!(peer.take_into(Data, &mut buffer), Ok(Take::Took(4)));
     assert_eq!(&buffer, b"next\x07\x07");
-    assert_eq!((peer.front_len(Data), peer.take(Data)), (None, None));
+    assert_eq!((peer.front_len(Data), peer.take(Data)), (None, Take::Empty));
 
     let ended = peer.deliver(&[0x51, 0, 0, 0, 0, 0, 0, 0, 0]);
     assert_eq!(ended.frames, 1);
     assert_eq!(peer.take_into(Data, &mut buffer), Ok(Take::Ended));
-    assert_eq!((peer.front_len(Data), peer.take(Data)), (None, None));
+    assert_eq!((peer.front_len(Data), peer.take(Data)), (None, Take::Ended));
 }
 
 /// A peer that sent, was asked and limited, and one that received, with what both say of the channel.

@@ -5,11 +5,14 @@ mod common;
 use common::{hex, rows};
 use lcmux::{
     Channel::{Capability, Data, Overlap},
-    Config, Fault, Overrun, Peer, ReadError, Stop, Take, Version,
+    Config, Fault, Incoming, Overrun, Peer, ReadError, Stop, Take, Version,
 };
 use std::collections::VecDeque;
 use std::io::{self, ErrorKind, Read, Write};
-use std::panic;
+use std::net::Shutdown;
+use std::os::unix::net::UnixStream;
+use std::time::{Duration, Instant};
+use std::{panic, thread};
 
 /// An issue of 5 on channel 1.
 const ISSUE: [u8; 5] = [0x21, 0, 0, 0, 5];
@@ -23,6 +26,7 @@ fn script<T>(words: &str, done: fn(&str) -> T) -> VecDeque<io::Result<T>> {
     let kinds = [
         ErrorKind::Interrupted,
         ErrorKind::WouldBlock,
+        ErrorKind::TimedOut,
         ErrorKind::BrokenPipe,
         ErrorKind::ConnectionReset,
     ];
@@ -366,6 +370,195 @@ fn each_read_is_answered() {
         );
         assert!(reader.asked.iter().all(|count| *count == 16_384));
     }
+}
+
+/// A stream of both directions.
+struct Stream(Writer, Reader);
+
+impl Write for Stream {
+    fn write(&mut self, buffer: &[u8]) -> io::Result<usize> {
+        self.0.write(buffer)
+    }
+
+    fn flush(&mut self) -> io::Result<()> {
+        self.0.flush()
+    }
+}
+
+impl Read for Stream {
+    fn read(&mut self, buffer: &mut [u8]) -> io::Result<usize> {
+        self.1.read(buffer)
+    }
+}
+
+// What the stream answers to writes and, behind `|`, to reads; then what one drive says: how many bytes it
+// wrote and read, whether it is blocked, and how the read went. Five bytes wait to go out.
+const DRIVES: &str = "\
+5 | 2100000005 => 5 5 false Open
+2 Interrupted 3 | Interrupted 2100 => 5 2 false Open
+WouldBlock | 2100000005 => 0 5 true Open
+3 TimedOut | WouldBlock => 3 0 true WouldBlock
+1 2 WouldBlock | - => 3 0 true Ended
+5 | TimedOut => 5 0 false WouldBlock
+5 | WouldBlock => 5 0 false WouldBlock
+5 | - => 5 0 false Ended
+5 | 77 => 5 0 false Stopped { stop: Fault(BadTag), frames: 0 }
+5 | 210000000577 => 5 0 false Stopped { stop: Fault(BadTag), frames: 1 }
+BrokenPipe | 2100000005 => BrokenPipe
+0 | 2100000005 => WriteZero
+5 | ConnectionReset => ConnectionReset";
+
+#[test]
+fn each_drive_is_answered() {
+    for (words, want) in rows(DRIVES) {
+        let (writes, reads) = words.split_once(" | ").unwrap();
+        let (mut peer, mut stream) = (peer(), Stream(Writer::new(writes), Reader::new(reads)));
+        peer.issue(Data, 5).unwrap();
+        let answer = match peer.drive(&mut stream) {
+            Ok(it) => format!(
+                "{} {} {} {:?}",
+                it.written, it.read, it.blocked, it.incoming
+            ),
+            Err(error) => format!("{:?}", error.kind()),
+        };
+        assert_eq!(answer, want, "{words}");
+        assert_eq!(peer.pending(), 5 - stream.0.taken.len());
+        peer.write_to(&mut stream).unwrap();
+        assert_eq!(stream.0.taken, ISSUE, "{words}");
+        assert!(stream.1.asked.len() <= 1 + reads.matches("Interrupted").count());
+    }
+}
+
+#[test]
+fn a_drive_over_a_stream_that_was_given_up_still_writes() {
+    let (mut peer, mut stream) = (peer(), Stream(Writer::new(""), Reader::new("77")));
+    for written in [5, 5] {
+        peer.issue(Data, 1).unwrap();
+        let progress = peer.drive(&mut stream).unwrap();
+        assert_eq!((progress.written, progress.blocked), (written, false));
+        let stop = Stop::Fault(Fault::BadTag);
+        assert_eq!(progress.incoming, Incoming::Stopped { stop, frames: 0 });
+    }
+    assert_eq!(stream.1.asked.len(), 1);
+}
+
+type End = fn() -> io::Result<usize>;
+
+/// Gives the front of a message of 1 MiB, in reads as long as they may be.
+struct Long {
+    left: usize,
+    reads: usize,
+    end: End,
+}
+
+impl Write for Long {
+    fn write(&mut self, _: &[u8]) -> io::Result<usize> {
+        panic!("nothing waits to go out");
+    }
+
+    fn flush(&mut self) -> io::Result<()> {
+        Ok(())
+    }
+}
+
+impl Read for Long {
+    fn read(&mut self, buffer: &mut [u8]) -> io::Result<usize> {
+        self.reads += 1;
+        if self.left == 0 {
+            return (self.end)();
+        }
+        let greeting = b"\x4c\x43\x4d\x02\x11\x00\x10\x00\x00";
+        let count = self.left.min(buffer.len());
+        buffer[..count].fill(0);
+        if self.reads == 1 {
+            buffer[..9].copy_from_slice(greeting);
+        }
+        self.left -= count;
+        Ok(count)
+    }
+}
+
+// How many bytes there are and what is behind them; then what one drive says, and how many reads it made.
+#[test]
+fn a_drive_reads_while_pieces_are_full() {
+    let late = || Err(ErrorKind::WouldBlock.into());
+    let cases: [(usize, End, _); 5] = [
+        (16_383, late, "16383 Open, 1 reads"),
+        (16_384, late, "16384 Open, 2 reads"),
+        (16_385, late, "16385 Open, 2 reads"),
+        (
+            32_768,
+            || Ok(0),
+            "32768 Stopped { stop: Fault(Truncated), frames: 0 }, 3 reads",
+        ),
+        (300_000, late, "262144 Open, 16 reads"),
+    ];
+    for (left, end, want) in cases {
+        let mut peer = Peer::new(&Config::new([1 << 20; 7], 4)).unwrap();
+        peer.issue(Data, 1 << 20).unwrap();
+        let count = peer.chunk().len();
+        peer.advance(count).unwrap();
+        let mut stream = Long {
+            left,
+            reads: 0,
+            end,
+        };
+        let it = peer.drive(&mut stream).unwrap();
+        let shown = format!("{} {:?}, {} reads", it.read, it.incoming, stream.reads);
+        assert_eq!(shown, want);
+    }
+}
+
+const SWAPPED: usize = 40;
+const LONG: usize = 60_000;
+
+/// Sends all messages and takes as many of the other side's, each with room for far more than a socket holds.
+fn swap(mut stream: UnixStream) {
+    let mut peer = Peer::new(&Config::new([4 << 20; 7], 200)).unwrap();
+    let (mut sent, mut taken, mut owed) = (0, 0, 4 << 20);
+    let deadline = Instant::now() + Duration::from_secs(60);
+    while sent < SWAPPED || taken < SWAPPED || peer.pending() > 0 {
+        assert!(Instant::now() < deadline, "the sides wait for each other");
+        if owed > 0 && peer.issue(Data, owed).is_ok() {
+            owed = 0;
+        }
+        while sent < SWAPPED && peer.send(Data, &[sent as u8; LONG]).is_ok() {
+            sent += 1;
+        }
+        let progress = peer.drive(&mut stream).unwrap();
+        assert!(!matches!(progress.incoming, Incoming::Stopped { .. }));
+        while let Take::Took(message) = peer.take(Data) {
+            assert!(message == [taken as u8; LONG]);
+            taken += 1;
+            owed += LONG as u32;
+        }
+    }
+    stream.shutdown(Shutdown::Write).unwrap();
+    while peer.drive(&mut stream).unwrap().incoming != Incoming::Ended {
+        assert!(Instant::now() < deadline, "the stream does not end");
+    }
+}
+
+fn swap_over(prepare: fn(&UnixStream) -> io::Result<()>) {
+    let (here, there) = UnixStream::pair().unwrap();
+    prepare(&here).and_then(|()| prepare(&there)).unwrap();
+    let other = thread::spawn(move || swap(there));
+    swap(here);
+    other.join().unwrap();
+}
+
+#[test]
+fn drives_over_sockets_with_timeouts_do_not_wait_for_each_other() {
+    const WAIT: Option<Duration> = Some(Duration::from_millis(5));
+    swap_over(|stream| {
+        stream.set_read_timeout(WAIT)?;
+        stream.set_write_timeout(WAIT)
+    });
+}
+
+#[test]
+fn drives_over_sockets_that_do_not_block_do_not_wait_for_each_other() {
+    swap_over(|stream| stream.set_nonblocking(true));
 }
 
 /// All that waits at one peer goes to the other, by as many reads as that takes.
