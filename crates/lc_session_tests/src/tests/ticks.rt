@@ -16,6 +16,7 @@ pub struct Ticks<R> {
 }
 
 impl<R> Ticks<R> {
+    /// A clock that nobody has read.
     pub fn new(rt: R) -> Ticks<R> {
         Ticks {
             rt,
