@@ -5,7 +5,7 @@ use Rattle.std.proofs.lemmas.Bool.{cases_Bool}
 use Rattle.std.proofs.lemmas.Bool.Decides.{nat_tests}
 use Rattle.lc_frame.specs.declared.channel.Channel.{Channel}
 use Rattle.lc_frame.specs.declared.channel.Channel.TheVariants.{ReconciliationChannel, DataChannel, OverlapChannel, CapabilityChannel, AreaOfInterestChannel, PayloadRequestChannel, StaticTokenChannel}
-use Rattle.lc_frame.specs.Channel.{number_of, channel_at, is_same}
+use Rattle.lc_frame.specs.Channel.{channel_count, number_of, channel_at, is_same}
 
 pub channel_at-number_of : (c : Channel) → channel_at (number_of c) ≡ Some c
 channel_at-number_of ReconciliationChannel = refl
@@ -16,7 +16,7 @@ channel_at-number_of AreaOfInterestChannel = refl
 channel_at-number_of PayloadRequestChannel = refl
 channel_at-number_of StaticTokenChannel = refl
 
-pub number_below : (c : Channel) → number_of c < 7
+pub number_below : (c : Channel) → number_of c < channel_count
 number_below ReconciliationChannel = omega arith
 number_below DataChannel = omega arith
 number_below OverlapChannel = omega arith

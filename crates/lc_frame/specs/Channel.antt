@@ -3,6 +3,10 @@ use Rattle.std.specs.Prelude.{ℕ, zero, suc, Bool, ◌==◌, Option, Some, None
 use Rattle.lc_frame.specs.declared.channel.Channel.{Channel}
 use Rattle.lc_frame.specs.declared.channel.Channel.TheVariants.{ReconciliationChannel, DataChannel, OverlapChannel, CapabilityChannel, AreaOfInterestChannel, PayloadRequestChannel, StaticTokenChannel}
 
+-- how many channels there are
+abbrev pub channel_count : ℕ
+channel_count = 7
+
 -- a channel's number, 0 to 6
 abbrev pub number_of : Channel → ℕ
 number_of ReconciliationChannel = 0

@@ -6,7 +6,7 @@ use Rattle.lc_frame.specs.declared.kind.Kind.{Kind}
 use Rattle.lc_frame.specs.declared.kind.Kind.TheVariants as kinds
 use Rattle.lc_frame.specs.declared.frame.Frame.{Frame}
 use Rattle.lc_frame.specs.declared.frame.Frame.TheVariants.{Send, Issue, Absolve, Plead, LimitSending, LimitReceiving, Finish}
-use Rattle.lc_frame.specs.Channel.{number_of}
+use Rattle.lc_frame.specs.Channel.{channel_count, number_of}
 use Rattle.lc_frame.specs.Kind.{has, IsInRange}
 
 -- what kind of frame it is
@@ -48,12 +48,12 @@ body_of f = []
 abbrev pub IsValid : Version → Frame → Type 0
 IsValid v f = (has v (kind_of f) ≡ true) × IsInRange v (kind_of f) (field_of f)
 
--- what a client puts has its channel's number, what a server puts has 7 more
+-- the number of the lane on which it is put: the channel's for what a client puts, `channel_count` more for what a server puts
 abbrev pub lane_of : Frame → ℕ
 lane_of (Send c body) = number_of c
-lane_of (Issue c amount) = 7 + number_of c
+lane_of (Issue c amount) = channel_count + number_of c
 lane_of (Absolve c amount) = number_of c
-lane_of (Plead c target) = 7 + number_of c
+lane_of (Plead c target) = channel_count + number_of c
 lane_of (LimitSending c bound) = number_of c
-lane_of (LimitReceiving c bound) = 7 + number_of c
+lane_of (LimitReceiving c bound) = channel_count + number_of c
 lane_of (Finish c) = number_of c

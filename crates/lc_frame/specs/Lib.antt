@@ -1,5 +1,6 @@
 pub mod Version
 pub mod Channel
+pub mod Lane
 pub mod Kind
 pub mod Bounds
 pub mod Frame

@@ -1,6 +1,9 @@
 //! The seven logical channels.
 ghost use Rattle.std.specs.Prelude.{◌≡◌, ◌≤◌, ◌<◌, Some, IfSome, IfNone};
-ghost use Rattle.lc_frame.specs.Channel.{number_of, channel_at};
+ghost use Rattle.lc_frame.specs.Channel.{channel_count, number_of, channel_at};
+
+/// How many channels there are.
+pub const CHANNELS: usize = 7;
 
 /// A logical channel. Each runs in both directions, independently. Its number is its place in this
 /// list, from 0.
@@ -17,7 +20,7 @@ pub enum Channel {
 
 impl Channel {
     /// All channels, in the order of their numbers.
-    pub const ALL: [Channel; 7] = [
+    pub const ALL: [Channel; CHANNELS] = [
         Channel::ReconciliationChannel,
         Channel::DataChannel,
         Channel::OverlapChannel,
@@ -30,7 +33,7 @@ impl Channel {
     /// The channel's number, 0 to 6.
     pub fn number(self) -> u8
         ensures value { result ≡ number_of self }
-        ensures range { result < 7 }
+        ensures range { result < channel_count }
         ensures inverse { channel_at result ≡ Some self }
     {
         self as u8
@@ -39,7 +42,7 @@ impl Channel {
     /// The channel's place in what is kept for each channel: its number.
     pub fn index(self) -> usize
         ensures value { result ≡ number_of self }
-        ensures range { result < 7 }
+        ensures range { result < channel_count }
     {
         usize::from(self.number())
     }
@@ -48,7 +51,7 @@ impl Channel {
     pub fn from_number(number: u8) -> Option<Channel>
         ensures value { result ≡ channel_at number }
         ensures inverse { IfSome result (λ c. number_of c ≡ number) }
-        ensures none { IfNone result (7 ≤ number) }
+        ensures none { IfNone result (channel_count ≤ number) }
     {
         match number {
             0 => Some(Channel::ReconciliationChannel),

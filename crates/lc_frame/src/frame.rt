@@ -1,6 +1,7 @@
 //! A frame of a stream.
 ghost use Rattle.std.specs.Prelude.{◌≡◌, ◌<◌, ◌↔◌, IsTrue};
 ghost use Rattle.lc_frame.specs.Frame.{channel_of, lane_of, IsValid};
+ghost use Rattle.lc_frame.specs.Lane.{lane_count};
 ghost use Rattle.lc_frame.specs.FrameRef.{frame_of};
 
 use crate::body::Body;
@@ -79,10 +80,10 @@ impl Frame {
     }
 
     /// The lane of the frame: the channel's number for what a client puts (Send, Absolve,
-    /// LimitSending, Finish), 7 more for what a server puts.
+    /// LimitSending, Finish), `CHANNELS` more for what a server puts.
     pub fn lane(&self) -> u8
         ensures value { result ≡ lane_of self.now }
-        ensures range { result < 14 }
+        ensures range { result < lane_count }
     {
         self.view().lane()
     }

@@ -2,12 +2,14 @@
 ghost use Rattle.std.specs.Prelude.{◌≡◌, ◌<◌, ◌↔◌, IsTrue, IfOk, OnErr};
 ghost use Rattle.lc_frame.specs.declared.kind.Kind.TheVariants as kinds;
 ghost use Rattle.lc_frame.specs.Frame.{kind_of, channel_of, field_of, body_of, lane_of, IsValid};
+ghost use Rattle.lc_frame.specs.Lane.{lane_count};
 ghost use Rattle.lc_frame.specs.FrameRef.{frame_of};
 
 use crate::body::Body;
 use crate::channel::Channel;
 use crate::frame::Frame;
 use crate::kind::Kind;
+use crate::lane::Lane;
 use crate::version::Version;
 use std::alloc::{AllocError, Global};
 
@@ -68,15 +70,17 @@ impl<'a> FrameRef<'a> {
     }
 
     /// The lane of the frame: the channel's number for what a client puts (Send, Absolve,
-    /// LimitSending, Finish), 7 more for what a server puts.
+    /// LimitSending, Finish), `CHANNELS` more for what a server puts.
     pub fn lane(&self) -> u8
         ensures value { result ≡ lane_of (frame_of self.now) }
-        ensures range { result < 14 }
+        ensures range { result < lane_count }
     {
-        let number = self.channel().number();
+        let channel = self.channel();
         match self.kind() {
-            Kind::Send | Kind::Absolve | Kind::LimitSending | Kind::Finish => number,
-            Kind::Issue | Kind::Plead | Kind::LimitReceiving => 7 + number,
+            Kind::Send | Kind::Absolve | Kind::LimitSending | Kind::Finish => Lane::Client(
+                channel,
+            ).number(),
+            Kind::Issue | Kind::Plead | Kind::LimitReceiving => Lane::Server(channel).number(),
         }
     }
 
