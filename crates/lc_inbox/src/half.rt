@@ -1,4 +1,5 @@
-//! The lock on an inbox: each of the two sides has one half.
+//! The lock on an inbox: each of the two sides has one half, and both share a mutex by which one
+//! sleeps while the other has the inbox.
 ghost use Rattle.std.specs.Prelude.{◌≡◌, ◌+◌, [], ◌∷◌, ◌++◌, filter, true, false, List, IfSome, IfOk, None, Some};
 ghost use Rattle.std.specs.Borrow.{sem};
 ghost use Rattle.lc_inbox.specs.declared.history.Entry.{Entry as AnyEntry};
@@ -14,12 +15,19 @@ use crate::rule::{InboxRule, Key, Return, Seize, SeizeLast, Told, TwoSides, View
 use atomic_table::{Refused, Seat, Table};
 use std::alloc::{AllocError, Global};
 use std::marker::{Brand, Model};
-use std::sync::{Arc, Wait};
+use std::sync::{Arc, Mutex, MutexGuard, Wait};
 use std::thread;
 
 type Slot = Table<Option<InboxEnd>, View, Key, InboxRule, Global>;
 
 const WORD: usize = 0;
+
+/// The mutex, held. A half gets its turn as it takes the inbox, and has to hand it in to give the
+/// inbox back, so it can't let the other half in before that.
+#[derive(Drop)]
+pub(crate) struct Turn<'a> {
+    guard: MutexGuard<'a, ()>,
+}
 
 /// One half of the lock.
 #[derive(Drop)]
@@ -99,14 +107,15 @@ fn word_of_side(side: bool) -> u64
 }
 
 impl Half {
-    /// Takes the inbox, as soon as the other half has not got it.
-    pub(crate) fn take<R: Wait>(&mut self, rt: &R)
+    /// Takes the inbox, as soon as the other half has not got it, by the mutex that both share.
+    pub(crate) fn take<'a, R: Wait>(&mut self, rt: &R, turns: &'a Mutex<()>) -> Turn<'a>
         requires { self.old.lent ≡ None }
         ensures { HasTaken self.old self.new }
     {
+        let guard = turns.lock(rt);
         for _ in rt.forever() {
             if self.try_take() {
-                return;
+                return Turn { guard };
             }
             thread::yield_now();
         }
@@ -139,8 +148,8 @@ impl Half {
         }
     }
 
-    /// Gives the inbox back, as it is after what this half did with it.
-    pub(crate) fn give<N: Told, G>(&mut self, _told: &G)
+    /// Gives the inbox back, as it is after what this half did with it, and then the turn.
+    pub(crate) fn give<N: Told, G>(&mut self, turn: Turn<'_>, _told: &G)
         requires own { filter (is_of (other self.old.side)) N.entries ≡ [] }
         requires fits { (loan : Loan) × (self.old.lent ≡ Some loan) × IsLeftBy self.old.key loan.held (loan.history ++ N.entries) }
         ensures { IfSome self.old.lent (λ loan. self.new ≡ record self.old { seen = loan.history ++ N.entries; lent = None }) }
@@ -148,14 +157,15 @@ impl Half {
         self.table
             .shared
             .store::<Return<N>>(&mut self.seat, WORD, 0);
+        drop(turn);
     }
 
     /// Gives the inbox back as it was.
-    pub(crate) fn give_same(&mut self)
+    pub(crate) fn give_same(&mut self, turn: Turn<'_>)
         requires fits { (loan : Loan) × (self.old.lent ≡ Some loan) × IsLeftBy self.old.key loan.held loan.history }
         ensures { IfSome self.old.lent (λ loan. self.new ≡ record self.old { seen = loan.history; lent = None }) }
     {
-        self.give::<Brand, ()>(&());
+        self.give::<Brand, ()>(turn, &());
     }
 
     /// Takes the inbox for good, from the reading half and the receiving half of its lock. It is

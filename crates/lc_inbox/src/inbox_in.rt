@@ -8,7 +8,7 @@ ghost use Rattle.lc_inbox.specs.declared.history.Entry.TheVariants.{Heard, Refus
 ghost use Rattle.lc_inbox.specs.History.{IsLeftBy, Loan};
 ghost use Rattle.lc_inbox.specs.Sides.{IsIdle, side_of, IsSameSide, HadOneTurn, IsHeard, IsViolated};
 
-use crate::half::Half;
+use crate::half::{Half, Turn};
 use lc_book::Violation;
 use lc_frame::{Channel, FrameRef};
 use std::alloc::Global;
@@ -19,7 +19,7 @@ use std::sync::{Arc, Mutex, Wait};
 #[derive(Drop)]
 pub struct InboxIn {
     pub(crate) channel: Channel,
-    pub(crate) turn: Arc<Mutex<()>, Global>,
+    pub(crate) turns: Arc<Mutex<()>, Global>,
     pub(crate) half: Half,
 }
 
@@ -35,25 +35,30 @@ impl Model for InboxIn {
 }
 
 // Gives the inbox back, where the frame arrived.
-fn give_heard(half: &mut Half, frame: FrameRef<'_>)
+fn give_heard(half: &mut Half, turn: Turn<'_>, frame: FrameRef<'_>)
     requires side { half.old.side ≡ true }
     requires fits { (loan : Loan) × (half.old.lent ≡ Some loan) × IsLeftBy half.old.key loan.held (loan.history ++ Heard (frame_of frame) ∷ []) }
     ensures { IfSome half.old.lent (λ loan. half.new ≡ record half.old { seen = loan.history ++ Heard (frame_of frame.entry) ∷ []; lent = None }) }
 {
-    half.give::<Brand, FrameRef<'_>>(&frame);
+    half.give::<Brand, FrameRef<'_>>(turn, &frame);
 }
 
 // Gives the inbox back, where the frame was refused.
-fn give_refused(half: &mut Half, frame: FrameRef<'_>)
+fn give_refused(half: &mut Half, turn: Turn<'_>, frame: FrameRef<'_>)
     requires side { half.old.side ≡ true }
     requires fits { (loan : Loan) × (half.old.lent ≡ Some loan) × IsLeftBy half.old.key loan.held (loan.history ++ Refused (frame_of frame) ∷ []) }
     ensures { IfSome half.old.lent (λ loan. half.new ≡ record half.old { seen = loan.history ++ Refused (frame_of frame.entry) ∷ []; lent = None }) }
 {
-    half.give::<Brand, FrameRef<'_>>(&frame);
+    half.give::<Brand, FrameRef<'_>>(turn, &frame);
 }
 
 // A frame arrives at the inbox.
-fn arrive<R: Wait>(half: &mut Half, rt: &R, frame: FrameRef<'_>) -> Result<(), Violation>
+fn arrive<R: Wait>(
+    half: &mut Half,
+    turns: &Mutex<()>,
+    rt: &R,
+    frame: FrameRef<'_>,
+) -> Result<(), Violation>
     requires idle { IsIdle true half.old }
     requires valid { IsValid Two (frame_of frame) }
     requires lane { lane_of (frame_of frame) ≡ number_of half.old.key.channel }
@@ -63,14 +68,14 @@ fn arrive<R: Wait>(half: &mut Half, rt: &R, frame: FrameRef<'_>) -> Result<(), V
     ensures ok { OnOk result (IsHeard (frame_of frame.entry) (side_of half.old) (side_of half.new)) }
     ensures err { IfErr result (λ v. IsViolated v (frame_of frame.entry) (side_of half.old) (side_of half.new)) }
 {
-    half.take(rt);
+    let turn = half.take(rt, turns);
     match half.inbox().arrive(frame) {
         Ok(()) => {
-            give_heard(half, frame);
+            give_heard(half, turn, frame);
             Ok(())
         }
         Err(violation) => {
-            give_refused(half, frame);
+            give_refused(half, turn, frame);
             Err(violation)
         }
     }
@@ -94,9 +99,6 @@ impl InboxIn {
         ensures turn { HadOneTurn self.old self.new }
         ensures same { IsSameSide self.old self.new }
     {
-        let turn = self.turn.lock(rt);
-        let answer = arrive(&mut self.half, rt, frame);
-        drop(turn);
-        answer
+        arrive(&mut self.half, &self.turns, rt, frame)
     }
 }

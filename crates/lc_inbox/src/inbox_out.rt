@@ -9,7 +9,7 @@ ghost use Rattle.lc_inbox.specs.History.{IsLeftBy, Loan, book_after};
 ghost use Rattle.lc_inbox.specs.Lends.{first_taken, IsLentBy};
 ghost use Rattle.lc_inbox.specs.Sides.{IsIdle, side_of, IsSameSide, HadOneTurn, IsPutBy, IsNotPutBy, IsTakeAnswer, IsNotTaken, HasLooked};
 
-use crate::half::Half;
+use crate::half::{Half, Turn};
 use crate::inbox_end::InboxEnd;
 use crate::lent::Lent;
 use lc_book::{Refusal, ServerBook};
@@ -27,7 +27,7 @@ use std::sync::{Arc, Mutex, Wait};
 #[derive(Drop)]
 pub struct InboxOut {
     pub(crate) channel: Channel,
-    pub(crate) turn: Arc<Mutex<()>, Global>,
+    pub(crate) turns: Arc<Mutex<()>, Global>,
     pub(crate) half: Half,
 }
 
@@ -43,25 +43,30 @@ impl Model for InboxOut {
 }
 
 // Gives the inbox back, where the frame was put.
-fn give_put(half: &mut Half, frame: &Frame)
+fn give_put(half: &mut Half, turn: Turn<'_>, frame: &Frame)
     requires side { half.old.side ≡ false }
     requires fits { (loan : Loan) × (half.old.lent ≡ Some loan) × IsLeftBy half.old.key loan.held (loan.history ++ Put frame.now ∷ []) }
     ensures { IfSome half.old.lent (λ loan. half.new ≡ record half.old { seen = loan.history ++ Put frame.now ∷ []; lent = None }) }
 {
-    half.give::<Brand, Frame>(frame);
+    half.give::<Brand, Frame>(turn, frame);
 }
 
 // Gives the inbox back, out of which the first message was taken, if there was one.
-fn give_first(half: &mut Half, before: &Snapshot<InboxEnd>)
+fn give_first(half: &mut Half, turn: Turn<'_>, before: &Snapshot<InboxEnd>)
     requires side { half.old.side ≡ false }
     requires fits { (loan : Loan) × (half.old.lent ≡ Some loan) × IsLeftBy half.old.key loan.held (loan.history ++ first_taken before.now.value) }
     ensures { IfSome half.old.lent (λ loan. half.new ≡ record half.old { seen = loan.history ++ first_taken before.now.value; lent = None }) }
 {
-    half.give::<Brand, Snapshot<InboxEnd>>(before);
+    half.give::<Brand, Snapshot<InboxEnd>>(turn, before);
 }
 
 // The call that would put this frame.
-fn put<R: Wait>(half: &mut Half, rt: &R, frame: &Frame) -> Result<(), Refusal>
+fn put<R: Wait>(
+    half: &mut Half,
+    turns: &Mutex<()>,
+    rt: &R,
+    frame: &Frame,
+) -> Result<(), Refusal>
     requires idle { IsIdle false half.old }
     requires server { lane_of frame.now ≡ 7 + number_of half.old.key.channel }
     requires channel { channel_of frame.now ≡ half.old.key.channel }
@@ -71,21 +76,26 @@ fn put<R: Wait>(half: &mut Half, rt: &R, frame: &Frame) -> Result<(), Refusal>
     ensures ok { OnOk result (IsPutBy frame.now (side_of half.old) (side_of half.new)) }
     ensures err { IfErr result (λ e. IsNotPutBy e frame.now (side_of half.old) (side_of half.new)) }
 {
-    half.take(rt);
+    let turn = half.take(rt, turns);
     match half.inbox().own(rt, frame) {
         Ok(()) => {
-            give_put(half, frame);
+            give_put(half, turn, frame);
             Ok(())
         }
         Err(refusal) => {
-            half.give_same();
+            half.give_same(turn);
             Err(refusal)
         }
     }
 }
 
 // Takes the first message into the buffer.
-fn take_into<R: Wait>(half: &mut Half, rt: &R, buffer: &mut [u8]) -> Result<Take, Refusal>
+fn take_into<R: Wait>(
+    half: &mut Half,
+    turns: &Mutex<()>,
+    rt: &R,
+    buffer: &mut [u8],
+) -> Result<Take, Refusal>
     requires idle { IsIdle false half.old }
     ensures idle { IsIdle false half.new }
     ensures same { IsSameSide (side_of half.old) (side_of half.new) }
@@ -94,23 +104,28 @@ fn take_into<R: Wait>(half: &mut Half, rt: &R, buffer: &mut [u8]) -> Result<Take
     ensures range { IfOk result (λ take. IsTake take) }
     ensures err { IfErr result (λ e. IsNotTaken e buffer.old buffer.new (side_of half.old) (side_of half.new)) }
 {
-    half.take(rt);
+    let turn = half.take(rt, turns);
     let end = half.inbox();
     let before = Snapshot::of(end);
     match end.take_into(buffer) {
         Ok(take) => {
-            give_first(half, &before);
+            give_first(half, turn, &before);
             Ok(take)
         }
         Err(refusal) => {
-            half.give_same();
+            half.give_same(turn);
             Err(refusal)
         }
     }
 }
 
 // Lends the first message, and takes it.
-fn take_with<R: Wait, T, F: FnOnce(&[u8], &[u8]) -> T>(half: &mut Half, rt: &R, read: F) -> Lent<T>
+fn take_with<R: Wait, T, F: FnOnce(&[u8], &[u8]) -> T>(
+    half: &mut Half,
+    turns: &Mutex<()>,
+    rt: &R,
+    read: F,
+) -> Lent<T>
     requires idle { IsIdle false half.old }
     requires callable { F.IsAlwaysCallable read }
     ensures idle { IsIdle false half.new }
@@ -118,16 +133,16 @@ fn take_with<R: Wait, T, F: FnOnce(&[u8], &[u8]) -> T>(half: &mut Half, rt: &R, 
     ensures turn { HadOneTurn (side_of half.old) (side_of half.new) }
     ensures answer { IsLentBy F.FnOnce read result (side_of half.old) (side_of half.new) }
 {
-    half.take(rt);
+    let turn = half.take(rt, turns);
     let end = half.inbox();
     let before = Snapshot::of(end);
     let lent = end.take_with(read);
-    give_first(half, &before);
+    give_first(half, turn, &before);
     lent
 }
 
 // Reads the book.
-fn book<R: Wait>(half: &mut Half, rt: &R) -> ServerBook
+fn book<R: Wait>(half: &mut Half, turns: &Mutex<()>, rt: &R) -> ServerBook
     requires idle { IsIdle false half.old }
     ensures idle { IsIdle false half.new }
     ensures same { IsSameSide (side_of half.old) (side_of half.new) }
@@ -135,9 +150,9 @@ fn book<R: Wait>(half: &mut Half, rt: &R) -> ServerBook
     ensures looks { HasLooked (side_of half.old) (side_of half.new) }
     ensures book { result ≡ book_after half.new.key half.new.seen }
 {
-    half.take(rt);
+    let turn = half.take(rt, turns);
     let book = half.inbox().book();
-    half.give_same();
+    half.give_same(turn);
     book
 }
 
@@ -159,10 +174,7 @@ impl InboxOut {
     {
         let channel = self.channel;
         let frame = Frame::Issue { channel, amount: n };
-        let turn = self.turn.lock(rt);
-        let answer = put(&mut self.half, rt, &frame);
-        drop(turn);
-        answer
+        put(&mut self.half, &self.turns, rt, &frame)
     }
 
     /// The client is asked to absolve until it holds at most `target`. Refused by 15 and 11, by the
@@ -175,10 +187,7 @@ impl InboxOut {
     {
         let channel = self.channel;
         let frame = Frame::Plead { channel, target };
-        let turn = self.turn.lock(rt);
-        let answer = put(&mut self.half, rt, &frame);
-        drop(turn);
-        answer
+        put(&mut self.half, &self.turns, rt, &frame)
     }
 
     /// At most `bound` guarantees are issued from here on. Refused by 15, 7 and 8, by the same book,
@@ -191,10 +200,7 @@ impl InboxOut {
     {
         let channel = self.channel;
         let frame = Frame::LimitReceiving { channel, bound };
-        let turn = self.turn.lock(rt);
-        let answer = put(&mut self.half, rt, &frame);
-        drop(turn);
-        answer
+        put(&mut self.half, &self.turns, rt, &frame)
     }
 
     /// Takes the first message into the front of the buffer. Refused by 16 alone, where the buffer
@@ -206,10 +212,7 @@ impl InboxOut {
         ensures turn { HadOneTurn self.old self.new }
         ensures same { IsSameSide self.old self.new }
     {
-        let turn = self.turn.lock(rt);
-        let answer = take_into(&mut self.half, rt, buffer);
-        drop(turn);
-        answer
+        take_into(&mut self.half, &self.turns, rt, buffer)
     }
 
     /// Lends the first message to `read`, in two parts, one after the other, and takes it: one step,
@@ -224,10 +227,7 @@ impl InboxOut {
         ensures turn { HadOneTurn self.old self.new }
         ensures same { IsSameSide self.old self.new }
     {
-        let turn = self.turn.lock(rt);
-        let lent = take_with(&mut self.half, rt, read);
-        drop(turn);
-        lent
+        take_with(&mut self.half, &self.turns, rt, read)
     }
 
     /// The book, as the whole history up to here leaves it.
@@ -237,9 +237,6 @@ impl InboxOut {
         ensures turn { HadOneTurn self.old self.new }
         ensures same { IsSameSide self.old self.new }
     {
-        let turn = self.turn.lock(rt);
-        let answer = book(&mut self.half, rt);
-        drop(turn);
-        answer
+        book(&mut self.half, &self.turns, rt)
     }
 }

@@ -19,8 +19,8 @@
 //!
 //! Each call takes the slot, works on the inbox where it lies, and gives the slot back: nothing
 //! is moved. Each of the two is one atomic step on the word, so that the proof sees whose the
-//! inbox is; the mutex around the whole call lets the other side sleep meanwhile, and no promise
-//! rests on it.
+//! inbox is; the mutex, which is held from before the first to after the second, lets the other
+//! side sleep meanwhile, and no promise rests on it.
 #![tactic(auto)]
 
 mod arrays;

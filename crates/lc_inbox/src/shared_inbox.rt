@@ -35,18 +35,18 @@ pub fn share(alloc: Global, end: InboxEnd) -> Result<SharedInbox, AllocError>
         lane: Snapshot::of(end.lane()),
     };
     let (reading, receiving) = halves(alloc, end, key)?;
-    let Ok(turn) = Arc::new(alloc, Mutex::new(())) else {
+    let Ok(turns) = Arc::new(alloc, Mutex::new(())) else {
         return Err(AllocError);
     };
-    let theirs = Arc::try_clone(&turn)?;
+    let theirs = Arc::try_clone(&turns)?;
     let incoming = InboxIn {
         channel,
-        turn,
+        turns,
         half: reading,
     };
     let outgoing = InboxOut {
         channel,
-        turn: theirs,
+        turns: theirs,
         half: receiving,
     };
     Ok(SharedInbox { incoming, outgoing })
@@ -60,12 +60,12 @@ pub fn finish(incoming: InboxIn, outgoing: InboxOut) -> (ServerBook, LaneEnd)
 {
     let InboxIn {
         channel: _,
-        turn: _,
+        turns: _,
         half: reading,
     } = incoming;
     let InboxOut {
         channel: _,
-        turn: _,
+        turns: _,
         half: receiving,
     } = outgoing;
     end_both(reading, receiving)
