@@ -5,7 +5,6 @@ use Rattle.lc_book.specs.Server.{Server}
 use Rattle.lc_queue.specs.Parts.{End}
 use Rattle.lc_inbox.specs.History.{waiting}
 use Rattle.lc_inbox.specs.Sides.{Side, IsFinished, TookTheFirst}
-use Rattle.lc_inbox.proofs.Histories.{in_order}
 
 -- what both sides know of their one history comes together
 pub took_the_first : (incoming outgoing : Side) (book : Server) (lane : End) → IsFinished incoming outgoing book lane → TookTheFirst incoming outgoing

@@ -2,8 +2,7 @@
 ghost use Rattle.std.specs.Prelude.{◌≡◌, ◌+◌, ◌<◌, ◌≤◌, [], length, if◌then◌else◌, is_ok, IfOk, IfErr, OnOk, MatchOption, Some, None};
 ghost use Rattle.std.specs.Result.{result_err};
 ghost use Rattle.lc_frame.specs.declared.version.Version.TheVariants.{Two};
-ghost use Rattle.lc_frame.specs.declared.frame.Frame.TheVariants.{Issue, Plead, LimitReceiving};
-ghost use Rattle.lc_frame.specs.Channel.{number_of, channel_at};
+ghost use Rattle.lc_frame.specs.Channel.{channel_count, number_of, channel_at};
 ghost use Rattle.lc_frame.specs.Frame.{IsValid, lane_of, channel_of};
 ghost use Rattle.lc_frame.specs.FrameRef.{frame_of};
 ghost use Rattle.lc_book.specs.Server.{buffered};
@@ -106,7 +105,7 @@ impl InboxEnd {
             FrameRef::Absolve { amount, .. } => self.inbox.was_absolved(amount),
             FrameRef::LimitSending { bound, .. } => self.inbox.sending_limited(bound),
             FrameRef::Finish { .. } => self.inbox.finished(),
-            _ => Ok(()),
+            _ => unreachable!(),
         }
     }
 
@@ -136,65 +135,32 @@ impl InboxEnd {
         }
     }
 
-    /// Issues `n` guarantees. Refused by 15, 5, 9, 10, 12 and 13, in this order.
-    pub fn issue<R: Wait>(&mut self, rt: &R, n: u32) -> Result<(), Refusal>
-        ensures ok { OnOk result (IsPut (Issue self.old.channel n) self.old self.new) }
-        ensures err { IfErr result (λ e. IsNotPut e (Issue self.old.channel n) self.old self.new) }
+    // The book that a frame of the server leaves, where it may be put.
+    fn judge(&self, frame: &Frame) -> Result<ServerBook, Refusal>
+        requires lane { (lane_of frame.now ≡ channel_count + number_of self.now.channel) × (channel_of frame.now ≡ self.now.channel) }
+        ensures answer { result_err result ≡ refusal_of frame.now self.now.inbox.book }
+        ensures valid { OnOk result (IsValid self.now.lane.version frame.now) }
+        ensures book { IfOk result (λ book. book ≡ server_after_put frame.now self.now.inbox.book) }
+        ensures same { IfOk result (λ book. (book.capacity ≡ self.now.inbox.book.capacity) × (buffered book ≡ buffered self.now.inbox.book)) }
     {
         let mut book = self.inbox.book();
-        book.issue(n)?;
-        let channel = self.channel;
-        self.put(rt, Frame::Issue { channel, amount: n }, book)
-    }
-
-    /// Asks the client to absolve until it holds at most `target`. Refused by 15, 11 and 13, in this
-    /// order.
-    pub fn plead<R: Wait>(&mut self, rt: &R, target: u32) -> Result<(), Refusal>
-        ensures ok { OnOk result (IsPut (Plead self.old.channel target) self.old self.new) }
-        ensures err { IfErr result (λ e. IsNotPut e (Plead self.old.channel target) self.old self.new) }
-    {
-        let book = self.inbox.book();
-        book.plead(target)?;
-        let channel = self.channel;
-        self.put(rt, Frame::Plead { channel, target }, book)
-    }
-
-    /// Issues at most `bound` guarantees from here on. Refused by 15, 7, 8 and 13, in this order.
-    pub fn limit<R: Wait>(&mut self, rt: &R, bound: u64) -> Result<(), Refusal>
-        ensures ok { OnOk result (IsPut (LimitReceiving self.old.channel bound) self.old self.new) }
-        ensures err { IfErr result (λ e. IsNotPut e (LimitReceiving self.old.channel bound) self.old self.new) }
-    {
-        let mut book = self.inbox.book();
-        book.limit_receiving(bound)?;
-        let channel = self.channel;
-        self.put(rt, Frame::LimitReceiving { channel, bound }, book)
-    }
-
-    /// The call that would put this frame.
-    pub(crate) fn own<R: Wait>(&mut self, rt: &R, frame: &Frame) -> Result<(), Refusal>
-        requires server { lane_of frame.now ≡ 7 + number_of self.old.channel }
-        requires channel { channel_of frame.now ≡ self.old.channel }
-        ensures ok { OnOk result (IsPut frame.now self.old self.new) }
-        ensures err { IfErr result (λ e. IsNotPut e frame.now self.old self.new) }
-    {
         match frame {
-            Frame::Issue { amount, .. } => self.issue(rt, *amount),
-            Frame::Plead { target, .. } => self.plead(rt, *target),
-            Frame::LimitReceiving { bound, .. } => self.limit(rt, *bound),
+            Frame::Issue { amount, .. } => book.issue(*amount)?,
+            Frame::Plead { target, .. } => book.plead(*target)?,
+            Frame::LimitReceiving { bound, .. } => book.limit_receiving(*bound)?,
             _ => unreachable!(),
         }
+        Ok(book)
     }
 
-    // Puts a frame that the book accepted, with the book that it leaves.
-    fn put<R: Wait>(&mut self, rt: &R, frame: Frame, book: ServerBook) -> Result<(), Refusal>
-        requires valid { IsValid self.old.lane.version frame }
-        requires lane { (lane_of frame ≡ 7 + number_of self.old.channel) × (channel_of frame ≡ self.old.channel) }
-        requires allowed { refusal_of frame self.old.inbox.book ≡ None }
-        requires book { book ≡ server_after_put frame self.old.inbox.book }
-        requires same { (book.capacity ≡ self.old.inbox.book.capacity) × (buffered book ≡ buffered self.old.inbox.book) }
+    /// Puts a frame of the server: an Issue is refused by 15, 5, 9, 10, 12 and 13, a Plead by 15, 11
+    /// and 13, and a limit on receiving by 15, 7, 8 and 13, in this order.
+    pub fn put<R: Wait>(&mut self, rt: &R, frame: Frame) -> Result<(), Refusal>
+        requires lane { (lane_of frame ≡ channel_count + number_of self.old.channel) × (channel_of frame ≡ self.old.channel) }
         ensures ok { OnOk result (IsPut frame self.old self.new) }
         ensures err { IfErr result (λ e. IsNotPut e frame self.old self.new) }
     {
+        let book = self.judge(&frame)?;
         match self.lane.push(rt, frame) {
             Ok(()) => {
                 self.inbox.adopt(book);

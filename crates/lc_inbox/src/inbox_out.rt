@@ -1,6 +1,6 @@
 //! The receiving side of a shared inbox.
 ghost use Rattle.std.specs.Prelude.{◌≡◌, ◌+◌, [], ◌∷◌, ◌++◌, length, take, IfOk, OnOk, IfErr, IfSome, false, None, Some};
-ghost use Rattle.lc_frame.specs.Channel.{number_of};
+ghost use Rattle.lc_frame.specs.Channel.{channel_count, number_of};
 ghost use Rattle.lc_frame.specs.Frame.{lane_of, channel_of};
 ghost use Rattle.lc_frame.specs.declared.frame.Frame.TheVariants.{Issue, Plead, LimitReceiving};
 ghost use Rattle.lc_peer.specs.Inbox.{IsTake};
@@ -43,12 +43,12 @@ impl Model for InboxOut {
 }
 
 // Gives the inbox back, where the frame was put.
-fn give_put(half: &mut Half, turn: Turn<'_>, frame: &Frame)
+fn give_put(half: &mut Half, turn: Turn<'_>, frame: &Snapshot<Frame>)
     requires side { half.old.side ≡ false }
-    requires fits { (loan : Loan) × (half.old.lent ≡ Some loan) × IsLeftBy half.old.key loan.held (loan.history ++ Put frame.now ∷ []) }
-    ensures { IfSome half.old.lent (λ loan. half.new ≡ record half.old { seen = loan.history ++ Put frame.now ∷ []; lent = None }) }
+    requires fits { (loan : Loan) × (half.old.lent ≡ Some loan) × IsLeftBy half.old.key loan.held (loan.history ++ Put frame.now.value ∷ []) }
+    ensures { IfSome half.old.lent (λ loan. half.new ≡ record half.old { seen = loan.history ++ Put frame.now.value ∷ []; lent = None }) }
 {
-    half.give::<Brand, Frame>(turn, frame);
+    half.give::<Brand, Snapshot<Frame>>(turn, frame);
 }
 
 // Gives the inbox back, out of which the first message was taken, if there was one.
@@ -60,26 +60,21 @@ fn give_first(half: &mut Half, turn: Turn<'_>, before: &Snapshot<InboxEnd>)
     half.give::<Brand, Snapshot<InboxEnd>>(turn, before);
 }
 
-// The call that would put this frame.
-fn put<R: Wait>(
-    half: &mut Half,
-    turns: &Mutex<()>,
-    rt: &R,
-    frame: &Frame,
-) -> Result<(), Refusal>
+// Puts a frame of the server.
+fn put<R: Wait>(half: &mut Half, turns: &Mutex<()>, rt: &R, frame: Frame) -> Result<(), Refusal>
     requires idle { IsIdle false half.old }
-    requires server { lane_of frame.now ≡ 7 + number_of half.old.key.channel }
-    requires channel { channel_of frame.now ≡ half.old.key.channel }
+    requires lane { (lane_of frame ≡ channel_count + number_of half.old.key.channel) × (channel_of frame ≡ half.old.key.channel) }
     ensures idle { IsIdle false half.new }
     ensures same { IsSameSide (side_of half.old) (side_of half.new) }
     ensures turn { HadOneTurn (side_of half.old) (side_of half.new) }
-    ensures ok { OnOk result (IsPutBy frame.now (side_of half.old) (side_of half.new)) }
-    ensures err { IfErr result (λ e. IsNotPutBy e frame.now (side_of half.old) (side_of half.new)) }
+    ensures ok { OnOk result (IsPutBy frame (side_of half.old) (side_of half.new)) }
+    ensures err { IfErr result (λ e. IsNotPutBy e frame (side_of half.old) (side_of half.new)) }
 {
+    let told = Snapshot::of(&frame);
     let turn = half.take(rt, turns);
-    match half.inbox().own(rt, frame) {
+    match half.inbox().put(rt, frame) {
         Ok(()) => {
-            give_put(half, turn, frame);
+            give_put(half, turn, &told);
             Ok(())
         }
         Err(refusal) => {
@@ -174,7 +169,7 @@ impl InboxOut {
     {
         let channel = self.channel;
         let frame = Frame::Issue { channel, amount: n };
-        put(&mut self.half, &self.turns, rt, &frame)
+        put(&mut self.half, &self.turns, rt, frame)
     }
 
     /// The client is asked to absolve until it holds at most `target`. Refused by 15 and 11, by the
@@ -187,7 +182,7 @@ impl InboxOut {
     {
         let channel = self.channel;
         let frame = Frame::Plead { channel, target };
-        put(&mut self.half, &self.turns, rt, &frame)
+        put(&mut self.half, &self.turns, rt, frame)
     }
 
     /// At most `bound` guarantees are issued from here on. Refused by 15, 7 and 8, by the same book,
@@ -200,7 +195,7 @@ impl InboxOut {
     {
         let channel = self.channel;
         let frame = Frame::LimitReceiving { channel, bound };
-        put(&mut self.half, &self.turns, rt, &frame)
+        put(&mut self.half, &self.turns, rt, frame)
     }
 
     /// Takes the first message into the front of the buffer. Refused by 16 alone, where the buffer
