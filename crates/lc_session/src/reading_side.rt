@@ -133,10 +133,9 @@ impl<R: Wait> FrameSink<R> for ReadingSide {
             FrameRef::LimitReceiving { channel, bound } => {
                 self.credits.receiving_limited(channel, bound)
             }
-            FrameRef::Send { channel, .. }
-            | FrameRef::Absolve { channel, .. }
-            | FrameRef::LimitSending { channel, .. }
-            | FrameRef::Finish { channel } => {
+            // The inbox tells the frames of a client from each other.
+            _ => {
+                let channel = frame.channel();
                 self.hear(rt, channel, frame)?;
                 self.wakers.frame_came(End::Receiving(channel));
                 Ok(())

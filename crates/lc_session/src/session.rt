@@ -2,7 +2,7 @@
 ghost use Rattle.std.specs.Prelude.{◌≡◌, ◌<◌, ◌∷◌, [], take, map, None, IfOk};
 ghost use Rattle.std.specs.Result.{result_err};
 ghost use Rattle.lc_frame.specs.declared.version.Version.{Version};
-ghost use Rattle.lc_frame.specs.Channel.{number_of};
+ghost use Rattle.lc_frame.specs.Channel.{channel_count, number_of};
 ghost use Rattle.lc_peer.specs.Config.{config_fault, IsNewAnswer};
 ghost use Rattle.lc_queue.specs.Parts.{QueueId, new_ends, new_outlet};
 ghost use Rattle.lc_credit.specs.Sides.{new_outgoing};
@@ -96,34 +96,47 @@ fn recv_ends(inboxes: Seven<InboxOut>, waiters: Seven<Waiter>) -> [RecvEnd; 7]
     ]
 }
 
-// The parts that share a queue, credits and inboxes, put together.
-fn put_together(
-    alloc: Global,
+// What the ends share with the pumps.
+#[derive(Drop)]
+struct Shared {
     inboxes: Inboxes,
     credits: CreditParts,
     waking: Waking,
+}
+
+// What the pumps have of their own.
+#[derive(Drop)]
+struct Streams {
     intake: Intake,
-    outgo: (Drain, Batch),
-    wakers: Arc<Wakers, Global>,
-) -> Parts
-    requires clients { (queue : QueueId) × (version : Version) × (inboxes.clients ≡ take 7 (new_ends queue version)) }
-    requires credits { credits.outgoing ≡ map new_outgoing (map credit_out credits.outgoing) }
-    requires incoming { map channel_of_side inboxes.incoming ≡ channels }
-    requires outgoing { map channel_of_side inboxes.outgoing ≡ channels }
-    requires drain { outgo.0 ≡ new_outlet outgo.0.queue outgo.0.version }
-    requires batch { outgo.1 ≡ new_batch outgo.0.version }
-    ensures sending { result.send_ends ≡ new_outboxes channels inboxes.clients credits.outgoing }
-    ensures receiving { result.recv_ends ≡ inboxes.outgoing }
-    ensures reading { result.read_pump ≡ record { side = record { credits = credits.incoming; inboxes = inboxes.incoming }; intake = intake } }
-    ensures writing { result.write_pump ≡ new_pumping outgo.0 }
+    drain: Drain,
+    batch: Batch,
+}
+
+// The parts of a session, put together.
+fn put_together(alloc: Global, session: Session, shared: Shared, streams: Streams) -> Parts
+    requires clients { (queue : QueueId) × (version : Version) × (shared.inboxes.clients ≡ take channel_count (new_ends queue version)) }
+    requires credits { shared.credits.outgoing ≡ map new_outgoing (map credit_out shared.credits.outgoing) }
+    requires incoming { map channel_of_side shared.inboxes.incoming ≡ channels }
+    requires outgoing { map channel_of_side shared.inboxes.outgoing ≡ channels }
+    requires drain { streams.drain ≡ new_outlet streams.drain.queue streams.drain.version }
+    requires batch { streams.batch ≡ new_batch streams.drain.version }
+    ensures sending { result.send_ends ≡ new_outboxes channels shared.inboxes.clients shared.credits.outgoing }
+    ensures receiving { result.recv_ends ≡ shared.inboxes.outgoing }
+    ensures reading { result.read_pump ≡ record { side = record { credits = shared.credits.incoming; inboxes = shared.inboxes.incoming }; intake = streams.intake } }
+    ensures writing { result.write_pump ≡ new_pumping streams.drain }
 {
+    let Shared {
+        inboxes,
+        credits,
+        waking,
+    } = shared;
     let side = ReadingSide {
         credits: credits.incoming,
         inboxes: inboxes.incoming,
         wakers: waking.wakers,
     };
     Parts {
-        session: Session { wakers },
+        session,
         send_ends: send_ends(
             alloc,
             apart(inboxes.clients),
@@ -131,8 +144,8 @@ fn put_together(
             apart(waking.sending),
         ),
         recv_ends: recv_ends(apart(inboxes.outgoing), apart(waking.receiving)),
-        read_pump: ReadPump::new(side, intake),
-        write_pump: WritePump::new(outgo.0, outgo.1, waking.pump),
+        read_pump: ReadPump::new(side, streams.intake),
+        write_pump: WritePump::new(streams.drain, streams.batch, waking.pump),
     }
 }
 
@@ -149,12 +162,21 @@ fn make(alloc: Global, config: Config) -> Result<Parts, AllocError>
     let Ok(lanes) = lanes(alloc, config.slots, config.version) else {
         return Err(AllocError);
     };
-    let (capacities, ends) = (config.capacities, lanes.ends);
-    let Ok(inboxes) = share_all(alloc, capacities, ends) else {
+    let (drain, ends) = (lanes.drain, lanes.ends);
+    let Ok(inboxes) = share_all(alloc, config.capacities, ends) else {
         return Err(AllocError);
     };
-    let outgo = (lanes.drain, batch);
-    Ok(put_together(alloc, inboxes, credits, waking, intake, outgo, wakers))
+    let shared = Shared {
+        inboxes,
+        credits,
+        waking,
+    };
+    let streams = Streams {
+        intake,
+        drain,
+        batch,
+    };
+    Ok(put_together(alloc, Session { wakers }, shared, streams))
 }
 
 impl Session {
