@@ -125,33 +125,25 @@ pub fn deliver_to<C, S: FrameSink<C>>(
     let mut frames = 0;
     'frames: loop {
         let rest = piece.split_at(taken).1;
-        match go_on(sink, context, decoder, rest) {
-            Step::Arrived(count) => {
+        let (count, stop) = match go_on(sink, context, decoder, rest) {
+            Step::Arrived(count) if taken + count < piece.len() => {
                 taken += count;
                 frames += 1;
-                if taken == piece.len() {
-                    return Delivery {
-                        taken,
-                        frames,
-                        stop: None,
-                    };
-                }
+                continue 'frames;
             }
-            Step::Open(count) => {
-                return Delivery {
-                    taken: taken + count,
-                    frames,
-                    stop: None,
-                };
+            Step::Arrived(count) => {
+                frames += 1;
+                (count, None)
             }
-            Step::Stopped(stop, count) => {
-                return Delivery {
-                    taken: taken + count,
-                    frames,
-                    stop: Some(stop),
-                };
-            }
-        }
+            Step::Open(count) => (count, None),
+            Step::Stopped(stop, count) => (count, Some(stop)),
+        };
+        taken += count;
+        return Delivery {
+            taken,
+            frames,
+            stop,
+        };
     }
 }
 
