@@ -3,6 +3,6 @@ mod Histories
 mod Steps
 mod Calls
 mod Takes
-mod Seven
+pub mod Seven
 pub mod Order
 pub mod Places

@@ -3,7 +3,7 @@ use Rattle.std.specs.Prelude.{◌≡◌, ◌⊎◌, ◌+◌, ◌∷◌, [], ◌+
 use Rattle.lc_frame.specs.declared.channel.Channel.{Channel}
 use Rattle.lc_frame.specs.declared.frame.Frame.{Frame}
 use Rattle.lc_frame.specs.declared.frame.Frame.TheVariants.{Send, Issue, Absolve, Plead, LimitSending, LimitReceiving, Finish}
-use Rattle.lc_frame.specs.Channel.{number_of}
+use Rattle.lc_frame.specs.Channel.{channel_count, number_of}
 use Rattle.lc_frame.specs.Stream.{issued, receive_left}
 use Rattle.lc_book.specs.declared.fault.Refusal.{Refusal}
 use Rattle.lc_book.specs.declared.fault.Refusal.TheVariants.{QueueFull}
@@ -27,7 +27,7 @@ pub record IsNewHeld (h : Held) : Type 0 where
 
 -- what every such end keeps: the lane is the channel's, what was issued is the sum of the Issue amounts that were put there, and what is left of the limit on receiving is that of what was put
 pub record IsHeld (h : Held) : Type 0 where
-  pub lane : h.lane.lane ≡ 7 + number_of h.channel
+  pub lane : h.lane.lane ≡ channel_count + number_of h.channel
   pub issued : h.inbox.book.issued ≡ issued h.channel h.lane.put
   pub left : h.inbox.book.receive_left ≡ receive_left h.channel h.lane.put
 

@@ -3,7 +3,7 @@ use Rattle.std.specs.Prelude.{◌≡◌, ℕ, ◌+◌, Bool, true, false, List, 
 use Rattle.std.specs.List.{filter_map}
 use Rattle.lc_history.specs.History.{IsHistory}
 use Rattle.lc_frame.specs.declared.frame.Frame.{Frame}
-use Rattle.lc_frame.specs.Channel.{number_of}
+use Rattle.lc_frame.specs.Channel.{channel_count, number_of}
 use Rattle.lc_frame.specs.Frame.{lane_of}
 use Rattle.lc_frame.specs.Stream.{messages}
 use Rattle.lc_book.specs.declared.fault.Violation.{Violation}
@@ -68,7 +68,7 @@ held_after key history = record { channel = key.channel; inbox = inbox_after key
 abbrev pub MayFollow : Key → List Entry → Entry → Type 0
 MayFollow key history (Heard f) = (lane_of f ≡ number_of key.channel) × (violation_of f (book_after key history) ≡ None)
 MayFollow key history (Refused f) = (lane_of f ≡ number_of key.channel) × ((v : Violation) × (violation_of f (book_after key history) ≡ Some v))
-MayFollow key history (Put f) = (lane_of f ≡ 7 + number_of key.channel) × (refusal_of f (book_after key history) ≡ None)
+MayFollow key history (Put f) = (lane_of f ≡ channel_count + number_of key.channel) × (refusal_of f (book_after key history) ≡ None)
 MayFollow key history (Took body) = front (inbox_after key history).ring ≡ Some body
 
 -- whether an entry is the reading side's

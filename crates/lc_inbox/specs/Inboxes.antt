@@ -1,40 +1,27 @@
 -- The inboxes of all seven channels, by number. The channels, and the bounds of their rings, are this project's own.
-use Rattle.std.specs.Prelude.{◌≡◌, ◌⊎◌, ℕ, ◌-◌, ◌<◌, List, [], ◌∷◌, map, slice_index, Option, Some, None}
+use Rattle.std.specs.Prelude.{◌≡◌, ◌⊎◌, ℕ, ◌-◌, ◌≤◌, List, [], ◌∷◌, map, slice_index, Option, Some, None}
 use Rattle.std.specs.Option.{option_map}
+use Rattle.lc_frame.specs.Channel.{channel_count}
 use Rattle.lc_peer.specs.declared.config.PeerFault.{PeerFault}
 use Rattle.lc_peer.specs.declared.config.PeerFault.TheVariants.{BadCapacity, OutOfMemory}
 use Rattle.lc_peer.specs.Config.{first_bad}
 use Rattle.lc_book.specs.Server.{Server}
 use Rattle.lc_queue.specs.Parts.{End}
 use Rattle.lc_inbox.specs.declared.rule.Key.{Key}
-use Rattle.lc_inbox.specs.declared.shared_inbox.SharedInbox.{SharedInbox}
 use Rattle.lc_inbox.specs.Sides.{InboxId, Side, IsNew, IsFinished}
 
 -- the end of a lane on which a server puts, where nothing was put
 pub record IsServerEnd (lane : End) : Type 0 where
   pub put : lane.put ≡ []
-  pub server : 6 < lane.lane
+  pub server : channel_count ≤ lane.lane
 
 -- the capacity of a lane's channel
 abbrev pub capacity_of : List ℕ → End → ℕ
-capacity_of capacities lane = slice_index capacities (lane.lane - 7)
+capacity_of capacities lane = slice_index capacities (lane.lane - channel_count)
 
 -- both sides of a new inbox of the lane's channel, which puts on the lane
-abbrev pub IsNewShared : List ℕ → End → SharedInbox → Type 0
-IsNewShared capacities lane shared = IsNew (capacity_of capacities lane) lane shared.incoming shared.outgoing
-
--- the reading side of an inbox
-abbrev pub incoming_of : SharedInbox → Side
-incoming_of shared = shared.incoming
-
--- the receiving side of an inbox
-abbrev pub outgoing_of : SharedInbox → Side
-outgoing_of shared = shared.outgoing
-
--- the two sides of each
-pub record AreParts (shared : List SharedInbox) (incoming outgoing : List Side) : Type 0 where
-  pub incoming_are : incoming ≡ map incoming_of shared
-  pub outgoing_are : outgoing ≡ map outgoing_of shared
+abbrev pub IsNewShared : List ℕ → End → Side × Side → Type 0
+IsNewShared capacities lane shared = IsNew (capacity_of capacities lane) lane shared.0 shared.1
 
 -- of these lanes, in order, each one's new inbox, of its channel's capacity, has its two sides at its place
 abbrev pub AreNew : List ℕ → List End → List Side → List Side → Type 0

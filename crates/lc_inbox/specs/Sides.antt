@@ -2,7 +2,7 @@
 use Rattle.std.specs.Prelude.{◌≡◌, ℕ, ◌+◌, Bool, List, [], ◌∷◌, ◌++◌, length, Option, Some, None}
 use Rattle.atomic_table.specs.Seated.{TableId}
 use Rattle.lc_history.specs.History.{IsHistory, Knows, Learns, Makes}
-use Rattle.lc_frame.specs.Channel.{number_of}
+use Rattle.lc_frame.specs.Channel.{channel_count, number_of}
 use Rattle.lc_frame.specs.Stream.{messages}
 use Rattle.lc_frame.specs.declared.frame.Frame.{Frame}
 use Rattle.lc_book.specs.declared.fault.Refusal.{Refusal}
@@ -73,7 +73,7 @@ pub record IsNew (capacity : ℕ) (lane : End) (incoming outgoing : Side) : Type
   pub one : outgoing ≡ incoming
   pub seen : incoming.seen ≡ []
   pub turns : incoming.turns ≡ 0
-  pub channel_is : lane.lane ≡ 7 + number_of incoming.key.channel
+  pub channel_is : lane.lane ≡ channel_count + number_of incoming.key.channel
   pub capacity_is : incoming.key.capacity ≡ capacity
   pub lane_is : incoming.key.lane.value ≡ lane
 

@@ -14,7 +14,7 @@ ghost use Rattle.lc_inbox.specs.Lends.{IsMadeOf, IsLent};
 
 use crate::lent::Lent;
 use lc_book::{Refusal, ServerBook, Violation};
-use lc_frame::{Channel, Frame, FrameRef};
+use lc_frame::{Channel, Frame, FrameRef, Lane};
 use lc_peer::{Inbox, Take};
 use lc_queue::LaneEnd;
 use std::marker::Model;
@@ -49,21 +49,30 @@ fn lend<T, F: FnOnce(&[u8], &[u8]) -> T>(inbox: &Inbox, read: F) -> Option<T>
     }
 }
 
+/// The channel of the lane on which a server puts.
+pub(crate) fn server_of(lane: &LaneEnd) -> Channel
+    requires { channel_count ≤ lane.now.lane }
+    ensures { lane.now.lane ≡ channel_count + number_of result }
+{
+    match Lane::from_number(lane.lane()) {
+        Some(Lane::Server(channel)) => channel,
+        Some(Lane::Client(_)) => unreachable!(),
+        None => unreachable!(),
+    }
+}
+
 impl InboxEnd {
     /// A new inbox with the end of its channel's lane, where nothing was put. It takes no memory.
     pub fn new(inbox: Inbox, lane: LaneEnd) -> InboxEnd
         requires inbox { inbox ≡ new_inbox inbox.book.capacity }
         requires put { lane.put ≡ [] }
-        requires server { 6 < lane.lane }
+        requires server { channel_count ≤ lane.lane }
         ensures parts { (result.inbox ≡ inbox) × (result.lane ≡ lane) }
-        ensures channel { lane.lane ≡ 7 + number_of result.channel }
+        ensures channel { lane.lane ≡ channel_count + number_of result.channel }
         ensures new { IsNewHeld result }
     {
-        let Some(channel) = Channel::from_number(lane.lane() - 7) else {
-            unreachable!()
-        };
         InboxEnd {
-            channel,
+            channel: server_of(&lane),
             inbox,
             lane,
         }

@@ -36,7 +36,7 @@ mod lent;
 mod rule;
 mod shared_inbox;
 
-pub use arrays::{Seven, apart};
+pub use arrays::{Seven, apart, unzipped, zipped};
 pub use finishes::{FinishedInboxes, finish_all};
 pub use inbox_end::InboxEnd;
 pub use inbox_in::InboxIn;
