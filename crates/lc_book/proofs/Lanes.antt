@@ -7,7 +7,7 @@ use Rattle.std.proofs.lemmas.List.{append-nil}
 use Rattle.lc_frame.specs.declared.channel.Channel.{Channel}
 use Rattle.lc_frame.specs.declared.frame.Frame.{Frame}
 use Rattle.lc_frame.specs.declared.frame.Frame.TheVariants.{Send, Issue, Absolve, Plead, LimitSending, LimitReceiving, Finish}
-use Rattle.lc_frame.specs.Channel.{is_same, number_of}
+use Rattle.lc_frame.specs.Channel.{channel_count, is_same, number_of}
 use Rattle.lc_frame.specs.Frame.{channel_of, lane_of}
 use Rattle.lc_frame.specs.Stream.{of_lane, messages, issued, absolved, send_left, receive_left, finished}
 use Rattle.lc_frame.proofs.Channels.{cases_same}
@@ -110,7 +110,7 @@ finished-of_lane c frames = lane_alone (finished c) (number_of c) (finished_goes
 
 -- the guarantees issued
 abbrev server_lane : Channel → ℕ
-server_lane c = 7 + number_of c
+server_lane c = channel_count + number_of c
 
 silent_issued : (xs : List Frame) (f : Frame) → (lane_of f == server_lane (channel_of f)) ≡ false → issued (channel_of f) (xs ++ f ∷ []) ≡ issued (channel_of f) xs
 silent_issued xs (Send c body) e = let f : Frame = Send c body in omega (arith, issued-append c xs (f ∷ []), issued-one f)

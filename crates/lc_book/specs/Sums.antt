@@ -4,7 +4,7 @@ use Rattle.lc_frame.specs.declared.version.Version.{Version}
 use Rattle.lc_frame.specs.declared.channel.Channel.{Channel}
 use Rattle.lc_frame.specs.declared.frame.Frame.{Frame}
 use Rattle.lc_frame.specs.declared.frame.Frame.TheVariants.{Send, Issue, Absolve, Plead, LimitSending, LimitReceiving, Finish}
-use Rattle.lc_frame.specs.Channel.{is_same, number_of}
+use Rattle.lc_frame.specs.Channel.{channel_count, is_same, number_of}
 use Rattle.lc_frame.specs.Frame.{channel_of, IsValid}
 use Rattle.lc_frame.specs.Stream.{of_lane, messages, cost, issued as issued_on, absolved as absolved_on, send_left as send_left_on, receive_left as receive_left_on, finished as finished_on}
 use Rattle.lc_book.specs.Client.{Client, IsClient, spend_refusal, spend, absolve_refusal, absolve, amount_to_absolve, kept, honour, limit_sending_refusal, limit_client, finish_refusal, finish, add_received, keep_plead, note_receive_limit}
@@ -135,8 +135,8 @@ pub record SumsAreOfLanes (c : Channel) (frames : List Frame) : Type 0 where
   pub absolved_is : absolved_on c (of_lane (number_of c) frames) ≡ absolved_on c frames
   pub send_left_is : send_left_on c (of_lane (number_of c) frames) ≡ send_left_on c frames
   pub finished_is : finished_on c (of_lane (number_of c) frames) ≡ finished_on c frames
-  pub issued_is : issued_on c (of_lane (7 + number_of c) frames) ≡ issued_on c frames
-  pub receive_left_is : receive_left_on c (of_lane (7 + number_of c) frames) ≡ receive_left_on c frames
+  pub issued_is : issued_on c (of_lane (channel_count + number_of c) frames) ≡ issued_on c frames
+  pub receive_left_is : receive_left_on c (of_lane (channel_count + number_of c) frames) ≡ receive_left_on c frames
 
 -- of every list of frames, each sum over all is that over the frames of its lane
 abbrev pub EverySumIsOfItsLane : Type 0

@@ -20,7 +20,7 @@ pub struct Detail {
 pub enum Refusal {
     /// 1. A message has at least 1 byte.
     EmptyBody,
-    /// 2. A message has at most 65,535 bytes in version One, and 1,048,576 in version Two.
+    /// 2. A message has at most `Version::max_body` bytes.
     BodyTooLong,
     /// 3. The message is longer than what the client's own limit leaves.
     PastSendLimit { left: u64 },

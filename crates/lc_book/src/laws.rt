@@ -24,8 +24,8 @@ pub fn books_put_valid_frames()
     ensures { EveryBookPutsValidFrames }
 {}
 
-/// Each sum over a list of frames is that over the frames of one lane: lane c for what a client
-/// puts on channel c, lane 7 + c for what a server puts there.
+/// Each sum over a list of frames is that over the frames of one lane: that of the channel's client, or
+/// that of its server.
 pub fn sums_are_of_lanes()
     ensures { EverySumIsOfItsLane }
 {}
