@@ -3,6 +3,7 @@ use Rattle.std.proofs.Common.{◌≡◌, ◌∙◌, refl, sym, ap, subst, arith,
 use Rattle.std.specs.List.{All}
 use Rattle.std.proofs.lemmas.List.Elements.{All-map}
 use Rattle.lc_frame.specs.declared.version.Version.{Version}
+use Rattle.lc_frame.specs.Lane.{lane_count}
 use Rattle.lc_queue.specs.Parts.{QueueId, End, IsSame, new_end, new_ends}
 
 abbrev pub first_ends : QueueId → Version → ℕ → List End
@@ -16,7 +17,7 @@ ends_grow queue version lane before end after first is pushed =
     pushed ∙ (λ i. first i ++ is i ∷ []) ∙ ap (first_ends queue version) more
 
 -- all of them
-pub ends_all : (queue : QueueId) (version : Version) (lane : ℕ) (ends : List End) → lane ≡ 14 → ends ≡ first_ends queue version lane → ends ≡ new_ends queue version
+pub ends_all : (queue : QueueId) (version : Version) (lane : ℕ) (ends : List End) → lane ≡ lane_count → ends ≡ first_ends queue version lane → ends ≡ new_ends queue version
 ends_all queue version lane ends last first = first ∙ ap (first_ends queue version) last
 
 -- the same ends, by the queue and the version under other names; and they are all of that queue

@@ -1,4 +1,4 @@
--- What contracts see of the parts of a queue: which queue each is of, and what it has done. That the seven channels of both directions are fourteen lanes of one queue is this project's own.
+-- What contracts see of the parts of a queue: which queue each is of, and what it has done. That the channels of both directions are lanes of one queue is this project's own.
 use Rattle.std.specs.Prelude.{◌≡◌, ℕ, ◌<◌, List, [], ◌∷◌, ◌++◌, length, map}
 use Rattle.std.specs.List.{All}
 use Rattle.atomic_table.specs.Seated.{TableId}
@@ -45,7 +45,7 @@ new_end queue version lane = record { queue = queue; version = version; lane = l
 abbrev pub new_outlet : QueueId → Version → Outlet
 new_outlet queue version = record { queue = queue; version = version; popped = []; joined = [] }
 
--- the ends of the lanes 0 to 13, in order
+-- the ends of all lanes, in the order of their numbers
 abbrev pub new_ends : QueueId → Version → List End
 new_ends queue version = map (new_end queue version) (0 ∷ 1 ∷ 2 ∷ 3 ∷ 4 ∷ 5 ∷ 6 ∷ 7 ∷ 8 ∷ 9 ∷ 10 ∷ 11 ∷ 12 ∷ 13 ∷ [])
 

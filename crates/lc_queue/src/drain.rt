@@ -26,6 +26,7 @@ impl Model for Drain {
     ghost use Rattle.std.specs.Prelude.{◌≡◌};
     ghost use Rattle.std.specs.Arc.{arc_value};
     ghost use Rattle.crossbeam_queue.specs.Passes.{view as pass_view, IsPassOf};
+    ghost use Rattle.lc_frame.specs.Lane.{lane_count};
     ghost use Rattle.lc_queue.specs.declared.rule.View.TheVariants.{Drain};
     ghost use Rattle.lc_queue.specs.Passes.{popped_of, joined_of};
     ghost use Rattle.lc_queue.specs.Parts.{Outlet};
@@ -34,7 +35,7 @@ impl Model for Drain {
 
     ghost view = { λ d. record { queue = d.pass.table_id; version = d.version; popped = popped_of (pass_view d.pass); joined = joined_of (pass_view d.pass) } };
 
-    ghost invariant = { λ d. IsPassOf (arc_value d.queue) d.pass × (pass_view d.pass ≡ Drain (record { slots = d.pass.table_id.slots; version = d.version }) 14 (popped_of (pass_view d.pass)) (joined_of (pass_view d.pass))) };
+    ghost invariant = { λ d. IsPassOf (arc_value d.queue) d.pass × (pass_view d.pass ≡ Drain (record { slots = d.pass.table_id.slots; version = d.version }) lane_count (popped_of (pass_view d.pass)) (joined_of (pass_view d.pass))) };
 }
 
 impl Debug for Drain {

@@ -1,6 +1,7 @@
 //! Where the frames of one lane are put.
 ghost use Rattle.std.specs.Prelude.{◌≡◌, ◌<◌, [], ◌∷◌, ◌++◌, MatchResult};
 ghost use Rattle.lc_frame.specs.Frame.{lane_of, IsValid};
+ghost use Rattle.lc_frame.specs.Lane.{lane_count};
 ghost use Rattle.lc_queue.specs.Parts.{IsSameEnd};
 
 use crate::rule::{Push, Queue, View};
@@ -26,6 +27,7 @@ impl Model for LaneEnd {
     ghost use Rattle.std.specs.Prelude.{◌≡◌, ◌<◌};
     ghost use Rattle.std.specs.Arc.{arc_value};
     ghost use Rattle.crossbeam_queue.specs.Passes.{view as pass_view, IsPassOf};
+    ghost use Rattle.lc_frame.specs.Lane.{lane_count};
     ghost use Rattle.lc_queue.specs.declared.rule.View.TheVariants.{Lane};
     ghost use Rattle.lc_queue.specs.Passes.{put_of};
     ghost use Rattle.lc_queue.specs.Parts.{End};
@@ -34,7 +36,7 @@ impl Model for LaneEnd {
 
     ghost view = { λ e. record { queue = e.pass.table_id; version = e.version; lane = e.lane; put = put_of (pass_view e.pass) } };
 
-    ghost invariant = { λ e. IsPassOf (arc_value e.queue) e.pass × (pass_view e.pass ≡ Lane (record { slots = e.pass.table_id.slots; version = e.version }) e.lane (put_of (pass_view e.pass))) × (e.lane < 14) };
+    ghost invariant = { λ e. IsPassOf (arc_value e.queue) e.pass × (pass_view e.pass ≡ Lane (record { slots = e.pass.table_id.slots; version = e.version }) e.lane (put_of (pass_view e.pass))) × (e.lane < lane_count) };
 }
 
 impl Debug for LaneEnd {
@@ -53,11 +55,10 @@ impl LaneEnd {
         self.version
     }
 
-    /// The lane's number, 0 to 13: the channel's for what a client puts, 7 more for what a server
-    /// puts.
+    /// The lane's number, as `Lane::number` has it.
     pub fn lane(&self) -> u8
         ensures value { result ≡ self.now.lane }
-        ensures range { result < 14 }
+        ensures range { result < lane_count }
     {
         self.lane
     }

@@ -1,11 +1,11 @@
-//! One bounded queue for the frames of all threads of a session: fourteen lane ends that push and
-//! one drain that pops. Lane by lane, what was popped and then what is queued is what was put.
+//! One bounded queue for the frames of all threads of a session: an end for each lane, which
+//! pushes, and one drain that pops. Lane by lane, what was popped and then what is queued is what was put.
 //!
 //! # What threads share
 //!
 //! | | |
 //! |---|---|
-//! | shared | the queue: one bounded ring of frames, in an `Arc` that each of its fifteen parts has |
+//! | shared | the queue: one bounded ring of frames, in an `Arc` that each of its parts has |
 //! | a thread's own | a `LaneEnd`, or the `Drain`: each is moved to its thread, and its calls take it by `&mut`, so that a lane is put by one thread at a time and one thread at a time pops |
 //! | in no memory at all | what a part knows: the queue's slots and version, which frames were put, which were popped. It exists in proofs alone; the version stands in each part too |
 //!

@@ -2,6 +2,7 @@
 ghost use Rattle.std.specs.Prelude.{◌≡◌, ◌+◌, ◌<◌, ◌≤◌, ◌↔◌, [], IfOk};
 ghost use Rattle.std.specs.List.{All};
 ghost use Rattle.lc_frame.specs.Bounds.{IsSlots};
+ghost use Rattle.lc_frame.specs.Lane.{lane_count};
 ghost use Rattle.lc_queue.specs.declared.fault.LanesFault.TheVariants.{BadSlots};
 ghost use Rattle.lc_queue.specs.Parts.{IsSame, slots_of, new_end, new_ends, new_outlet};
 
@@ -11,7 +12,7 @@ use crate::lane_end::LaneEnd;
 use crate::parts::Lanes;
 use crate::rule::{FirstLane, NextLane, Queue, Told, View};
 use crossbeam_queue::Pass;
-use lc_frame::{Frame, Version, is_slots};
+use lc_frame::{Frame, LANES, Version, is_slots};
 use std::alloc::{AllocError, Global};
 use std::marker::{Brand, Model};
 use std::sync::Arc;
@@ -71,7 +72,7 @@ impl Opening {
 
     // The end of the next lane.
     fn next_lane(&mut self, lane: u8) -> Result<LaneEnd, AllocError>
-        requires { (self.old.next ≡ lane) × (lane < 14) }
+        requires { (self.old.next ≡ lane) × (lane < lane_count) }
         ensures { IfOk result (λ end. (end ≡ new_end self.old.queue self.old.version lane) × (self.new ≡ record self.old { next = lane + 1 })) }
     {
         let queue = Arc::try_clone(&self.queue)?;
@@ -85,16 +86,16 @@ impl Opening {
     }
 
     // The ends of all lanes.
-    fn ends(&mut self, alloc: Global, first: LaneEnd) -> Result<[LaneEnd; 14], AllocError>
+    fn ends(&mut self, alloc: Global, first: LaneEnd) -> Result<[LaneEnd; LANES], AllocError>
         requires { (self.old.next ≡ 1) × (first ≡ new_end self.old.queue self.old.version 0) }
-        ensures { IfOk result (λ ends. (ends ≡ new_ends self.old.queue self.old.version) × (self.new ≡ record self.old { next = 14 })) }
+        ensures { IfOk result (λ ends. (ends ≡ new_ends self.old.queue self.old.version) × (self.new ≡ record self.old { next = lane_count })) }
     {
-        let mut ends = Vec::with_capacity(alloc, 14)?;
+        let mut ends = Vec::with_capacity(alloc, LANES)?;
         ends.push(first)?;
-        for lane in 1..14 {
+        for lane in 1..LANES as u8 {
             ends.push(self.next_lane(lane)?)?;
         }
-        let Ok(ends) = <[LaneEnd; 14]>::try_from(ends) else {
+        let Ok(ends) = <[LaneEnd; LANES]>::try_from(ends) else {
             unreachable!()
         };
         Ok(ends)
@@ -102,7 +103,7 @@ impl Opening {
 
     // The drain of a queue whose lanes all have their ends.
     fn drain(self) -> Drain
-        requires { self.next ≡ 14 }
+        requires { self.next ≡ lane_count }
         ensures { result ≡ new_outlet self.queue self.version }
     {
         let Opening {
@@ -118,7 +119,7 @@ impl Opening {
     }
 }
 
-/// The fourteen lane ends and the drain of a new queue, which has room for `slots` frames, 1 to
+/// The ends of all lanes and the drain of a new queue, which has room for `slots` frames, 1 to
 /// 65,536, that are valid in the version. It takes all the memory of the queue; no later call takes
 /// any.
 pub fn lanes(alloc: Global, slots: u32, version: Version) -> Result<Lanes, LanesFault>

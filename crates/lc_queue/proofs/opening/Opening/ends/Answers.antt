@@ -1,4 +1,5 @@
 use Rattle.std.proofs.Common.{rules, arith, ◌≡◌, ◌+◌, ◌∙◌, ap}
+use Rattle.lc_frame.specs.Lane.{lane_count}
 use Rattle.lc_queue.specs.Opened.{Opened}
 use Rattle.lc_queue.specs.Parts.{new_end}
 use Rattle.lc_queue.proofs.Ends.{ends_grow, ends_all}
@@ -31,5 +32,5 @@ unreachable-requires c = search rules
 pub returns : goal.returns
 returns c =
     let inv = c.loop-lane.invariant in
-    let last : c.loop-lane.lane ≡ 14 = omega (arith, c.loop-lane-test.false, c.loop-lane.auto.lane-end) in
+    let last : c.loop-lane.lane ≡ lane_count = omega (arith, c.loop-lane-test.false, c.loop-lane.auto.lane-end) in
     (c.in-Ok.ensures.0 ∙ ends_all _ _ _ _ last inv.made, inv.next ∙ ap (λ next. record c.args.self.now { next = next }) last)
