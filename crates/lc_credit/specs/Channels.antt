@@ -1,4 +1,4 @@
--- The credits of all seven channels, by number. The channels are this project's own.
+-- The credits of all channels, by number. The channels are this project's own.
 use Rattle.std.specs.Prelude.{◌≡◌, List, [], ◌∷◌, map}
 use Rattle.lc_credit.specs.declared.balance.Balance.{Balance}
 use Rattle.lc_credit.specs.Sides.{CreditId, Incoming, Outgoing, new_incoming, new_outgoing, IsSettled}

@@ -1,11 +1,13 @@
 //! What the credits come to in the end.
 ghost use Rattle.std.specs.Prelude.{◌≡◌, ◌<◌, slice_get, IfSome, All};
+ghost use Rattle.lc_frame.specs.Channel.{channel_count};
 ghost use Rattle.lc_credit.specs.Sides.{IsIdle, IsSettled};
 ghost use Rattle.lc_credit.specs.Channels.{AreMatched, AreSettled};
 
 use crate::channel_in::ChannelIn;
 use crate::credit_out::CreditOut;
 use crate::credit_parts::CreditParts;
+use lc_frame::CHANNELS;
 
 /// What became of one channel's guarantees, in bytes of messages: `received` is the sum of the
 /// others.
@@ -33,7 +35,7 @@ const NOTHING: Balance = Balance {
 
 /// The balance of each channel, in the channels' order. Each end has to stand at its own channel's
 /// place.
-pub fn settle(parts: CreditParts) -> [Balance; 7]
+pub fn settle(parts: CreditParts) -> [Balance; CHANNELS]
     requires matched { AreMatched parts.incoming parts.outgoing }
     requires idle { All IsIdle parts.outgoing }
     ensures { AreSettled parts.incoming parts.outgoing result }
@@ -42,12 +44,15 @@ pub fn settle(parts: CreditParts) -> [Balance; 7]
 }
 
 // Settles channel after channel.
-fn settle_all(mut channels: [ChannelIn; 7], outgoing: [CreditOut; 7]) -> [Balance; 7]
+fn settle_all(
+    mut channels: [ChannelIn; CHANNELS],
+    outgoing: [CreditOut; CHANNELS],
+) -> [Balance; CHANNELS]
     requires matched { AreMatched channels outgoing }
     requires idle { All IsIdle outgoing }
     ensures { AreSettled channels outgoing result }
 {
-    let mut balances = [NOTHING; 7];
+    let mut balances = [NOTHING; CHANNELS];
     let mut channel = 0;
     for end in outgoing {
         balances[channel] = settle_at(&mut channels, channel, end);
@@ -57,8 +62,8 @@ fn settle_all(mut channels: [ChannelIn; 7], outgoing: [CreditOut; 7]) -> [Balanc
 }
 
 // Settles one channel.
-fn settle_at(channels: &mut [ChannelIn; 7], channel: usize, end: CreditOut) -> Balance
-    requires channel { channel < 7 }
+fn settle_at(channels: &mut [ChannelIn; CHANNELS], channel: usize, end: CreditOut) -> Balance
+    requires channel { channel < channel_count }
     requires matched { IfSome (slice_get channels.old channel) (λ i. i.credit ≡ end.credit) }
     requires idle { IsIdle end }
     ensures same { channels.new ≡ channels.old }

@@ -1,4 +1,4 @@
-//! The reading side of the credits of seven channels.
+//! The reading side of the credits of all channels.
 ghost use Rattle.std.specs.Prelude.{◌≡◌, ◌≤◌, OnOk, IfErr, IsSomeAnd, slice_get};
 ghost use Rattle.lc_frame.specs.Channel.{number_of};
 ghost use Rattle.lc_frame.specs.Kind.{max_amount, max_total};
@@ -9,14 +9,14 @@ ghost use Rattle.lc_credit.specs.Channels.{SameCredits};
 
 use crate::channel_in::ChannelIn;
 use lc_book::Violation;
-use lc_frame::Channel;
+use lc_frame::{CHANNELS, Channel};
 use std::marker::Model;
 
-/// The credits of seven channels, as the thread that reads frames has them: it adds what arrives.
+/// The credits of all channels, as the thread that reads frames has them: it adds what arrives.
 /// All numbers count bytes of messages.
 #[derive(Debug, Drop)]
 pub struct CreditIn {
-    pub(crate) channels: [ChannelIn; 7],
+    pub(crate) channels: [ChannelIn; CHANNELS],
 }
 
 impl Model for CreditIn {

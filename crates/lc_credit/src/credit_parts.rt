@@ -1,5 +1,6 @@
 //! The parts that threads share the credits by.
 ghost use Rattle.std.specs.Prelude.{◌≡◌, IfOk, All, length, map};
+ghost use Rattle.lc_frame.specs.Channel.{channel_count};
 ghost use Rattle.lc_credit.specs.Sides.{IsIdle, IsUnfinished};
 ghost use Rattle.lc_credit.specs.Channels.{AreMatched, AreNew, IsNewPair};
 
@@ -7,21 +8,21 @@ use crate::channel_in::{ChannelIn, Words};
 use crate::credit_in::CreditIn;
 use crate::credit_out::CreditOut;
 use crate::rule::TwoSides;
-use lc_frame::Channel;
+use lc_frame::{CHANNELS, Channel};
 use std::alloc::{AllocError, Global};
 use std::sync::Arc;
 
-/// The credits of seven channels, in parts for eight threads. `outgoing` has the end of each
-/// channel at the place of its number.
+/// The credits of all channels, in parts for the thread that reads and those that send. `outgoing`
+/// has the end of each channel at the place of its number.
 #[derive(Debug, Drop)]
 pub struct CreditParts {
     /// For the thread that reads frames.
     pub incoming: CreditIn,
     /// For the threads that send.
-    pub outgoing: [CreditOut; 7],
+    pub outgoing: [CreditOut; CHANNELS],
 }
 
-/// Seven new credits: nothing was received, nothing is held, and there is no limit.
+/// A new credit for each channel: nothing was received, nothing is held, and there is no limit.
 pub fn credits(alloc: Global) -> Result<CreditParts, AllocError>
     ensures new { IfOk result (λ parts. AreNew parts.incoming parts.outgoing) }
     ensures matched { IfOk result (λ parts. AreMatched parts.incoming parts.outgoing) }
@@ -34,8 +35,8 @@ pub fn credits(alloc: Global) -> Result<CreditParts, AllocError>
 }
 
 // The first of each pair, and the second.
-fn parted<A, B>(pairs: [(A, B); 7]) -> ([A; 7], [B; 7])
-    requires { length pairs ≡ 7 }
+fn parted<A, B>(pairs: [(A, B); CHANNELS]) -> ([A; CHANNELS], [B; CHANNELS])
+    requires { length pairs ≡ channel_count }
     ensures { (result.0 ≡ map (λ pair. pair.0) pairs) × (result.1 ≡ map (λ pair. pair.1) pairs) }
 {
     let [

@@ -1,4 +1,4 @@
-//! The guarantees of seven channels, shared by the thread that reads frames and those that send.
+//! The guarantees of all channels, shared by the thread that reads frames and those that send.
 //!
 //! A channel's credit is one atomic word: what was received less what is used. The thread that
 //! reads raises it, and the channel's sending end alone lowers it, so no call waits for another
@@ -10,7 +10,7 @@
 //!
 //! A channel's guarantees are known to two threads: the one that reads frames, which receives
 //! them, and the one that sends on the channel, which uses them. `credits` makes a `CreditIn` for
-//! the first, with all seven channels, and seven `CreditOut`s, one for each thread that sends.
+//! the first, with all channels, and a `CreditOut` of each channel for the one that sends there.
 //!
 //! | shared | who changes it, and how |
 //! |---|---|

@@ -1,5 +1,6 @@
 use Rattle.std.proofs.Common.{rules, ◌≡◌, ◌++◌, ◌∷◌, [], map, length, sym, ap, ◌∙◌, slice_get, IfSome, arith, append_assoc, append-nil, subst, length-append, length-set}
 use Rattle.std.proofs.lemmas.List.{nil_from_length}
+use Rattle.lc_frame.specs.Channel.{channel_count}
 use Rattle.lc_credit.specs.Sides.{IsSettled}
 use Rattle.lc_credit.specs.Channels.{credit_out}
 use Rattle.lc_credit.proofs.Channels.{credit_at, before_end, settled_push, settled_all, AreSettledSoFar}
@@ -15,9 +16,9 @@ pub loop-end-preserved : goal.loop-end-preserved
 loop-end-preserved c =
     let i = c.loop-end.invariant in
     let whole = ap (λ r. c.loop-end.yielded ++ r) (sym c.in-Some.ensures.steps) ∙ i.rest in
-    let ends : length c.args.outgoing ≡ 7 = search rules in
-    let sides : length c.args.channels ≡ 7 = search rules in
-    let size : length c.loop-end.balances ≡ 7 = i.size in
+    let ends : length c.args.outgoing ≡ channel_count = search rules in
+    let sides : length c.args.channels ≡ channel_count = search rules in
+    let size : length c.loop-end.balances ≡ channel_count = i.size in
     let inside = before_end _ _ _ _ whole in
     let this : IfSome (slice_get c.args.channels (length c.loop-end.yielded)) (λ x. IsSettled x c.in-Some.end c.settle_at.result) = rw (sym i.at, sym i.channels) c.settle_at.ensures.settled in
     record {
@@ -32,7 +33,7 @@ pub returns : goal.returns
 returns c =
     let i = c.loop-end.invariant in
     let all = sym (append-nil c.loop-end.yielded) ∙ (ap (λ r. c.loop-end.yielded ++ r) (sym (nil_from_length _ c.in-None.ensures.steps.0)) ∙ i.rest) in
-    let ends : length c.args.outgoing ≡ 7 = search rules in
-    let sides : length c.args.channels ≡ 7 = search rules in
-    let size : length c.loop-end.balances ≡ 7 = i.size in
+    let ends : length c.args.outgoing ≡ channel_count = search rules in
+    let sides : length c.args.channels ≡ channel_count = search rules in
+    let size : length c.loop-end.balances ≡ channel_count = i.size in
     settled_all _ _ _ (omega arith) (omega arith) (subst (λ xs. AreSettledSoFar c.args.channels xs c.loop-end.balances) all i.settled)
