@@ -1,6 +1,6 @@
 //! The sending end of one channel.
 ghost use Rattle.std.specs.Prelude.{◌≡◌, ◌<◌, ◌≤◌, [], ◌∷◌, ◌++◌, IfOk, IfErr, OnOk, OnErr, IfSome, IfNone, IsSome, Some, None, true, is_some};
-ghost use Rattle.lc_frame.specs.Channel.{number_of};
+ghost use Rattle.lc_frame.specs.Channel.{channel_count, number_of};
 ghost use Rattle.lc_frame.specs.Frame.{IsValid, lane_of};
 ghost use Rattle.lc_frame.specs.declared.kind.Kind.TheVariants.{Finish};
 ghost use Rattle.lc_frame.specs.Kind.{has, max_amount, max_total};
@@ -149,7 +149,7 @@ impl Outbox {
     /// A new outbox, of the end of a client's lane where nothing was put, and a new credit. It takes
     /// no memory; `alloc` is for the copies of messages.
     pub fn new(alloc: Global, lane: LaneEnd, credit: CreditOut) -> Outbox
-        requires client { lane.lane < 7 }
+        requires client { lane.lane < channel_count }
         requires put { lane.put ≡ [] }
         requires credit { credit ≡ new_outgoing credit.credit }
         ensures channel { number_of result.channel ≡ lane.lane }
@@ -197,7 +197,7 @@ impl Outbox {
         self.credit.is_finished()
     }
 
-    /// A message is sent, of 1 to 65,535 bytes in version One and to 1,048,576 in version Two.
+    /// A message is sent, of 1 to `Version::max_body` bytes.
     /// Refused by 15, 1, 2, 3 and 4, by 14 where the copy of the message gets no memory, and by 13
     /// where the queue gives its frame back, in this order. After 14 and after 13 what was taken out
     /// is given back, and no clause tells the two apart.
