@@ -24,7 +24,7 @@ bytes r = sum_by length r.messages
 abbrev pub free : Ring → ℕ
 free r = r.capacity - bytes r
 
--- a message has 1 to 1,048,576 bytes, as one of either version has
+-- a message has at least 1 byte, and at most as many as the longest of version Two
 pub record IsLength (len : ℕ) : Type 0 where
   pub at_least : 1 ≤ len
   pub at_most : len ≤ max_body Two
