@@ -6,7 +6,7 @@ use Rattle.std.proofs.Math.ListN.{get_or-map}
 use Rattle.lc_frame.specs.declared.channel.Channel.{Channel}
 use Rattle.lc_frame.specs.declared.version.Version.{Version}
 use Rattle.lc_frame.specs.declared.frame.Frame.{Frame}
-use Rattle.lc_frame.specs.Channel.{is_same, number_of}
+use Rattle.lc_frame.specs.Channel.{channel_count, is_same, number_of}
 use Rattle.lc_frame.specs.Frame.{channel_of}
 use Rattle.lc_frame.proofs.Channels.{cases_same, same_is_same, number_below}
 use Rattle.lc_book.specs.Sums.{asked_after}
@@ -36,7 +36,7 @@ module _ (s t : Streams) (p : PeerState) (h : IsPeerOf s p) (d : Channel) (x : C
         | inr apart ↦ subst (Of t c) (sym (get_or-set_other p.channels (number_of d) (number_of c) x (new_channel p.version 0) (grind (arith, nat_tests, apart)))) (elsewhere c apart (h.channels c))
       ]
 
-  pub places_of : length (set_channel p d x).channels ≡ 7
+  pub places_of : length (set_channel p d x).channels ≡ channel_count
   places_of = length-set p.channels (number_of d) x ∙ h.places
 
 -- more is put, and waits

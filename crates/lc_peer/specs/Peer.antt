@@ -23,7 +23,7 @@ pub record PeerState : Type 0 where
 abbrev pub new_channel : Version → ℕ → ChannelState
 new_channel version capacity = record { client = new_client version; inbox = new_inbox capacity }
 
--- the state of a channel, by its number. Every peer has all seven places; past the last one a channel without a ring would be read
+-- the state of a channel, by its number. Every peer has a place for each channel; past the last one a channel without a ring would be read
 abbrev pub channel : PeerState → Channel → ChannelState
 channel p c = slice_index_or p.channels (number_of c) (new_channel p.version 0)
 

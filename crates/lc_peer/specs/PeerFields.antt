@@ -6,11 +6,12 @@ use Rattle.lc_frame.specs.Bounds.{IsSlots}
 use Rattle.lc_frame.specs.declared.frame.Frame.{Frame}
 use Rattle.lc_frame.specs.declared.version.Version.{Version}
 use Rattle.lc_frame.specs.Frame.{IsValid}
+use Rattle.lc_frame.specs.Channel.{channel_count}
 use Rattle.lc_peer.specs.declared.channel_state.ChannelState.{ChannelState}
 
 -- every channel has its place and sends in the peer's version, as many frames may wait as a configuration allows, and those that wait are valid in that version
 pub record ArePeerFields (version : Version) (channels : List ChannelState) (waiting : Buffer Frame) : Type 0 where
-  pub places : length channels ≡ 7
+  pub places : length channels ≡ channel_count
   pub versions : AllByRecursion (λ s. s.client.version ≡ version) channels
   pub slots : IsSlots waiting.capacity
   pub each : AllByRecursion (IsValid version) waiting.items

@@ -3,7 +3,7 @@ use Rattle.std.specs.Prelude.{◌≡◌, ℕ, ◌+◌, ◌≤◌, ◌<◌, if◌
 use Rattle.std.specs.List.{AllByRecursion}
 use Rattle.lc_frame.specs.declared.channel.Channel.{Channel}
 use Rattle.lc_frame.specs.declared.frame.Frame.{Frame}
-use Rattle.lc_frame.specs.Channel.{is_same, number_of}
+use Rattle.lc_frame.specs.Channel.{channel_count, is_same, number_of}
 use Rattle.lc_frame.specs.declared.version.Version.{Version}
 use Rattle.lc_frame.specs.declared.version.Version.TheVariants.{Two}
 use Rattle.lc_frame.specs.Frame.{channel_of, IsValid}
@@ -43,7 +43,7 @@ pub record Streams : Type 0 where
 -- a peer is that of two streams: it writes the version of the one, each of its channels is that of both, and the frames that wait are the last that it put
 pub record IsPeerOf (streams : Streams) (p : PeerState) : Type 0 where
   pub version : p.version ≡ streams.version
-  pub places : length p.channels ≡ 7
+  pub places : length p.channels ≡ channel_count
   pub channels : (c : Channel) → IsChannelOf streams.version (streams.capacity c) c streams.put streams.arrived (streams.taken c) (streams.asked c) (channel p c)
   pub waiting : IsEndOf streams.put p.waiting
 
@@ -86,7 +86,7 @@ pub record CallKeepsStreams (s : Streams) (p : PeerState) : Type 0 where
 
 -- a new peer is that of two empty streams
 abbrev pub NewPeersAreOfStreams : Type 0
-NewPeersAreOfStreams = (config : Config) → length config.capacities ≡ 7 → IsPeerOf (new_streams config) (new_peer config)
+NewPeersAreOfStreams = (config : Config) → length config.capacities ≡ channel_count → IsPeerOf (new_streams config) (new_peer config)
 
 -- each call, arrival, take and frame that goes out keeps a peer one of two streams
 abbrev pub CallsKeepStreams : Type 0

@@ -4,12 +4,13 @@ ghost use Rattle.std.specs.Result.{result_err};
 ghost use Rattle.lc_frame.specs.FrameRef.{frame_of};
 ghost use Rattle.lc_frame.specs.declared.version.Version.TheVariants.{Two};
 ghost use Rattle.lc_frame.specs.Frame.{IsValid};
+ghost use Rattle.lc_frame.specs.Channel.{channel_count};
 ghost use Rattle.lc_peer.specs.Peer.{new_channel};
 ghost use Rattle.lc_peer.specs.Arrivals.{violation, channel_after_arrival};
 
 use crate::inbox::Inbox;
 use lc_book::{ClientBook, Violation};
-use lc_frame::{FrameRef, Version};
+use lc_frame::{CHANNELS, FrameRef, Version};
 use lc_ring::NewFault;
 use std::alloc::Global;
 
@@ -43,13 +44,13 @@ impl ChannelState {
     }
 }
 
-/// Seven channels on which nothing has happened.
+/// All channels, and on none has anything happened.
 pub(crate) fn new_channels(
     alloc: Global,
     version: Version,
-    capacities: [u32; 7],
-) -> Result<[ChannelState; 7], NewFault>
-    requires { length capacities ≡ 7 }
+    capacities: [u32; CHANNELS],
+) -> Result<[ChannelState; CHANNELS], NewFault>
+    requires { length capacities ≡ channel_count }
     ensures { IfOk result (λ states. states ≡ map (new_channel version) capacities) }
 {
     let inboxes = capacities.try_map(|capacity| Inbox::new(alloc, capacity))?;

@@ -3,7 +3,7 @@ ghost use Rattle.std.specs.Prelude.{◌≡◌, ◌≤◌, ◌↔◌, IsTrue};
 ghost use Rattle.lc_peer.specs.Config.{first_bad, config_fault};
 ghost use Rattle.std.specs.Result.{result_err};
 
-use lc_frame::{Channel, Version, is_capacity, is_slots};
+use lc_frame::{CHANNELS, Channel, Version, is_capacity, is_slots};
 use thiserror::Error;
 
 /// The bounds of a peer.
@@ -12,7 +12,7 @@ pub struct Config {
     /// The version of the stream that the peer writes. What arrives may be of either.
     pub version: Version,
     /// The bytes of each channel's receiving ring, 1 to 2^24, by the channel's number.
-    pub capacities: [u32; 7],
+    pub capacities: [u32; CHANNELS],
     /// How many frames may wait to go out, 1 to 65,536.
     pub slots: u32,
 }
@@ -32,7 +32,7 @@ pub enum PeerFault {
 }
 
 // The first channel whose ring may not have its capacity.
-fn first_bad(capacities: &[u32; 7]) -> Option<Channel>
+fn first_bad(capacities: &[u32; CHANNELS]) -> Option<Channel>
     ensures { result ≡ first_bad capacities.now }
 {
     let mut number = 0;

@@ -31,7 +31,7 @@ use crate::config::{Config, PeerFault};
 use crate::inbox::Take;
 use circular_buffer::HeapCircularBuffer;
 use lc_book::{ClientBook, Refusal, ServerBook, Violation};
-use lc_frame::{Body, Channel, Frame, FrameRef, Version};
+use lc_frame::{Body, CHANNELS, Channel, Frame, FrameRef, Version};
 use std::alloc::Global;
 use std::marker::Model;
 
@@ -40,7 +40,7 @@ use std::marker::Model;
 pub struct Peer {
     alloc: Global,
     version: Version,
-    channels: [ChannelState; 7],
+    channels: [ChannelState; CHANNELS],
     waiting: HeapCircularBuffer<Frame>,
 }
 
@@ -110,7 +110,7 @@ impl Peer {
         self.version
     }
 
-    /// A message is sent, of 1 to 65,535 bytes in version One and to 1,048,576 in version Two.
+    /// A message is sent, of 1 to `Version::max_body` bytes.
     /// Refused by 15, 1, 2, 3 and 4, by 14 where the copy of the body gets no memory, and by 13, in
     /// this order: the copy is made before a place is looked for.
     pub fn send(&mut self, channel: Channel, body: &[u8]) -> Result<(), Refusal>
