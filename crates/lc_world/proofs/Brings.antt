@@ -9,7 +9,7 @@ use Rattle.lc_frame.specs.declared.channel.Channel.{Channel}
 use Rattle.lc_frame.specs.declared.frame.Frame.{Frame}
 use Rattle.lc_frame.specs.declared.frame.Frame.TheVariants as frame
 use Rattle.lc_frame.specs.declared.frame_fault.FrameFault.{FrameFault}
-use Rattle.lc_frame.specs.Channel.{number_of}
+use Rattle.lc_frame.specs.Channel.{channel_count, number_of}
 use Rattle.lc_frame.specs.Kind.{max_amount}
 use Rattle.lc_frame.specs.Frame.{channel_of, IsValid}
 use Rattle.lc_frame.specs.Splits.{frames_of, rest_of}
@@ -44,7 +44,7 @@ use Rattle.lc_world.proofs.Deliveries.{left_is}
 use Rattle.lc_world.proofs.Calls.{peer_same, at_set, at_own}
 
 -- the plead that is kept after an arrival, by channel
-asked_is : (f : Frame) (asked : List (Option ℕ)) → length asked ≡ 7 → (c : Channel) → at (channel_of f) (asked_after f (get_or asked (number_of (channel_of f)) None)) (λ (b : Channel). get_or asked (number_of b) None) c ≡ get_or (keep_pleads f asked) (number_of c) None
+asked_is : (f : Frame) (asked : List (Option ℕ)) → length asked ≡ channel_count → (c : Channel) → at (channel_of f) (asked_after f (get_or asked (number_of (channel_of f)) None)) (λ (b : Channel). get_or asked (number_of b) None) c ≡ get_or (keep_pleads f asked) (number_of c) None
 asked_is (frame.Plead d target) asked len c = at_set asked None d (Some target) (omega (arith, len, number_below d)) c
 asked_is f asked len c = at_own asked None (channel_of f) c
 
@@ -66,14 +66,14 @@ module _ (k : ℕ) (small : k ≤ max_amount) (mine : Line) where
       let books = h.channels (channel_of f) in
       ap₂ (λ (cl : Client) (sv : Server). violation cl sv f) books.client books.server ∙ no_violation k small mine l s f rest e
 
-  one_comes : (l : Line) (p : PeerState) (f : Frame) (rest : List Frame) → length l.asked ≡ 7 → IsPeerOf (streams_of k mine l) p → IsPeerOf (streams_of k mine (arrive_first l (f ∷ rest))) (arrive p f)
+  one_comes : (l : Line) (p : PeerState) (f : Frame) (rest : List Frame) → length l.asked ≡ channel_count → IsPeerOf (streams_of k mine l) p → IsPeerOf (streams_of k mine (arrive_first l (f ∷ rest))) (arrive p f)
   one_comes l p f rest places h =
       peer_same (then_arrives f (streams_of k mine l)) (stream mine) (streams_of k mine (arrive_first l (f ∷ rest))).taken (streams_of k mine (arrive_first l (f ∷ rest))).asked (arrive p f) refl (λ c. refl) (asked_is f l.asked places) ((calls_keep_streams (streams_of k mine l) p h).arrives f)
 
   after_first : (p : PeerState) (f : Frame) (came : List Frame) → violation_at p f ≡ None → arrivals p (f ∷ came) ≡ record (arrivals (arrive p f) came) { count = (arrivals (arrive p f) came).count + 1 }
   after_first p f came e = ap (λ (o : Option Violation). arrive_unless p o (arrivals (arrive p f) came)) e
 
-  comes : (frames : List Frame) (n : ℕ) (l : Line) (p : PeerState) → l.in_flight ≡ frames → length l.asked ≡ 7 → SoundTo k mine l → IsPeerOf (streams_of k mine l) p → Comes k mine l (deliver_over frames n l) n p
+  comes : (frames : List Frame) (n : ℕ) (l : Line) (p : PeerState) → l.in_flight ≡ frames → length l.asked ≡ channel_count → SoundTo k mine l → IsPeerOf (streams_of k mine l) p → Comes k mine l (deliver_over frames n l) n p
   comes [] n l p e places s h =
       record {
         came = [];
@@ -126,7 +126,7 @@ line_delivered count l h =
     record {
       valid = subst (λ (v : Version). AllByRecursion (IsValid v) (stream (deliver_on count l))) (sym (version-deliver count l)) (subst (λ (fs : List Frame). AllByRecursion (IsValid l.version) fs) (sym (stream-deliver count l)) h.valid);
       order = order_delivers count l h.order;
-      taken_places = deliver_keeps (λ (x : Line). length x.taken ≡ 7) (record { begins = λ x m n e. e; arrives = λ x e. taken_arrives x.in_flight x ∙ e }) count l h.taken_places;
+      taken_places = deliver_keeps (λ (x : Line). length x.taken ≡ channel_count) (record { begins = λ x m n e. e; arrives = λ x e. taken_arrives x.in_flight x ∙ e }) count l h.taken_places;
       asked_places = places_deliver count l ∙ h.asked_places;
     }
 

@@ -10,7 +10,7 @@ use Rattle.std.proofs.lemmas.Grind.{flat_map-append}
 use Rattle.lc_frame.specs.declared.channel.Channel.{Channel}
 use Rattle.lc_frame.specs.declared.frame.Frame.{Frame}
 use Rattle.lc_frame.specs.declared.frame.Frame.TheVariants as frame
-use Rattle.lc_frame.specs.Channel.{number_of}
+use Rattle.lc_frame.specs.Channel.{channel_count, number_of}
 use Rattle.lc_frame.specs.Frame.{channel_of, IsValid}
 use Rattle.lc_frame.specs.Version.{greeting}
 use Rattle.lc_frame.specs.Encoding.{encoding}
@@ -129,7 +129,7 @@ module _ (k : ℕ) (mine theirs : Line) (p : PeerState) (h : IsPeerBetween k min
   due_is : (d : Channel) → due p d ≡ amount_to_absolve (client_book d mine theirs)
   due_is d = ap amount_to_absolve (client_is k mine theirs p h d)
 
-  pub called : (act : Act) (answer : Answer) (d : Channel) → own_channel act ≡ Some d → length theirs.asked ≡ 7 → Right act answer → IsPeerBetween k (mine_after mine theirs act answer) (theirs_after mine theirs act answer) (without_next (after_call act answer p))
+  pub called : (act : Act) (answer : Answer) (d : Channel) → own_channel act ≡ Some d → length theirs.asked ≡ channel_count → Right act answer → IsPeerBetween k (mine_after mine theirs act answer) (theirs_after mine theirs act answer) (without_next (after_call act answer p))
   called Arrive answer d e places r = absurd (let f = e in cc)
   called (Deliver count) answer d e places r = absurd (let f = e in cc)
   called (Take c) answer d e places r = absurd (let f = e in cc)

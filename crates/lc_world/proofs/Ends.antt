@@ -8,7 +8,7 @@ use Rattle.lc_frame.specs.declared.version.Version.{Version}
 use Rattle.lc_frame.specs.declared.channel.Channel.{Channel}
 use Rattle.lc_frame.specs.declared.channel.Channel.TheVariants.{ReconciliationChannel, DataChannel, OverlapChannel, CapabilityChannel, AreaOfInterestChannel, PayloadRequestChannel, StaticTokenChannel}
 use Rattle.lc_frame.specs.declared.frame.Frame.{Frame}
-use Rattle.lc_frame.specs.Channel.{number_of}
+use Rattle.lc_frame.specs.Channel.{channel_count, number_of}
 use Rattle.lc_frame.specs.Stream.{messages, finished}
 use Rattle.lc_frame.specs.Splits.{frames_of}
 use Rattle.lc_book.specs.Client.{Client, kept}
@@ -28,8 +28,8 @@ use Rattle.lc_world.proofs.Steps.{sound_settled}
 use Rattle.lc_world.proofs.Bytes.{begun_within, left_is}
 use Rattle.lc_world.proofs.Parts.{Reads, reads}
 
--- seven by their channels
-listed : {X : Type 0} (xs : List X) (d : X) → length xs ≡ 7 → map (λ c. get_or xs (number_of c) d) every_channel ≡ xs
+-- as many as there are channels, by their channels
+listed : {X : Type 0} (xs : List X) (d : X) → length xs ≡ channel_count → map (λ c. get_or xs (number_of c) d) every_channel ≡ xs
 listed [] d len = absurd (omega (arith, len))
 listed (a ∷ []) d len = absurd (omega (arith, len))
 listed (a ∷ b ∷ []) d len = absurd (omega (arith, len))
@@ -57,7 +57,7 @@ module _ (k : ℕ) (mine theirs : Line) (p : PeerState) (h : IsPeerBetween k min
       let s = h.sums.channels c in
       omega (arith, ap length s.waiting, length-drop (taken_count c theirs) (messages c theirs.arrived), s.of_arrived)
 
-  taken_read : length theirs.taken ≡ 7 → taken_by p theirs.arrived ≡ theirs.taken
+  taken_read : length theirs.taken ≡ channel_count → taken_by p theirs.arrived ≡ theirs.taken
   taken_read len = map_same (λ c. length (messages c theirs.arrived) - length (inbox p c).ring.messages) (λ c. taken_count c theirs) every_channel taken_is ∙ listed theirs.taken 0 len
 
   asked_read : pleads_of p ≡ (forget_finished mine theirs).asked

@@ -7,7 +7,7 @@ use Rattle.std.proofs.lemmas.Bool.Decides.{nat_tests}
 use Rattle.lc_frame.specs.declared.channel.Channel.{Channel}
 use Rattle.lc_frame.specs.declared.frame.Frame.{Frame}
 use Rattle.lc_frame.specs.declared.frame.Frame.TheVariants as frame
-use Rattle.lc_frame.specs.Channel.{number_of, is_same}
+use Rattle.lc_frame.specs.Channel.{channel_count, number_of, is_same}
 use Rattle.lc_frame.specs.Frame.{lane_of}
 use Rattle.lc_frame.specs.Stream.{of_lane, is_finish, on, cost, issued, absolved, finished}
 use Rattle.lc_frame.proofs.Channels.{cases_same, number_below}
@@ -45,7 +45,7 @@ other_channel c d before done unfinished =
       | inr apart ↦ apart
     ]
 
-of_server : (c d : Channel) → (7 + number_of d == number_of c) ≡ false
+of_server : (c d : Channel) → (channel_count + number_of d == number_of c) ≡ false
 of_server c d = let small = number_below c in grind (arith, nat_tests)
 
 not_of_lane : (c : Channel) (before : List Frame) (f : Frame) → finished c before ≡ true → FitsAfter before f → (lane_of f == number_of c) ≡ false

@@ -9,7 +9,7 @@ use Rattle.lc_frame.specs.declared.version.Version.TheVariants.{One, Two}
 use Rattle.lc_frame.specs.declared.channel.Channel.{Channel}
 use Rattle.lc_frame.specs.declared.channel.Channel.TheVariants.{ReconciliationChannel, DataChannel, OverlapChannel, CapabilityChannel, AreaOfInterestChannel, PayloadRequestChannel, StaticTokenChannel}
 use Rattle.lc_frame.specs.Bounds.{IsCapacity}
-use Rattle.lc_frame.specs.Channel.{number_of}
+use Rattle.lc_frame.specs.Channel.{channel_count, number_of}
 use Rattle.lc_frame.specs.Held.{nothing_held}
 use Rattle.lc_frame.specs.Version.{greeting}
 use Rattle.lc_peer.specs.declared.config.Config.{Config}
@@ -33,11 +33,11 @@ no_slots_fault : (o : Option Channel) → Some BadSlots ≡ option_or (option_ma
 no_slots_fault None e = cc
 no_slots_fault (Some c) e = cc
 
-pub no_bad_slots : (v : Version) (k : ℕ) → IsNewAnswer (record { version = v; capacities = replicate 7 k; slots = 1 }) (Some BadSlots) → ⊥
-no_bad_slots v k h = elim h [ inl e ↦ no_slots_fault (first_bad (replicate 7 k)) e | inr p ↦ let e = p.1 in cc ]
+pub no_bad_slots : (v : Version) (k : ℕ) → IsNewAnswer (record { version = v; capacities = replicate channel_count k; slots = 1 }) (Some BadSlots) → ⊥
+no_bad_slots v k h = elim h [ inl e ↦ no_slots_fault (first_bad (replicate channel_count k)) e | inr p ↦ let e = p.1 in cc ]
 
 -- the streams of a new peer are those of two lines on which nothing has happened
-one_capacity : (k : ℕ) (c : Channel) → slice_index (replicate 7 k) (number_of c) ≡ k
+one_capacity : (k : ℕ) (c : Channel) → slice_index (replicate channel_count k) (number_of c) ≡ k
 one_capacity k ReconciliationChannel = refl
 one_capacity k DataChannel = refl
 one_capacity k OverlapChannel = refl
@@ -46,7 +46,7 @@ one_capacity k AreaOfInterestChannel = refl
 one_capacity k PayloadRequestChannel = refl
 one_capacity k StaticTokenChannel = refl
 
-streams_new : (v w : Version) (k : ℕ) → new_streams (record { version = v; capacities = replicate 7 k; slots = 1 }) ≡ streams_of k (new_line v) (new_line w)
+streams_new : (v w : Version) (k : ℕ) → new_streams (record { version = v; capacities = replicate channel_count k; slots = 1 }) ≡ streams_of k (new_line v) (new_line w)
 streams_new v w k = λ i. let s : Streams = record { version = v; put = []; arrived = []; capacity = λ c. one_capacity k c i; taken = λ c. sym (none_taken w c) i; asked = λ c. sym (none_kept w c) i } in s
 
 greeting_bytes : (v : Version) → All (λ b. b < 256) (greeting v)
@@ -59,7 +59,7 @@ held_new Two = refl
 
 new_end : (v w : Version) (k : ℕ) (e : Endpoint) → IsNewEnd v k e → IsEnd k (new_line v) (new_line w) e
 new_end v w k e n =
-    let config : Config = record { version = v; capacities = replicate 7 k; slots = 1 } in
+    let config : Config = record { version = v; capacities = replicate channel_count k; slots = 1 } in
     record {
       peer = record {
         sums = subst (λ (p : PeerState). IsPeerOf (streams_of k (new_line v) (new_line w)) p) (sym n.peer) (subst (λ (s : Streams). IsPeerOf s (new_peer config)) (streams_new v w k) (new_peers_are_of_streams config refl));

@@ -10,7 +10,7 @@ use Rattle.lc_frame.specs.declared.channel.Channel.{Channel}
 use Rattle.lc_frame.specs.declared.channel.Channel.TheVariants.{ReconciliationChannel, DataChannel, OverlapChannel, CapabilityChannel, AreaOfInterestChannel, PayloadRequestChannel, StaticTokenChannel}
 use Rattle.lc_frame.specs.declared.frame.Frame.{Frame}
 use Rattle.lc_frame.specs.declared.frame.Frame.TheVariants as frame
-use Rattle.lc_frame.specs.Channel.{number_of, is_same}
+use Rattle.lc_frame.specs.Channel.{channel_count, number_of, is_same}
 use Rattle.lc_frame.specs.Stream.{target_of, pleads, finished}
 use Rattle.lc_frame.proofs.Channels.{cases_same, same_is_same, number_below}
 use Rattle.lc_frame.proofs.Measures.{pleads-append, finished-append}
@@ -200,17 +200,17 @@ keeps_step w B act a B c none places =
     record { came = h.came; arrived = h.arrived; stays = finish_stays w B act a B c; last = settled_last c (put_any w.b (frame_put act a)) w.a (theirs_after w.b w.a act a) h }
 
 -- every event leaves a place for each channel
-places_step : (w : State) (side : Side) (act : Act) (a : Answer) (s : Side) → length (line (state_after w side act a) s).asked ≡ 7
+places_step : (w : State) (side : Side) (act : Act) (a : Answer) (s : Side) → length (line (state_after w side act a) s).asked ≡ channel_count
 places_step w A act a A = refl
 places_step w A act a B = refl
 places_step w B act a A = refl
 places_step w B act a B = refl
 
-places_all : (w : State) (history : History) (s : Side) → length (line w s).asked ≡ 7 → length (line (after_all w history) s).asked ≡ 7
+places_all : (w : State) (history : History) (s : Side) → length (line w s).asked ≡ channel_count → length (line (after_all w history) s).asked ≡ channel_count
 places_all w [] s e = e
 places_all w (p ∷ history) s e = places_all (after w p.0 p.1) history s (places_step w p.0.side p.0.act p.1 s)
 
-has_place : (c : Channel) (l : Line) → length l.asked ≡ 7 → number_of c < length l.asked
+has_place : (c : Channel) (l : Line) → length l.asked ≡ channel_count → number_of c < length l.asked
 has_place c l e = omega (arith, e, number_below c)
 
 -- part of a history without an honour that was answered
@@ -226,7 +226,7 @@ kept_again : (d : Bool) (o x : Option ℕ) → o ≡ kept d x → o ≡ kept d o
 kept_again true o x e = e
 kept_again false o x e = refl
 
-keeps_all : (w : State) (history : History) (s : Side) (c : Channel) → honours c s history ≡ [] → length (line w (other s)).asked ≡ 7 → plead_kept s c w ≡ kept (has_finished s c w) (plead_kept s c w) → Keeps s c w (after_all w history)
+keeps_all : (w : State) (history : History) (s : Side) (c : Channel) → honours c s history ≡ [] → length (line w (other s)).asked ≡ channel_count → plead_kept s c w ≡ kept (has_finished s c w) (plead_kept s c w) → Keeps s c w (after_all w history)
 keeps_all w [] s c none places e = keeps_still s c w e
 keeps_all w (p ∷ history) s c none places e =
     let nones = none_first (at_side (honoured_amount c) s p) (honours c s history) none in
@@ -235,7 +235,7 @@ keeps_all w (p ∷ history) s c none places e =
     keeps_both s c w next (after_all next history) one (keeps_all next history s c nones.1 (places_step w p.0.side p.0.act p.1 (other s)) (kept_again (has_finished s c next) (plead_kept s c next) _ one.last))
 
 -- at the opening no plead is kept
-opening_places : (capacity : ℕ) (versions : Versions) (s : Side) → length (line (opening capacity versions) s).asked ≡ 7
+opening_places : (capacity : ℕ) (versions : Versions) (s : Side) → length (line (opening capacity versions) s).asked ≡ channel_count
 opening_places capacity versions A = refl
 opening_places capacity versions B = refl
 
@@ -265,7 +265,7 @@ kept_last s c w new none h =
     ∙ ap (λ (fs : List Frame). last_plead c fs) (sym (ap (λ (fs : List Frame). drop (length (heard s w)) fs) h.arrived ∙ drop-append_seam (heard s w) h.came)))
 
 -- and so it is over a whole history from there on
-last_since : (w : State) (history : History) (s : Side) (c : Channel) → honours c s history ≡ [] → length (line w (other s)).asked ≡ 7 → plead_kept s c w ≡ None → plead_kept s c (after_all w history) ≡ kept (has_finished s c (after_all w history)) (last_plead c (drop (length (heard s w)) (heard s (after_all w history))))
+last_since : (w : State) (history : History) (s : Side) (c : Channel) → honours c s history ≡ [] → length (line w (other s)).asked ≡ channel_count → plead_kept s c w ≡ None → plead_kept s c (after_all w history) ≡ kept (has_finished s c (after_all w history)) (last_plead c (drop (length (heard s w)) (heard s (after_all w history))))
 last_since w history s c none places e =
     let forgotten : plead_kept s c w ≡ kept (has_finished s c w) (plead_kept s c w) = kept_again (has_finished s c w) (plead_kept s c w) None (e ∙ sym (keeps_none (has_finished s c w))) in
     kept_last s c w (after_all w history) e (keeps_all w history s c none places forgotten)
@@ -311,7 +311,7 @@ since capacity versions s c earlier later a honoured none =
     let w : State = state_of capacity versions earlier in
     let next : State = state_after w s (Honour c) a in
     let end : State = after_all next later in
-    let places : length (line w (other s)).asked ≡ 7 = places_all (opening capacity versions) earlier (other s) (opening_places capacity versions (other s)) in
+    let places : length (line w (other s)).asked ≡ channel_count = places_all (opening capacity versions) earlier (other s) (opening_places capacity versions (other s)) in
     let f = honour_forgets w s c a honoured (has_place c (line w (other s)) places) in
     last_since next later s c none (places_step w s (Honour c) a (other s)) f.0
     ∙ ap (λ (fs : List Frame). kept (has_finished s c end) (last_plead c (drop (length fs) (heard s end)))) f.1

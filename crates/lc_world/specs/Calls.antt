@@ -6,6 +6,7 @@ use Rattle.lc_frame.specs.declared.channel.Channel.{Channel}
 use Rattle.lc_frame.specs.declared.frame.Frame.{Frame}
 use Rattle.lc_frame.specs.Version.{greeting}
 use Rattle.lc_frame.specs.Encoding.{encoding}
+use Rattle.lc_frame.specs.Channel.{channel_count}
 use Rattle.lc_book.specs.declared.fault.Refusal.{Refusal}
 use Rattle.lc_peer.specs.Peer.{PeerState, client}
 use Rattle.lc_peer.specs.Calls.{refusal_by_books, put, put_honour}
@@ -19,7 +20,7 @@ use Rattle.lc_world.specs.Answers.{own_frame, judged, honoured, honour_answer, f
 
 -- an end at which nothing has happened
 pub record IsNewEnd (version : Version) (capacity : ℕ) (e : Endpoint) : Type 0 where
-  pub peer : e.peer ≡ new_peer (record { version = version; capacities = replicate 7 capacity; slots = 1 })
+  pub peer : e.peer ≡ new_peer (record { version = version; capacities = replicate channel_count capacity; slots = 1 })
   pub stream : e.stream.items ≡ greeting version
   pub delivered : e.delivered ≡ 0
   pub decoder : e.decoder ≡ nothing_held

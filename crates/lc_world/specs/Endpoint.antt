@@ -15,6 +15,7 @@ use Rattle.lc_world.specs.declared.endpoint.Endpoint.{Endpoint}
 use Rattle.lc_world.specs.declared.event.Act.{Act}
 use Rattle.lc_world.specs.declared.event.Answer.{Answer}
 use Rattle.lc_frame.specs.Splits.{frames_of, rest_of}
+use Rattle.lc_frame.specs.Channel.{channel_count}
 use Rattle.lc_world.specs.State.{Line, State, stream, taken_count, kept_plead, deliver_on, every_channel}
 use Rattle.lc_world.specs.Answers.{IsAnswerOf, mine_after, theirs_after}
 use Rattle.lc_world.specs.Sound.{IsSound}
@@ -78,8 +79,8 @@ pub record IsEnd (capacity : ℕ) (mine theirs : Line) (e : Endpoint) : Type 0 w
 pub record IsLine (l : Line) : Type 0 where
   pub valid : AllByRecursion (IsValid l.version) (stream l)
   pub order : IsInOrder l
-  pub taken_places : length l.taken ≡ 7
-  pub asked_places : length l.asked ≡ 7
+  pub taken_places : length l.taken ≡ channel_count
+  pub asked_places : length l.asked ≡ channel_count
 
 -- two lines as a state, the first as that of side A
 abbrev pub of_lines : ℕ → Line → Line → State

@@ -7,7 +7,7 @@ use Rattle.lc_frame.specs.declared.channel.Channel.TheVariants.{ReconciliationCh
 use Rattle.lc_frame.specs.declared.frame.Frame.{Frame}
 use Rattle.lc_frame.specs.declared.frame.Frame.TheVariants.{Plead}
 use Rattle.lc_frame.specs.Version.{greeting}
-use Rattle.lc_frame.specs.Channel.{number_of}
+use Rattle.lc_frame.specs.Channel.{channel_count, number_of}
 use Rattle.lc_frame.specs.Encoding.{encoding}
 use Rattle.lc_frame.specs.Stream.{messages, finished}
 use Rattle.lc_book.specs.Client.{Client, kept}
@@ -76,7 +76,7 @@ server w s c = server_book w.capacity c (line w s) (line w (other s))
 
 -- a line on which nothing has happened: the greeting is in flight
 abbrev pub new_line : Version → Line
-new_line v = record { version = v; greeting_left = length (greeting v); arrived = []; in_flight = []; begun = 0; taken = replicate 7 0; asked = replicate 7 None }
+new_line v = record { version = v; greeting_left = length (greeting v); arrived = []; in_flight = []; begun = 0; taken = replicate channel_count 0; asked = replicate channel_count None }
 
 -- the versions of two streams, by the sides that write them
 abbrev pub Versions : Type 0

@@ -2,12 +2,13 @@
 ghost use Rattle.std.specs.Prelude.{◌≡◌, ◌↔◌, replicate, ◌+◌, ◌≤◌, ◌<◌, All, IfOk, IfSome, Err, vec_len, vec_capacity};
 ghost use Rattle.lc_frame.specs.Bounds.{IsCapacity};
 ghost use Rattle.lc_frame.specs.Frame.{IsValid};
+ghost use Rattle.lc_frame.specs.Channel.{channel_count};
 ghost use Rattle.lc_peer.specs.Config as configs;
 ghost use Rattle.lc_peer.specs.Calls.{next, without_next};
 ghost use Rattle.lc_world.specs.State.{size};
 ghost use Rattle.lc_world.specs.Calls.{IsNewEnd, with_next};
 
-use lc_frame::{StreamDecoder, Version};
+use lc_frame::{CHANNELS, StreamDecoder, Version};
 use lc_peer::{Config, Peer, PeerFault};
 use lc_ring::NewFault;
 use std::alloc::Global;
@@ -27,11 +28,11 @@ pub(crate) struct Endpoint {
 fn new_peer(alloc: Global, version: Version, capacity: u32) -> Result<Peer, NewFault>
     ensures capacity { (result ≡ Err NewFault.BadCapacity) ↔ ¬ IsCapacity capacity }
     ensures made { IfOk result (λ _. IsCapacity capacity) }
-    ensures value { IfOk result (λ peer. peer ≡ configs.new_peer (record { version = version; capacities = replicate 7 capacity; slots = 1 })) }
+    ensures value { IfOk result (λ peer. peer ≡ configs.new_peer (record { version = version; capacities = replicate channel_count capacity; slots = 1 })) }
 {
     let config = Config {
         version,
-        capacities: [capacity; 7],
+        capacities: [capacity; CHANNELS],
         slots: 1,
     };
     match Peer::new(alloc, config) {
