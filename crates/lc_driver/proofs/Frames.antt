@@ -15,7 +15,7 @@ use Rattle.lc_frame.specs.Encoding.{encoding}
 use Rattle.lc_frame.proofs.Fronts.{frame_fits}
 use Rattle.lc_driver.specs.Writing.{IsAhead}
 
-least_room : (version : Version) → 65538 ≤ max_frame version
+least_room : (version : Version) → max_frame One ≤ max_frame version
 least_room One = omega arith
 least_room Two = omega arith
 
