@@ -13,10 +13,10 @@ ghost use Rattle.lc_session.specs.Reading.{channel_of_side, Hears, Refuses, ToCr
 
 use lc_book::Violation;
 use lc_credit::CreditIn;
-use lc_frame::{Channel, FrameRef};
+use lc_frame::{Channel, FrameRef, Lane};
 use lc_inbox::InboxIn;
 use lc_peer::FrameSink;
-use lc_wake::{End, Pump, Wakers};
+use lc_wake::{Pump, Wakers};
 use std::alloc::Global;
 use std::marker::Model;
 use std::sync::{Arc, Wait};
@@ -95,7 +95,7 @@ impl ReadingSide {
         ensures err { IfErr result (λ v. ToCredit channel (IsNotAdded v amount) self.old self.new) }
     {
         self.credits.add(channel, amount)?;
-        self.wakers.frame_came(End::Sending(channel));
+        self.wakers.frame_came(Lane::Client(channel));
         Ok(())
     }
 
@@ -127,7 +127,7 @@ impl<R: Wait> FrameSink<R> for ReadingSide {
             FrameRef::Issue { channel, amount } => self.add(channel, amount),
             FrameRef::Plead { channel, target } => {
                 self.credits.ask(channel, target);
-                self.wakers.frame_came(End::Sending(channel));
+                self.wakers.frame_came(Lane::Client(channel));
                 Ok(())
             }
             FrameRef::LimitReceiving { channel, bound } => {
@@ -137,7 +137,7 @@ impl<R: Wait> FrameSink<R> for ReadingSide {
             _ => {
                 let channel = frame.channel();
                 self.hear(rt, channel, frame)?;
-                self.wakers.frame_came(End::Receiving(channel));
+                self.wakers.frame_came(Lane::Server(channel));
                 Ok(())
             }
         }

@@ -13,5 +13,5 @@ mod waking;
 
 pub use pump_waiter::PumpWaiter;
 pub use waiter::{Waiter, Wake};
-pub use wakers::{End, Pump, Wakers};
+pub use wakers::{Pump, Wakers};
 pub use waking::Waking;

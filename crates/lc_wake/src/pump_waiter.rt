@@ -1,6 +1,7 @@
 //! How the writing pump waits.
-use crate::wakers::{ENDS, Pump, Wakers};
+use crate::wakers::{Pump, Wakers};
 use crossbeam_utils::sync::Parker;
+use lc_frame::LANES;
 use std::alloc::Global;
 use std::sync::{Arc, Wait};
 use std::thread;
@@ -60,7 +61,7 @@ impl PumpWaiter {
             return false;
         }
         self.yielded = 0;
-        self.shared.wake_wanting(self.next, ENDS);
+        self.shared.wake_wanting(self.next, LANES);
         self.shared.set_pump_sleeps(true);
         true
     }

@@ -1,6 +1,7 @@
 //! How an end waits.
-use crate::wakers::{End, Wakers};
+use crate::wakers::Wakers;
 use crossbeam_utils::sync::Parker;
+use lc_frame::Lane;
 use std::alloc::Global;
 use std::sync::{Arc, Wait};
 use std::thread;
@@ -25,7 +26,7 @@ pub enum Wake {
 pub struct Waiter {
     shared: Arc<Wakers, Global>,
     parker: Parker,
-    end: End,
+    lane: Lane,
     // The counts as they stood when its last wait ended.
     told: u64,
     freed: u64,
@@ -34,11 +35,11 @@ pub struct Waiter {
 }
 
 impl Waiter {
-    pub(crate) fn new(shared: Arc<Wakers, Global>, parker: Parker, end: End) -> Waiter {
+    pub(crate) fn new(shared: Arc<Wakers, Global>, parker: Parker, lane: Lane) -> Waiter {
         Waiter {
             shared,
             parker,
-            end,
+            lane,
             told: 0,
             freed: 0,
             wants_slot: false,
@@ -60,7 +61,7 @@ impl Waiter {
         if self.shared.is_over() {
             return Some(Wake::Over);
         }
-        let told = self.shared.told(self.end) != self.told;
+        let told = self.shared.told(self.lane) != self.told;
         let freed = self.wants_slot && self.shared.freed() != self.freed;
         if told || freed {
             Some(Wake::Again)
@@ -95,7 +96,7 @@ impl Waiter {
     // freed before is found by `news`.
     fn ask(&self) {
         if self.wants_slot {
-            self.shared.want_slot(self.end);
+            self.shared.want_slot(self.lane);
         }
     }
 
@@ -103,10 +104,10 @@ impl Waiter {
     // however often the end looks before its next wait, that misses nothing which came after a look.
     fn end_wait(&mut self) {
         if self.wants_slot {
-            self.shared.want_no_slot(self.end);
+            self.shared.want_no_slot(self.lane);
             self.wants_slot = false;
         }
-        self.told = self.shared.told(self.end);
+        self.told = self.shared.told(self.lane);
         self.freed = self.shared.freed();
     }
 

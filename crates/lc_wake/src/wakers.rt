@@ -62,36 +62,16 @@
 //! to wait for ever needs both pumps to run, or to have ended: who fails, or can't make a thread,
 //! stops the session and shuts its transport down.
 ghost use Rattle.std.specs.Prelude.{◌<◌};
+ghost use Rattle.lc_frame.specs.Lane.{lane_count};
 
 use crossbeam_utils::sync::{Parker, Unparker};
-use lc_frame::Channel;
+use lc_frame::{CHANNELS, LANES, Lane};
 use std::alloc::AllocError;
 use std::sync::atomic::{AtomicBool, AtomicU64, Ordering};
 
-/// How many ends a session has.
-pub(crate) const ENDS: usize = 14;
-
-/// One of the ends of a session.
-#[derive(Clone, Copy, Debug, PartialEq, Eq)]
-pub enum End {
-    Sending(Channel),
-    Receiving(Channel),
-}
-
-impl End {
-    // The lane on which it puts.
-    fn lane(self) -> usize
-        ensures { result < 14 }
-    {
-        match self {
-            End::Sending(channel) => channel.index(),
-            End::Receiving(channel) => 7 + channel.index(),
-        }
-    }
-
-    fn bit(self) -> u64 {
-        1 << self.lane()
-    }
+// The bit of the end that puts on a lane.
+fn bit(lane: Lane) -> u64 {
+    1 << lane.index()
 }
 
 /// One of the two pumps.
@@ -136,8 +116,8 @@ impl Waker {
 /// What the threads of a session share to wake one another.
 #[derive(Drop)]
 pub struct Wakers {
-    sending: [Waker; 7],
-    receiving: [Waker; 7],
+    sending: [Waker; CHANNELS],
+    receiving: [Waker; CHANNELS],
     pump: Unparker,
     // Whether the writing pump sleeps, or is about to.
     pump_sleeps: AtomicBool,
@@ -151,7 +131,11 @@ pub struct Wakers {
 }
 
 impl Wakers {
-    pub(crate) fn new(sending: [Waker; 7], receiving: [Waker; 7], pump: Unparker) -> Wakers {
+    pub(crate) fn new(
+        sending: [Waker; CHANNELS],
+        receiving: [Waker; CHANNELS],
+        pump: Unparker,
+    ) -> Wakers {
         Wakers {
             sending,
             receiving,
@@ -166,23 +150,23 @@ impl Wakers {
 
     // The waker of the end that puts on this lane.
     fn waker(&self, lane: usize) -> &Waker
-        requires { lane < 14 }
+        requires { lane < lane_count }
     {
-        if lane < 7 {
+        if lane < CHANNELS {
             &self.sending[lane]
         } else {
-            &self.receiving[lane - 7]
+            &self.receiving[lane - CHANNELS]
         }
     }
 
     /// A frame came that concerns this end.
-    pub fn frame_came(&self, end: End) {
-        self.waker(end.lane()).tell();
+    pub fn frame_came(&self, lane: Lane) {
+        self.waker(lane.index()).tell();
     }
 
     /// How often the end was told of something.
-    pub(crate) fn told(&self, end: End) -> u64 {
-        self.waker(end.lane()).told.load(Ordering::SeqCst)
+    pub(crate) fn told(&self, lane: Lane) -> u64 {
+        self.waker(lane.index()).told.load(Ordering::SeqCst)
     }
 
     /// A frame was put, which the writing pump will find before it sleeps, or is woken for.
@@ -208,12 +192,12 @@ impl Wakers {
     }
 
     /// An end waits for a slot, or no longer does.
-    pub(crate) fn want_slot(&self, end: End) {
-        self.wanting.fetch_or(end.bit(), Ordering::SeqCst);
+    pub(crate) fn want_slot(&self, lane: Lane) {
+        self.wanting.fetch_or(bit(lane), Ordering::SeqCst);
     }
 
-    pub(crate) fn want_no_slot(&self, end: End) {
-        self.wanting.fetch_and(!end.bit(), Ordering::SeqCst);
+    pub(crate) fn want_no_slot(&self, lane: Lane) {
+        self.wanting.fetch_and(!bit(lane), Ordering::SeqCst);
     }
 
     /// Wakes up to so many of the ends that wait for a slot, from a lane on in turn, and says from
@@ -225,8 +209,8 @@ impl Wakers {
         }
         let mut left = count;
         let mut next = from;
-        for step in 0..ENDS {
-            let lane = (from % ENDS + step) % ENDS;
+        for step in 0..LANES {
+            let lane = (from % LANES + step) % LANES;
             if left > 0 && wanting & (1 << lane) != 0 {
                 self.wanting.fetch_and(!(1 << lane), Ordering::SeqCst);
                 self.waker(lane).tell();

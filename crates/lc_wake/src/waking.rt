@@ -1,9 +1,9 @@
 //! How the parts that wait come to be.
 use crate::pump_waiter::PumpWaiter;
 use crate::waiter::Waiter;
-use crate::wakers::{End, Waker, Wakers};
+use crate::wakers::{Waker, Wakers};
 use crossbeam_utils::sync::Parker;
-use lc_frame::Channel;
+use lc_frame::{CHANNELS, Channel, Lane};
 use std::alloc::{AllocError, Global};
 use std::sync::Arc;
 
@@ -11,9 +11,9 @@ use std::sync::Arc;
 #[derive(Drop)]
 pub struct Waking {
     /// For the sending ends, by channel.
-    pub sending: [Waiter; 7],
+    pub sending: [Waiter; CHANNELS],
     /// For the receiving ends, by channel.
-    pub receiving: [Waiter; 7],
+    pub receiving: [Waiter; CHANNELS],
     /// For the writing pump.
     pub pump: PumpWaiter,
     /// For who wakes.
@@ -27,14 +27,14 @@ struct Sleeper {
     parker: Parker,
 }
 
-fn sleepers(alloc: Global) -> Result<[Sleeper; 7], AllocError> {
+fn sleepers(alloc: Global) -> Result<[Sleeper; CHANNELS], AllocError> {
     Channel::ALL.try_map(|channel| {
         let parker = Parker::new(alloc)?;
         Ok(Sleeper { channel, parker })
     })
 }
 
-fn wakers_of(sleepers: &[Sleeper; 7]) -> Result<[Waker; 7], AllocError> {
+fn wakers_of(sleepers: &[Sleeper; CHANNELS]) -> Result<[Waker; CHANNELS], AllocError> {
     sleepers
         .each_ref()
         .try_map(|sleeper| Waker::new(&sleeper.parker))
@@ -42,23 +42,23 @@ fn wakers_of(sleepers: &[Sleeper; 7]) -> Result<[Waker; 7], AllocError> {
 
 fn sending(
     wakers: &Arc<Wakers, Global>,
-    sleepers: [Sleeper; 7],
-) -> Result<[Waiter; 7], AllocError> {
+    sleepers: [Sleeper; CHANNELS],
+) -> Result<[Waiter; CHANNELS], AllocError> {
     sleepers.try_map(|sleeper| {
         let Sleeper { channel, parker } = sleeper;
         let wakers = Arc::try_clone(wakers)?;
-        Ok(Waiter::new(wakers, parker, End::Sending(channel)))
+        Ok(Waiter::new(wakers, parker, Lane::Client(channel)))
     })
 }
 
 fn receiving(
     wakers: &Arc<Wakers, Global>,
-    sleepers: [Sleeper; 7],
-) -> Result<[Waiter; 7], AllocError> {
+    sleepers: [Sleeper; CHANNELS],
+) -> Result<[Waiter; CHANNELS], AllocError> {
     sleepers.try_map(|sleeper| {
         let Sleeper { channel, parker } = sleeper;
         let wakers = Arc::try_clone(wakers)?;
-        Ok(Waiter::new(wakers, parker, End::Receiving(channel)))
+        Ok(Waiter::new(wakers, parker, Lane::Server(channel)))
     })
 }
 

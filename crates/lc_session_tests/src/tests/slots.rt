@@ -2,8 +2,8 @@
 //! read, and what wakes them comes while its own is read.
 use crate::tests::staged::in_time;
 use crate::tests::ticks::Ticks;
-use lc_frame::Channel;
-use lc_wake::{End, Pump, PumpWaiter, Waiter, Wakers, Waking};
+use lc_frame::{Channel, Lane};
+use lc_wake::{Pump, PumpWaiter, Waiter, Wakers, Waking};
 use std::io;
 use std::process::Abort;
 use std::sync::{Mutex, Wait};
@@ -18,7 +18,7 @@ enum News {
     /// The pump is about to sleep.
     Rests,
     /// A frame that concerns an end.
-    Came(End),
+    Came(Lane),
     /// The end of a pump's run.
     Ended(Pump),
 }
@@ -109,9 +109,9 @@ impl<R: Wait> Clock for Beside<'_, R> {
     }
 }
 
-const FIRST: End = End::Sending(Channel::DataChannel);
+const FIRST: Lane = Lane::Client(Channel::DataChannel);
 
-const SECOND: End = End::Receiving(Channel::OverlapChannel);
+const SECOND: Lane = Lane::Server(Channel::OverlapChannel);
 
 /// Whether the first of two ends met a full queue, as the second did, what comes while both wait, and how
 /// often each reads its clock: once where it was woken, and else twice.
@@ -127,14 +127,10 @@ const ROUNDS: [(bool, News, (u64, u64)); 11] = [
     (true, News::Came(SECOND), (2, 1)),
     (
         true,
-        News::Came(End::Sending(Channel::OverlapChannel)),
+        News::Came(Lane::Client(Channel::OverlapChannel)),
         (2, 2),
     ),
-    (
-        true,
-        News::Came(End::Receiving(Channel::DataChannel)),
-        (2, 2),
-    ),
+    (true, News::Came(Lane::Server(Channel::DataChannel)), (2, 2)),
     (true, News::Ended(Pump::Reading), (1, 1)),
 ];
 
