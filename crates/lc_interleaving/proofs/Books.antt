@@ -10,7 +10,7 @@ use Rattle.lc_history.specs.History.{IsHistoryAfter, IsHistory}
 use Rattle.lc_frame.specs.declared.channel.Channel.{Channel}
 use Rattle.lc_frame.specs.declared.frame.Frame.{Frame}
 use Rattle.lc_frame.specs.declared.frame.Frame.TheVariants.{Send, Issue, Absolve, Plead, LimitSending, LimitReceiving, Finish}
-use Rattle.lc_frame.specs.Channel.{number_of}
+use Rattle.lc_frame.specs.Channel.{channel_count, number_of}
 use Rattle.lc_frame.specs.Frame.{channel_of, lane_of}
 use Rattle.lc_frame.specs.Stream.{message_of, issue_of, absolve_of, messages, cost, issued, absolved, finished}
 use Rattle.lc_frame.proofs.Channels.{same_from_number, number_below}
@@ -59,13 +59,13 @@ record Fits (capacity : ℕ) (c : Channel) (ps hs : List Frame) (taken : ℕ) : 
   covered : cost c hs + absolved c hs ≤ issued c ps
   roomy : issued c ps ≤ capacity + taken + absolved c hs
 
-client_lane : {X : Type 0} (c d : Channel) → 7 + number_of d ≡ number_of c → X
+client_lane : {X : Type 0} (c d : Channel) → channel_count + number_of d ≡ number_of c → X
 client_lane c d e = absurd (omega (arith, e, number_below c))
 
-server_lane : {X : Type 0} (c d : Channel) → number_of d ≡ 7 + number_of c → X
+server_lane : {X : Type 0} (c d : Channel) → number_of d ≡ channel_count + number_of c → X
 server_lane c d e = absurd (omega (arith, e, number_below d))
 
-same_server : (c d : Channel) → 7 + number_of d ≡ 7 + number_of c → d ≡ c
+same_server : (c d : Channel) → channel_count + number_of d ≡ channel_count + number_of c → d ≡ c
 same_server c d e = same_from_number d c (omega (arith, e))
 
 module _ (capacity : ℕ) (c : Channel) (ps hs : List Frame) (taken : ℕ) (h : Fits capacity c ps hs taken) where
@@ -92,7 +92,7 @@ module _ (capacity : ℕ) (c : Channel) (ps hs : List Frame) (taken : ℕ) (h : 
   heard_fits (Plead d n) lane none = client_lane c d lane
   heard_fits (LimitReceiving d n) lane none = client_lane c d lane
 
-  put_fits : (f : Frame) → lane_of f ≡ 7 + number_of c → refusal_of f (server_of capacity c ps hs taken) ≡ None → Fits capacity c (ps ++ f ∷ []) hs taken
+  put_fits : (f : Frame) → lane_of f ≡ channel_count + number_of c → refusal_of f (server_of capacity c ps hs taken) ≡ None → Fits capacity c (ps ++ f ∷ []) hs taken
   put_fits (Issue d n) lane none =
       let f : Frame = Issue d n in
       let same : d ≡ c = same_server c d lane in

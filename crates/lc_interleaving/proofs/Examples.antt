@@ -11,7 +11,7 @@ use Rattle.lc_frame.specs.declared.kind.Kind.TheVariants as kinds
 use Rattle.lc_frame.specs.declared.frame.Frame.{Frame}
 use Rattle.lc_frame.specs.declared.frame.Frame.TheVariants.{Send, Issue, Absolve, Plead, LimitSending, LimitReceiving, Finish}
 use Rattle.lc_frame.specs.Held.{nothing_held}
-use Rattle.lc_frame.specs.Channel.{number_of}
+use Rattle.lc_frame.specs.Channel.{channel_count, number_of}
 use Rattle.lc_book.specs.Server.{Server}
 use Rattle.lc_queue.specs.Parts.{End, new_outlet}
 use Rattle.lc_credit.specs.declared.balance.Balance.{Balance}
@@ -98,7 +98,7 @@ module _ (id : TableId) (base : Side) where
   outbox v c frames credit left = record { channel = c; lane = end_of v (number_of c) frames; credit = credit; send_left = left; asked = None }
 
   abbrev pub key : Version → Channel → Key
-  key v c = record base.key { channel = c; capacity = 6; lane = record base.key.lane { value = end_of v (7 + number_of c) [] } }
+  key v c = record base.key { channel = c; capacity = 6; lane = record base.key.lane { value = end_of v (channel_count + number_of c) [] } }
 
   abbrev pub side : Version → Channel → List Entry → Side
   side v c seen = record { inbox = id; key = key v c; seen = seen; turns = 0 }

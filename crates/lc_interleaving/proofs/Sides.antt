@@ -11,7 +11,7 @@ use Rattle.lc_history.proofs.Histories.{follows_each}
 use Rattle.lc_frame.specs.declared.channel.Channel.{Channel}
 use Rattle.lc_frame.specs.declared.frame.Frame.{Frame}
 use Rattle.lc_frame.specs.declared.frame.Frame.TheVariants.{Send, Issue, Absolve, Plead, LimitSending, LimitReceiving, Finish}
-use Rattle.lc_frame.specs.Channel.{number_of, is_same}
+use Rattle.lc_frame.specs.Channel.{channel_count, number_of, is_same}
 use Rattle.lc_frame.specs.Frame.{channel_of, lane_of}
 use Rattle.lc_frame.specs.declared.version.Version.{Version}
 use Rattle.lc_frame.specs.Kind.{max_total, max_body}
@@ -169,21 +169,21 @@ none_more : {X : Type 0} (of : Entry → Option X) (b : Bool) (e : Entry) (xs : 
 none_more of true e xs none = ap (λ o. cons_option o (filter_map of xs)) none
 none_more of false e xs none = refl
 
-entries_put : (c : Channel) (steps : List Step) → inboxes.put (entries c steps) ≡ of_lane (7 + number_of c) (put steps)
+entries_put : (c : Channel) (steps : List Step) → inboxes.put (entries c steps) ≡ of_lane (channel_count + number_of c) (put steps)
 entries_put c [] = refl
-entries_put c (puts f ∷ steps) = put_kept (lane_of f == 7 + number_of c) f (entries c steps) (of_lane (7 + number_of c) (put steps)) (entries_put c steps)
+entries_put c (puts f ∷ steps) = put_kept (lane_of f == channel_count + number_of c) f (entries c steps) (of_lane (channel_count + number_of c) (put steps)) (entries_put c steps)
 entries_put c (hears f ∷ steps) = none_more inboxes.put_of (lane_of f == number_of c) (Heard f) (entries c steps) refl ∙ entries_put c steps
 entries_put c (takes d body ∷ steps) = none_more inboxes.put_of (is_same c d) (Took body) (entries c steps) refl ∙ entries_put c steps
 
 entries_heard : (c : Channel) (steps : List Step) → inboxes.heard (entries c steps) ≡ of_lane (number_of c) (heard steps)
 entries_heard c [] = refl
-entries_heard c (puts f ∷ steps) = none_more inboxes.heard_of (lane_of f == 7 + number_of c) (Put f) (entries c steps) refl ∙ entries_heard c steps
+entries_heard c (puts f ∷ steps) = none_more inboxes.heard_of (lane_of f == channel_count + number_of c) (Put f) (entries c steps) refl ∙ entries_heard c steps
 entries_heard c (hears f ∷ steps) = heard_kept (lane_of f == number_of c) f (entries c steps) (of_lane (number_of c) (heard steps)) (entries_heard c steps)
 entries_heard c (takes d body ∷ steps) = none_more inboxes.heard_of (is_same c d) (Took body) (entries c steps) refl ∙ entries_heard c steps
 
 pub entries_took : (c : Channel) (steps : List Step) → inboxes.took (entries c steps) ≡ took c steps
 entries_took c [] = refl
-entries_took c (puts f ∷ steps) = none_more inboxes.took_of (lane_of f == 7 + number_of c) (Put f) (entries c steps) refl ∙ entries_took c steps
+entries_took c (puts f ∷ steps) = none_more inboxes.took_of (lane_of f == channel_count + number_of c) (Put f) (entries c steps) refl ∙ entries_took c steps
 entries_took c (hears f ∷ steps) = none_more inboxes.took_of (lane_of f == number_of c) (Heard f) (entries c steps) refl ∙ entries_took c steps
 entries_took c (takes d body ∷ steps) = took_kept (is_same c d) body (entries c steps) (took c steps) (entries_took c steps)
 
@@ -195,9 +195,9 @@ book_is key c steps on =
     let taken : ℕ = sum_by length (took c steps) in
     ap (λ (d : Channel). server_of key.capacity d (inboxes.put (entries c steps)) (inboxes.heard (entries c steps)) (sum_by length (inboxes.took (entries c steps)))) on
     ∙ (ap (λ (fs : List Frame). server_of key.capacity c fs (inboxes.heard (entries c steps)) (sum_by length (inboxes.took (entries c steps)))) (entries_put c steps)
-    ∙ (ap (λ (fs : List Frame). server_of key.capacity c (of_lane (7 + number_of c) (put steps)) fs (sum_by length (inboxes.took (entries c steps)))) (entries_heard c steps)
-    ∙ (ap (λ (ms : List (List ℕ)). server_of key.capacity c (of_lane (7 + number_of c) (put steps)) (of_lane (number_of c) (heard steps)) (sum_by length ms)) (entries_took c steps)
-    ∙ server_is (server_of key.capacity c (of_lane (7 + number_of c) (put steps)) (of_lane (number_of c) (heard steps)) taken) (server_then key.capacity c steps) refl p.issued_is h.cost_is refl h.absolved_is h.send_left_is p.receive_left_is h.finished_is)))
+    ∙ (ap (λ (fs : List Frame). server_of key.capacity c (of_lane (channel_count + number_of c) (put steps)) fs (sum_by length (inboxes.took (entries c steps)))) (entries_heard c steps)
+    ∙ (ap (λ (ms : List (List ℕ)). server_of key.capacity c (of_lane (channel_count + number_of c) (put steps)) (of_lane (number_of c) (heard steps)) (sum_by length ms)) (entries_took c steps)
+    ∙ server_is (server_of key.capacity c (of_lane (channel_count + number_of c) (put steps)) (of_lane (number_of c) (heard steps)) taken) (server_then key.capacity c steps) refl p.issued_is h.cost_is refl h.absolved_is h.send_left_is p.receive_left_is h.finished_is)))
 
 -- a refusal changes nothing
 pub kept_lasting : {X : Type 0} (of : Entry → Option X) → ((f : Frame) → of (Refused f) ≡ None) → (history : List Entry) → filter_map of (without_refusals history) ≡ filter_map of history
@@ -259,11 +259,11 @@ module _ (capacity : ℕ) (t : Trace) (k : KeepsRules capacity t) (steps : List 
       let r : KeepsReceiving capacity c (t.inbox c) = k.receiving c in
       follows_each (inboxes.MayFollow r.key) (without_refusals (t.inbox c)) (entries c before) e (entries c later) (lasting_after r.key [] (t.inbox c) r.legal) (sym (o.inboxes c) ∙ cut_of (entry_of c) steps before step later e is here)
 
-  server_may : (before : List Step) (f : Frame) (later : List Step) → lane_of f ≡ 7 + number_of (channel_of f) → steps ≡ before ++ puts f ∷ later → refusal_of f (server_then (k.receiving (channel_of f)).key.capacity (channel_of f) before) ≡ None
+  server_may : (before : List Step) (f : Frame) (later : List Step) → lane_of f ≡ channel_count + number_of (channel_of f) → steps ≡ before ++ puts f ∷ later → refusal_of f (server_then (k.receiving (channel_of f)).key.capacity (channel_of f) before) ≡ None
   server_may before f later lane is =
       let c : Channel = channel_of f in
       let r : KeepsReceiving capacity c (t.inbox c) = k.receiving c in
-      let here : entry_of c (puts f) ≡ Some (Put f) = ap (λ (n : ℕ). if n == 7 + number_of c then Some (Put f) else None) lane ∙ here_if (7 + number_of c) (Put f) in
+      let here : entry_of c (puts f) ≡ Some (Put f) = ap (λ (n : ℕ). if n == channel_count + number_of c then Some (Put f) else None) lane ∙ here_if (channel_count + number_of c) (Put f) in
       let may : inboxes.MayFollow r.key (entries c before) (Put f) = entry_may c before (puts f) later (Put f) here is in
       ap (refusal_of f) (sym (book_is r.key c before r.channel_is)) ∙ may.1
 

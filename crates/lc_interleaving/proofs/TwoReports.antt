@@ -7,7 +7,7 @@ use Rattle.std.proofs.lemmas.List.Elements.{All-from_recursion}
 use Rattle.std.proofs.lemmas.Bool.Decides.{nat_tests}
 use Rattle.lc_frame.specs.declared.channel.Channel.{Channel}
 use Rattle.lc_frame.specs.Bounds.{is_capacity}
-use Rattle.lc_frame.specs.Channel.{channel_at}
+use Rattle.lc_frame.specs.Channel.{channel_count, channel_at}
 use Rattle.lc_frame.specs.Kind.{max_amount}
 use Rattle.lc_frame.proofs.Channels.{number_below}
 use Rattle.lc_peer.specs.declared.config.Config.{Config}
@@ -34,7 +34,7 @@ are_two_reports s t r q one_s one_t is_r is_q a_arrived b_arrived heard_s heard_
 
 -- ---- no ring of a session that was new is larger than rings may be
 
-no_channel : (number : ℕ) → number < 7 → channel_at number ≡ None → ⊥
+no_channel : (number : ℕ) → number < channel_count → channel_at number ≡ None → ⊥
 no_channel zero few none = absurd (cc)
 no_channel (suc zero) few none = absurd (cc)
 no_channel (suc (suc zero)) few none = absurd (cc)
@@ -44,12 +44,12 @@ no_channel (suc (suc (suc (suc (suc zero))))) few none = absurd (cc)
 no_channel (suc (suc (suc (suc (suc (suc zero)))))) few none = absurd (cc)
 no_channel (suc (suc (suc (suc (suc (suc (suc n))))))) few none = absurd (omega (arith, few))
 
--- where no capacity of the first seven is bad, each is at most the greatest
-small_at : (ok : Bool) (number n : ℕ) (capacities : List ℕ) → is_capacity n ≡ ok → number < 7 → (if ok then bad_from (number + 1) capacities else channel_at number) ≡ None → (n ≤ max_amount) × (bad_from (number + 1) capacities ≡ None)
+-- where no capacity of a channel is bad, each is at most the greatest
+small_at : (ok : Bool) (number n : ℕ) (capacities : List ℕ) → is_capacity n ≡ ok → number < channel_count → (if ok then bad_from (number + 1) capacities else channel_at number) ≡ None → (n ≤ max_amount) × (bad_from (number + 1) capacities ≡ None)
 small_at true number n capacities is few none = (grind (arith, nat_tests), none)
 small_at false number n capacities is few none = absurd (no_channel number few none)
 
-small : (number k : ℕ) (capacities : List ℕ) → number + k < 7 → bad_from number capacities ≡ None → slice_index capacities k ≤ max_amount
+small : (number k : ℕ) (capacities : List ℕ) → number + k < channel_count → bad_from number capacities ≡ None → slice_index capacities k ≤ max_amount
 small number k [] few none = omega arith
 small number zero (n ∷ capacities) few none = (small_at (is_capacity n) number n capacities refl (omega (arith, few)) none).0
 small number (suc k) (n ∷ capacities) few none = small (number + 1) k capacities (omega (arith, few)) (small_at (is_capacity n) number n capacities refl (omega (arith, few)) none).1
@@ -65,8 +65,8 @@ new_rings capacities [] (i ∷ incoming) outgoing none new = absurd new
 new_rings capacities (l ∷ lanes) [] outgoing none new = absurd new
 new_rings capacities (l ∷ lanes) (i ∷ incoming) [] none new = absurd new
 new_rings capacities (l ∷ lanes) (i ∷ incoming) (o ∷ outgoing) none new =
-    let few : l.lane - 7 < 7 = omega (arith, new.0.channel_is, number_below i.key.channel) in
-    (subst (λ (n : ℕ). n ≤ max_amount) (sym new.0.capacity_is) (small 0 (l.lane - 7) capacities (omega (arith, few)) none), new_rings capacities lanes incoming outgoing none new.1)
+    let few : l.lane - channel_count < channel_count = omega (arith, new.0.channel_is, number_below i.key.channel) in
+    (subst (λ (n : ℕ). n ≤ max_amount) (sym new.0.capacity_is) (small 0 (l.lane - channel_count) capacities (omega (arith, few)) none), new_rings capacities lanes incoming outgoing none new.1)
 
 rings_stay : (old new : List Side) → AreSameSides old new → AllByRecursion (λ (s : Side). s.key.capacity ≤ max_amount) old → AllByRecursion (λ (s : Side). s.key.capacity ≤ max_amount) new
 rings_stay [] [] same all = tt
@@ -80,7 +80,7 @@ rings_are : (config : Config) (s : SessionState) → WasPlayed config s → All 
 rings_are config s was =
     let began = was.began in
     let none = none_bad (first_bad config.capacities) _ was.new.lawful in
-    let rings = new_rings config.capacities (drop 7 (new_ends began.writing.drain.queue config.version)) began.reading.side.inboxes began.receiving none was.new.inboxes_new in
+    let rings = new_rings config.capacities (drop channel_count (new_ends began.writing.drain.queue config.version)) began.reading.side.inboxes began.receiving none was.new.inboxes_new in
     All-from_recursion (λ (side : Side). side.key.capacity ≤ max_amount) s.reading.side.inboxes (rings_stay began.reading.side.inboxes s.reading.side.inboxes was.played.same.reading.inboxes rings)
 
 -- ---- two sessions that were new and played

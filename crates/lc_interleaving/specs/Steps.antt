@@ -4,7 +4,7 @@ use Rattle.std.specs.List.{filter_map}
 use Rattle.lc_frame.specs.declared.version.Version.{Version}
 use Rattle.lc_frame.specs.declared.channel.Channel.{Channel}
 use Rattle.lc_frame.specs.declared.frame.Frame.{Frame}
-use Rattle.lc_frame.specs.Channel.{number_of, is_same}
+use Rattle.lc_frame.specs.Channel.{channel_count, number_of, is_same}
 use Rattle.lc_frame.specs.Frame.{lane_of}
 use Rattle.lc_book.specs.Client.{Client}
 use Rattle.lc_book.specs.Server.{Server}
@@ -50,7 +50,7 @@ took c steps = filter_map (took_of c) steps
 
 -- what a step is in the history of a channel's inbox, if it is there: the server's frames are put there, the client's are heard there, and its messages are taken there
 abbrev pub entry_of : Channel → Step → Option Entry
-entry_of c (puts f) = if lane_of f == 7 + number_of c then Some (Put f) else None
+entry_of c (puts f) = if lane_of f == channel_count + number_of c then Some (Put f) else None
 entry_of c (hears f) = if lane_of f == number_of c then Some (Heard f) else None
 entry_of c (takes d body) = if is_same c d then Some (Took body) else None
 
