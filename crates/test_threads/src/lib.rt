@@ -1,4 +1,4 @@
-//! Threads over one queue, over the credits of seven channels, and over one inbox.
+//! Threads over one queue, over the credits of all channels, and over one inbox.
 #![tactic(auto)]
 
 mod carrying;

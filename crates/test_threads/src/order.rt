@@ -1,11 +1,11 @@
-//! Fourteen threads push and one drains.
+//! A thread for each lane pushes, and one drains.
 ghost use Rattle.std.specs.Prelude.{◌≡◌, [], ◌∷◌, ◌++◌, IfOk};
 ghost use Rattle.std.specs.List.{All};
 ghost use Rattle.lc_frame.specs.Frame.{lane_of, IsValid};
 ghost use Rattle.lc_queue.specs.Parts.{IsSame, IsSameEnd};
 
 use crate::frames::{number_of, numbered};
-use lc_frame::{Frame, Version};
+use lc_frame::{Frame, LANES, Version};
 use lc_queue::{Drain, LaneEnd, LanesFault, lanes};
 use std::alloc::{AllocError, Global};
 use std::snapshot::Snapshot;
@@ -69,7 +69,7 @@ fn start_all<R>(
     rt: R,
     alloc: Global,
     drain: &Drain,
-    ends: [LaneEnd; 14],
+    ends: [LaneEnd; LANES],
     count: u32,
 ) -> Result<Vec<Pushing>, AllocError>
 where
@@ -89,7 +89,7 @@ where
 fn pop_all<R: Wait>(rt: &R, drain: &mut Drain, count: u64) -> bool
     ensures { IsSame drain.new.queue drain.old.queue }
 {
-    let mut last = [0u32; 14];
+    let mut last = [0u32; LANES];
     let mut in_order = true;
     let mut popped = 0u64;
     for _ in rt.forever() {
@@ -118,7 +118,7 @@ fn join_all<R: Threads>(rt: &R, drain: &mut Drain, all: Vec<Pushing>)
     }
 }
 
-/// Fourteen threads push the frames 1 to `count`, each in its lane, through so many slots, and this
+/// A thread for each lane pushes the frames 1 to `count`, through so many slots, and this
 /// one pops them. Whether each lane's frames came whole and in order, and nothing else came.
 pub fn keeps_order<R>(rt: R, alloc: Global, slots: u32, count: u32) -> Result<bool, LanesFault>
 where
@@ -127,7 +127,7 @@ where
     let parts = lanes(alloc, slots, Version::One)?;
     let mut drain = parts.drain;
     let all = start_all(rt, alloc, &drain, parts.ends, count)?;
-    let in_order = pop_all(&rt, &mut drain, 14 * u64::from(count));
+    let in_order = pop_all(&rt, &mut drain, LANES as u64 * u64::from(count));
     join_all(&rt, &mut drain, all);
     Ok(in_order && drain.pop(&rt).is_none())
 }

@@ -1,10 +1,10 @@
-//! Eight threads that share seven credits.
+//! Threads that share the credits of all channels.
 ghost use Rattle.std.specs.Prelude.{◌≡◌, ℕ, ◌<◌, map, length, slice_index_or, All};
 ghost use Rattle.lc_credit.specs.Sides.{Outgoing, IsIdle, IsUnfinished};
 ghost use Rattle.lc_credit.specs.Channels.{credit_out, AreMatched, SameCredit, SameCredits};
 
 use lc_credit::{Balance, CreditIn, CreditOut, CreditParts, credits, settle};
-use lc_frame::Channel;
+use lc_frame::{CHANNELS, Channel};
 use std::alloc::{AllocError, Global};
 use std::thread;
 use std::thread::{Threads, join};
@@ -18,8 +18,8 @@ const ABSOLVED: u32 = 1;
 const PATIENCE: u64 = 1 << 32;
 
 /// Whether the balances of all channels agree with so many rounds: one thread receives on all
-/// channels, and pleads with the round's number, while seven use up what comes, each on its own
-/// channel, until nothing is left and the last target was taken.
+/// channels, and pleads with the round's number, while for each channel one uses up what
+/// comes, until nothing is left and the last target was taken.
 pub fn balances_agree<R: Threads + Sync>(
     rt: &R,
     alloc: Global,
@@ -52,7 +52,7 @@ fn meanwhile<R: Threads + Sync>(rt: &R, parts: CreditParts, rounds: u32) -> Cred
         || -> CreditIn
             ensures { SameCredits incoming result }
         { receive_all(incoming, rounds) },
-        || -> [CreditOut; 7]
+        || -> [CreditOut; CHANNELS]
             requires { All IsIdle outgoing × All IsUnfinished outgoing }
             ensures { (map credit_out result ≡ map credit_out outgoing) × All IsIdle result }
         { use_all(rt, outgoing, rounds) },
@@ -72,10 +72,8 @@ fn receive_all(mut incoming: CreditIn, rounds: u32) -> CreditIn
 fn receive_round(incoming: &mut CreditIn, round: u32)
     ensures { SameCredits incoming.old incoming.new }
 {
-    for number in 0..7u8 {
-        if let Some(channel) = Channel::from_number(number) {
-            receive(incoming, channel, round);
-        }
+    for channel in Channel::ALL {
+        receive(incoming, channel, round);
     }
 }
 
@@ -87,7 +85,11 @@ fn receive(incoming: &mut CreditIn, channel: Channel, round: u32)
     incoming.ask(channel, round & 0xff_ffff);
 }
 
-fn use_all<R: Threads + Sync>(rt: &R, mut outgoing: [CreditOut; 7], rounds: u32) -> [CreditOut; 7]
+fn use_all<R: Threads + Sync>(
+    rt: &R,
+    mut outgoing: [CreditOut; CHANNELS],
+    rounds: u32,
+) -> [CreditOut; CHANNELS]
     requires idle { All IsIdle outgoing }
     requires unfinished { All IsUnfinished outgoing }
     ensures same { map credit_out result ≡ map credit_out outgoing }
@@ -98,14 +100,14 @@ fn use_all<R: Threads + Sync>(rt: &R, mut outgoing: [CreditOut; 7], rounds: u32)
 }
 
 // Each end in a thread of its own.
-fn use_each<R: Threads + Sync>(rt: &R, ends: &mut [CreditOut; 7], rounds: u32)
+fn use_each<R: Threads + Sync>(rt: &R, ends: &mut [CreditOut; CHANNELS], rounds: u32)
     requires idle { All IsIdle ends.old }
     requires unfinished { All IsUnfinished ends.old }
     ensures len { length ends.new ≡ length ends.old }
     ensures same { (k : ℕ) (d : Outgoing) → k < length ends.old → SameCredit (slice_index_or ends.old k d) (slice_index_or ends.new k d) }
     ensures idle { All IsIdle ends.new }
 {
-    thread::for_each_mut(rt, ends, 7, &|_, end| use_up(end, rounds));
+    thread::for_each_mut(rt, ends, CHANNELS, &|_, end| use_up(end, rounds));
 }
 
 // Uses up what comes in so many rounds, and takes targets up to the last. Gives up on a target that

@@ -1,11 +1,12 @@
 //! One thread reads messages into an inbox, and one takes them out.
 ghost use Rattle.std.specs.Prelude.{◌≡◌, ◌≤◌, ◌<◌, ◌++◌, ◌∷◌, [], if◌then◌else◌, IfOk};
 ghost use Rattle.std.specs.List.{All};
+ghost use Rattle.lc_frame.specs.Channel.{channel_count};
 ghost use Rattle.lc_peer.specs.Inbox.{new_inbox};
 ghost use Rattle.lc_inbox.specs.Sides.{IsSameSide};
 ghost use Rattle.test_threads.specs.Arrivals.{arrived, IsNewPair};
 
-use lc_frame::{Frame, FrameRef, Version};
+use lc_frame::{CHANNELS, Frame, FrameRef, LANES, Version};
 use lc_inbox::{InboxEnd, InboxIn, InboxOut, SharedInbox, finish, share};
 use lc_peer::{Inbox, Take};
 use lc_queue::{Drain, LaneEnd, Lanes, lanes};
@@ -128,12 +129,12 @@ fn take_all<R: Wait>(rt: &R, mut outgoing: InboxOut, count: u32) -> (InboxOut, b
 fn share_on(
     alloc: Global,
     inbox: Inbox,
-    ends: [LaneEnd; 14],
+    ends: [LaneEnd; LANES],
     lane: u8,
 ) -> Result<SharedInbox, AllocError>
     requires inbox { inbox ≡ new_inbox inbox.book.capacity }
     requires put { All (λ end. end.put ≡ []) ends }
-    requires server { 6 < lane }
+    requires server { channel_count ≤ lane }
     ensures { IfOk result (λ shared. IsNewPair shared.incoming shared.outgoing) }
 {
     for end in ends {
@@ -144,7 +145,7 @@ fn share_on(
     Err(AllocError)
 }
 
-/// Both sides of a new inbox over a ring of so many bytes, which puts on this lane, 7 to 13, of a
+/// Both sides of a new inbox over a ring of so many bytes, which puts on this lane, a server's, of a
 /// new queue of so many slots; and the queue's drain. Bad numbers are answered as want of memory.
 pub fn new_pair(
     alloc: Global,
@@ -160,7 +161,7 @@ pub fn new_pair(
     let Ok(inbox) = Inbox::new(alloc, capacity) else {
         return Err(AllocError);
     };
-    if lane < 7 {
+    if usize::from(lane) < CHANNELS {
         return Err(AllocError);
     }
     let Lanes { ends, drain } = parts;
