@@ -330,6 +330,11 @@ pub enum PeerFault {
     BadSlots,
     /// Memory was refused.
     OutOfMemory,
+    /// The library that is linked is not of this crate's version.
+    WrongLibrary {
+        /// The version of the library, as [`library_version`](crate::library_version) has it.
+        found: u32,
+    },
 }
 
 impl PeerFault {
@@ -353,6 +358,14 @@ impl Display for PeerFault {
             }
             PeerFault::BadSlots => write!(f, "the slots are not 1 to 65,536"),
             PeerFault::OutOfMemory => write!(f, "out of memory"),
+            PeerFault::WrongLibrary { found } => {
+                let [_, major, minor, patch] = found.to_be_bytes();
+                let crate_version = env!("CARGO_PKG_VERSION");
+                write!(
+                    f,
+                    "the library has version {major}.{minor}.{patch} and not {crate_version}"
+                )
+            }
         }
     }
 }

@@ -59,7 +59,7 @@ pub use error::{Fault, Overrun, PeerFault, ReadError, Refusal, Stop, Violation};
 pub use peer::{ClientBook, Config, Delivery, Incoming, Peer, Progress, ServerBook, Take, Version};
 
 /// The version of the library that is linked: 65,536 times its first number, 256 times its second, and
-/// its third.
+/// its third. [`Peer::new`] refuses a library of another version than this crate's.
 ///
 /// ```
 /// assert_eq!(lcmux::library_version(), 0x000100);

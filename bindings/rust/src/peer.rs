@@ -233,8 +233,9 @@ pub struct Peer {
 }
 
 impl Peer {
-    /// A peer on which nothing has happened. Faults come in this order: the first channel whose ring
-    /// would not have 1 to 2^24 bytes, slots outside 1 to 65,536, want of memory.
+    /// A peer on which nothing has happened. Faults come in this order: a library of another version
+    /// than this crate's, the first channel whose ring would not have 1 to 2^24 bytes, slots outside 1 to
+    /// 65,536, want of memory.
     ///
     /// ```
     /// use lcmux::{Channel, Config, Peer, PeerFault};
@@ -242,6 +243,10 @@ impl Peer {
     /// assert_eq!(fault, PeerFault::BadCapacity { channel: Channel::Overlap });
     /// ```
     pub fn new(config: &Config) -> Result<Peer, PeerFault> {
+        match sys::version() {
+            sys::VERSION => {}
+            found => return Err(PeerFault::WrongLibrary { found }),
+        }
         let bounds = sys::Config {
             version: config.version.number().into(),
             slots: config.slots,

@@ -89,6 +89,20 @@ extern "C" {
     fn lcmux_version() -> u32;
 }
 
+/// This crate's version, as the archive tells its own.
+pub(crate) const VERSION: u32 = decimal(env!("CARGO_PKG_VERSION_MAJOR")) << 16
+    | decimal(env!("CARGO_PKG_VERSION_MINOR")) << 8
+    | decimal(env!("CARGO_PKG_VERSION_PATCH"));
+
+const fn decimal(text: &str) -> u32 {
+    let (digits, mut number, mut at) = (text.as_bytes(), 0, 0);
+    while at < digits.len() {
+        number = 10 * number + (digits[at] - b'0') as u32;
+        at += 1;
+    }
+    number
+}
+
 /// A peer behind its handle.
 pub(crate) struct Handle(UnsafeCell<Raw>);
 

@@ -98,6 +98,13 @@ fn each_fault_of_a_configuration() {
 }
 
 #[test]
+fn a_library_of_another_version_says_both() {
+    let said = "WrongLibrary { found: 65794 } | the library has version 1.1.2 and not ";
+    let fault = PeerFault::WrongLibrary { found: 0x010102 };
+    assert_eq!(shown(fault), [said, env!("CARGO_PKG_VERSION")].concat());
+}
+
+#[test]
 fn an_overrun_says_both_counts_and_is_invalid_data() {
     let overrun = Overrun {
         claimed: 6,
