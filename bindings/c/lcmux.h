@@ -228,7 +228,8 @@ lcmux_answer lcmux_peer_take(lcmux_peer *peer, uint32_t channel, uint8_t *buffer
 lcmux_answer lcmux_peer_client(lcmux_peer *peer, uint32_t channel, lcmux_client *balances) LCMUX_NONNULL;
 lcmux_answer lcmux_peer_server(lcmux_peer *peer, uint32_t channel, lcmux_server *balances) LCMUX_NONNULL;
 
-/* LCMUX_VERSION_NUMBER of the library that is linked. */
+/* LCMUX_VERSION_NUMBER of the library that is linked: a program that may meet another one than that of
+ * this header compares the two before its first peer. */
 uint32_t lcmux_version(void);
 
 /* A sentence in English and a zero byte, to the front of buffer; the number is its length without the
