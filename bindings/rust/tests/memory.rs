@@ -1,0 +1,64 @@
+//! How much of the machine's memory a peer takes up that has written and read.
+use lcmux::{Channel::Data, Config, Peer, Take, Version};
+use std::fs;
+
+/// The bytes of this process that are in memory, by all lines `Rss:  4 kB`.
+fn resident() -> usize {
+    let maps = fs::read_to_string("/proc/self/smaps").unwrap();
+    let kib = maps.lines().filter_map(|line| {
+        let (count, unit) = line.strip_prefix("Rss:")?.trim().split_once(' ')?;
+        assert_eq!(unit, "kB");
+        count.parse::<usize>().ok()
+    });
+    1024 * kib.sum::<usize>()
+}
+
+/// Two peers with rings of this size, after a message of that length each way.
+fn used(len: usize) -> [Peer; 2] {
+    let mut config = Config::new([len as u32; 7], 4);
+    config.version = Version::Two;
+    let mut peers = [Peer::new(&config).unwrap(), Peer::new(&config).unwrap()];
+    peers
+        .iter_mut()
+        .for_each(|peer| peer.issue(Data, len as u32).unwrap());
+    carry(&mut peers);
+    let message = vec![7; len];
+    peers
+        .iter_mut()
+        .for_each(|peer| peer.send(Data, &message).unwrap());
+    carry(&mut peers);
+    for peer in &mut peers {
+        assert_eq!(peer.take(Data), Take::Took(message.clone()));
+    }
+    peers
+}
+
+fn carry(peers: &mut [Peer; 2]) {
+    let wires = peers.each_mut().map(|peer| {
+        let mut wire = Vec::new();
+        peer.write_to(&mut wire).unwrap();
+        wire
+    });
+    for (from, wire) in wires.iter().enumerate() {
+        let mut rest = wire.as_slice();
+        while !rest.is_empty() {
+            peers[1 - from].read_from(&mut rest).unwrap();
+        }
+    }
+}
+
+/// One test, since what runs beside it would be counted too.
+#[test]
+fn a_peer_takes_up_less_than_80_kib_and_more_after_a_long_message() {
+    const PAIRS: usize = 50;
+    let _first = used(8);
+    let before = resident();
+    let short: Vec<_> = (0..PAIRS).map(|_| used(8)).collect();
+    let each = (resident() - before) / (2 * PAIRS);
+    assert!((4_096..80 * 1024).contains(&each), "{each} bytes");
+
+    let before = resident();
+    let long = used(1 << 20);
+    assert!(resident() - before > 4 << 20);
+    drop((short, long));
+}
