@@ -18,7 +18,7 @@ length-text : (s : Side) → length (text s) ≡ length s.pending.bytes + length
 length-text s = length-append s.pending.bytes (flat_map (encoding s.peer.version) s.peer.waiting)
 
 -- the next frame is begun
-pub begins : (old : Side) (f : Frame) (next : PeerState) (begun : PendingState) → length old.pending.bytes ≤ 0 → Some f ≡ slice_get old.peer.waiting 0 → next ≡ without_next old.peer → begun.bytes ≡ encoding old.peer.version f → Begins old (record { peer = next; decoder = old.decoder; stop = old.stop; pending = begun })
+pub begins : (old : Side) (f : Frame) (next : PeerState) (begun : PendingState) → length old.pending.bytes ≤ 0 → Some f ≡ slice_get old.peer.waiting 0 → next ≡ without_next old.peer → begun.bytes ≡ encoding old.peer.version f → Begins old (record { peer = next; intake = old.intake; pending = begun })
 begins old f next begun none first gone is =
     let nothing : old.pending.bytes ≡ [] = nil_from_length old.pending.bytes (omega (arith, none)) in
     let there : flat_map (encoding old.peer.version) old.peer.waiting ≡ encoding old.peer.version f ++ flat_map (encoding old.peer.version) (drop 1 old.peer.waiting) = ap (λ (ws : List Frame). flat_map (encoding old.peer.version) ws) (first_of old.peer.waiting f first) ∙ flat_map-cons (encoding old.peer.version) f (drop 1 old.peer.waiting) in
@@ -35,8 +35,7 @@ begins old f next begun none first gone is =
       first = λ _. nothing;
       some = λ _. omega (arith, ap length is, some_bytes old.peer.version f);
       ready = λ e. absurd (omega (arith, ap length is, some_bytes old.peer.version f, ap length e));
-      decoder = refl;
-      stop = refl;
+      intake = refl;
     }
 
 -- where nothing was given, there is nothing to give
@@ -77,8 +76,7 @@ gives_then {n} {m} {a} {b} {c} s t = record {
   gone = s.gone + t.gone;
   peer = gone_then s.gone t.gone a.peer b.peer c.peer s.peer t.peer;
   begun = begun_then s t;
-  decoder = t.decoder ∙ s.decoder;
-  stop = t.stop ∙ s.stop;
+  intake = t.intake ∙ s.intake;
 }
 
 -- more bytes are written after those that were

@@ -32,7 +32,7 @@ config_in config version = record { version = version; capacities = config.capac
 
 -- nothing has happened, and no byte came or went: the greeting of the stream is to go out
 abbrev pub new_side : Config → Side
-new_side config = record { peer = new_peer config; decoder = nothing_held; stop = None; pending = record { bytes = greeting config.version } }
+new_side config = record { peer = new_peer config; intake = record { held = nothing_held; stop = None }; pending = record { bytes = greeting config.version } }
 
 -- what the making of a peer answers, by what is wrong with its configuration
 abbrev pub fault_or_done : Option PeerFault → LcmuxAnswer

@@ -1,16 +1,14 @@
 -- What goes out of a side and what comes to it. That a stream may be cut at any byte is this project's own to say.
-use Rattle.std.specs.Prelude.{◌≡◌, ℕ, ◌+◌, ◌<◌, ◌≤◌, min, List, [], ◌++◌, length, take, drop, Option, Some, None, Result, Ok, Err}
+use Rattle.std.specs.Prelude.{◌≡◌, ℕ, ◌+◌, ◌<◌, ◌≤◌, min, List, [], ◌++◌, length, take, drop, Option, Some, None}
 use Rattle.std.specs.List.{flat_map}
-use Rattle.lc_frame.specs.declared.frame_fault.FrameFault.{FrameFault}
 use Rattle.lc_frame.specs.FrameFault.{fault_number}
 use Rattle.lc_frame.specs.Encoding.{encoding}
-use Rattle.lc_frame.specs.Held.{Held}
-use Rattle.lc_frame.specs.StreamDecoder.{EndsAs}
 use Rattle.lc_book.specs.Fault.{violation_number}
 use Rattle.lc_peer.specs.declared.delivery.Delivery.{Delivery}
 use Rattle.lc_peer.specs.declared.delivery.Stop.{Stop}
 use Rattle.lc_peer.specs.declared.delivery.Stop.TheVariants.{Fault, Violated}
 use Rattle.lc_peer.specs.Deliveries.{Delivers}
+use Rattle.lc_peer.specs.Intake.{IntakeState, GivesUp, IntakeEnds}
 use Rattle.lc_c.specs.declared.answer.LcmuxAnswer.{LcmuxAnswer}
 use Rattle.lc_c.specs.declared.wire.LcmuxDelivery.{LcmuxDelivery}
 use Rattle.lc_c.specs.declared.side.Side.{Side}
@@ -27,8 +25,7 @@ pub record GivesOut (n : ℕ) (old new : Side) : Type 0 where
   pub gone : ℕ
   pub peer : new.peer ≡ record old.peer { waiting = drop gone old.peer.waiting }
   pub begun : (k : ℕ) → k < gone → length (old.pending.bytes ++ flat_map (encoding old.peer.version) (take k old.peer.waiting)) < n
-  pub decoder : new.decoder ≡ old.decoder
-  pub stop : new.stop ≡ old.stop
+  pub intake : new.intake ≡ old.intake
 
 -- where nothing is left of a greeting or a frame, the next one is begun, if one waits
 pub record Begins (old new : Side) : Type 0 where
@@ -39,18 +36,17 @@ pub record Begins (old new : Side) : Type 0 where
   pub first : 0 < gone → old.pending.bytes ≡ []
   pub some : 0 < gone → 0 < length new.pending.bytes
   pub ready : new.pending.bytes ≡ [] → text new ≡ []
-  pub decoder : new.decoder ≡ old.decoder
-  pub stop : new.stop ≡ old.stop
+  pub intake : new.intake ≡ old.intake
 
 -- a piece is delivered to a side whose stream was not given up
 pub record Brings (piece : List ℕ) (old new : Side) (d : Delivery) : Type 0 where
-  pub delivers : Delivers old.peer old.decoder piece new.peer new.decoder d
-  pub stop : new.stop ≡ d.stop
+  pub delivers : Delivers old.peer old.intake.held piece new.peer new.intake.held d
+  pub stop : new.intake.stop ≡ d.stop
   pub pending : new.pending ≡ old.pending
 
 -- where its stream was given up nothing is taken, and the answer is the same for good
 pub record StaysStopped (stop : Stop) (old new : Side) (d : Delivery) : Type 0 where
-  pub delivery : d ≡ record { taken = 0; frames = 0; stop = Some stop }
+  pub delivery : GivesUp stop d
   pub same : new ≡ old
 
 -- a piece is delivered to a side, unless its stream was given up
@@ -74,7 +70,7 @@ pub record DeliversTo (side : Side) (piece : List ℕ) (after : Option Side) (an
   pub stands : after ≡ Some new
   pub delivery : Delivery
   pub is : answer ≡ shown delivery
-  pub delivers : DeliversAt side.stop piece side new delivery
+  pub delivers : DeliversAt side.intake.stop piece side new delivery
 
 -- an empty handle takes nothing of a piece, and says so
 pub record DeliversNowhere (after : Option Side) (answer : LcmuxDelivery) : Type 0 where
@@ -111,23 +107,13 @@ abbrev pub pending_answer : Option Side → LcmuxAnswer
 pending_answer None = only no_peer
 pending_answer (Some side) = record { code = done; number = length (text side) }
 
--- the code of the end of a stream that was not given up
-abbrev pub end_code : {T : Type 0} → Result T FrameFault → ℕ
-end_code (Ok _) = done
-end_code (Err fault) = 200 + fault_number fault
-
--- what the end of a stream means that was not given up, by what is held of it
-pub record EndsOpen (held : Held) (code : ℕ) : Type 0 where
-  pub end : Result (Unit {0}) FrameFault
-  pub ends : EndsAs end held
-  pub is : code ≡ end_code end
-
--- what it means that the stream ends here: why it was given up, if it was; else 204 inside a frame or a greeting
-abbrev pub EndsWith : Option Stop → Held → ℕ → Type 0
-EndsWith (Some stop) held code = code ≡ stop_code (Some stop)
-EndsWith None held code = EndsOpen held code
+-- what it means that the stream ends here, by its code: why it was given up, if it was; else 204 inside a frame or a greeting
+pub record EndsWith (intake : IntakeState) (code : ℕ) : Type 0 where
+  pub end : Option Stop
+  pub ends : IntakeEnds end intake
+  pub is : code ≡ stop_code end
 
 -- what the end of the stream means behind a handle
 abbrev pub EndsBehind : Option Side → LcmuxAnswer → Type 0
 EndsBehind None answer = answer ≡ only no_peer
-EndsBehind (Some side) answer = EndsWith side.stop side.decoder answer.code × (answer.number ≡ 0)
+EndsBehind (Some side) answer = EndsWith side.intake answer.code × (answer.number ≡ 0)

@@ -10,9 +10,8 @@
 //! are proved by hand, and the contracts of all others see which side, if any, a handle holds.
 //! `open` takes it out, and `reach` where there is a channel too.
 //!
-//! A `Side` is a peer, a stream decoder, why the stream was given up, if it was, and `Pending`,
-//! what is left of the greeting or of the frame that was begun to go out. Bytes come in by
-//! `Peer::deliver`. They go out by `give` (in `streams.rt`): what is pending, then frame by frame
+//! A `Side` is a peer, the `Intake` of its stream, and `Pending`, what is left of the greeting or of
+//! the frame that was begun to go out. Bytes come in by `Intake::deliver`. They go out by `give` (in `streams.rt`): what is pending, then frame by frame
 //! what waits, each encoded into the buffer of `Pending` and copied as far as there is room. So a
 //! call writes exactly as many bytes as there are and have room, which `Outgo` can't promise: it
 //! hands its bytes to a writer, of which nothing is known.

@@ -12,8 +12,8 @@ use crate::peer::{LcmuxPeer, open};
 use crate::pending::Pending;
 use crate::side::Side;
 use lc_book::Refusal;
-use lc_frame::{StreamDecoder, Version};
-use lc_peer::{Config, Peer, PeerFault};
+use lc_frame::Version;
+use lc_peer::{Config, Intake, Peer, PeerFault};
 use std::alloc::Global;
 
 /// The bounds of a peer.
@@ -59,7 +59,7 @@ fn new_side(alloc: Global, config: Config) -> Result<Box<Side>, PeerFault>
     ensures value { IfOk result (λ side. side.value ≡ new_side config) }
 {
     let peer = Peer::new(alloc, config)?;
-    let Ok(decoder) = StreamDecoder::new(alloc) else {
+    let Ok(intake) = Intake::new(alloc) else {
         return Err(PeerFault::OutOfMemory);
     };
     let Ok(pending) = Pending::new(alloc, config.version) else {
@@ -67,8 +67,7 @@ fn new_side(alloc: Global, config: Config) -> Result<Box<Side>, PeerFault>
     };
     let side = Side {
         peer,
-        decoder,
-        stop: None,
+        intake,
         pending,
     };
     match Box::new(alloc, side) {

@@ -1,9 +1,8 @@
 //! The two streams of a side.
 ghost use Rattle.std.specs.Prelude.{◌≡◌, ◌<◌, ◌≤◌, ◌++◌, [], min, length, take, drop};
-ghost use Rattle.lc_c.specs.Streams.{text, Begins, GivesOut, DeliversAt};
+ghost use Rattle.lc_c.specs.Streams.{text, Begins, GivesOut};
 
 use crate::side::Side;
-use lc_peer::Delivery;
 
 // Where nothing is left of a frame or of the greeting, the next frame is begun.
 fn begin_next(side: &mut Side)
@@ -63,22 +62,4 @@ pub(crate) fn count(side: &Side) -> usize
         }
     }
     count
-}
-
-/// A piece of the stream is delivered, unless the stream was given up.
-pub(crate) fn deliver(side: &mut Side, piece: &[u8]) -> Delivery
-    ensures { DeliversAt side.old.stop piece.now side.old side.new result }
-{
-    match side.stop {
-        Some(stop) => Delivery {
-            taken: 0,
-            frames: 0,
-            stop: Some(stop),
-        },
-        None => {
-            let delivery = side.peer.deliver(&mut side.decoder, piece);
-            side.stop = delivery.stop;
-            delivery
-        }
-    }
 }

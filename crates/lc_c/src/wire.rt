@@ -1,11 +1,11 @@
 //! The streams of a peer, behind its handle.
 ghost use Rattle.std.specs.Prelude.{◌≡◌};
-ghost use Rattle.lc_c.specs.Streams.{stop_code, shown, DeliversBehind, WritesBehind, pending_answer, EndsWith, EndsBehind};
+ghost use Rattle.lc_c.specs.Streams.{stop_code, shown, DeliversAt, DeliversBehind, WritesBehind, pending_answer, EndsBehind};
 
 use crate::answer::{DONE, LcmuxAnswer, NO_PEER, only};
 use crate::peer::{LcmuxPeer, open};
 use crate::side::Side;
-use crate::streams::{count, deliver, give};
+use crate::streams::{count, give};
 use lc_peer::{Delivery, Stop};
 use std::alloc::Global;
 
@@ -38,6 +38,13 @@ fn shown(delivery: Delivery) -> LcmuxDelivery
         taken: delivery.taken,
         frames: delivery.frames,
     }
+}
+
+// A piece of the stream is delivered, unless the stream was given up.
+fn deliver(side: &mut Side, piece: &[u8]) -> Delivery
+    ensures { DeliversAt side.old.intake.stop piece.now side.old side.new result }
+{
+    side.intake.deliver(&mut side.peer, &(), piece)
 }
 
 /// The next bytes of the stream, of either version, arrive. Codes 101 to 109 for a violation, 201 to
@@ -106,19 +113,6 @@ pub extern "C" fn lcmux_peer_pending(alloc: Global, peer: &mut LcmuxPeer) -> Lcm
     }
 }
 
-// What it means that the stream ends here.
-fn end(side: &Side) -> u32
-    ensures { EndsWith side.now.stop side.now.decoder result }
-{
-    match side.stop {
-        Some(stop) => code_of(Some(stop)),
-        None => match side.decoder.end() {
-            Ok(()) => DONE,
-            Err(fault) => 200 + u32::from(fault.number()),
-        },
-    }
-}
-
 /// What it means that the stream ends here: 0 between two frames, 204 inside one or inside a greeting,
 /// and the code of the delivery that stopped, where one did.
 #[unsafe(no_mangle)]
@@ -129,7 +123,7 @@ pub extern "C" fn lcmux_peer_end(alloc: Global, peer: &mut LcmuxPeer) -> LcmuxAn
     match open(peer, alloc) {
         None => only(NO_PEER),
         Some(side) => {
-            let code = end(&side);
+            let code = code_of(side.intake.end());
             *peer = LcmuxPeer::of(side);
             only(code)
         }

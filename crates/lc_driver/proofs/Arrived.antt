@@ -24,7 +24,8 @@ use Rattle.lc_peer.specs.Deliveries.{violation_of, LeavesRest, Leaves, DeliversT
 use Rattle.lc_peer.proofs.Sinks.{up_to_all, all_up_to, up_to_then, came}
 use Rattle.lc_driver.specs.declared.reading.ReadEnd.{ReadEnd}
 use Rattle.lc_driver.specs.declared.reading.ReadEnd.TheVariants.{Clean, Truncated, Fault, Violated, ReadFailed, TurnsSpent}
-use Rattle.lc_driver.specs.Intake.{IntakeState, EndsHere}
+use Rattle.lc_peer.specs.Intake.{IntakeState}
+use Rattle.lc_driver.specs.Reading.{EndsHere}
 use Rattle.lc_driver.specs.Reading.{Reads, GoesOn, EndsBy, HoldsRest, EndsAt, ReadsInto, end_of, stop_of}
 
 consumes_then : (a b c : Option (List ℕ)) (x y : List ℕ) → Consumes a b x → Consumes b c y → Consumes a c (x ++ y)
@@ -221,11 +222,6 @@ reads a b held p q i max_reads end h =
       ends = ends_by end (arrivals p (frames_of (fed held h.read))) (rest_of (fed held h.read)) i.held (length h.read) max_reads (ap (λ (r : Arrival). r.violation) e) h.ends;
       kept = h.kept;
     }
-
--- the input ended where no frame stands
-pub ends_clean : (held : Held) → (held.bytes ≡ []) ⊎ ((f : Frame) × HasFrame f held) → IsUndecided held → held.bytes ≡ []
-ends_clean held (inl nothing) o = nothing
-ends_clean held (inr frame) o = absurd (o.no_frame frame.0 frame.1)
 
 unless_keeps : (p : PeerState) (v : Option Violation) (later : Arrival) → later.peer.version ≡ p.version → (arrive_unless p v later).peer.version ≡ p.version
 unless_keeps p None later e = e

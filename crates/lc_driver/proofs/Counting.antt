@@ -10,7 +10,7 @@ use Rattle.lc_driver.specs.declared.counts.Counts.{Counts}
 use Rattle.lc_driver.specs.declared.reading.ReadEnd.{ReadEnd}
 use Rattle.lc_driver.specs.declared.reading.ReadEnd.TheVariants.{Clean, Truncated, Fault, Violated, ReadFailed, TurnsSpent}
 use Rattle.lc_driver.specs.Counts.{count_up, count_on, CountsCall}
-use Rattle.lc_driver.specs.Intake.{EndsHere}
+use Rattle.lc_driver.specs.Reading.{EndsHere}
 use Rattle.lc_driver.specs.Reading.{CountsReads, EndsInput}
 
 -- a count that a call that moved some bytes leaves

@@ -2,5 +2,4 @@ pub mod Counts
 pub mod Tries
 pub mod Outgo
 pub mod Writing
-pub mod Intake
 pub mod Reading

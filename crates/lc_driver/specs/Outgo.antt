@@ -1,9 +1,7 @@
 -- What is on its way out. That a stream of version Two begins with a greeting, and all else here, is this project's own.
-use Rattle.std.specs.Prelude.{ℕ, ◌≤◌, List}
+use Rattle.std.specs.Prelude.{ℕ, List}
 use Rattle.lc_frame.specs.declared.version.Version.{Version}
-use Rattle.lc_frame.specs.declared.version.Version.TheVariants.{Two}
 use Rattle.lc_frame.specs.Version.{greeting}
-use Rattle.lc_frame.specs.Kind.{max_frame}
 
 -- the version of the stream, and the bytes that are left of the frame that was begun, or of the greeting
 pub record OutgoState : Type 0 where
@@ -13,9 +11,3 @@ pub record OutgoState : Type 0 where
 -- at the start of a stream its greeting is pending
 abbrev pub new_outgo : Version → OutgoState
 new_outgo version = record { version = version; pending = greeting version }
-
--- what a buffer of so many bytes with this capacity keeps, whose bytes before the start were taken: a whole frame has room
-pub record IsFrameBuffer (version : Version) (len capacity start : ℕ) : Type 0 where
-  pub within : start ≤ len
-  pub most : len ≤ max_frame version
-  pub room : max_frame Two ≤ capacity

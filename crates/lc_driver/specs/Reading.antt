@@ -16,7 +16,7 @@ use Rattle.lc_driver.specs.declared.reading.ReadEnd.{ReadEnd}
 use Rattle.lc_driver.specs.declared.reading.ReadEnd.TheVariants.{Clean, Truncated, Fault, Violated, ReadFailed, TurnsSpent}
 use Rattle.lc_driver.specs.declared.counts.Counts.{Counts}
 use Rattle.lc_driver.specs.Counts.{count_up, count_on}
-use Rattle.lc_driver.specs.Intake.{IntakeState}
+use Rattle.lc_peer.specs.Intake.{IntakeState}
 
 -- the bytes asked for per read
 abbrev pub max_read : ℕ
@@ -32,6 +32,12 @@ abbrev pub stop_of : ReadEnd → Option Stop
 stop_of (Fault fault) = Some (stops.Fault fault)
 stop_of (Violated violation) = Some (stops.Violated violation)
 stop_of end = None
+
+-- what it means that the input ends where this is held and the stream was not given up
+abbrev pub EndsHere : ReadEnd → Held → Type 0
+EndsHere Clean held = held.bytes ≡ []
+EndsHere Truncated held = IsPart held
+EndsHere end held = ⊥
 
 -- every frame arrived, and the rest, which may be part of one, is held
 pub record GoesOn (came : Arrival) (rest held : Held) : Type 0 where

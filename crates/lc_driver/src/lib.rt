@@ -22,7 +22,6 @@
 mod counted;
 mod counts;
 mod device;
-mod intake;
 mod outgo;
 mod reading;
 mod uninterrupted;
@@ -31,7 +30,7 @@ mod writing;
 pub use counted::{Counted, CountedRead, CountedWrite, Failures};
 pub use counts::Counts;
 pub use device::{ReadDevice, WriteDevice};
-pub use intake::Intake;
+pub use lc_peer::Intake;
 pub use outgo::Outgo;
 pub use reading::{ReadEnd, read_in, read_into};
 pub use uninterrupted::Uninterrupted;

@@ -6,7 +6,7 @@ ghost use Rattle.lc_frame.specs.FrameRef.{frame_of};
 ghost use Rattle.lc_frame.specs.Encoding.{encoding};
 ghost use Rattle.lc_driver.specs.Outgo.{new_outgo};
 
-use lc_frame::{FrameRef, MAX_FRAME, Version};
+use lc_frame::{FrameRef, StreamEncoder, Version};
 use std::alloc::{AllocError, Global};
 use std::marker::Model;
 
@@ -15,34 +15,29 @@ use std::marker::Model;
 #[derive(Debug, Drop)]
 pub struct Outgo {
     version: Version,
-    buffer: Vec<u8>,
-    start: usize,
+    encoder: StreamEncoder,
 }
 
 impl Model for Outgo {
-    ghost use Rattle.std.specs.Prelude.{drop, vec_len, vec_capacity};
-    ghost use Rattle.lc_driver.specs.Outgo.{OutgoState, IsFrameBuffer};
+    ghost use Rattle.std.specs.Prelude.{◌≡◌};
+    ghost use Rattle.lc_frame.specs.Kind.{max_frame};
+    ghost use Rattle.lc_driver.specs.Outgo.{OutgoState};
 
     ghost Value = { OutgoState };
 
-    ghost view = { λ outgo. record { version = outgo.version; pending = drop outgo.start outgo.buffer.items } };
+    ghost view = { λ outgo. record { version = outgo.version; pending = outgo.encoder.pending } };
 
-    ghost invariant = { λ outgo. IsFrameBuffer outgo.version (vec_len outgo.buffer) (vec_capacity outgo.buffer) outgo.start };
+    ghost invariant = { λ outgo. outgo.encoder.capacity ≡ max_frame outgo.version };
 }
 
 impl Outgo {
     /// The start of a stream: its greeting is pending, which is nothing in version One. It takes the
-    /// memory for `MAX_FRAME` bytes here and none later; the error is want of it.
+    /// memory for the version's longest frame here and none later; the error is want of it.
     pub fn new(alloc: Global, version: Version) -> Result<Outgo, AllocError>
         ensures { IfOk result (λ outgo. outgo ≡ new_outgo version) }
     {
-        let mut buffer = Vec::with_capacity(alloc, MAX_FRAME)?;
-        buffer.extend_from_slice(version.greeting())?;
-        Ok(Outgo {
-            version,
-            buffer,
-            start: 0,
-        })
+        let encoder = StreamEncoder::new(alloc, version, version.max_frame())?;
+        Ok(Outgo { version, encoder })
     }
 
     /// The version of the stream.
@@ -57,13 +52,13 @@ impl Outgo {
         ensures value { result ≡ length self.now.pending }
         ensures most { result ≤ max_frame self.now.version }
     {
-        self.buffer.len() - self.start
+        self.encoder.pending().len()
     }
 
     pub(crate) fn bytes(&self) -> &[u8]
         ensures value { result.now ≡ self.now.pending }
     {
-        self.buffer.split_at(self.start).1
+        self.encoder.pending()
     }
 
     /// Drops the first so many bytes.
@@ -72,7 +67,7 @@ impl Outgo {
         ensures pending { self.new.pending ≡ drop count self.old.pending }
         ensures version { self.new.version ≡ self.old.version }
     {
-        self.start += count;
+        self.encoder.advance(count);
     }
 
     /// Keeps the first so many bytes alone.
@@ -81,7 +76,7 @@ impl Outgo {
         ensures pending { self.new.pending ≡ take count self.old.pending }
         ensures version { self.new.version ≡ self.old.version }
     {
-        self.buffer.truncate(self.start + count);
+        self.encoder.truncate(count);
     }
 
     /// Puts the bytes of a frame last, where there is room for all of them. There is where nothing is pending.
@@ -91,17 +86,6 @@ impl Outgo {
         ensures version { self.new.version ≡ self.old.version }
         ensures room { self.old.pending ≡ [] → IsTrue result }
     {
-        let version = self.version;
-        if self.start == self.buffer.len() {
-            self.buffer.clear();
-            self.start = 0;
-        }
-        if version.max_frame() - self.buffer.len() < frame.encoded_len(version) {
-            return false;
-        }
-        if frame.encode_into(version, &mut self.buffer).is_err() {
-            unreachable!();
-        }
-        true
+        self.encoder.append(self.version, frame)
     }
 }

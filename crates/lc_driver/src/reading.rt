@@ -1,11 +1,10 @@
 //! Reading what comes to a peer, or to another sink.
 ghost use Rattle.std.specs.Prelude.{◌≡◌, ◌+◌, ◌≤◌, None, IfSome};
-ghost use Rattle.lc_driver.specs.Reading.{Reads, ReadsInto, CountsReads, CountsAll, EndsInput, end_of};
+ghost use Rattle.lc_driver.specs.Reading.{EndsHere, Reads, ReadsInto, CountsReads, CountsAll, EndsInput, end_of};
 
 use crate::counted::CountedRead;
-use crate::intake::Intake;
 use lc_frame::FrameFault;
-use lc_peer::{FrameSink, Peer, Stop, Violation};
+use lc_peer::{FrameSink, Intake, Peer, Stop, Violation};
 
 /// The bytes asked for per read.
 const READ_LEN: usize = 512;
@@ -40,6 +39,17 @@ impl From<Stop> for ReadEnd {
     }
 }
 
+// What it means that the input ends here.
+fn input_end(intake: &Intake) -> ReadEnd
+    requires { intake.now.stop ≡ None }
+    ensures { EndsHere result intake.now.held }
+{
+    match intake.end() {
+        None => ReadEnd::Clean,
+        Some(_) => ReadEnd::Truncated,
+    }
+}
+
 /// What `read_in` does, at any sink.
 pub fn read_into<C, S: FrameSink<C>, R: CountedRead>(
     sink: &mut S,
@@ -64,7 +74,7 @@ pub fn read_into<C, S: FrameSink<C>, R: CountedRead>(
     let mut buffer = [0; READ_LEN];
     'reads: for _ in 0..max_reads {
         match reader.read_counted(&mut buffer) {
-            Ok(0) => return intake.end(),
+            Ok(0) => return input_end(intake),
             Ok(n) => match intake.deliver(sink, context, buffer.split_at(n).0).stop {
                 Some(stop) => return ReadEnd::from(stop),
                 None => {}

@@ -14,3 +14,4 @@ pub mod Held
 pub mod Splits
 pub mod Progress
 pub mod StreamDecoder
+pub mod StreamEncoder

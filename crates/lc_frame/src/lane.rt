@@ -1,5 +1,6 @@
 //! The lanes: of each channel the one on which its client puts, and the one of its server.
-ghost use Rattle.std.specs.Prelude.{◌≡◌, ◌<◌, ◌≤◌, IfSome, IfNone};
+ghost use Rattle.std.specs.Prelude.{◌≡◌, ◌<◌, ◌≤◌, ◌⊎◌, IfSome, IfNone};
+ghost use Rattle.lc_frame.specs.declared.lane.Lane.TheVariants.{Client, Server};
 ghost use Rattle.lc_frame.specs.Lane.{lane_count, lane_number};
 
 use crate::channel::{CHANNELS, Channel};
@@ -17,7 +18,9 @@ pub enum Lane {
 
 impl Lane {
     /// The channel that it is a part of.
-    pub fn channel(self) -> Channel {
+    pub fn channel(self) -> Channel
+        ensures { (self ≡ Client result) ⊎ (self ≡ Server result) }
+    {
         match self {
             Lane::Client(channel) | Lane::Server(channel) => channel,
         }

@@ -19,6 +19,7 @@ pub mod laws;
 mod progress;
 mod scan;
 mod stream_decoder;
+mod stream_encoder;
 mod version;
 
 pub use body::Body;
@@ -32,4 +33,5 @@ pub use frame_fault::FrameFault;
 pub use frame_ref::FrameRef;
 pub use lane::{LANES, Lane};
 pub use stream_decoder::StreamDecoder;
+pub use stream_encoder::StreamEncoder;
 pub use version::{GREETING, Version};

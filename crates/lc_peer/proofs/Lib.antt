@@ -5,5 +5,6 @@ pub mod Sinks
 pub mod Deliveries
 pub mod Bounded
 pub mod Stops
+pub mod Intakes
 pub mod Channels
 pub mod StreamsKept

@@ -7,4 +7,5 @@ pub mod Config
 pub mod Streams
 pub mod Sinks
 pub mod Deliveries
+pub mod Intake
 pub mod Steps

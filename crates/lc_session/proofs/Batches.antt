@@ -147,11 +147,6 @@ module _ (version : Version) where
         };
       }
 
-  -- the buffer, of which bytes before a start were written, when a frame was encoded behind it
-  pub encoded : (start begun : ℕ) (items more : List ℕ) (f : Frame) → start ≤ length items → AreWhole version begun (drop start items) → IsValid version f → more ≡ items ++ encoding version f → IsAppended version begun (drop start items) (drop start more) f
-  encoded start begun items more f within h v e =
-      appended begun (drop start items) (drop start more) f h v (ap (λ (xs : List ℕ). drop start xs) e ∙ drop-append-le start items (encoding version f) within)
-
   -- ---- some of the bytes were written
 
   -- what is pending, by its parts
@@ -202,7 +197,7 @@ module _ (version : Version) where
       inr (subst (λ (fs : List Frame). HasBegun version fs rest) (sym last)
       (last_begun begun (take gone ws) one.0 bytes rest (first gone (omega arith)) (ap (λ (fs : List Frame). begun ++ flat_map (encoding version) fs) (sym last) ∙ is)))
 
-  written_off : (begun : ℕ) (bytes : List ℕ) (count end gone left : ℕ) (others : List ℕ) → AreWhole version begun bytes → count ≤ length bytes → EndsAt version begun bytes count end gone → left ≡ end - count → others ≡ drop count bytes → IsWritten version begun bytes count left others
+  pub written_off : (begun : ℕ) (bytes : List ℕ) (count end gone left : ℕ) (others : List ℕ) → AreWhole version begun bytes → count ≤ length bytes → EndsAt version begun bytes count end gone → left ≡ end - count → others ≡ drop count bytes → IsWritten version begun bytes count left others
   written_off begun bytes count end gone left others h within at left_is e =
       let ws : List Frame = waiting_in version begun bytes in
       let first : List Frame = take gone ws in
@@ -231,8 +226,3 @@ module _ (version : Version) where
           rest = begun_last (take begun bytes) ws gone (take count bytes) (take left others) at.some (λ k less. omega (arith, at.first k less, begun_len, few)) text;
         };
       }
-
-  -- the same in the buffer, of which bytes before a start were written
-  pub written_on : (start begun count end gone : ℕ) (items given : List ℕ) → AreWhole version begun (drop start items) → given ≡ drop start items → count ≤ length given → EndsAt version begun given count end gone → IsWritten version begun (drop start items) count (end - count) (drop (start + count) items)
-  written_on start begun count end gone items given h same within at =
-      written_off begun (drop start items) count end gone (end - count) (drop (start + count) items) h (omega (arith, within, ap length same)) (subst (λ (xs : List ℕ). EndsAt version begun xs count end gone) same at) refl (sym (drop-drop count start items))

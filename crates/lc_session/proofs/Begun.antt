@@ -14,7 +14,7 @@ use Rattle.lc_credit.specs.Sides.{Incoming, Outgoing}
 use Rattle.lc_credit.specs.Channels as credits
 use Rattle.lc_inbox.specs.Sides.{Side, IsNew}
 use Rattle.lc_inbox.specs.Inboxes as inboxes
-use Rattle.lc_driver.specs.Intake.{IntakeState}
+use Rattle.lc_peer.specs.Intake.{IntakeState}
 use Rattle.lc_session.specs.Channels.{channels}
 use Rattle.lc_session.specs.Reading.{channel_of_side}
 use Rattle.lc_session.specs.Pumping.{new_pumping}

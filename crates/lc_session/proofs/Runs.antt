@@ -13,7 +13,7 @@ use Rattle.lc_frame.proofs.Held.{fed_fed, fed_fits, before_fed, each_fed}
 use Rattle.lc_peer.specs.declared.delivery.Stop.{Stop}
 use Rattle.lc_driver.specs.declared.reading.ReadEnd.{ReadEnd}
 use Rattle.lc_driver.specs.declared.reading.ReadEnd.TheVariants.{Clean, Truncated, Fault, Violated, ReadFailed, TurnsSpent}
-use Rattle.lc_driver.specs.Intake.{IntakeState}
+use Rattle.lc_peer.specs.Intake.{IntakeState}
 use Rattle.lc_driver.specs.Reading.{ReadsInto, end_of}
 use Rattle.lc_session.specs.Reading.{ReadingSide, Reading, Arrives, Violates, HasHeardAll}
 use Rattle.lc_session.specs.Heard.{HearsOn, AllCame, ReadsNothing, HearsMore}

@@ -23,7 +23,7 @@ use Rattle.lc_inbox.specs.Inboxes.{origin_of, AreSameSides}
 use Rattle.lc_inbox.proofs.Places.{matched_in, matched_out}
 use Rattle.lc_outbox.specs.Outbox.{OutboxState, IsSameOutbox}
 use Rattle.lc_driver.specs.declared.reading.ReadEnd.{ReadEnd}
-use Rattle.lc_driver.specs.Intake.{IntakeState}
+use Rattle.lc_peer.specs.Intake.{IntakeState}
 use Rattle.lc_driver.specs.Reading.{ReadsInto, stop_of, end_of}
 use Rattle.lc_session.specs.Pumping.{Pumping, Pumps, IsSamePump}
 use Rattle.lc_session.specs.Reading.{ReadingSide, channel_of_side, ToCredit, ToInbox, Hears, Refuses, Arrives, Violates, IsSameReading}

@@ -7,6 +7,7 @@ use Rattle.lc_frame.specs.Version.{greeting}
 use Rattle.lc_frame.specs.Frame.{IsValid}
 use Rattle.lc_frame.specs.Encoding.{encoding}
 use Rattle.lc_frame.specs.Kind.{max_frame}
+use Rattle.lc_frame.specs.StreamEncoder.{EncoderState}
 use Rattle.lc_frame.specs.Held.{held_in}
 use Rattle.lc_frame.specs.Splits.{frames_of}
 
@@ -39,12 +40,10 @@ pub record AreWhole (version : Version) (begun : ℕ) (bytes : List ℕ) : Type 
   pub whole : drop begun bytes ≡ flat_map (encoding version) (waiting_in version begun bytes)
   pub valid : AllByRecursion (IsValid version) (waiting_in version begun bytes)
 
--- what a buffer of so many bytes with this capacity keeps, whose bytes before the start were written
-pub record IsBatch (version : Version) (len capacity start begun : ℕ) (bytes : List ℕ) : Type 0 where
-  pub within : start ≤ len
-  pub most : len ≤ max_batch version
-  pub room : max_batch version ≤ capacity
-  pub whole : AreWhole version begun bytes
+-- what every batch keeps: two of the longest frames have room, and behind what is left of what was begun stand whole frames
+pub record IsBatch (version : Version) (encoder : EncoderState) (begun : ℕ) : Type 0 where
+  pub room : encoder.capacity ≡ max_batch version
+  pub whole : AreWhole version begun encoder.pending
 
 -- where the frame ends that was begun last, once so many of these bytes were written: so many frames more were begun, each with its first byte
 pub record EndsAt (version : Version) (begun : ℕ) (bytes : List ℕ) (written end gone : ℕ) : Type 0 where

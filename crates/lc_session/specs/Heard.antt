@@ -5,7 +5,7 @@ use Rattle.lc_frame.specs.declared.frame.Frame.{Frame}
 use Rattle.lc_frame.specs.Splits.{frames_of, rest_of}
 use Rattle.lc_peer.specs.declared.config.Config.{Config}
 use Rattle.lc_driver.specs.declared.reading.ReadEnd.{ReadEnd}
-use Rattle.lc_driver.specs.Intake.{IntakeState}
+use Rattle.lc_peer.specs.Intake.{IntakeState}
 use Rattle.lc_driver.specs.Reading.{ReadsInto}
 use Rattle.lc_session.specs.Reading.{ReadingSide, Reading, Arrives, Violates, IsSameReading, HasHeardAll}
 use Rattle.lc_session.specs.Report.{SessionState}

@@ -15,7 +15,7 @@ use Rattle.lc_credit.specs.Channels.{SameCredits}
 use Rattle.lc_inbox.specs.History.{heard}
 use Rattle.lc_inbox.specs.Sides.{Side, IsSameSide, HadOneTurn, IsHeard, IsViolated}
 use Rattle.lc_inbox.specs.Inboxes.{AreSameSides}
-use Rattle.lc_driver.specs.Intake.{IntakeState}
+use Rattle.lc_peer.specs.Intake.{IntakeState}
 use Rattle.lc_session.specs.Channels.{channels}
 
 -- the reading side of each channel's credit and of each channel's inbox, by the channel's number

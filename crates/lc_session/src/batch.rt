@@ -1,5 +1,5 @@
 //! The frames that a writing pump has popped, on their way out.
-ghost use Rattle.std.specs.Prelude.{◌≡◌, ◌+◌, ◌-◌, ◌≤◌, ◌↔◌, [], ◌∷◌, ◌++◌, length, take, drop, IsTrue, IfOk, vec_len, vec_capacity};
+ghost use Rattle.std.specs.Prelude.{◌≡◌, ◌-◌, ◌≤◌, ◌↔◌, [], ◌∷◌, ◌++◌, length, IsTrue, IfOk};
 ghost use Rattle.lc_frame.specs.declared.version.Version.TheVariants.{Two};
 ghost use Rattle.lc_frame.specs.Kind.{max_frame};
 ghost use Rattle.lc_frame.specs.Frame.{IsValid};
@@ -7,7 +7,7 @@ ghost use Rattle.lc_frame.specs.Encoding.{encoding};
 ghost use Rattle.lc_driver.specs.Writing.{text};
 ghost use Rattle.lc_session.specs.Batch.{BatchState, max_batch, new_batch, waiting_in, AreWhole, EndsAt, LetsGo};
 
-use lc_frame::{Decoded, Frame, Version, decode};
+use lc_frame::{Decoded, Frame, StreamEncoder, Version, decode};
 use std::alloc::{AllocError, Global};
 use std::marker::Model;
 
@@ -16,20 +16,18 @@ use std::marker::Model;
 #[derive(Debug, Drop)]
 pub(crate) struct Batch {
     version: Version,
-    buffer: Vec<u8>,
-    start: usize,
+    encoder: StreamEncoder,
     begun: usize,
 }
 
 impl Model for Batch {
-    ghost use Rattle.std.specs.Prelude.{◌-◌, drop, vec_len, vec_capacity};
-    ghost use Rattle.lc_session.specs.Batch.{BatchState, max_batch, batch_of, IsBatch};
+    ghost use Rattle.lc_session.specs.Batch.{BatchState, batch_of, IsBatch};
 
     ghost Value = { BatchState };
 
-    ghost view = { λ batch. batch_of batch.version batch.begun (drop batch.start batch.buffer.items) (max_batch batch.version - vec_len batch.buffer) };
+    ghost view = { λ batch. batch_of batch.version batch.begun batch.encoder.pending batch.encoder.room };
 
-    ghost invariant = { λ batch. IsBatch batch.version (vec_len batch.buffer) (vec_capacity batch.buffer) batch.start batch.begun (drop batch.start batch.buffer.items) };
+    ghost invariant = { λ batch. IsBatch batch.version batch.encoder batch.begun };
 }
 
 // Room for two of the longest frames: while one has room, another frame can be popped.
@@ -60,30 +58,16 @@ fn frame_end(version: Version, bytes: &[u8], begun: usize, written: usize) -> (u
     (end, frames)
 }
 
-// Puts the bytes of a frame last in a buffer that has room for them.
-fn encode(version: Version, frame: Frame, buffer: &mut Vec<u8>)
-    requires valid { IsValid version frame }
-    requires room { vec_len buffer.old + max_frame version ≤ vec_capacity buffer.old }
-    ensures items { buffer.new.items ≡ buffer.old.items ++ encoding version frame }
-    ensures capacity { vec_capacity buffer.old ≤ vec_capacity buffer.new }
-{
-    if frame.encode_into(version, buffer).is_err() {
-        unreachable!();
-    }
-}
-
 impl Batch {
     /// The start of a stream: its greeting is pending, which is nothing in version One.
     pub(crate) fn new(alloc: Global, version: Version) -> Result<Batch, AllocError>
         ensures { IfOk result (λ batch. batch ≡ new_batch version) }
     {
-        let mut buffer = Vec::with_capacity(alloc, max_batch(version))?;
-        buffer.extend_from_slice(version.greeting())?;
-        let begun = buffer.len();
+        let encoder = StreamEncoder::new(alloc, version, max_batch(version))?;
+        let begun = encoder.pending().len();
         Ok(Batch {
             version,
-            buffer,
-            start: 0,
+            encoder,
             begun,
         })
     }
@@ -93,14 +77,13 @@ impl Batch {
     pub(crate) fn bytes(&self) -> &[u8]
         ensures { result.now ≡ text self.now.version self.now.begun self.now.waiting }
     {
-        self.buffer.split_at(self.start).1
+        self.encoder.pending()
     }
 
     pub(crate) fn is_empty(&self) -> bool
-        ensures empty { IsTrue result ↔ ((self.now.begun ≡ []) × (self.now.waiting ≡ [])) }
-        ensures bound { self.now.free ≤ max_batch self.now.version }
+        ensures { IsTrue result ↔ ((self.now.begun ≡ []) × (self.now.waiting ≡ [])) }
     {
-        self.start == self.buffer.len()
+        self.encoder.pending().is_empty()
     }
 
     /// How many bytes are left of the frame that was begun, or of the greeting.
@@ -118,29 +101,31 @@ impl Batch {
         frame_end(self.version, bytes, self.begun, bytes.len()).1
     }
 
+    /// How many more bytes have room: all where nothing is pending.
+    pub(crate) fn free(&self) -> usize
+        ensures value { result ≡ self.now.free }
+        ensures bound { result ≤ max_batch self.now.version }
+        ensures all { self.now.begun ≡ [] → self.now.waiting ≡ [] → result ≡ max_batch self.now.version }
+    {
+        self.encoder.room()
+    }
+
+    /// Whether any frame has room.
+    pub(crate) fn has_room(&self) -> bool
+        ensures { IsTrue result ↔ (max_frame self.now.version ≤ self.now.free) }
+    {
+        self.encoder.room() >= self.version.max_frame()
+    }
+
     /// All that is pending was written.
     pub(crate) fn clear(&mut self)
         ensures version { self.new.version ≡ self.old.version }
         ensures begun { self.new.begun ≡ [] }
         ensures waiting { self.new.waiting ≡ [] }
-        ensures free { self.new.free ≡ max_batch self.old.version }
     {
-        self.buffer.clear();
-        self.start = 0;
+        let count = self.encoder.pending().len();
+        self.encoder.advance(count);
         self.begun = 0;
-    }
-
-    /// Where nothing is pending, all room is free.
-    pub(crate) fn restart(&mut self)
-        ensures version { self.new.version ≡ self.old.version }
-        ensures begun { self.new.begun ≡ self.old.begun }
-        ensures waiting { self.new.waiting ≡ self.old.waiting }
-        ensures room { self.new.begun ≡ [] → self.new.waiting ≡ [] → self.new.free ≡ max_batch self.old.version }
-        ensures bound { self.new.free ≤ max_batch self.old.version }
-    {
-        if self.is_empty() {
-            self.clear();
-        }
     }
 
     /// The first so many bytes were written.
@@ -148,16 +133,10 @@ impl Batch {
         requires { count ≤ length (text self.old.version self.old.begun self.old.waiting) }
         ensures { LetsGo count self.old self.new }
     {
-        let (end, _) = frame_end(self.version, self.bytes(), self.begun, count);
-        self.start += count;
+        let bytes = self.encoder.pending();
+        let (end, _) = frame_end(self.version, bytes, self.begun, count);
+        self.encoder.advance(count);
         self.begun = end - count;
-    }
-
-    /// Whether any frame has room.
-    pub(crate) fn has_room(&self) -> bool
-        ensures { IsTrue result ↔ (max_frame self.now.version ≤ self.now.free) }
-    {
-        max_batch(self.version) - self.buffer.len() >= self.version.max_frame()
     }
 
     /// A frame waits behind the others.
@@ -169,6 +148,8 @@ impl Batch {
         ensures waiting { self.new.waiting ≡ self.old.waiting ++ frame ∷ [] }
         ensures free { self.new.free ≡ self.old.free - length (encoding self.old.version frame) }
     {
-        encode(self.version, frame, &mut self.buffer);
+        if !self.encoder.append(self.version, frame.view()) {
+            unreachable!();
+        }
     }
 }

@@ -50,7 +50,8 @@ fn join_popped<R: Wait>(rt: &R, drain: &mut Drain, batch: &mut Batch) -> usize
     ensures pops { Pops (pumping_of drain.old batch.old) (pumping_of drain.new batch.new) }
     ensures none { batch.new.begun ≡ [] → batch.new.waiting ≡ [] → AllPopped drain.new }
 {
-    batch.restart();
+    // Where nothing is pending, any frame has room.
+    let _free = batch.free();
     let mut popped = 0;
     'frames: while batch.has_room() {
         match drain.pop(rt) {

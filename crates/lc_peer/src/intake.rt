@@ -1,12 +1,12 @@
 //! The bytes of a stream on their way in.
-ghost use Rattle.std.specs.Prelude.{◌≡◌, ◌<◌, None, All, IfOk};
+ghost use Rattle.std.specs.Prelude.{◌≡◌, ◌<◌, None, All, IfOk, IfSome};
 ghost use Rattle.lc_frame.specs.Held.{nothing_held, IsUndecided, IsSettled};
 ghost use Rattle.lc_peer.specs.Deliveries.{DeliversTo};
-ghost use Rattle.lc_driver.specs.Intake.{EndsHere};
+ghost use Rattle.lc_peer.specs.Intake.{IntakeEnds, GivesUp};
 
-use crate::reading::ReadEnd;
+use crate::delivery::{Delivery, Stop, deliver_to};
+use crate::sink::FrameSink;
 use lc_frame::StreamDecoder;
-use lc_peer::{Delivery, FrameSink, Stop, deliver_to};
 use std::alloc::{AllocError, Global};
 use std::marker::Model;
 
@@ -18,7 +18,7 @@ pub struct Intake {
 }
 
 impl Model for Intake {
-    ghost use Rattle.lc_driver.specs.Intake.{IntakeState, IsOpenUnlessStopped};
+    ghost use Rattle.lc_peer.specs.Intake.{IntakeState, IsOpenUnlessStopped};
 
     ghost Value = { IntakeState };
 
@@ -50,28 +50,40 @@ impl Intake {
         self.stop
     }
 
-    /// What it means that the stream ends here.
-    pub(crate) fn end(&self) -> ReadEnd
-        requires { self.now.stop ≡ None }
-        ensures { EndsHere result self.now.held }
+    /// What it means that the stream ends here: why it was given up, `FrameFault::Truncated` inside
+    /// a frame or a greeting, and nothing elsewhere.
+    pub fn end(&self) -> Option<Stop>
+        ensures { IntakeEnds result self.now }
     {
-        match self.decoder.end() {
-            Ok(()) => ReadEnd::Clean,
-            Err(_) => ReadEnd::Truncated,
+        match self.stop {
+            Some(stop) => Some(stop),
+            None => match self.decoder.end() {
+                Ok(()) => None,
+                Err(fault) => Some(Stop::Fault(fault)),
+            },
         }
     }
 
-    /// The frames of what is held and of the piece arrive.
-    pub(crate) fn deliver<C, S: FrameSink<C>>(
+    /// The next bytes of the stream arrive at a sink, as `Peer::deliver` has it. Where the stream was
+    /// given up, none does, and the answer is the same for good.
+    pub fn deliver<C, S: FrameSink<C>>(
         &mut self,
         sink: &mut S,
         context: &C,
         piece: &[u8],
     ) -> Delivery
-        ensures delivers { DeliversTo S.arrived S.violated sink.old self.old.held piece.now sink.new self.new.held result }
+        ensures given_up { IfSome self.old.stop (λ stop. GivesUp stop result × (sink.new ≡ sink.old) × (self.new ≡ self.old)) }
+        ensures delivers { self.old.stop ≡ None → DeliversTo S.arrived S.violated sink.old self.old.held piece.now sink.new self.new.held result }
         ensures stop { self.new.stop ≡ result.stop }
         ensures bytes { All (λ b. b < 256) piece.now }
     {
+        if let Some(stop) = self.stop {
+            return Delivery {
+                taken: 0,
+                frames: 0,
+                stop: Some(stop),
+            };
+        }
         let delivery = deliver_to(sink, context, &mut self.decoder, piece);
         self.stop = delivery.stop;
         delivery

@@ -1,0 +1,23 @@
+-- A piece that was delivered to a side, by what its intake answers.
+use Rattle.std.proofs.Common.{◌≡◌, ℕ, List, Some, None, refl, ap, ◌∙◌}
+use Rattle.std.specs.Prelude.{Option, IfSome}
+use Rattle.lc_peer.specs.declared.delivery.Delivery.{Delivery}
+use Rattle.lc_peer.specs.declared.delivery.Stop.{Stop}
+use Rattle.lc_peer.specs.Peer.{PeerState}
+use Rattle.lc_peer.specs.Sinks.{Arrives, Violates}
+use Rattle.lc_peer.specs.Deliveries.{DeliversTo}
+use Rattle.lc_peer.specs.Intake.{IntakeState, GivesUp}
+use Rattle.lc_peer.proofs.Deliveries.{delivers}
+use Rattle.lc_c.specs.declared.side.Side.{Side}
+use Rattle.lc_c.specs.Streams.{DeliversAt}
+
+pub delivered : (stop : Option Stop) (piece : List ℕ) (old : Side) (p : PeerState) (i : IntakeState) (d : Delivery)
+    → IfSome stop (λ s. GivesUp s d × (p ≡ old.peer) × (i ≡ old.intake))
+    → (stop ≡ None → DeliversTo Arrives Violates old.peer old.intake.held piece p i.held d)
+    → i.stop ≡ d.stop
+    → DeliversAt stop piece old (record old { peer = p; intake = i }) d
+delivered None piece old p i d given_up brings stop = record { delivers = delivers _ _ _ _ _ _ (brings refl); stop = stop; pending = refl }
+delivered (Some s) piece old p i d given_up brings stop = record {
+  delivery = given_up.0;
+  same = ap (λ (x : PeerState). record old { peer = x; intake = i }) given_up.1 ∙ ap (λ (x : IntakeState). record old { intake = x }) given_up.2;
+}

@@ -1,0 +1,22 @@
+-- What the end of a stream means to its intake.
+use Rattle.std.proofs.Common.{◌≡◌, [], Some, inl, inr}
+use Rattle.std.specs.Prelude.{◌⊎◌, Err}
+use Rattle.lc_frame.specs.declared.frame.Frame.{Frame}
+use Rattle.lc_frame.specs.declared.frame_fault.FrameFault.{FrameFault}
+use Rattle.lc_frame.specs.declared.frame_fault.FrameFault.TheVariants.{BadTag, ZeroLength, BadNumber, Truncated}
+use Rattle.lc_frame.specs.Held.{Held, HasFrame, IsUndecided}
+use Rattle.lc_frame.specs.StreamDecoder.{EndsAs}
+use Rattle.lc_peer.specs.declared.delivery.Stop.TheVariants.{Fault}
+use Rattle.lc_peer.specs.Intake.{EndsHere}
+
+-- it ends between two frames, where no frame stands
+pub ends_clean : (held : Held) → (held.bytes ≡ []) ⊎ ((f : Frame) × HasFrame f held) → IsUndecided held → held.bytes ≡ []
+ends_clean held (inl nothing) o = nothing
+ends_clean held (inr frame) o = absurd (o.no_frame frame.0 frame.1)
+
+-- it ends inside a frame or a greeting, where no fault stands
+pub ends_inside : (fault : FrameFault) (held : Held) → EndsAs {T = Unit {0}} (Err fault) held → IsUndecided held → EndsHere (Some (Fault fault)) held
+ends_inside Truncated held part o = part
+ends_inside BadTag held fault o = absurd (o.no_fault BadTag fault)
+ends_inside ZeroLength held fault o = absurd (o.no_fault ZeroLength fault)
+ends_inside BadNumber held fault o = absurd (o.no_fault BadNumber fault)
