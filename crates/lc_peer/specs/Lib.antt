@@ -2,6 +2,7 @@ pub mod Inbox
 pub mod Peer
 pub mod PeerFields
 pub mod Calls
+pub mod Questions
 pub mod Arrivals
 pub mod Config
 pub mod Streams

@@ -9,6 +9,7 @@ mod inbox;
 mod intake;
 pub mod laws;
 mod peer;
+mod questions;
 mod sink;
 
 pub use config::{Config, PeerFault};
@@ -18,4 +19,5 @@ pub use intake::Intake;
 pub use lc_book::{Refusal, Violation};
 pub use lc_ring::NewFault;
 pub use peer::Peer;
+pub use questions::{Needs, Ready};
 pub use sink::FrameSink;

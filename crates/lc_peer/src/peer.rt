@@ -7,7 +7,7 @@
 //! alone (`channel_state.rt`). An `Inbox` is the server's book with the ring: where the book
 //! allows a message, the ring has room for it, since outstanding and buffered bytes fit the
 //! capacity. It is what a thread that receives will hold by itself.
-ghost use Rattle.std.specs.Prelude.{◌≡◌, ◌≤◌, ◌<◌, ◌↔◌, ◌++◌, [], ◌∷◌, length, if◌then◌else◌, is_ok, nat_lt, IfOk, IfErr, IsSome, IfSome, slice_get, Some, None};
+ghost use Rattle.std.specs.Prelude.{◌≡◌, ◌≤◌, ◌<◌, ◌↔◌, ◌-◌, ◌++◌, [], ◌∷◌, length, if◌then◌else◌, is_ok, nat_lt, IfOk, OnOk, IfErr, IsSome, IfSome, slice_get, Some, None};
 ghost use Rattle.circular_buffer.specs.Buffer.{buffer};
 ghost use Rattle.lc_book.specs.declared.fault.Refusal.TheVariants.{QueueFull};
 ghost use Rattle.std.specs.Option.{option_map};
@@ -17,7 +17,7 @@ ghost use Rattle.lc_frame.specs.declared.frame.Frame.TheVariants.{Send, Issue, A
 ghost use Rattle.lc_frame.specs.FrameRef.{frame_of};
 ghost use Rattle.lc_frame.specs.declared.version.Version.TheVariants.{Two};
 ghost use Rattle.lc_frame.specs.Frame.{channel_of, IsValid};
-ghost use Rattle.lc_book.specs.Client.{IsClient};
+ghost use Rattle.lc_book.specs.Client.{IsClient, spend_refusal, spend};
 ghost use Rattle.lc_book.specs.Sums.{client_after_put, server_after_put};
 ghost use Rattle.lc_ring.specs.Ring.{front, with_front};
 ghost use Rattle.lc_peer.specs.Inbox.{IsInbox, IsTake, take_answer, take_refusal, NamesLength};
@@ -68,15 +68,37 @@ impl Model for Peer {
     ghost invariant = { λ peer. ArePeerFields peer.version peer.channels peer.waiting };
 }
 
+// Whether one frame more may wait.
+#[inline]
+fn judge_slot(waiting: &HeapCircularBuffer<Frame>) -> Result<(), Refusal>
+    ensures { result_err result ≡ (if nat_lt (length waiting.now.items) waiting.now.capacity then None else Some QueueFull) }
+{
+    if waiting.len() < waiting.capacity() {
+        Ok(())
+    } else {
+        Err(Refusal::QueueFull)
+    }
+}
+
 // Puts a frame last, where it may wait.
 fn enqueue(waiting: &mut HeapCircularBuffer<Frame>, frame: Frame) -> Result<(), Refusal>
     ensures answer { result_err result ≡ (if nat_lt (length waiting.old.items) waiting.old.capacity then None else Some QueueFull) }
     ensures after { waiting.new ≡ (if is_ok result then buffer (waiting.old.items ++ frame ∷ []) waiting.old.capacity else waiting.old) }
 {
+    judge_slot(waiting)?;
     match waiting.try_push_back(frame) {
         Ok(()) => Ok(()),
-        Err(_) => Err(Refusal::QueueFull),
+        Err(_) => unreachable!(),
     }
+}
+
+// Judges the length of a message.
+pub(crate) fn spend(book: &mut ClientBook, len: usize) -> Result<(), Refusal>
+    ensures answer { result_err result ≡ spend_refusal book.old len }
+    ensures after { OnOk result (book.new ≡ spend book.old len) }
+{
+    // A length of more than 32 bits is too long as well.
+    book.spend(u32::try_from(len).unwrap_or(u32::MAX))
 }
 
 impl Peer {
@@ -118,9 +140,7 @@ impl Peer {
         ensures after { self.new ≡ (if is_ok result then put self.old (Send channel body.now) else self.old) }
     {
         let mut book = self.client(channel);
-        // A length of more than 32 bits is too long as well.
-        let len = u32::try_from(body.len()).unwrap_or(u32::MAX);
-        book.spend(len)?;
+        spend(&mut book, body.len())?;
         let Ok(bytes) = Vec::from_slice(self.alloc, body) else {
             return Err(Refusal::OutOfMemory);
         };
@@ -299,6 +319,22 @@ impl Peer {
         ensures valid { IfSome result (IsValid self.old.version) }
     {
         self.waiting.pop_front()
+    }
+
+    /// 13 where no frame more may wait, as each own call would have it.
+    #[inline]
+    pub(crate) fn judge_slot(&self) -> Result<(), Refusal>
+        ensures { result_err result ≡ queue_refusal self.now }
+    {
+        judge_slot(&self.waiting)
+    }
+
+    /// How many frames more may wait.
+    #[inline]
+    pub fn slots_left(&self) -> usize
+        ensures { result ≡ self.now.slots - length self.now.waiting }
+    {
+        self.waiting.capacity() - self.waiting.len()
     }
 
     /// How many frames wait.

@@ -1,0 +1,167 @@
+//! What a peer would answer: questions that change nothing, judged as the calls judge.
+ghost use Rattle.std.specs.Prelude.{◌≡◌, ◌-◌, if◌then◌else◌, map, IfOk};
+ghost use Rattle.std.specs.Result.{result_err};
+ghost use Rattle.lc_frame.specs.declared.frame.Frame.TheVariants.{Issue, Absolve, Plead, LimitSending, LimitReceiving, Finish};
+ghost use Rattle.lc_book.specs.Limit.{is_past};
+ghost use Rattle.lc_peer.specs.Calls.{refusal, due, honour_refusal};
+ghost use Rattle.lc_peer.specs.Questions.{send_refusal, needs, needs_more, ready_on};
+
+use crate::peer::{Peer, spend};
+use lc_book::Refusal;
+use lc_frame::{CHANNELS, Channel};
+
+/// What a message needs before it can be sent.
+#[derive(Clone, Copy, Debug, PartialEq, Eq)]
+pub enum Needs {
+    /// Nothing more: a send of it may want memory, and is not refused else.
+    Nothing,
+    /// So many guarantees more.
+    Guarantees(u64),
+    /// A place among the frames that wait to go out.
+    Slot,
+    /// What never comes: it is empty, longer than the version or what is left of a limit allows, or
+    /// the channel is finished.
+    Never,
+}
+
+/// What there is to do on a channel.
+#[derive(Clone, Copy, Debug, PartialEq, Eq)]
+pub struct Ready {
+    /// A message waits to be taken.
+    pub message: bool,
+    /// No message waits, and none will come.
+    pub ended: bool,
+    /// A plead is kept, to be honoured or not.
+    pub plead: bool,
+    /// This side finished the channel.
+    pub finished: bool,
+    /// The other side finished the channel.
+    pub finished_there: bool,
+}
+
+// What it needs that so many guarantees are missing for, of which so many may still be issued.
+fn needs_more(receive_left: Option<u64>, missing: u64) -> Needs
+    ensures { result ≡ needs_more receive_left missing }
+{
+    match receive_left {
+        Some(left) if left < missing => Needs::Never,
+        _ => Needs::Guarantees(missing),
+    }
+}
+
+impl Peer {
+    /// The refusal that a send of so many bytes would answer, but for want of memory.
+    pub fn would_send(&self, channel: Channel, len: usize) -> Result<(), Refusal>
+        ensures { result_err result ≡ send_refusal self.now channel len }
+    {
+        let mut book = self.client(channel);
+        spend(&mut book, len)?;
+        self.judge_slot()
+    }
+
+    /// The refusal that `absolve` would answer.
+    pub fn would_absolve(&self, channel: Channel, n: u32) -> Result<(), Refusal>
+        ensures { result_err result ≡ refusal self.now (Absolve channel n) }
+    {
+        let mut book = self.client(channel);
+        book.absolve(n)?;
+        self.judge_slot()
+    }
+
+    /// What `honour` would answer.
+    pub fn would_honour(&self, channel: Channel) -> Result<Option<u32>, Refusal>
+        ensures answer { result_err result ≡ honour_refusal self.now channel }
+        ensures amount { IfOk result (λ amount. amount ≡ due self.now channel) }
+    {
+        let mut book = self.client(channel);
+        let due = book.honour()?;
+        if due.is_some() {
+            self.judge_slot()?;
+        }
+        Ok(due)
+    }
+
+    /// The refusal that `limit_sending` would answer.
+    pub fn would_limit_sending(&self, channel: Channel, bound: u64) -> Result<(), Refusal>
+        ensures { result_err result ≡ refusal self.now (LimitSending channel bound) }
+    {
+        let mut book = self.client(channel);
+        book.limit_sending(bound)?;
+        self.judge_slot()
+    }
+
+    /// The refusal that `finish` would answer.
+    pub fn would_finish(&self, channel: Channel) -> Result<(), Refusal>
+        ensures { result_err result ≡ refusal self.now (Finish channel) }
+    {
+        let mut book = self.client(channel);
+        book.finish()?;
+        self.judge_slot()
+    }
+
+    /// The refusal that `issue` would answer.
+    pub fn would_issue(&self, channel: Channel, n: u32) -> Result<(), Refusal>
+        ensures { result_err result ≡ refusal self.now (Issue channel n) }
+    {
+        let mut book = self.server(channel);
+        book.issue(n)?;
+        self.judge_slot()
+    }
+
+    /// The refusal that `plead` would answer.
+    pub fn would_plead(&self, channel: Channel, target: u32) -> Result<(), Refusal>
+        ensures { result_err result ≡ refusal self.now (Plead channel target) }
+    {
+        let book = self.server(channel);
+        book.plead(target)?;
+        self.judge_slot()
+    }
+
+    /// The refusal that `limit_receiving` would answer.
+    pub fn would_limit_receiving(&self, channel: Channel, bound: u64) -> Result<(), Refusal>
+        ensures { result_err result ≡ refusal self.now (LimitReceiving channel bound) }
+    {
+        let mut book = self.server(channel);
+        book.limit_receiving(bound)?;
+        self.judge_slot()
+    }
+
+    /// What a message of so many bytes needs before it can be sent. Of the other side's ring a client
+    /// knows nothing: a message that is longer than that needs guarantees for good.
+    pub fn needs(&self, channel: Channel, len: usize) -> Needs
+        ensures { result ≡ needs self.now channel len }
+    {
+        match self.would_send(channel, len) {
+            Ok(()) => Needs::Nothing,
+            Err(Refusal::QueueFull) => Needs::Slot,
+            Err(Refusal::NoGuarantee { held }) => {
+                let left = self.client(channel).receive_left();
+                needs_more(left, (len as u64).saturating_sub(held))
+            }
+            Err(_) => Needs::Never,
+        }
+    }
+
+    /// What there is to do on a channel.
+    pub fn ready_on(&self, channel: Channel) -> Ready
+        ensures { result ≡ ready_on self.now channel }
+    {
+        let client = self.client(channel);
+        let server = self.server(channel);
+        let message = self.front(channel).is_some();
+        Ready {
+            message,
+            ended: !message && server.is_ended(),
+            plead: client.asked().is_some(),
+            finished: client.is_finished(),
+            finished_there: server.is_finished(),
+        }
+    }
+
+    /// What there is to do on each channel, by their numbers.
+    pub fn ready(&self) -> [Ready; CHANNELS]
+        ensures { result ≡ map (ready_on self.now) Channel.ALL }
+    {
+        Channel::ALL.map(|channel| self.ready_on(channel))
+    }
+}
