@@ -1,11 +1,9 @@
 //! Two peers on one thread: a message there, and its guarantees back.
-ghost use Rattle.std.specs.Prelude.{◌≡◌};
-
 use crate::figures::{Figure, Turns};
 use crate::plan::Plan;
-use lc_driver::{Counted, Intake, Outgo, ReadEnd, read_in, write_out};
-use lc_frame::{Channel, Version};
-use lc_peer::{Config, Peer, Take};
+use lc_driver::{Counted, Link, ReadEnd};
+use lc_frame::{CHANNELS, Channel, Version};
+use lc_peer::{Config, Take};
 use std::alloc::Global;
 use std::io;
 
@@ -23,62 +21,34 @@ const MESSAGES: [(&str, u32); 3] = [("peer.16", 16), ("peer.1k", 1_024), ("peer.
 
 const CHANNEL: Channel = Channel::DataChannel;
 
-// A peer, and what it holds for both streams.
-struct Side {
-    peer: Peer,
-    outgo: Outgo,
-    intake: Intake,
-    // What goes out is written in the peer's version.
-    ghost one_version: { outgo.version ≡ peer.version },
-}
-
-// One call, wherever a side is dropped.
-impl Drop for Side {
-    fn drop(self) {
-        let Side {
-            peer: _,
-            outgo: _,
-            intake: _,
-        } = self;
-    }
-}
-
-impl Side {
-    fn new(alloc: Global) -> io::Result<Side> {
-        let outgo = Outgo::new(alloc, Version::One)?;
-        let intake = Intake::new(alloc)?;
-        let config = Config {
-            version: Version::One,
-            capacities: [CAPACITY; 7],
-            slots: SLOTS,
-        };
-        let Ok(peer) = Peer::new(alloc, config) else {
-            return Err(io::Error::other("no peer was made"));
-        };
-        Ok(Side {
-            peer,
-            outgo,
-            intake,
-        })
+fn new_link(alloc: Global) -> io::Result<Link> {
+    let config = Config {
+        version: Version::One,
+        capacities: [CAPACITY; CHANNELS],
+        slots: SLOTS,
+    };
+    match Link::new(alloc, config) {
+        Ok(link) => Ok(link),
+        Err(_) => Err(io::Error::other("no peer was made")),
     }
 }
 
 // Writes all that waits at one side, and reads it in at the other. Whether both went well.
-fn carry(from: &mut Side, to: &mut Side, wire: &mut Vec<u8>) -> bool {
+fn carry(from: &mut Link, to: &mut Link, wire: &mut Vec<u8>) -> bool {
     wire.clear();
     let mut writer = Counted::new(&mut *wire);
-    if let Err(_) = write_out(&mut from.peer, &mut from.outgo, &mut writer) {
+    if let Err(_) = from.write_out(&mut writer) {
         return false;
     }
     let mut reader = Counted::new(wire.as_slice());
-    read_in(&mut to.peer, &mut reader, &mut to.intake, u64::MAX) == ReadEnd::Clean
+    to.read_in(&mut reader, u64::MAX) == ReadEnd::Clean
 }
 
 // Two sides, a message from the first to the second, and a buffer of the same length.
 #[derive(Drop)]
 struct Exchange {
-    client: Side,
-    server: Side,
+    client: Link,
+    server: Link,
     wire: Vec<u8>,
     body: Vec<u8>,
     buffer: Vec<u8>,
@@ -93,8 +63,8 @@ impl Exchange {
             wire: Vec::with_capacity(alloc, WIRE)?,
             body: vec![in alloc; 0x5a_u8; len]?,
             buffer: vec![in alloc; 0u8; len]?,
-            client: Side::new(alloc)?,
-            server: Side::new(alloc)?,
+            client: new_link(alloc)?,
+            server: new_link(alloc)?,
             amount,
         };
         if exchange.promise() {

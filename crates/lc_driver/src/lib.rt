@@ -22,6 +22,7 @@
 mod counted;
 mod counts;
 mod device;
+mod link;
 mod outgo;
 mod reading;
 mod uninterrupted;
@@ -31,6 +32,7 @@ pub use counted::{Counted, CountedRead, CountedWrite, Failures};
 pub use counts::Counts;
 pub use device::{ReadDevice, WriteDevice};
 pub use lc_peer::Intake;
+pub use link::Link;
 pub use outgo::Outgo;
 pub use reading::{ReadEnd, read_in, read_into};
 pub use uninterrupted::Uninterrupted;
