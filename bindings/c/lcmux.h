@@ -87,6 +87,9 @@ enum {
     LCMUX_EMPTY = 48,             /* no message waits */
     LCMUX_ENDED = 49,             /* no message waits, and none will come: the other side's limit on sending is used up, or it finished */
 
+    /* Questions. */
+    LCMUX_NEVER = 50,             /* lcmux_peer_needs of a message that can never be sent */
+
     /* Violations: a frame that arrived breaks the rules. The session is over. */
     LCMUX_V1_NOT_GUARANTEED = 101,
     LCMUX_V2_SENT_PAST_LIMIT = 102,
@@ -159,6 +162,19 @@ typedef struct lcmux_server {
     uint64_t finished;     /* 1 where the other side's Finish arrived, else 0 */
 } lcmux_server;
 
+/* What there is to do on a channel: 1 where it is so, else 0. */
+typedef struct lcmux_channel_ready {
+    uint64_t message;        /* a message waits to be taken */
+    uint64_t ended;          /* none waits, and none will come */
+    uint64_t plead;          /* a plead is kept, to be honoured or not */
+    uint64_t finished;       /* this side finished the channel */
+    uint64_t finished_there; /* the other side finished the channel */
+} lcmux_channel_ready;
+
+typedef struct lcmux_ready {
+    lcmux_channel_ready channels[7];
+} lcmux_ready;
+
 /* Makes a peer behind an empty handle. LCMUX_HAS_PEER, LCMUX_BAD_VERSION, LCMUX_BAD_CAPACITY,
  * LCMUX_BAD_SLOTS and LCMUX_OUT_OF_MEMORY, in this order; the handle is then as it was. It asks for 18
  * blocks: the rings, the list of frames, two buffers of 1,048,581 bytes of addresses, for a frame that
@@ -198,6 +214,30 @@ lcmux_answer lcmux_peer_limit_receiving(lcmux_peer *peer, uint32_t channel, uint
  * learns that the channel has ended. For version 2. Codes 17, 15 and 13. */
 lcmux_answer lcmux_peer_finish(lcmux_peer *peer, uint32_t channel) LCMUX_NONNULL;
 
+/* What the call of that name would answer now, judged by the same rules; nothing changes. A send is
+ * asked by its length, so a body need not be made before it may go, and code 14 is left out. */
+lcmux_answer lcmux_peer_would_send(lcmux_peer *peer, uint32_t channel, size_t len) LCMUX_NONNULL;
+lcmux_answer lcmux_peer_would_issue(lcmux_peer *peer, uint32_t channel, uint32_t amount) LCMUX_NONNULL;
+lcmux_answer lcmux_peer_would_absolve(lcmux_peer *peer, uint32_t channel, uint32_t amount) LCMUX_NONNULL;
+lcmux_answer lcmux_peer_would_plead(lcmux_peer *peer, uint32_t channel, uint32_t target) LCMUX_NONNULL;
+lcmux_answer lcmux_peer_would_honour(lcmux_peer *peer, uint32_t channel) LCMUX_NONNULL;
+lcmux_answer lcmux_peer_would_limit_sending(lcmux_peer *peer, uint32_t channel, uint64_t bound) LCMUX_NONNULL;
+lcmux_answer lcmux_peer_would_limit_receiving(lcmux_peer *peer, uint32_t channel, uint64_t bound) LCMUX_NONNULL;
+lcmux_answer lcmux_peer_would_finish(lcmux_peer *peer, uint32_t channel) LCMUX_NONNULL;
+
+/* What a message of so many bytes needs before it can be sent: LCMUX_OK, nothing; LCMUX_NO_GUARANTEE,
+ * whose number is here how many guarantees are missing; LCMUX_QUEUE_FULL, a write; LCMUX_NEVER, what
+ * never comes: it is empty, longer than the version or what is left of a limit of either side allows,
+ * or the channel is finished. A client knows nothing of the other side's ring: a message longer than
+ * that is told to need guarantees for good. */
+lcmux_answer lcmux_peer_needs(lcmux_peer *peer, uint32_t channel, size_t len) LCMUX_NONNULL;
+
+/* The number is how many frames more may wait to go out. */
+lcmux_answer lcmux_peer_slots_left(lcmux_peer *peer) LCMUX_NONNULL;
+
+/* What there is to do on all channels. With another code than LCMUX_OK the struct is as it was. */
+lcmux_answer lcmux_peer_ready(lcmux_peer *peer, lcmux_ready *ready) LCMUX_NONNULL;
+
 /* The next bytes of the stream that comes, of either version, cut anywhere; len may be 0. Whole frames
  * arrive, and part of one is kept inside. After a violation or a fault the stream is given up: the
  * frames before it have arrived, each further call takes nothing and answers the same code, and the
@@ -216,6 +256,9 @@ lcmux_answer lcmux_peer_write(lcmux_peer *peer, uint8_t *buffer, size_t len) LCM
 
 /* The number is how many bytes lcmux_peer_write would give now. It looks at each frame that waits. */
 lcmux_answer lcmux_peer_pending(lcmux_peer *peer) LCMUX_NONNULL;
+
+/* The number is 1 where lcmux_peer_write would give any byte, else 0. */
+lcmux_answer lcmux_peer_wants_write(lcmux_peer *peer) LCMUX_NONNULL;
 
 /* The number is the length of the first message, which stays. LCMUX_EMPTY, LCMUX_ENDED. */
 lcmux_answer lcmux_peer_front_len(lcmux_peer *peer, uint32_t channel) LCMUX_NONNULL;

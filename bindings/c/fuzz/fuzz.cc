@@ -20,7 +20,7 @@ constexpr uint64_t extremes[] = {
     1 << 24, (1 << 24) + 1, UINT32_MAX, (UINT64_C(1) << 62) - 1, UINT64_C(1) << 62, (UINT64_C(1) << 62) + 1, UINT64_MAX,
 };
 constexpr uint32_t codes[] = {
-    0, 1, 2, 3, 4, 5, 6, 7, 8, 9, 10, 11, 12, 13, 14, 15, 16, 17, 32, 33, 34, 35, 36, 37, 38, 48, 49,
+    0, 1, 2, 3, 4, 5, 6, 7, 8, 9, 10, 11, 12, 13, 14, 15, 16, 17, 32, 33, 34, 35, 36, 37, 38, 48, 49, 50,
     101, 102, 103, 104, 105, 106, 107, 108, 109, 201, 202, 203, 204,
 };
 constexpr size_t longest = (1 << 20) + 1, blocks_of_a_peer = 18, many = 300;
@@ -217,10 +217,24 @@ private:
         same("the blocks of memory", heap.live, blocks);
         answers(lcmux_peer_pending(&side.peer), {code, code ? 0 : side.model->pending()});
         answers(lcmux_peer_end(&side.peer), {code ? code : side.model->end(), 0});
+        answers(lcmux_peer_slots_left(&side.peer), {code, code ? 0 : side.model->slots - side.model->waiting()});
+        answers(lcmux_peer_wants_write(&side.peer), {code, !code && side.model->pending() > 0});
+        ready(me);
         for (uint32_t c = 0; c < model::channels; c++) {
             answers(lcmux_peer_front_len(&side.peer, c), code ? lcmux_answer{code, 0} : side.model->channels[c].front_len());
             books(me, c);
         }
+    }
+
+    void ready(size_t me) {
+        constexpr const char *names[] = {"a message", "an end", "a plead", "a Finish of this side", "a Finish of the other side"};
+        uint32_t code = barred(me, 0);
+        lcmux_ready ready;
+        for (lcmux_channel_ready &on : ready.channels)
+            on = {1, 2, 3, 4, 5};
+        answers(lcmux_peer_ready(&sides[me].peer, &ready), {code, 0});
+        for (uint32_t c = 0; c < model::channels; c++)
+            same_fields(ready.channels[c], code ? lcmux_channel_ready{1, 2, 3, 4, 5} : sides[me].model->channels[c].ready(), names);
     }
 
     void books(size_t me, uint32_t channel) {
@@ -239,12 +253,12 @@ private:
         same_fields(server, want_server, of_server);
     }
 
-    template <class Book> void same_fields(const Book &got, const Book &want, const char *const (&names)[9]) {
-        uint64_t fields[2][9];
+    template <class Fields, size_t N> void same_fields(const Fields &got, const Fields &want, const char *const (&names)[N]) {
+        uint64_t fields[2][N];
         static_assert(sizeof got == sizeof *fields);
         memcpy(fields[0], &got, sizeof got);
         memcpy(fields[1], &want, sizeof want);
-        for (size_t k = 0; k < 9; k++)
+        for (size_t k = 0; k < N; k++)
             same(names[k], fields[0][k], fields[1][k]);
     }
 
@@ -326,10 +340,34 @@ private:
         lcmux_answer want = {barred(me, frame.channel), 0};
         if (frame.kind == model::Send)
             frame.body.assign(body, body + frame.number);
+        ask(frame, me);
         if (want.code == LCMUX_OK)
             want = side.model->own(frame, !refused);
         bool asks = want.code == LCMUX_OK || want.code == LCMUX_OUT_OF_MEMORY || want.code == LCMUX_QUEUE_FULL;
         answers(call(frame, me, body, refused), want, frame.kind == model::Send && asks);
+    }
+
+    /* What the call would answer, and what a message needs. */
+    void ask(const Frame &frame, size_t me) {
+        uint32_t code = barred(me, frame.channel);
+        note("would", me, frame.channel, frame.number);
+        answers(would(frame, &sides[me].peer), code ? lcmux_answer{code, 0} : sides[me].model->would(frame));
+        if (frame.kind == model::Send)
+            answers(lcmux_peer_needs(&sides[me].peer, frame.channel, frame.number), code ? lcmux_answer{code, 0} : sides[me].model->needs(frame));
+    }
+
+    lcmux_answer would(const Frame &frame, lcmux_peer *peer) {
+        uint32_t c = frame.channel, amount = uint32_t(frame.number);
+        switch (frame.kind) {
+        case model::Send: return lcmux_peer_would_send(peer, c, frame.number);
+        case model::Issue: return lcmux_peer_would_issue(peer, c, amount);
+        case model::Absolve: return lcmux_peer_would_absolve(peer, c, amount);
+        case model::Plead: return lcmux_peer_would_plead(peer, c, amount);
+        case model::LimitSending: return lcmux_peer_would_limit_sending(peer, c, frame.number);
+        case model::LimitReceiving: return lcmux_peer_would_limit_receiving(peer, c, frame.number);
+        case model::Finish: return lcmux_peer_would_finish(peer, c);
+        }
+        return {};
     }
 
     lcmux_answer call(const Frame &frame, size_t me, const uint8_t *body, bool refused) {
@@ -352,9 +390,10 @@ private:
 
     void honour(size_t me, uint32_t channel) {
         lcmux_answer want = {barred(me, channel), 0};
+        note("honour", me, channel, 0);
+        answers(lcmux_peer_would_honour(&sides[me].peer, channel), want.code ? want : sides[me].model->would_honour(channel));
         if (want.code == LCMUX_OK)
             want = sides[me].model->honour(channel);
-        note("honour", me, channel, 0);
         answers(lcmux_peer_honour(&sides[me].peer, channel), want);
     }
 

@@ -153,3 +153,33 @@ WRAPPED(lcmux_answer, lcmux_peer_take, lcmux_peer *peer, uint32_t channel, uint8
         __real_lcmux_peer_take(peer, channel, room, sizeof room);
     return answer;
 }
+
+WRAPPED(lcmux_answer, lcmux_peer_would_send, lcmux_peer *peer, uint32_t channel, size_t len) {
+    lcmux_answer answer = __real_lcmux_peer_would_send(peer, channel, len);
+    if (lie("a limit is not asked") && answer.code == LCMUX_PAST_SEND_LIMIT)
+        answer = (lcmux_answer){LCMUX_OK, 0};
+    if (lie("a slot is not asked for") && answer.code == LCMUX_QUEUE_FULL)
+        answer.code = LCMUX_OK;
+    return answer;
+}
+
+WRAPPED(lcmux_answer, lcmux_peer_needs, lcmux_peer *peer, uint32_t channel, size_t len) {
+    lcmux_answer answer = __real_lcmux_peer_needs(peer, channel, len);
+    if (lie("nothing is needed without a slot") && answer.code == LCMUX_QUEUE_FULL)
+        answer.code = LCMUX_OK;
+    return answer;
+}
+
+WRAPPED(lcmux_answer, lcmux_peer_wants_write, lcmux_peer *peer) {
+    lcmux_answer answer = __real_lcmux_peer_wants_write(peer);
+    if (lie("a greeting waits for a frame") && known(peer)->version == 2 && lcmux_peer_pending(peer).number == 4)
+        answer.number = 0;
+    return answer;
+}
+
+WRAPPED(lcmux_answer, lcmux_peer_ready, lcmux_peer *peer, lcmux_ready *ready) {
+    lcmux_answer answer = __real_lcmux_peer_ready(peer, ready);
+    if (lie("a neighbour is ready") && answer.code == LCMUX_OK)
+        ready->channels[2] = ready->channels[1];
+    return answer;
+}

@@ -173,6 +173,12 @@ struct Channel {
         return messages;
     }
 
+    lcmux_channel_ready ready() const {
+        uint32_t front = front_len().code;
+        lcmux_client client = this->client();
+        return {front == LCMUX_OK, front == LCMUX_ENDED, client.asked != LCMUX_NONE, client.finished, server().finished};
+    }
+
     lcmux_answer front_len() const {
         auto messages = waiting();
         if (!messages.empty())
@@ -313,6 +319,27 @@ struct Peer {
         if (frame.kind == Finish)
             channel.asked = LCMUX_NONE;
         channel.put.push_back(frame);
+    }
+
+    /* What an own call would answer, but for want of memory. */
+    lcmux_answer would(const Frame &frame) const {
+        lcmux_answer judged = refusal(channels[frame.channel], frame, version);
+        return judged.code == LCMUX_OK && is_full() ? lcmux_answer{LCMUX_QUEUE_FULL, 0} : judged;
+    }
+
+    /* What a message needs before it can be sent: what the other side may not issue never comes. */
+    lcmux_answer needs(const Frame &message) const {
+        lcmux_answer judged = would(message);
+        uint64_t missing = message.number - judged.number;
+        if (judged.code == LCMUX_NO_GUARANTEE && missing <= channels[message.channel].client().receive_left)
+            return {LCMUX_NO_GUARANTEE, missing};
+        if (judged.code != LCMUX_OK && judged.code != LCMUX_QUEUE_FULL)
+            return {LCMUX_NEVER, 0};
+        return judged;
+    }
+
+    lcmux_answer would_honour(uint32_t at) const {
+        return Peer(*this).honour(at);
     }
 
     /* An own call. Only a send that its book allows asks for memory, before it looks for a place. */

@@ -115,6 +115,7 @@ static const struct {
     {LCMUX_NO_CODE, "there is no such code"},
     {LCMUX_EMPTY, "no message waits"},
     {LCMUX_ENDED, "no message waits, and none will come"},
+    {LCMUX_NEVER, "the message can never be sent"},
     {LCMUX_V1_NOT_GUARANTEED, "a message longer than the guarantees outstanding"},
     {LCMUX_V2_SENT_PAST_LIMIT, "a message beyond the limit on sending"},
     {LCMUX_V3_ABSOLVED_TOO_MUCH, "more guarantees absolved than are outstanding"},

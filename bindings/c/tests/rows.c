@@ -107,10 +107,71 @@ static void say_server(lcmux_peer *peer, uint32_t channel) {
     say_waived(at, s.finished, s.waived);
 }
 
+static void say_honoured(lcmux_answer answer) {
+    say_code(answer.code, answer.number);
+    if (answer.code == LCMUX_OK && answer.number)
+        snprintf(said, sizeof said, "absolved %" PRIu64, answer.number);
+    else if (answer.code == LCMUX_OK)
+        strcpy(said, "nothing to absolve");
+}
+
+static void say_needs(lcmux_answer answer) {
+    say_code(answer.code, answer.number);
+    if (answer.code == LCMUX_OK)
+        strcpy(said, "nothing");
+    else if (answer.code == LCMUX_NO_GUARANTEE)
+        snprintf(said, sizeof said, "%" PRIu64 " more", answer.number);
+    else if (answer.code == LCMUX_QUEUE_FULL || answer.code == LCMUX_NEVER)
+        strcpy(said, answer.code == LCMUX_NEVER ? "never" : "a slot");
+}
+
+/* The channels on which there is something to do, and what. */
+static void say_ready(lcmux_peer *peer) {
+    lcmux_ready ready;
+    lcmux_answer got = lcmux_peer_ready(peer, &ready);
+    size_t at = 0;
+    say_code(got.code, got.number);
+    if (got.code != LCMUX_OK)
+        return;
+    strcpy(said, "nothing");
+    for (int c = 0; c < 7; c++) {
+        const lcmux_channel_ready *on = &ready.channels[c];
+        const uint64_t is[] = {on->message, on->ended, on->plead, on->finished, on->finished_there};
+        static const char *const words[] = {"message", "ended", "plead", "finished", "finished-there"};
+        for (int k = 0; k < 5; k++)
+            if (is[k])
+                at += (size_t)snprintf(said + at, sizeof said - at, "%s%d %s", at ? ", " : "", c, words[k]);
+    }
+}
+
+/* A question with a plain answer: the word behind "would-". */
+static bool question(lcmux_peer *peer, const char *word, uint32_t channel, const char *arg, lcmux_answer *answer) {
+    uint64_t number = strtoull(arg, NULL, 10);
+    if (!strcmp(word, "send"))
+        *answer = lcmux_peer_would_send(peer, channel, number);
+    else if (!strcmp(word, "issue"))
+        *answer = lcmux_peer_would_issue(peer, channel, (uint32_t)number);
+    else if (!strcmp(word, "absolve"))
+        *answer = lcmux_peer_would_absolve(peer, channel, (uint32_t)number);
+    else if (!strcmp(word, "plead"))
+        *answer = lcmux_peer_would_plead(peer, channel, (uint32_t)number);
+    else if (!strcmp(word, "limit-sending"))
+        *answer = lcmux_peer_would_limit_sending(peer, channel, number);
+    else if (!strcmp(word, "limit-receiving"))
+        *answer = lcmux_peer_would_limit_receiving(peer, channel, number);
+    else if (!strcmp(word, "finish"))
+        *answer = lcmux_peer_would_finish(peer, channel);
+    else
+        return false;
+    return true;
+}
+
 /* One line without its answer. Answers whether it is an own call with a plain answer. */
 static bool own_call(lcmux_peer *peer, const char *word, uint32_t channel, const char *arg, lcmux_answer *answer) {
     static uint8_t body[1 << 21];
     uint64_t number = strtoull(arg, NULL, 10);
+    if (!strncmp(word, "would-", 6))
+        return question(peer, word + 6, channel, arg, answer);
     if (!strcmp(word, "send"))
         *answer = lcmux_peer_send(peer, channel, body, unhex(arg, body));
     else if (!strcmp(word, "send-zeros"))
@@ -152,15 +213,19 @@ static bool other_call(struct side *me, struct side *other, const char *word, co
     } else if (!strcmp(word, "write")) {
         answer = lcmux_peer_write(&me->peer, bytes, channel);
         say_hex("", bytes, answer.number);
-    } else if (!strcmp(word, "honour")) {
-        answer = lcmux_peer_honour(&me->peer, channel);
-        say_code(answer.code, answer.number);
-        if (answer.code == LCMUX_OK && answer.number)
-            snprintf(said, sizeof said, "absolved %" PRIu64, answer.number);
-        else if (answer.code == LCMUX_OK)
-            strcpy(said, "nothing to absolve");
-    } else if (!strcmp(word, "front") || !strcmp(word, "pending")) {
-        answer = *word == 'f' ? lcmux_peer_front_len(&me->peer, channel) : lcmux_peer_pending(&me->peer);
+    } else if (!strcmp(word, "honour"))
+        say_honoured(lcmux_peer_honour(&me->peer, channel));
+    else if (!strcmp(word, "would-honour"))
+        say_honoured(lcmux_peer_would_honour(&me->peer, channel));
+    else if (!strcmp(word, "needs"))
+        say_needs(lcmux_peer_needs(&me->peer, channel, strtoull(second, NULL, 10)));
+    else if (!strcmp(word, "ready"))
+        say_ready(&me->peer);
+    else if (!strcmp(word, "front") || !strcmp(word, "pending") || !strcmp(word, "slots-left") || !strcmp(word, "wants-write")) {
+        answer = *word == 'f'   ? lcmux_peer_front_len(&me->peer, channel)
+                 : *word == 'p' ? lcmux_peer_pending(&me->peer)
+                 : *word == 's' ? lcmux_peer_slots_left(&me->peer)
+                                : lcmux_peer_wants_write(&me->peer);
         say_code(answer.code, answer.number);
         if (answer.code == LCMUX_OK)
             snprintf(said, sizeof said, "%" PRIu64, answer.number);

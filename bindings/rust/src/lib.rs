@@ -52,11 +52,13 @@
 mod channel;
 mod error;
 mod peer;
+mod questions;
 mod sys;
 
 pub use channel::Channel;
 pub use error::{Fault, Overrun, PeerFault, ReadError, Refusal, Stop, Violation};
 pub use peer::{ClientBook, Config, Delivery, Incoming, Peer, Progress, ServerBook, Take, Version};
+pub use questions::{Needs, Ready};
 
 /// The version of the library that is linked: 65,536 times its first number, 256 times its second, and
 /// its third. [`Peer::new`] refuses a library of another version than this crate's.

@@ -221,13 +221,13 @@ fn some_unless_none(number: u64) -> Option<u64> {
 /// # Ok::<(), Box<dyn std::error::Error>>(())
 /// ```
 pub struct Peer {
-    handle: Handle,
+    pub(crate) handle: Handle,
     // Why the stream that comes was given up: kept on this side, so that no call asks for it.
     stop: Option<Stop>,
     // What was written out and no writer took yet: the bytes from start to end.
     unsent: Vec<u8>,
-    start: usize,
-    end: usize,
+    pub(crate) start: usize,
+    pub(crate) end: usize,
     // What reads go into.
     piece: Vec<u8>,
 }
@@ -296,9 +296,7 @@ impl Peer {
     /// plead.
     #[inline]
     pub fn honour(&mut self, channel: Channel) -> Result<Option<u32>, Refusal> {
-        let answer = self.handle.honour(channel.number().into());
-        done(answer)?;
-        Ok((answer.number > 0).then_some(answer.number as u32))
+        honoured(self.handle.honour(channel.number().into()))
     }
 
     /// At most `bound` bytes are sent from here on; 0 ends the channel. Refused by 15, 7, 8 and 13, in
@@ -711,11 +709,17 @@ fn delivered(handle: &mut Handle, kept: &mut Option<Stop>, piece: &[u8]) -> Deli
 }
 
 #[inline]
-fn done(answer: Answer) -> Result<(), Refusal> {
+pub(crate) fn done(answer: Answer) -> Result<(), Refusal> {
     match answer {
         Answer { code: 0, .. } => Ok(()),
         Answer { code, number } => Err(Refusal::of(code, number)),
     }
+}
+
+#[inline]
+pub(crate) fn honoured(answer: Answer) -> Result<Option<u32>, Refusal> {
+    done(answer)?;
+    Ok((answer.number > 0).then_some(answer.number as u32))
 }
 
 #[inline]

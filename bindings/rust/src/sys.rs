@@ -67,6 +67,22 @@ pub(crate) struct Server {
     pub finished: u64,
 }
 
+#[repr(C)]
+#[derive(Clone, Copy, Default)]
+pub(crate) struct ChannelReady {
+    pub message: u64,
+    pub ended: u64,
+    pub plead: u64,
+    pub finished: u64,
+    pub finished_there: u64,
+}
+
+#[repr(C)]
+#[derive(Default)]
+pub(crate) struct Ready {
+    pub channels: [ChannelReady; 7],
+}
+
 extern "C" {
     fn lcmux_peer_new(config: *const Config, peer: *mut Raw) -> Answer;
     fn lcmux_peer_free(peer: *mut Raw) -> Answer;
@@ -78,6 +94,18 @@ extern "C" {
     fn lcmux_peer_limit_sending(peer: *mut Raw, channel: u32, bound: u64) -> Answer;
     fn lcmux_peer_limit_receiving(peer: *mut Raw, channel: u32, bound: u64) -> Answer;
     fn lcmux_peer_finish(peer: *mut Raw, channel: u32) -> Answer;
+    fn lcmux_peer_would_send(peer: *mut Raw, channel: u32, len: usize) -> Answer;
+    fn lcmux_peer_would_issue(peer: *mut Raw, channel: u32, amount: u32) -> Answer;
+    fn lcmux_peer_would_absolve(peer: *mut Raw, channel: u32, amount: u32) -> Answer;
+    fn lcmux_peer_would_plead(peer: *mut Raw, channel: u32, target: u32) -> Answer;
+    fn lcmux_peer_would_honour(peer: *mut Raw, channel: u32) -> Answer;
+    fn lcmux_peer_would_limit_sending(peer: *mut Raw, channel: u32, bound: u64) -> Answer;
+    fn lcmux_peer_would_limit_receiving(peer: *mut Raw, channel: u32, bound: u64) -> Answer;
+    fn lcmux_peer_would_finish(peer: *mut Raw, channel: u32) -> Answer;
+    fn lcmux_peer_needs(peer: *mut Raw, channel: u32, len: usize) -> Answer;
+    fn lcmux_peer_slots_left(peer: *mut Raw) -> Answer;
+    fn lcmux_peer_wants_write(peer: *mut Raw) -> Answer;
+    fn lcmux_peer_ready(peer: *mut Raw, ready: *mut Ready) -> Answer;
     fn lcmux_peer_deliver(peer: *mut Raw, piece: *const u8, len: usize) -> Delivery;
     fn lcmux_peer_end(peer: *mut Raw) -> Answer;
     fn lcmux_peer_write(peer: *mut Raw, buffer: *mut u8, len: usize) -> Answer;
@@ -164,6 +192,68 @@ impl Handle {
     #[inline]
     pub fn finish(&mut self, channel: u32) -> Answer {
         unsafe { lcmux_peer_finish(self.0.get(), channel) }
+    }
+
+    #[inline]
+    pub fn would_send(&self, channel: u32, len: usize) -> Answer {
+        unsafe { lcmux_peer_would_send(self.0.get(), channel, len) }
+    }
+
+    #[inline]
+    pub fn would_issue(&self, channel: u32, amount: u32) -> Answer {
+        unsafe { lcmux_peer_would_issue(self.0.get(), channel, amount) }
+    }
+
+    #[inline]
+    pub fn would_absolve(&self, channel: u32, amount: u32) -> Answer {
+        unsafe { lcmux_peer_would_absolve(self.0.get(), channel, amount) }
+    }
+
+    #[inline]
+    pub fn would_plead(&self, channel: u32, target: u32) -> Answer {
+        unsafe { lcmux_peer_would_plead(self.0.get(), channel, target) }
+    }
+
+    #[inline]
+    pub fn would_honour(&self, channel: u32) -> Answer {
+        unsafe { lcmux_peer_would_honour(self.0.get(), channel) }
+    }
+
+    #[inline]
+    pub fn would_limit_sending(&self, channel: u32, bound: u64) -> Answer {
+        unsafe { lcmux_peer_would_limit_sending(self.0.get(), channel, bound) }
+    }
+
+    #[inline]
+    pub fn would_limit_receiving(&self, channel: u32, bound: u64) -> Answer {
+        unsafe { lcmux_peer_would_limit_receiving(self.0.get(), channel, bound) }
+    }
+
+    #[inline]
+    pub fn would_finish(&self, channel: u32) -> Answer {
+        unsafe { lcmux_peer_would_finish(self.0.get(), channel) }
+    }
+
+    #[inline]
+    pub fn needs(&self, channel: u32, len: usize) -> Answer {
+        unsafe { lcmux_peer_needs(self.0.get(), channel, len) }
+    }
+
+    #[inline]
+    pub fn slots_left(&self) -> Answer {
+        unsafe { lcmux_peer_slots_left(self.0.get()) }
+    }
+
+    #[inline]
+    pub fn wants_write(&self) -> Answer {
+        unsafe { lcmux_peer_wants_write(self.0.get()) }
+    }
+
+    #[inline]
+    pub fn ready(&self) -> Ready {
+        let mut ready = Ready::default();
+        unsafe { lcmux_peer_ready(self.0.get(), &mut ready) };
+        ready
     }
 
     #[inline]

@@ -1,5 +1,5 @@
 //! Random calls at two peers whose bytes are cut anywhere, beside a model of the rules.
-use lcmux::{Channel, Config, Peer, Refusal, Take, Version};
+use lcmux::{Channel, Config, Needs, Peer, Refusal, Take, Version};
 use std::collections::VecDeque;
 
 const CAPACITY: u64 = 24;
@@ -158,6 +158,19 @@ fn limited(left: Option<u64>, bound: u64) -> Result<u64, Refusal> {
     }
 }
 
+// What the call that puts a frame would answer.
+fn asked(peer: &Peer, channel: Channel, frame: &Frame) -> Result<(), Refusal> {
+    match frame {
+        Frame::Send(body) => peer.would_send(channel, body.len()),
+        Frame::Issue(n) => peer.would_issue(channel, *n as u32),
+        Frame::Absolve(n) => peer.would_absolve(channel, *n as u32),
+        Frame::Plead(target) => peer.would_plead(channel, *target),
+        Frame::LimitSending(bound) => peer.would_limit_sending(channel, *bound),
+        Frame::LimitReceiving(bound) => peer.would_limit_receiving(channel, *bound),
+        Frame::Finish => peer.would_finish(channel),
+    }
+}
+
 // One side: the peer, and in the model what waits, what was begun, and its bytes on the wire. A
 // greeting is begun at the start.
 struct Side {
@@ -240,7 +253,9 @@ impl Pair {
 
     fn call(&mut self, random: &mut Random, me: usize, at: usize) {
         let frame = new_frame(random);
+        self.compare_needs(me, at, &frame);
         let (peer, channel) = (&mut self.sides[me].peer, Channel::ALL[at]);
+        let would = asked(peer, channel, &frame);
         let answer = match &frame {
             Frame::Send(body) => peer.send(channel, body),
             Frame::Issue(n) => peer.issue(channel, *n as u32),
@@ -251,11 +266,31 @@ impl Pair {
             Frame::Finish => peer.finish(channel),
         };
         let shown = format!("{frame:?}");
+        assert_eq!(would, answer, "{shown}");
         assert_eq!(answer, self.expect(me, at, frame), "{shown}");
     }
 
+    // What a message needs, by what a send of it answers.
+    fn compare_needs(&self, me: usize, at: usize, frame: &Frame) {
+        let Frame::Send(body) = frame else { return };
+        let (side, way) = (&self.sides[me], &self.ways[me][at]);
+        let len = body.len() as u64;
+        let needs = match way.after(frame, side.version) {
+            Ok(_) if side.waiting.len() == SLOTS => Needs::Slot,
+            Ok(_) => Needs::Nothing,
+            Err(Refusal::NoGuarantee { held }) => match way.receive_left {
+                Some(left) if left < len - held => Needs::Never,
+                _ => Needs::Guarantees(len - held),
+            },
+            Err(_) => Needs::Never,
+        };
+        assert_eq!(side.peer.needs(Channel::ALL[at], body.len()), needs);
+    }
+
     fn honour(&mut self, me: usize, at: usize) {
+        let would = self.sides[me].peer.would_honour(Channel::ALL[at]);
         let answer = self.sides[me].peer.honour(Channel::ALL[at]);
+        assert_eq!(would, answer);
         let way = &mut self.ways[me][at];
         let due = way
             .asked
@@ -405,6 +440,23 @@ impl Pair {
         assert_eq!(side.peer.front_len(channel), way.ring.front().map(Vec::len));
         let waiting = side.waiting.iter().map(|next| next.1.len(side.version));
         assert_eq!(side.peer.pending(), side.begun + waiting.sum::<usize>());
+        self.compare_ready(me);
+    }
+
+    fn compare_ready(&self, me: usize) {
+        let side = &self.sides[me];
+        assert_eq!(side.peer.slots_left(), SLOTS - side.waiting.len());
+        let wants = side.begun > 0 || !side.waiting.is_empty();
+        assert_eq!(side.peer.wants_write(), wants);
+        for (at, ready) in side.peer.ready().into_iter().enumerate() {
+            let (mine, theirs) = (&self.ways[me][at], &self.ways[1 - me][at]);
+            let ended = theirs.server_finished || theirs.server_send_left == Some(0);
+            assert_eq!(ready.message, !theirs.ring.is_empty());
+            assert_eq!(ready.ended, theirs.ring.is_empty() && ended);
+            assert_eq!(ready.plead, mine.asked.is_some());
+            assert_eq!(ready.finished, mine.finished);
+            assert_eq!(ready.finished_there, theirs.server_finished);
+        }
     }
 
     // Once all has arrived, both sides of a direction know the same of it.

@@ -2,7 +2,7 @@
 mod common;
 
 use common::hex;
-use lcmux::{Channel, Config, Peer, Refusal, Stop, Take, Version};
+use lcmux::{Channel, Config, Needs, Peer, Ready, Refusal, Stop, Take, Version};
 
 struct Side {
     peer: Peer,
@@ -31,6 +31,43 @@ fn refused(refusal: Refusal) -> String {
 
 fn own(answer: Result<(), Refusal>) -> String {
     answer.map_or_else(refused, |()| "ok".into())
+}
+
+fn honoured(answer: Result<Option<u32>, Refusal>) -> String {
+    match answer {
+        Ok(Some(amount)) => format!("absolved {amount}"),
+        Ok(None) => "nothing to absolve".into(),
+        Err(refusal) => refused(refusal),
+    }
+}
+
+fn needed(needs: Needs) -> String {
+    match needs {
+        Needs::Nothing => "nothing".into(),
+        Needs::Guarantees(missing) => format!("{missing} more"),
+        Needs::Slot => "a slot".into(),
+        Needs::Never => "never".into(),
+    }
+}
+
+// The channels on which there is something to do, and what.
+fn ready(all: [Ready; 7]) -> String {
+    let mut words = Vec::new();
+    for (channel, ready) in all.into_iter().enumerate() {
+        let flags = [
+            (ready.message, "message"),
+            (ready.ended, "ended"),
+            (ready.plead, "plead"),
+            (ready.finished, "finished"),
+            (ready.finished_there, "finished-there"),
+        ];
+        let set = flags.into_iter().filter(|flag| flag.0);
+        words.extend(set.map(|flag| format!("{channel} {}", flag.1)));
+    }
+    match words.is_empty() {
+        true => "nothing".into(),
+        false => words.join(", "),
+    }
 }
 
 fn stop(stop: Option<Stop>) -> String {
@@ -121,6 +158,9 @@ fn answer(me: &mut Side, other: &mut Side, words: &[&str], piece: usize) -> Stri
         "bytes" => return deliver(peer, &hex(words[1]), piece),
         "pending" => return peer.pending().to_string(),
         "end" => return stop(peer.end().err()),
+        "slots-left" => return peer.slots_left().to_string(),
+        "wants-write" => return u8::from(peer.wants_write()).to_string(),
+        "ready" => return ready(peer.ready()),
         "write" => {
             let mut buffer = vec![0; number(1) as usize];
             let count = peer.write(&mut buffer);
@@ -140,11 +180,16 @@ fn answer(me: &mut Side, other: &mut Side, words: &[&str], piece: usize) -> Stri
         "limit-sending" => own(peer.limit_sending(channel, number(2))),
         "limit-receiving" => own(peer.limit_receiving(channel, number(2))),
         "finish" => own(peer.finish(channel)),
-        "honour" => match peer.honour(channel) {
-            Ok(Some(amount)) => format!("absolved {amount}"),
-            Ok(None) => "nothing to absolve".into(),
-            Err(refusal) => refused(refusal),
-        },
+        "honour" => honoured(peer.honour(channel)),
+        "would-send" => own(peer.would_send(channel, number(2) as usize)),
+        "would-issue" => own(peer.would_issue(channel, number(2) as u32)),
+        "would-absolve" => own(peer.would_absolve(channel, number(2) as u32)),
+        "would-plead" => own(peer.would_plead(channel, number(2) as u32)),
+        "would-limit-sending" => own(peer.would_limit_sending(channel, number(2))),
+        "would-limit-receiving" => own(peer.would_limit_receiving(channel, number(2))),
+        "would-finish" => own(peer.would_finish(channel)),
+        "would-honour" => honoured(peer.would_honour(channel)),
+        "needs" => needed(peer.needs(channel, number(2) as usize)),
         "take" => {
             let mut buffer = vec![
                 0;

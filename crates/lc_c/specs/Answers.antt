@@ -45,6 +45,10 @@ empty = 48
 abbrev pub ended : ℕ
 ended = 49
 
+-- the code where a message can never be sent
+abbrev pub never : ℕ
+never = 50
+
 -- the answer that is a code alone
 abbrev pub only : ℕ → LcmuxAnswer
 only code = record { code = code; number = 0 }

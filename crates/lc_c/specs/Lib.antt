@@ -6,5 +6,6 @@ pub mod Calls
 pub mod Takes
 pub mod Make
 pub mod Balances
+pub mod Asking
 pub mod Streams
 pub mod Texts

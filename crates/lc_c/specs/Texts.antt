@@ -23,6 +23,7 @@ own_sentence = sentence_in
     ∷ (38, codes "there is no such code")
     ∷ (48, codes "no message waits")
     ∷ (49, codes "no message waits, and none will come")
+    ∷ (50, codes "the message can never be sent")
     ∷ [])
 
 -- the sentence of a code: a refusal's is its number, a violation's 100 more and a fault's 200 more; a

@@ -42,6 +42,9 @@ pub(crate) const EMPTY: u32 = 48;
 /// No message waits, and none will come.
 pub(crate) const ENDED: u32 = 49;
 
+/// The message can never be sent.
+pub(crate) const NEVER: u32 = 50;
+
 /// A code alone.
 pub(crate) fn only(code: u32) -> LcmuxAnswer
     ensures { result ≡ only code }

@@ -55,7 +55,7 @@ fn or_no_limit(left: Option<u64>) -> u64
 }
 
 // C may hand in any byte, which a bool is not.
-fn flag(is: bool) -> u64
+pub(crate) fn flag(is: bool) -> u64
     ensures { result ≡ flag is }
 {
     if is { 1 } else { 0 }

@@ -21,6 +21,7 @@
 #![tactic(auto)]
 
 mod answer;
+mod asking;
 mod balances;
 mod handle;
 mod make;
@@ -36,6 +37,12 @@ mod text;
 mod wire;
 
 pub use answer::LcmuxAnswer;
+pub use asking::{
+    LcmuxChannelReady, LcmuxReady, lcmux_peer_needs, lcmux_peer_ready, lcmux_peer_slots_left,
+    lcmux_peer_wants_write, lcmux_peer_would_absolve, lcmux_peer_would_finish,
+    lcmux_peer_would_honour, lcmux_peer_would_issue, lcmux_peer_would_limit_receiving,
+    lcmux_peer_would_limit_sending, lcmux_peer_would_plead, lcmux_peer_would_send,
+};
 pub use balances::{LcmuxClient, LcmuxServer, NO_LIMIT, lcmux_peer_client, lcmux_peer_server};
 pub use handle::Slot;
 pub use make::{LcmuxConfig, lcmux_peer_free, lcmux_peer_new};

@@ -1,13 +1,15 @@
 //! The own calls of a peer, behind its handle.
-ghost use Rattle.std.specs.Prelude.{◌≡◌};
+ghost use Rattle.std.specs.Prelude.{◌≡◌, ℕ, Option, IfOk};
+ghost use Rattle.std.specs.Result.{result_err};
 ghost use Rattle.lc_frame.specs.declared.frame.Frame.TheVariants.{Send, Issue, Absolve, Plead, LimitSending, LimitReceiving, Finish};
 ghost use Rattle.lc_frame.specs.Channel.{channel_at};
 ghost use Rattle.lc_c.specs.Answers.{is_done};
-ghost use Rattle.lc_c.specs.Calls.{frame_answer, frame_after, SendAnswers, honour_answer, honour_after};
+ghost use Rattle.lc_c.specs.Calls.{frame_answer, frame_after, SendAnswers, honoured, honour_answer, honour_after};
 
 use crate::answer::{DONE, LcmuxAnswer, answer, only, refused};
 use crate::peer::LcmuxPeer;
 use crate::reach::{Target, reach};
+use lc_book::Refusal;
 use std::alloc::Global;
 
 /// A message is sent, of 1 to 65,535 bytes in version 1 and to 1,048,576 in version 2. Codes 15, 1,
@@ -159,6 +161,20 @@ pub extern "C" fn lcmux_peer_finish(
     }
 }
 
+// What an honour answers.
+pub(crate) fn honoured(judged: Result<Option<u32>, Refusal>) -> LcmuxAnswer
+    ensures { (amount : Option ℕ) → IfOk judged (λ told. told ≡ amount) → result ≡ honoured (result_err judged) amount }
+{
+    match judged {
+        Ok(Some(amount)) => LcmuxAnswer {
+            code: DONE,
+            number: u64::from(amount),
+        },
+        Ok(None) => only(DONE),
+        Err(refusal) => refused(refusal),
+    }
+}
+
 /// The plead that is kept is honoured. The number is what was absolved, 0 where there was nothing to
 /// absolve. Codes 15 and 13, in this order.
 #[unsafe(no_mangle)]
@@ -175,14 +191,7 @@ pub extern "C" fn lcmux_peer_honour(
         Target::At(mut side, channel) => {
             let judged = side.peer.honour(channel);
             *peer = LcmuxPeer::of(side);
-            match judged {
-                Ok(Some(amount)) => LcmuxAnswer {
-                    code: DONE,
-                    number: u64::from(amount),
-                },
-                Ok(None) => only(DONE),
-                Err(refusal) => refused(refusal),
-            }
+            honoured(judged)
         }
     }
 }

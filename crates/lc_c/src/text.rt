@@ -31,6 +31,7 @@ fn own_sentence(code: u32) -> Option<&'static str>
         38 => "there is no such code",
         48 => "no message waits",
         49 => "no message waits, and none will come",
+        50 => "the message can never be sent",
         _ => return None,
     };
     Some(sentence)

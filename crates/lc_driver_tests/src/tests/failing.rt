@@ -1,8 +1,8 @@
 //! A session whose devices fail, stop short or move nothing at each of their calls in turn.
 use crate::tests::side::Side;
-use lc_driver::{ReadEnd, WriteFault};
+use lc_driver::{Link, ReadEnd, WriteFault};
 use lc_frame::{Channel, Version};
-use lc_peer::{Peer, Take};
+use lc_peer::Take;
 use std::alloc::Global;
 use std::io::ErrorKind;
 use std::process::Abort;
@@ -15,7 +15,7 @@ const MESSAGES: u8 = 20;
 /// What carries the bytes of a session, both ways, and how many calls told of a failure and of a
 /// write that took nothing.
 #[derive(Drop)]
-struct Link {
+struct Wire {
     writing: Plan,
     reading: Plan,
     pipe: Pipe,
@@ -23,9 +23,9 @@ struct Link {
     empty: u32,
 }
 
-impl Link {
+impl Wire {
     // Writes all that waits, in as many calls as it takes.
-    fn write(mut self, from: &mut Side) -> Link {
+    fn write(mut self, from: &mut Side) -> Wire {
         for _ in 0..4 {
             let (answer, writer) = from.write(self.writing, self.pipe);
             self.writing = writer.plan;
@@ -40,7 +40,7 @@ impl Link {
     }
 
     // Reads until the pipe is empty and says so.
-    fn read(mut self, to: &mut Side) -> Link {
+    fn read(mut self, to: &mut Side) -> Wire {
         for _ in 0..100 {
             let (end, reader) = to.read(self.reading, self.pipe, 3);
             self.reading = reader.plan;
@@ -60,32 +60,32 @@ fn length(number: u8) -> usize {
     1 + usize::from(number % 16)
 }
 
-fn send(rt: &impl Abort, peer: &mut Peer, number: u8) {
+fn send(rt: &impl Abort, link: &mut Link, number: u8) {
     let bytes = [number; 16];
     let body = bytes.get(..length(number)).unwrap_or(&[]);
-    assert_eq!(rt; peer.send(Channel::DataChannel, body), Ok(()));
+    assert_eq!(rt; link.peer.send(Channel::DataChannel, body), Ok(()));
 }
 
-fn issue(rt: &impl Abort, peer: &mut Peer, amount: u32) {
-    assert_eq!(rt; peer.issue(Channel::DataChannel, amount), Ok(()));
+fn issue(rt: &impl Abort, link: &mut Link, amount: u32) {
+    assert_eq!(rt; link.peer.issue(Channel::DataChannel, amount), Ok(()));
 }
 
 // Takes the message of this number, if it is there, and issues as much again.
-fn take(rt: &impl Abort, peer: &mut Peer, number: u8) -> bool {
+fn take(rt: &impl Abort, link: &mut Link, number: u8) -> bool {
     let mut buffer = [0; 16];
-    let Ok(Take::Took(len)) = peer.take_into(Channel::DataChannel, &mut buffer) else {
+    let Ok(Take::Took(len)) = link.peer.take_into(Channel::DataChannel, &mut buffer) else {
         return false;
     };
     let bytes = [number; 16];
     assert_eq!(rt; buffer.get(..len), bytes.get(..length(number)));
-    issue(rt, peer, u32::try_from(len).unwrap_or(0));
+    issue(rt, link, u32::try_from(len).unwrap_or(0));
     true
 }
 
 // Takes what waits, and gives the number of the next message.
-fn take_all(rt: &impl Abort, peer: &mut Peer, next: u8) -> u8 {
+fn take_all(rt: &impl Abort, link: &mut Link, next: u8) -> u8 {
     for number in next..MESSAGES {
-        if !take(rt, peer, number) {
+        if !take(rt, link, number) {
             return number;
         }
     }
@@ -94,19 +94,19 @@ fn take_all(rt: &impl Abort, peer: &mut Peer, next: u8) -> u8 {
 
 // Twenty messages go from one side to another, which issues as it takes, and all that was sent is
 // taken.
-fn messages_go(rt: &impl Abort, client: &mut Side, server: &mut Side, mut link: Link) -> Link {
-    issue(rt, &mut server.peer, 32);
+fn messages_go(rt: &impl Abort, client: &mut Side, server: &mut Side, mut wire: Wire) -> Wire {
+    issue(rt, &mut server.link, 32);
     let mut taken = 0;
     for number in 0..MESSAGES {
-        link = link.write(server).read(client);
-        send(rt, &mut client.peer, number);
+        wire = wire.write(server).read(client);
+        send(rt, &mut client.link, number);
         if number % 2 == 1 || number > 12 {
-            link = link.write(client).read(server);
-            taken = take_all(rt, &mut server.peer, taken);
+            wire = wire.write(client).read(server);
+            taken = take_all(rt, &mut server.link, taken);
         }
     }
     assert_eq!(rt; taken, MESSAGES);
-    link
+    wire
 }
 
 fn session(
@@ -115,19 +115,19 @@ fn session(
     version: Version,
     kind: ErrorKind,
     (writing, reading): (Plan, Plan),
-) -> Result<Link, Fail> {
+) -> Result<Wire, Fail> {
     let mut client = Side::new(alloc, version, 32, 32)?;
     let mut server = Side::new(alloc, version, 32, 32)?;
     client.kind = kind;
     server.kind = kind;
-    let link = Link {
+    let wire = Wire {
         writing,
         reading,
         pipe: Pipe::of(Vec::new(alloc)),
         failed: 0,
         empty: 0,
     };
-    Ok(messages_go(rt, &mut client, &mut server, link))
+    Ok(messages_go(rt, &mut client, &mut server, wire))
 }
 
 /// A device, what it does at one call and how it fails there; and how many calls tell of a failure and
@@ -158,16 +158,16 @@ fn plans(device: &str, odd: Plan) -> (Plan, Plan) {
 }
 
 // Whether a session came to that call, of which it tells as is wanted.
-fn was_odd(rt: &impl Abort, link: &Link, device: &str, at: u64, wanted: (u32, u32)) -> bool {
+fn was_odd(rt: &impl Abort, wire: &Wire, device: &str, at: u64, wanted: (u32, u32)) -> bool {
     let plan = if device == "write" {
-        link.writing
+        wire.writing
     } else {
-        link.reading
+        wire.reading
     };
     if plan.calls < at {
         return false;
     }
-    assert_eq!(rt; (link.failed, link.empty), wanted, "{device} {at}");
+    assert_eq!(rt; (wire.failed, wire.empty), wanted, "{device} {at}");
     true
 }
 
@@ -179,8 +179,8 @@ fn each_is_odd(
 ) -> Result<(), Fail> {
     for at in 1..100 {
         let plans = plans(device, Plan::odd(odd, at));
-        let link = session(rt, alloc, version, kind, plans)?;
-        if !was_odd(rt, &link, device, at, wanted) {
+        let wire = session(rt, alloc, version, kind, plans)?;
+        if !was_odd(rt, &wire, device, at, wanted) {
             break;
         }
     }

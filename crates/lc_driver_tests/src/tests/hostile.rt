@@ -1,8 +1,9 @@
 //! Streams of a hostile peer, whole and cut in two after each byte.
 use crate::tests::script::run;
 use crate::tests::side::Side;
+use lc_driver::Link;
 use lc_frame::{Channel, Version};
-use lc_peer::{Peer, Take};
+use lc_peer::Take;
 use std::alloc::{AllocError, Global};
 use std::process::Abort;
 use std::test::Fail;
@@ -67,11 +68,11 @@ fn next_byte(state: &mut u64) -> u8 {
 }
 
 // Takes all messages, and gives how many bytes they had.
-fn take_all(peer: &mut Peer, channel: Channel) -> u64 {
+fn take_all(link: &mut Link, channel: Channel) -> u64 {
     let mut taken = 0u64;
     let mut buffer = [0; 8];
     for _ in 0..9 {
-        match peer.take_into(channel, &mut buffer) {
+        match link.peer.take_into(channel, &mut buffer) {
             Ok(Take::Took(len)) => taken = taken.saturating_add(len as u64),
             _ => break,
         }
@@ -80,22 +81,22 @@ fn take_all(peer: &mut Peer, channel: Channel) -> u64 {
 }
 
 // Whatever came, there is room for what may still come, and what is buffered can be taken.
-fn is_bounded(rt: &impl Abort, peer: &mut Peer, channel: Channel) {
-    let book = peer.server(channel);
+fn is_bounded(rt: &impl Abort, link: &mut Link, channel: Channel) {
+    let book = link.peer.server(channel);
     let (buffered, outstanding) = (book.buffered(), book.outstanding());
     assert!(rt; buffered.saturating_add(outstanding) <= 8);
-    assert_eq!(rt; take_all(peer, channel), buffered);
+    assert_eq!(rt; take_all(link, channel), buffered);
 }
 
-fn issue_all(rt: &impl Abort, peer: &mut Peer) {
+fn issue_all(rt: &impl Abort, link: &mut Link) {
     for channel in &Channel::ALL {
-        assert_eq!(rt; peer.issue(*channel, 8), Ok(()));
+        assert_eq!(rt; link.peer.issue(*channel, 8), Ok(()));
     }
 }
 
-fn all_are_bounded(rt: &impl Abort, peer: &mut Peer) {
+fn all_are_bounded(rt: &impl Abort, link: &mut Link) {
     for channel in &Channel::ALL {
-        is_bounded(rt, peer, *channel);
+        is_bounded(rt, link, *channel);
     }
 }
 
@@ -113,9 +114,9 @@ fn any_streams(rt: &impl Abort, alloc: Global, version: Version) -> Result<(), F
     for _ in 0..10_000 {
         let pipe = Pipe::of(any_stream(alloc, version, &mut state)?);
         let mut side = Side::new(alloc, version, 8, 7)?;
-        issue_all(rt, &mut side.peer);
+        issue_all(rt, &mut side.link);
         let _ = side.read(Plan::whole(), pipe, 10);
-        all_are_bounded(rt, &mut side.peer);
+        all_are_bounded(rt, &mut side.link);
     }
     Ok(())
 }

@@ -1,6 +1,6 @@
 //! Scripts of calls on one side of a session: a call a line, and after `=>` what it answers.
 use crate::tests::side::Side;
-use lc_driver::ReadEnd;
+use lc_driver::{Link, ReadEnd};
 use lc_frame::{Channel, Version};
 use lc_peer::{Peer, Take};
 use std::alloc::Global;
@@ -10,9 +10,9 @@ use std::test::Fail;
 use test_devices::{Pipe, Plan, channel, number, plan_of, text};
 
 // What the first message of a channel is.
-fn take(alloc: Global, peer: &mut Peer, at: Channel) -> Option<String> {
+fn take(alloc: Global, link: &mut Link, at: Channel) -> Option<String> {
     let mut buffer = [0; 64];
-    match peer.take_into(at, &mut buffer) {
+    match link.peer.take_into(at, &mut buffer) {
         Ok(Take::Took(len)) => hex::encode(alloc, buffer.get(..len as usize).unwrap_or(&[])).ok(),
         other => text(alloc, &other),
     }
@@ -22,30 +22,30 @@ fn write(alloc: Global, side: &mut Side, plan: &str) -> Option<String> {
     let (answer, writer) = side.write(plan_of(plan)?, Pipe::of(Vec::new(alloc)));
     let bytes = hex::encode(alloc, &writer.pipe.bytes).ok()?;
     let calls = writer.plan.calls;
-    let (pending, waiting) = (side.outgo.pending(), side.peer.waiting());
+    let (pending, waiting) = (side.link.pending(), side.link.peer.waiting());
     format!(in alloc; "{answer:?} {bytes} calls {calls} pending {pending} waiting {waiting}").ok()
 }
 
 // What an own call answers.
-fn own(alloc: Global, peer: &mut Peer, verb: &str, at: Channel, last: &str) -> Option<String> {
+fn own(alloc: Global, link: &mut Link, verb: &str, at: Channel, last: &str) -> Option<String> {
     let answer = match verb {
-        "issue" => peer.issue(at, last.parse::<u32>().ok()?),
-        "send" => peer.send(at, &hex::decode(alloc, last).ok()?),
-        "finish" => peer.finish(at),
+        "issue" => link.peer.issue(at, last.parse::<u32>().ok()?),
+        "send" => link.peer.send(at, &hex::decode(alloc, last).ok()?),
+        "finish" => link.peer.finish(at),
         _ => return None,
     };
     text(alloc, &answer)
 }
 
 // What a call on a channel answers.
-fn on_channel(alloc: Global, peer: &mut Peer, verb: &str, rest: &str) -> Option<String> {
+fn on_channel(alloc: Global, link: &mut Link, verb: &str, rest: &str) -> Option<String> {
     let (first, last) = rest.split_once(' ').unwrap_or((rest, ""));
     let at = channel(first)?;
     match verb {
-        "take" => take(alloc, peer, at),
-        "client" => client(alloc, peer, at),
-        "server" => server(alloc, peer, at),
-        _ => own(alloc, peer, verb, at, last),
+        "take" => take(alloc, link, at),
+        "client" => client(alloc, &link.peer, at),
+        "server" => server(alloc, &link.peer, at),
+        _ => own(alloc, link, verb, at, last),
     }
 }
 
@@ -55,7 +55,7 @@ fn answer(alloc: Global, side: &mut Side, input: &mut Pipe, call: &str) -> Optio
     match verb {
         "write" => write(alloc, side, rest),
         "read" | "count" => read(alloc, side, input, verb, rest),
-        _ => on_channel(alloc, &mut side.peer, verb, rest),
+        _ => on_channel(alloc, &mut side.link, verb, rest),
     }
 }
 

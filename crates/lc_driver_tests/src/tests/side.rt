@@ -1,7 +1,7 @@
 //! One side of a session with its pipes.
-use lc_driver::{Counted, Intake, Outgo, ReadEnd, Uninterrupted, WriteFault, read_in, write_out};
-use lc_frame::Version;
-use lc_peer::{Config, Peer};
+use lc_driver::{Counted, Link, ReadEnd, Uninterrupted, WriteFault};
+use lc_frame::{CHANNELS, Version};
+use lc_peer::Config;
 use std::alloc::Global;
 use std::io;
 use std::io::{ErrorKind, Read, Write};
@@ -34,25 +34,11 @@ impl<D: Write> Write for Failing<D> {
     }
 }
 
-/// One side of a session, with what it holds for its two streams.
+/// One side of a session, with how its devices fail.
+#[derive(Drop)]
 pub struct Side {
-    pub peer: Peer,
-    pub outgo: Outgo,
-    pub intake: Intake,
-    /// How its devices fail.
+    pub link: Link,
     pub kind: ErrorKind,
-}
-
-// One call, wherever a side is dropped.
-impl Drop for Side {
-    fn drop(self) {
-        let Side {
-            peer: _,
-            outgo: _,
-            intake: _,
-            kind: _,
-        } = self;
-    }
 }
 
 impl Side {
@@ -60,16 +46,11 @@ impl Side {
     pub fn new(alloc: Global, version: Version, capacity: u32, slots: u32) -> Result<Side, Fail> {
         let config = Config {
             version,
-            capacities: [capacity; 7],
+            capacities: [capacity; CHANNELS],
             slots,
         };
-        let outgo = Outgo::new(alloc, version)?;
-        let intake = Intake::new(alloc)?;
-        let peer = Peer::new(alloc, config)?;
         Ok(Side {
-            peer,
-            outgo,
-            intake,
+            link: Link::new(alloc, config)?,
             kind: ErrorKind::Other,
         })
     }
@@ -77,19 +58,14 @@ impl Side {
     /// Writes what waits into the pipe.
     pub fn write(&mut self, plan: Plan, pipe: Pipe) -> (Result<u64, WriteFault>, PipeWriter) {
         let mut writer = uninterrupted(unflushed(plan, pipe), self.kind);
-        // Both have the version that the side was made with.
-        let answer = if self.outgo.version() == self.peer.version() {
-            write_out(&mut self.peer, &mut self.outgo, &mut writer)
-        } else {
-            Err(WriteFault::Zero { written: u64::MAX })
-        };
+        let answer = self.link.write_out(&mut writer);
         (answer, writer.into_inner().into_inner().device)
     }
 
     /// Reads what is in the pipe.
     pub fn read(&mut self, plan: Plan, pipe: Pipe, max_reads: u64) -> (ReadEnd, PipeReader) {
         let mut reader = uninterrupted(PipeReader { plan, pipe }, self.kind);
-        let end = read_in(&mut self.peer, &mut reader, &mut self.intake, max_reads);
+        let end = self.link.read_in(&mut reader, max_reads);
         (end, reader.into_inner().into_inner().device)
     }
 }

@@ -290,10 +290,10 @@ fn a_device_counts(rt: HostRuntime) -> Result<(), Fail> {
 
 // What waits goes out, and what comes arrives.
 fn moves(rt: &impl Abort, side: &mut Side, empty: Pipe, full: Pipe) {
-    let issued = side.peer.issue(Channel::DataChannel, 5);
+    let issued = side.link.peer.issue(Channel::DataChannel, 5);
     let wrote = side.write(Plan::whole(), empty).0;
     let end = side.read(Plan::whole(), full, 10).0;
-    let held = side.peer.client(Channel::DataChannel).held();
+    let held = side.link.peer.client(Channel::DataChannel).held();
     let wanted = (Ok(()), Ok(5), ReadEnd::Clean, 5);
     assert_eq!(rt; (issued, wrote, end, held), wanted);
 }
