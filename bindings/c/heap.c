@@ -7,17 +7,17 @@
 static char nothing;
 
 /* malloc aligns to each power of two up to 16 that divides the size. */
-struct lcmux_tried rattle_alloc(size_t size, size_t align) {
+struct lcmux_tried lcmux_alloc(size_t size, size_t align) {
     void *at = malloc(size ? size : align);
     return (struct lcmux_tried){at != NULL, at ? at : &nothing};
 }
 
-struct lcmux_tried rattle_realloc(void *at, size_t kept, size_t size, size_t align) {
+struct lcmux_tried lcmux_realloc(void *at, size_t kept, size_t size, size_t align) {
     (void)kept;
     void *moved = realloc(at, size ? size : align);
     return (struct lcmux_tried){moved != NULL, moved ? moved : &nothing};
 }
 
-void rattle_dealloc(void *at) {
+void lcmux_dealloc(void *at) {
     free(at);
 }

@@ -18,8 +18,28 @@ fn built(crate_dir: &Path) -> PathBuf {
     }
 }
 
+// The archive with names of its own for the heap, those of src/sys.rs: the ones that it comes with are of
+// every library of the kit, of which a program may have two.
+fn rename(archive: &Path, to: &Path) {
+    let objcopy = env::var_os("OBJCOPY").unwrap_or_else(|| "objcopy".into());
+    let mut command = Command::new(&objcopy);
+    for name in ["alloc", "realloc", "dealloc"] {
+        command.arg("--redefine-sym");
+        command.arg(format!("rattle_{name}=lcmux_{name}"));
+    }
+    match command.arg(archive).arg(to).status() {
+        Ok(status) if status.success() => {}
+        Ok(status) => panic!("objcopy failed on {}: {status}", archive.display()),
+        Err(error) => panic!(
+            "{}, of binutils, or what OBJCOPY names: {error}",
+            objcopy.to_string_lossy()
+        ),
+    }
+}
+
 fn main() {
     println!("cargo:rerun-if-env-changed=LCMUX_ARCHIVE");
+    println!("cargo:rerun-if-env-changed=OBJCOPY");
     let archive = match env::var_os("LCMUX_ARCHIVE") {
         Some(path) => PathBuf::from(path),
         None => {
@@ -30,10 +50,10 @@ fn main() {
     println!("cargo:rerun-if-changed={}", archive.display());
     let out = PathBuf::from(env::var_os("OUT_DIR").expect("cargo sets it"));
     let copy = out.join("liblc_c.a");
-    let _ = fs::remove_file(&copy);
-    if let Err(error) = fs::copy(&archive, &copy) {
+    if let Err(error) = fs::metadata(&archive) {
         panic!("{}: {error}", archive.display());
     }
+    rename(&archive, &copy);
     println!("cargo:rustc-link-search=native={}", out.display());
     println!("cargo:rustc-link-lib=static=lc_c");
 }

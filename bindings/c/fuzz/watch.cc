@@ -36,7 +36,7 @@ uint8_t *block_of(size_t len) {
 } // namespace
 
 /* Each block has an edge on either side, with its size in the first. It begins with no zeros. */
-lcmux_tried rattle_alloc(size_t size, size_t) {
+lcmux_tried lcmux_alloc(size_t size, size_t) {
     static uint8_t nothing;
     if (++heap.requests == heap.refused)
         return {false, &nothing};
@@ -49,7 +49,7 @@ lcmux_tried rattle_alloc(size_t size, size_t) {
     return {true, block + edge};
 }
 
-void rattle_dealloc(void *at) {
+void lcmux_dealloc(void *at) {
     auto *block = static_cast<uint8_t *>(at) - edge;
     size_t size;
     memcpy(&size, block, sizeof size);
@@ -62,11 +62,11 @@ void rattle_dealloc(void *at) {
         kept.push_back({size + 2 * edge, block});
 }
 
-lcmux_tried rattle_realloc(void *at, size_t kept, size_t size, size_t align) {
-    lcmux_tried tried = rattle_alloc(size, align);
+lcmux_tried lcmux_realloc(void *at, size_t kept, size_t size, size_t align) {
+    lcmux_tried tried = lcmux_alloc(size, align);
     if (tried.ok) {
         memcpy(tried.at, at, std::min(kept, size));
-        rattle_dealloc(at);
+        lcmux_dealloc(at);
     }
     return tried;
 }

@@ -119,13 +119,13 @@ static bool is_filled(const char *at, size_t size) {
 static struct lcmux_tried alloc(bool refuse, size_t size, size_t align) {
     requests = 0;
     refused = refuse;
-    return rattle_alloc(size, align);
+    return lcmux_alloc(size, align);
 }
 
 static struct lcmux_tried resize(bool refuse, char *at, size_t kept, size_t size, size_t align) {
     requests = 0;
     refused = refuse;
-    return rattle_realloc(at, kept, size, align);
+    return lcmux_realloc(at, kept, size, align);
 }
 
 static void is_granted(size_t size, size_t align) {
@@ -133,7 +133,7 @@ static void is_granted(size_t size, size_t align) {
     must(live() == 0, "nothing is got");
     char *at = got(alloc(false, size, align), size, align);
     fill(at, size);
-    rattle_dealloc(at);
+    lcmux_dealloc(at);
     must(live() == 0, "it is given back");
 }
 
@@ -147,7 +147,7 @@ static void is_moved(size_t before, size_t size, size_t align) {
     must(live() == 1, "the old block is given back");
     must(is_filled(at, kept), "the block has the bytes of the old one");
     fill(at, size);
-    rattle_dealloc(at);
+    lcmux_dealloc(at);
     must(live() == 0, "it is given back");
 }
 

@@ -10,21 +10,21 @@
 static int requests, refuse, live;
 static char nothing;
 
-struct lcmux_tried rattle_alloc(size_t size, size_t align) {
+struct lcmux_tried lcmux_alloc(size_t size, size_t align) {
     if (++requests == refuse)
         return (struct lcmux_tried){false, &nothing};
     live++;
     return (struct lcmux_tried){true, malloc(size ? size : align)};
 }
 
-struct lcmux_tried rattle_realloc(void *at, size_t kept, size_t size, size_t align) {
+struct lcmux_tried lcmux_realloc(void *at, size_t kept, size_t size, size_t align) {
     (void)kept;
     if (++requests == refuse)
         return (struct lcmux_tried){false, &nothing};
     return (struct lcmux_tried){true, realloc(at, size ? size : align)};
 }
 
-void rattle_dealloc(void *at) {
+void lcmux_dealloc(void *at) {
     live--;
     free(at);
 }

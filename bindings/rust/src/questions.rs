@@ -81,12 +81,18 @@ impl Peer {
 
     /// The refusal that [`Peer::limit_sending`] would answer.
     pub fn would_limit_sending(&self, channel: Channel, bound: u64) -> Result<(), Refusal> {
-        done(self.handle.would_limit_sending(channel.number().into(), bound))
+        done(
+            self.handle
+                .would_limit_sending(channel.number().into(), bound),
+        )
     }
 
     /// The refusal that [`Peer::limit_receiving`] would answer.
     pub fn would_limit_receiving(&self, channel: Channel, bound: u64) -> Result<(), Refusal> {
-        done(self.handle.would_limit_receiving(channel.number().into(), bound))
+        done(
+            self.handle
+                .would_limit_receiving(channel.number().into(), bound),
+        )
     }
 
     /// The refusal that [`Peer::finish`] would answer.

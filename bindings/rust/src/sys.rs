@@ -333,12 +333,12 @@ mod heap {
     }
 
     #[no_mangle]
-    extern "C" fn rattle_alloc(size: usize, align: usize) -> Tried {
+    extern "C" fn lcmux_alloc(size: usize, align: usize) -> Tried {
         tried(unsafe { malloc(if size == 0 { align } else { size }) })
     }
 
     #[no_mangle]
-    unsafe extern "C" fn rattle_realloc(
+    unsafe extern "C" fn lcmux_realloc(
         at: *mut c_void,
         _kept: usize,
         size: usize,
@@ -348,7 +348,7 @@ mod heap {
     }
 
     #[no_mangle]
-    unsafe extern "C" fn rattle_dealloc(at: *mut c_void) {
+    unsafe extern "C" fn lcmux_dealloc(at: *mut c_void) {
         unsafe { free(at) }
     }
 }
