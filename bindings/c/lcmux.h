@@ -24,6 +24,11 @@
  * number is 0 with all others. After a code other than LCMUX_OK nothing has changed, unless the call
  * says so. lcmux_peer_deliver answers more than that, in a struct of its own.
  *
+ * Later, or never. LCMUX_NO_GUARANTEE means later: keep the message, read, and send it once enough is
+ * held. So does LCMUX_QUEUE_FULL: write, and make the same call again. LCMUX_OUT_OF_MEMORY may pass, and
+ * LCMUX_NO_ROOM does once messages are taken. LCMUX_CHANNEL_FINISHED, LCMUX_PAST_SEND_LIMIT and the other
+ * refusals are for good: the call is not allowed, and waiting changes nothing.
+ *
  * Waiting. Read also while there is something to write. Two sides that each write all before they read
  * wait for each other for ever, once both have more to write than the sockets between them hold: let
  * poll wait for both directions of a socket that does not block, and keep what a write did not take.
