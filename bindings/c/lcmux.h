@@ -14,7 +14,7 @@
  * What the library takes as written, and cannot test:
  *  - a handle is LCMUX_PEER_EMPTY at first, its two fields are changed by this library alone, and no
  *    copy of it is used beside it or after it (to move a peer, copy the handle and empty the old one);
- *  - no pointer is NULL, also not of a buffer of length 0, and a buffer is as long as its length says;
+ *  - no pointer is NULL but that of a buffer of length 0, and a buffer is as long as its length says;
  *  - no buffer overlaps the handle, the output of the same call or another of its buffers;
  *  - of the calls on one handle one runs at a time. Different handles are independent, and a handle may
  *    go to another thread where something orders the two, such as a lock or a join;
@@ -53,8 +53,10 @@ extern "C" {
 
 #if defined(__GNUC__)
 #define LCMUX_NONNULL __attribute__((nonnull))
+#define LCMUX_NONNULL_PEER __attribute__((nonnull(1)))
 #else
 #define LCMUX_NONNULL
+#define LCMUX_NONNULL_PEER
 #endif
 
 enum {
@@ -193,7 +195,7 @@ lcmux_answer lcmux_peer_free(lcmux_peer *peer) LCMUX_NONNULL;
 
 /* Sends a copy of 1 to 65,535 bytes as one message, in version 2 of 1 to 1,048,576. Codes 15, 1, 2, 3,
  * 4, 14 and 13, in this order. */
-lcmux_answer lcmux_peer_send(lcmux_peer *peer, uint32_t channel, const uint8_t *body, size_t len) LCMUX_NONNULL;
+lcmux_answer lcmux_peer_send(lcmux_peer *peer, uint32_t channel, const uint8_t *body, size_t len) LCMUX_NONNULL_PEER;
 
 /* Issues guarantees. Codes 15, 5, 9, 10, 12 and 13. */
 lcmux_answer lcmux_peer_issue(lcmux_peer *peer, uint32_t channel, uint32_t amount) LCMUX_NONNULL;
@@ -247,7 +249,7 @@ lcmux_answer lcmux_peer_ready(lcmux_peer *peer, lcmux_ready *ready) LCMUX_NONNUL
  * arrive, and part of one is kept inside. After a violation or a fault the stream is given up: the
  * frames before it have arrived, each further call takes nothing and answers the same code, and the
  * other calls still work. */
-lcmux_delivery lcmux_peer_deliver(lcmux_peer *peer, const uint8_t *piece, size_t len) LCMUX_NONNULL;
+lcmux_delivery lcmux_peer_deliver(lcmux_peer *peer, const uint8_t *piece, size_t len) LCMUX_NONNULL_PEER;
 
 /* What it means that the stream ends here: LCMUX_OK between two frames, LCMUX_F4_TRUNCATED inside one
  * or inside a greeting, and the code of the delivery that stopped, where one did. Changes nothing. */
@@ -257,7 +259,7 @@ lcmux_answer lcmux_peer_end(lcmux_peer *peer) LCMUX_NONNULL;
  * number. What is left of a frame that was begun stays inside. The bytes count as sent: a program that
  * cannot send them has lost the stream. A buffer of 65,538 bytes holds any frame of version 1, one of
  * 1,048,581 bytes any of version 2. */
-lcmux_answer lcmux_peer_write(lcmux_peer *peer, uint8_t *buffer, size_t len) LCMUX_NONNULL;
+lcmux_answer lcmux_peer_write(lcmux_peer *peer, uint8_t *buffer, size_t len) LCMUX_NONNULL_PEER;
 
 /* The number is how many bytes lcmux_peer_write would give now. It looks at each frame that waits. */
 lcmux_answer lcmux_peer_pending(lcmux_peer *peer) LCMUX_NONNULL;
@@ -270,7 +272,7 @@ lcmux_answer lcmux_peer_front_len(lcmux_peer *peer, uint32_t channel) LCMUX_NONN
 
 /* Takes the first message, to the front of buffer; the number is its length, and its bytes are room of
  * the ring again. LCMUX_BUFFER_TOO_SMALL, which takes nothing, LCMUX_EMPTY, LCMUX_ENDED. */
-lcmux_answer lcmux_peer_take(lcmux_peer *peer, uint32_t channel, uint8_t *buffer, size_t len) LCMUX_NONNULL;
+lcmux_answer lcmux_peer_take(lcmux_peer *peer, uint32_t channel, uint8_t *buffer, size_t len) LCMUX_NONNULL_PEER;
 
 /* The balances of a channel. With another code than LCMUX_OK the struct is as it was. */
 lcmux_answer lcmux_peer_client(lcmux_peer *peer, uint32_t channel, lcmux_client *balances) LCMUX_NONNULL;
@@ -282,7 +284,7 @@ uint32_t lcmux_version(void);
 
 /* A sentence in English and a zero byte, to the front of buffer; the number is its length without the
  * zero byte. 64 bytes hold each. LCMUX_NO_CODE, LCMUX_BUFFER_TOO_SMALL: then buffer is as it was. */
-lcmux_answer lcmux_text(uint32_t code, char *buffer, size_t len) LCMUX_NONNULL;
+lcmux_answer lcmux_text(uint32_t code, char *buffer, size_t len);
 
 #ifdef __cplusplus
 }

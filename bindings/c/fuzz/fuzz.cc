@@ -434,9 +434,8 @@ private:
 
     void deliver_piece(size_t me, const Bytes &piece) {
         Side &side = sides[me];
-        uint8_t none = 0;
         note("deliver", me, 0, piece.size());
-        lcmux_delivery got = lcmux_peer_deliver(&side.peer, piece.empty() ? &none : piece.data(), piece.size());
+        lcmux_delivery got = lcmux_peer_deliver(&side.peer, piece.empty() ? nullptr : piece.data(), piece.size());
         lcmux_delivery want = side.model ? side.model->deliver(piece) : lcmux_delivery{LCMUX_NO_PEER, 0, 0};
         answers({got.code, got.frames}, {want.code, want.frames});
         same("how much is taken", got.taken, want.taken);

@@ -62,6 +62,7 @@ static void empty_handle(lcmux_peer *peer) {
     uint8_t buffer[8] = "unused";
     lcmux_client client = {.held = 1};
     lcmux_server server = {.issued = 1};
+    lcmux_ready ready = {.channels[6].plead = 7};
     lcmux_delivery delivery = lcmux_peer_deliver(peer, buffer, 4);
     must(delivery.code == LCMUX_NO_PEER && delivery.taken == 0 && delivery.frames == 0, "deliver");
     must(lcmux_peer_send(peer, 1, buffer, 4).code == LCMUX_NO_PEER, "send");
@@ -79,8 +80,36 @@ static void empty_handle(lcmux_peer *peer) {
     must(lcmux_peer_take(peer, 1, buffer, 8).code == LCMUX_NO_PEER, "take");
     must(lcmux_peer_client(peer, 1, &client).code == LCMUX_NO_PEER && client.held == 1, "client");
     must(lcmux_peer_server(peer, 1, &server).code == LCMUX_NO_PEER && server.issued == 1, "server");
+    must(lcmux_peer_would_send(peer, 1, 1).code == LCMUX_NO_PEER, "would send");
+    must(lcmux_peer_would_issue(peer, 9, 1).code == LCMUX_NO_PEER, "would issue");
+    must(lcmux_peer_would_absolve(peer, 1, 1).code == LCMUX_NO_PEER, "would absolve");
+    must(lcmux_peer_would_plead(peer, 1, 1).code == LCMUX_NO_PEER, "would plead");
+    must(lcmux_peer_would_honour(peer, 1).code == LCMUX_NO_PEER, "would honour");
+    must(lcmux_peer_would_limit_sending(peer, 1, 1).code == LCMUX_NO_PEER, "would limit sending");
+    must(lcmux_peer_would_limit_receiving(peer, 1, 1).code == LCMUX_NO_PEER, "would limit receiving");
+    must(lcmux_peer_would_finish(peer, 1).code == LCMUX_NO_PEER, "would finish");
+    must(lcmux_peer_needs(peer, 1, 1).code == LCMUX_NO_PEER, "needs");
+    must(lcmux_peer_slots_left(peer).code == LCMUX_NO_PEER, "slots left");
+    must(lcmux_peer_wants_write(peer).code == LCMUX_NO_PEER, "wants write");
+    must(lcmux_peer_ready(peer, &ready).code == LCMUX_NO_PEER && ready.channels[6].plead == 7, "ready");
     must(lcmux_peer_free(peer).code == LCMUX_NO_PEER, "free");
     must(!memcmp(buffer, "unused\0", 8), "nothing is written");
+}
+
+/* A buffer of length 0 may be NULL. */
+static void empty_buffers(lcmux_peer *peer) {
+    lcmux_delivery delivery = lcmux_peer_deliver(peer, NULL, 0);
+    must(delivery.code == LCMUX_OK && delivery.taken == 0 && delivery.frames == 0, "deliver nothing");
+    must(lcmux_peer_send(peer, 1, NULL, 0).code == LCMUX_EMPTY_BODY, "send nothing");
+    must(lcmux_peer_take(peer, 1, NULL, 0).code == LCMUX_EMPTY, "take into nothing");
+    must(lcmux_peer_issue(peer, 1, 3).code == LCMUX_OK, "issue");
+    lcmux_answer wrote = lcmux_peer_write(peer, NULL, 0);
+    must(wrote.code == LCMUX_OK && wrote.number == 0, "write to nothing");
+    delivery = lcmux_peer_deliver(peer, (const uint8_t *)"\x11\0\3abc", 6);
+    must(delivery.frames == 1, "deliver");
+    lcmux_answer took = lcmux_peer_take(peer, 1, NULL, 0);
+    must(took.code == LCMUX_BUFFER_TOO_SMALL && took.number == 3, "take into too little");
+    must(lcmux_text(LCMUX_OK, NULL, 0).code == LCMUX_BUFFER_TOO_SMALL, "tell nothing");
 }
 
 /* The sentence of each code. */
@@ -173,6 +202,7 @@ int main(void) {
     must(lcmux_peer_new(&config, &peer).code == LCMUX_OK, "new");
     must(lcmux_peer_new(&config, &peer).code == LCMUX_HAS_PEER, "a second new");
     must(lcmux_peer_pending(&peer).code == LCMUX_OK, "which leaves the peer");
+    empty_buffers(&peer);
     must(lcmux_peer_free(&peer).code == LCMUX_OK, "free");
     empty_handle(&peer);
     config.capacities[3] = 0;
