@@ -7,6 +7,7 @@ ghost use Rattle.lc_session.specs.Heard.{HearsMore};
 use crate::reading_side::ReadingSide;
 use lc_credit::CreditIn;
 use lc_driver::{CountedRead, Intake, ReadEnd, read_into};
+use lc_frame::CHANNELS;
 use lc_inbox::InboxIn;
 use std::marker::Model;
 use std::sync::Wait;
@@ -60,7 +61,7 @@ impl ReadPump {
     }
 
     /// The reading sides of the credits and of the inboxes, when the session ends.
-    pub(crate) fn into_parts(self) -> (CreditIn, [InboxIn; 7])
+    pub(crate) fn into_parts(self) -> (CreditIn, [InboxIn; CHANNELS])
         ensures { self.side ≡ record { credits = result.0; inboxes = result.1 } }
     {
         let ReadPump { side, intake: _ } = self;

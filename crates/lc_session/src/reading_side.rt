@@ -13,7 +13,7 @@ ghost use Rattle.lc_session.specs.Reading.{channel_of_side, Hears, Refuses, ToCr
 
 use lc_book::Violation;
 use lc_credit::CreditIn;
-use lc_frame::{Channel, FrameRef, Lane};
+use lc_frame::{CHANNELS, Channel, FrameRef, Lane};
 use lc_inbox::InboxIn;
 use lc_peer::FrameSink;
 use lc_wake::{Pump, Wakers};
@@ -25,7 +25,7 @@ use std::sync::{Arc, Wait};
 #[derive(Drop)]
 pub(crate) struct ReadingSide {
     pub(crate) credits: CreditIn,
-    pub(crate) inboxes: [InboxIn; 7],
+    pub(crate) inboxes: [InboxIn; CHANNELS],
     pub(crate) wakers: Arc<Wakers, Global>,
 }
 
@@ -53,7 +53,7 @@ fn hear<R: Wait>(rt: &R, inbox: &mut InboxIn, frame: FrameRef<'_>) -> Result<(),
 // A frame arrives at the inbox of its channel.
 fn hear_at<R: Wait>(
     rt: &R,
-    inboxes: &mut [InboxIn; 7],
+    inboxes: &mut [InboxIn; CHANNELS],
     channel: Channel,
     frame: FrameRef<'_>,
 ) -> Result<(), Violation>
@@ -77,7 +77,7 @@ impl ReadingSide {
         self.wakers.end_run(Pump::Reading);
     }
 
-    pub(crate) fn into_parts(self) -> (CreditIn, [InboxIn; 7])
+    pub(crate) fn into_parts(self) -> (CreditIn, [InboxIn; CHANNELS])
         ensures { self ≡ record { credits = result.0; inboxes = result.1 } }
     {
         let ReadingSide {

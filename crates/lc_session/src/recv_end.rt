@@ -36,12 +36,11 @@ impl Model for RecvEnd {
 }
 
 impl RecvEnd {
-    pub(crate) fn new(channel: Channel, inbox: InboxOut, waiter: Waiter) -> RecvEnd
-        requires { channel ≡ inbox.key.channel }
+    pub(crate) fn new(inbox: InboxOut, waiter: Waiter) -> RecvEnd
         ensures { result ≡ inbox }
     {
         RecvEnd {
-            channel,
+            channel: inbox.channel(),
             inbox,
             waiter,
         }

@@ -1,10 +1,9 @@
 //! How a session ends.
-ghost use Rattle.std.specs.Prelude.{◌≡◌, ◌∷◌, [], ◌++◌, length, map, List};
+ghost use Rattle.std.specs.Prelude.{◌≡◌, ◌++◌, length, map, List};
 ghost use Rattle.std.specs.List.{AllByRecursion};
 ghost use Rattle.lc_frame.specs.declared.frame.Frame.{Frame as AnyFrame};
 ghost use Rattle.lc_queue.specs.Parts.{IsSame, AllPopped, lane_of_end};
 ghost use Rattle.lc_outbox.specs.Outbox.{IsOutbox};
-ghost use Rattle.lc_session.specs.Session.{listed};
 ghost use Rattle.lc_session.specs.Report.{PutsOn, credit_of_outbox, AreOfOneSession, IsReport};
 ghost use Rattle.lc_session.specs.Ending.{Joins, lane_of_outbox, PopsAll};
 ghost use Rattle.lc_session.specs.Parts.{state_of};
@@ -14,7 +13,8 @@ use crate::recv_end::RecvEnd;
 use crate::send_end::SendEnd;
 use lc_book::ServerBook;
 use lc_credit::{Balance, CreditOut, CreditParts, settle};
-use lc_inbox::{InboxOut, Seven, apart, finish_all};
+use lc_frame::CHANNELS;
+use lc_inbox::{InboxOut, finish_all, unzipped};
 use lc_queue::{Drain, LaneEnd};
 use std::sync::Wait;
 
@@ -22,71 +22,39 @@ use std::sync::Wait;
 #[derive(Clone, Copy, Debug)]
 pub struct Report {
     /// What became of the guarantees that came, by channel.
-    pub clients: [Balance; 7],
+    pub clients: [Balance; CHANNELS],
     /// The books of the receiving ends, by channel.
-    pub servers: [ServerBook; 7],
+    pub servers: [ServerBook; CHANNELS],
     /// How many frames were put and not begun.
     pub left: u64,
     /// How many bytes are left of the frame that was begun, or of the greeting.
     pub partly: u64,
 }
 
-// Ends a sending end: its lane is joined to the drain, and its credit is left.
-fn end_sender(drain: &mut Drain, end: SendEnd) -> CreditOut
-    requires { PutsOn drain.old.queue drain.old.version end }
-    ensures joins { Joins drain.old (lane_of_outbox end ∷ []) drain.new }
-    ensures credit { result ≡ end.credit }
-    ensures kept { IsOutbox end }
+// The ends of the lanes and of the credits that sending ends have.
+fn lanes_and_credits(ends: [SendEnd; CHANNELS]) -> ([LaneEnd; CHANNELS], [CreditOut; CHANNELS])
+    ensures lanes { result.0 ≡ map lane_of_outbox ends }
+    ensures credits { result.1 ≡ map credit_of_outbox ends }
+    ensures kept { AllByRecursion IsOutbox ends }
 {
-    let (lane, credit) = end.into_outbox().into_parts();
-    drain.join(lane);
-    credit
+    unzipped(ends.map(|end| end.into_outbox().into_parts()))
 }
 
-// Ends all sending ends.
-fn end_senders(drain: &mut Drain, ends: Seven<SendEnd>) -> [CreditOut; 7]
-    requires { AllByRecursion (PutsOn drain.old.queue drain.old.version) (listed ends) }
-    ensures joins { Joins drain.old (map lane_of_outbox (listed ends)) drain.new }
-    ensures credits { result ≡ map credit_of_outbox (listed ends) }
-    ensures kept { AllByRecursion IsOutbox (listed ends) }
+// Ends these lanes.
+fn join_lanes(drain: &mut Drain, lanes: [LaneEnd; CHANNELS])
+    requires { AllByRecursion (λ l. IsSame drain.old.queue l.queue) lanes }
+    ensures { Joins drain.old lanes drain.new }
 {
-    let a = end_sender(drain, ends.0);
-    let b = end_sender(drain, ends.1);
-    let c = end_sender(drain, ends.2);
-    let d = end_sender(drain, ends.3);
-    let e = end_sender(drain, ends.4);
-    let f = end_sender(drain, ends.5);
-    let g = end_sender(drain, ends.6);
-    [a, b, c, d, e, f, g]
-}
-
-// Ends the lanes of the receiving ends.
-fn join_servers(drain: &mut Drain, lanes: Seven<LaneEnd>)
-    requires { AllByRecursion (λ l. IsSame drain.old.queue l.queue) (listed lanes) }
-    ensures { Joins drain.old (listed lanes) drain.new }
-{
-    drain.join(lanes.0);
-    drain.join(lanes.1);
-    drain.join(lanes.2);
-    drain.join(lanes.3);
-    drain.join(lanes.4);
-    drain.join(lanes.5);
-    drain.join(lanes.6);
+    for lane in lanes {
+        drain.join(lane);
+    }
 }
 
 // The receiving sides of the inboxes.
-fn inboxes_of(ends: Seven<RecvEnd>) -> [InboxOut; 7]
-    ensures { result ≡ listed ends }
+fn inboxes_of(ends: [RecvEnd; CHANNELS]) -> [InboxOut; CHANNELS]
+    ensures { result ≡ ends }
 {
-    [
-        ends.0.into_inbox(),
-        ends.1.into_inbox(),
-        ends.2.into_inbox(),
-        ends.3.into_inbox(),
-        ends.4.into_inbox(),
-        ends.5.into_inbox(),
-        ends.6.into_inbox(),
-    ]
+    ends.map(|end| end.into_inbox())
 }
 
 // Pops what is left in the queue, of which all lanes have ended, and counts it together with the
@@ -121,10 +89,11 @@ pub fn finish<R: Wait>(rt: &R, parts: Parts) -> Report
     } = parts;
     let (mut drain, batch) = write_pump.into_parts();
     let (incoming, inboxes) = read_pump.into_parts();
-    let outgoing = end_senders(&mut drain, apart(send_ends));
-    let ended = finish_all(inboxes, inboxes_of(apart(recv_ends)));
+    let (lanes, outgoing) = lanes_and_credits(send_ends);
+    join_lanes(&mut drain, lanes);
+    let ended = finish_all(inboxes, inboxes_of(recv_ends));
     let servers = ended.books;
-    join_servers(&mut drain, apart(ended.lanes));
+    join_lanes(&mut drain, ended.lanes);
     let left = pop_all(rt, &mut drain, batch.waiting() as u64);
     Report {
         clients: settle(CreditParts { incoming, outgoing }),

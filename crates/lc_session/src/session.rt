@@ -24,8 +24,8 @@ use crate::send_end::SendEnd;
 use crate::write_pump::WritePump;
 use lc_credit::{CreditOut, CreditParts, credits};
 use lc_driver::Intake;
-use lc_frame::Channel;
-use lc_inbox::{InboxOut, Inboxes, Seven, apart, share_all};
+use lc_frame::{CHANNELS, Channel};
+use lc_inbox::{InboxOut, Inboxes, Seven, apart, share_all, zipped};
 use lc_outbox::Outbox;
 use lc_peer::{Config, PeerFault};
 use lc_queue::{Drain, LaneEnd, lanes};
@@ -62,7 +62,7 @@ fn send_ends(
     lanes: Seven<LaneEnd>,
     credits: Seven<CreditOut>,
     waiters: Seven<Waiter>,
-) -> [SendEnd; 7]
+) -> [SendEnd; CHANNELS]
     requires lanes { (queue : QueueId) × (version : Version) × (listed lanes ≡ take 7 (new_ends queue version)) }
     requires credits { listed credits ≡ map new_outgoing (map credit_out (listed credits)) }
     ensures { result ≡ new_outboxes channels (listed lanes) (listed credits) }
@@ -80,20 +80,10 @@ fn send_ends(
 }
 
 // The new receiving ends of all channels.
-fn recv_ends(inboxes: Seven<InboxOut>, waiters: Seven<Waiter>) -> [RecvEnd; 7]
-    requires { map channel_of_side (listed inboxes) ≡ channels }
-    ensures { result ≡ listed inboxes }
+fn recv_ends(inboxes: [InboxOut; CHANNELS], waiters: [Waiter; CHANNELS]) -> [RecvEnd; CHANNELS]
+    ensures { result ≡ inboxes }
 {
-    let [a, b, c, d, e, f, g] = Channel::ALL;
-    [
-        RecvEnd::new(a, inboxes.0, waiters.0),
-        RecvEnd::new(b, inboxes.1, waiters.1),
-        RecvEnd::new(c, inboxes.2, waiters.2),
-        RecvEnd::new(d, inboxes.3, waiters.3),
-        RecvEnd::new(e, inboxes.4, waiters.4),
-        RecvEnd::new(f, inboxes.5, waiters.5),
-        RecvEnd::new(g, inboxes.6, waiters.6),
-    ]
+    zipped(inboxes, waiters).map(|(inbox, waiter)| RecvEnd::new(inbox, waiter))
 }
 
 // What the ends share with the pumps.
@@ -117,7 +107,6 @@ fn put_together(alloc: Global, session: Session, shared: Shared, streams: Stream
     requires clients { (queue : QueueId) × (version : Version) × (shared.inboxes.clients ≡ take channel_count (new_ends queue version)) }
     requires credits { shared.credits.outgoing ≡ map new_outgoing (map credit_out shared.credits.outgoing) }
     requires incoming { map channel_of_side shared.inboxes.incoming ≡ channels }
-    requires outgoing { map channel_of_side shared.inboxes.outgoing ≡ channels }
     requires drain { streams.drain ≡ new_outlet streams.drain.queue streams.drain.version }
     requires batch { streams.batch ≡ new_batch streams.drain.version }
     ensures sending { result.send_ends ≡ new_outboxes channels shared.inboxes.clients shared.credits.outgoing }
@@ -143,7 +132,7 @@ fn put_together(alloc: Global, session: Session, shared: Shared, streams: Stream
             apart(credits.outgoing),
             apart(waking.sending),
         ),
-        recv_ends: recv_ends(apart(inboxes.outgoing), apart(waking.receiving)),
+        recv_ends: recv_ends(inboxes.outgoing, waking.receiving),
         read_pump: ReadPump::new(side, streams.intake),
         write_pump: WritePump::new(streams.drain, streams.batch, waking.pump),
     }

@@ -5,9 +5,6 @@ use Rattle.lc_session.proofs.session.make.Goals as goal
 pub put_together-requires-clause-incoming : goal.put_together-requires-clause-incoming
 put_together-requires-clause-incoming c = (sides_in_place _ _ _ _ _ _ c.in-Ok.ensures.ends c.in-Ok-share_all.ensures.new).reading
 
-pub put_together-requires-clause-outgoing : goal.put_together-requires-clause-outgoing
-put_together-requires-clause-outgoing c = (sides_in_place _ _ _ _ _ _ c.in-Ok.ensures.ends c.in-Ok-share_all.ensures.new).receiving
-
 pub returns : goal.returns
 returns c =
     let all = c.put_together.ensures in
