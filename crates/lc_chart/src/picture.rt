@@ -5,10 +5,10 @@ use crate::page::{
     MARGIN, bar_key, close, close_description, frame_mark, key, line_key, name_of, open, row,
     take_mark, wrong_mark,
 };
-use crate::session::{Arrow, Bar, Direction, Session, Span, channel_of, other};
+use crate::session::{Arrow, Bar, Session, Span, channel_of, client_of, other};
 use crate::shapes::{Paint, Point, disc, line, rect, text};
 use crate::words::{Asked, Happened, Phrase, Told};
-use lc_frame::Channel;
+use lc_frame::{CHANNELS, Channel, Lane};
 use lc_world::{Answer, Event, Side};
 use std::fmt::Display;
 use std::io::Write;
@@ -198,7 +198,7 @@ fn draw_legend<W: Write>(session: &Session, out: &mut W) -> io::Result<()> {
     let occurring = Channel::ALL
         .iter()
         .filter(|channel| occurs(session, **channel));
-    for (place, channel) in (0..7u8).zip(occurring) {
+    for (place, channel) in (0..CHANNELS as u8).zip(occurring) {
         let at = legend_place(place % 4, 2 + place / 4);
         frame_mark(out, *channel, at)?;
         key(out, at, name_of(*channel))?;
@@ -207,7 +207,7 @@ fn draw_legend<W: Write>(session: &Session, out: &mut W) -> io::Result<()> {
 }
 
 fn occurs(session: &Session, channel: Channel) -> bool {
-    session.occurs[channel.index()] || session.occurs[7 + channel.index()]
+    session.occurs[Lane::Client(channel).index()] || session.occurs[Lane::Server(channel).index()]
 }
 
 // The lifelines, and the heads of the columns.
@@ -229,8 +229,8 @@ fn draw_span<W: Write>(
     span: &Span,
     out: &mut W,
 ) -> io::Result<()> {
-    let Direction { client, channel } = span.direction;
-    let place = span.direction.place();
+    let (client, channel) = (client_of(span.direction), span.direction.channel());
+    let place = span.direction.index();
     if !session.occurs[place] {
         return Ok(());
     }

@@ -1,9 +1,7 @@
 //! A session as a picture shows it: where each frame arrived, and how the balances went.
-ghost use Rattle.std.specs.Prelude.{◌<◌};
-
 use crate::fault::ChartFault;
 use lc_cli::Fault;
-use lc_frame::{Channel, Version};
+use lc_frame::{Channel, LANES, Lane, Version};
 use lc_world::{Act, Answer, Event, NewFault, Side, World};
 use std::alloc::{AllocError, Global};
 use std::collections::VecDeque;
@@ -11,25 +9,11 @@ use std::collections::VecDeque;
 /// The most events or frames of a picture.
 pub const MAX_EVENTS: u16 = 2000;
 
-// One channel in one direction: those that A sends on come first.
-const DIRECTIONS: usize = 14;
-
-/// A channel in the direction in which this side sends.
-#[derive(Clone, Copy, Debug, PartialEq, Eq)]
-pub(crate) struct Direction {
-    pub client: Side,
-    pub channel: Channel,
-}
-
-impl Direction {
-    /// Its place among all directions.
-    pub(crate) fn place(self) -> usize
-        ensures { result < 14 }
-    {
-        match self.client {
-            Side::A => self.channel.index(),
-            Side::B => 7 + self.channel.index(),
-        }
+/// The side that sends in a direction, which is a lane as A sees it: where A sends it is the client's.
+pub(crate) fn client_of(direction: Lane) -> Side {
+    match direction {
+        Lane::Client(_) => Side::A,
+        Lane::Server(_) => Side::B,
     }
 }
 
@@ -48,7 +32,7 @@ pub(crate) enum Bar {
 /// A bar, and the events between which it stood: after the first and before the last.
 #[derive(Clone, Copy, Debug)]
 pub(crate) struct Span {
-    pub direction: Direction,
+    pub direction: Lane,
     pub from: u16,
     pub to: u16,
     pub bar: Bar,
@@ -70,15 +54,15 @@ pub(crate) struct Session {
     pub answers: Vec<Answer>,
     pub arrows: Vec<Arrow>,
     pub spans: Vec<Span>,
-    /// By the places of the directions, which of them occur.
-    pub occurs: [bool; DIRECTIONS],
+    /// By the numbers of the directions, which of them occur.
+    pub occurs: [bool; LANES],
     /// The number behind the last event.
     pub end: u16,
     // The frames of each side that are in flight.
     from_a: VecDeque<Arrow>,
     from_b: VecDeque<Arrow>,
-    held: [Standing; DIRECTIONS],
-    rings: [Standing; DIRECTIONS],
+    clients: [Standing; LANES],
+    rings: [Standing; LANES],
 }
 
 // What a bar shows, and since which event.
@@ -94,7 +78,7 @@ impl Standing {
     }
 
     // The bar as it stood up to this event.
-    fn span(self, to: u16, direction: Direction) -> Span {
+    fn span(self, to: u16, direction: Lane) -> Span {
         Span {
             direction,
             from: self.since,
@@ -141,12 +125,12 @@ impl Session {
             answers: Vec::new(alloc),
             arrows: Vec::new(alloc),
             spans: Vec::new(alloc),
-            occurs: [false; DIRECTIONS],
+            occurs: [false; LANES],
             end: 1,
             from_a: VecDeque::new(alloc),
             from_b: VecDeque::new(alloc),
-            held: [Standing::new(0, Bar::Held(0)); DIRECTIONS],
-            rings: [Standing::new(0, empty_ring); DIRECTIONS],
+            clients: [Standing::new(0, Bar::Held(0)); LANES],
+            rings: [Standing::new(0, empty_ring); LANES],
         }
     }
 
@@ -159,7 +143,7 @@ impl Session {
     ) -> Result<(), AllocError> {
         let side = event.side;
         if let Some(direction) = direction_of(event) {
-            self.occurs[direction.place()] = true;
+            self.occurs[direction.index()] = true;
         }
         match (answer, channel_of(&event.act)) {
             (Answer::Accepted | Answer::Absolved(_), Some(channel)) => self.put(Arrow {
@@ -204,10 +188,8 @@ impl Session {
 
     // Notes each bar that the event changed.
     fn note_bars(&mut self, number: u16, world: &World) -> Result<(), AllocError> {
-        for client in [Side::A, Side::B] {
-            for channel in Channel::ALL {
-                self.note_direction(number, Direction { client, channel }, world)?;
-            }
+        for direction in (0..LANES as u8).filter_map(Lane::from_number) {
+            self.note_direction(number, direction, world)?;
         }
         Ok(())
     }
@@ -215,14 +197,15 @@ impl Session {
     fn note_direction(
         &mut self,
         number: u16,
-        direction: Direction,
+        direction: Lane,
         world: &World,
     ) -> Result<(), AllocError> {
-        let place = direction.place();
-        let (held, ring) = bars_of(world, direction);
-        if self.held[place].bar != held {
-            self.spans.push(self.held[place].span(number, direction))?;
-            self.held[place] = Standing::new(number, held);
+        let place = direction.index();
+        let (client, ring) = bars_of(world, direction);
+        if self.clients[place].bar != client {
+            self.spans
+                .push(self.clients[place].span(number, direction))?;
+            self.clients[place] = Standing::new(number, client);
         }
         if self.rings[place].bar != ring {
             self.spans.push(self.rings[place].span(number, direction))?;
@@ -233,14 +216,12 @@ impl Session {
 
     // Closes what stands at the end: the bars, and the frames in flight.
     fn close(&mut self) -> Result<(), AllocError> {
-        for client in [Side::A, Side::B] {
-            for channel in Channel::ALL {
-                let direction = Direction { client, channel };
-                let place = direction.place();
-                self.spans.push(self.held[place].span(self.end, direction))?;
-                self.spans
-                    .push(self.rings[place].span(self.end, direction))?;
-            }
+        for direction in (0..LANES as u8).filter_map(Lane::from_number) {
+            let place = direction.index();
+            self.spans
+                .push(self.clients[place].span(self.end, direction))?;
+            self.spans
+                .push(self.rings[place].span(self.end, direction))?;
         }
         for side in [Side::A, Side::B] {
             self.land(side, None, u64::from(MAX_EVENTS))?;
@@ -258,8 +239,8 @@ pub(crate) fn other(side: Side) -> Side {
 }
 
 // The bars of a direction, at its client and at its server.
-fn bars_of(world: &World, direction: Direction) -> (Bar, Bar) {
-    let Direction { client, channel } = direction;
+fn bars_of(world: &World, direction: Lane) -> (Bar, Bar) {
+    let (client, channel) = (client_of(direction), direction.channel());
     let server = world.server(other(client), channel);
     let ring = Bar::Ring {
         buffered: server.buffered(),
@@ -286,7 +267,7 @@ pub(crate) fn channel_of(act: &Act) -> Option<Channel> {
 }
 
 // The direction that an event concerns.
-fn direction_of(event: &Event) -> Option<Direction> {
+fn direction_of(event: &Event) -> Option<Lane> {
     let channel = channel_of(&event.act)?;
     let client = match event.act {
         Act::Issue { .. } | Act::Plead { .. } | Act::LimitReceiving { .. } | Act::Take { .. } => {
@@ -294,5 +275,8 @@ fn direction_of(event: &Event) -> Option<Direction> {
         }
         _ => event.side,
     };
-    Some(Direction { client, channel })
+    Some(match client {
+        Side::A => Lane::Client(channel),
+        Side::B => Lane::Server(channel),
+    })
 }
