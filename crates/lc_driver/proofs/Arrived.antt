@@ -1,11 +1,11 @@
 -- What came of the bytes that were read, one read and another.
-use Rattle.std.proofs.Common.{◌≡◌, ℕ, ◌+◌, ◌*◌, ◌<◌, ◌≤◌, ◌⊎◌, List, [], ◌∷◌, ◌++◌, length, Option, Some, None, refl, sym, ap, subst, ◌∙◌, append_assoc, arith, inl, inr, length-append}
+use Rattle.std.proofs.Common.{◌≡◌, ℕ, ◌+◌, ◌*◌, ◌<◌, ◌≤◌, List, [], ◌∷◌, ◌++◌, length, Option, Some, None, refl, sym, ap, subst, ◌∙◌, append_assoc, arith, length-append}
 use Rattle.std.specs.Prelude.{All, IfSome}
 use Rattle.std.proofs.lemmas.List.{append-nil}
 use Rattle.std.proofs.lemmas.List.Elements.{All-append}
 use Rattle.std.specs.Io.KnownBytes.{Consumes, Keeps}
 use Rattle.lc_frame.specs.declared.frame.Frame.{Frame}
-use Rattle.lc_frame.specs.Held.{Held, fed, before, HasFrame, HasFault, IsUndecided, IsSettled}
+use Rattle.lc_frame.specs.Held.{Held, fed, before, HasFault, IsUndecided, IsSettled}
 use Rattle.lc_frame.specs.StreamDecoder.{IsPart}
 use Rattle.lc_frame.specs.Splits.{frames_of, rest_of}
 use Rattle.lc_frame.proofs.Bytes.{IsBytes}

@@ -5,7 +5,6 @@ use Rattle.std.specs.Io.KnownBytes.{IsAtEnd}
 use Rattle.std.specs.declared.io.Error.{Error}
 use Rattle.std.specs.declared.io.ErrorKind.{ErrorKind}
 use Rattle.lc_frame.specs.Held.{Held}
-use Rattle.lc_peer.specs.declared.delivery.Stop.TheVariants as stops
 use Rattle.lc_driver.specs.declared.counts.Counts.{Counts}
 use Rattle.lc_driver.specs.declared.reading.ReadEnd.{ReadEnd}
 use Rattle.lc_driver.specs.declared.reading.ReadEnd.TheVariants.{Clean, Truncated, Fault, Violated, ReadFailed, TurnsSpent}

@@ -1,4 +1,4 @@
-use Rattle.std.proofs.Common.{ℕ, List, [], ◌∙◌, ap, arith, drop, length, refl, subst, sym}
+use Rattle.std.proofs.Common.{ℕ, List, ◌∙◌, ap, arith, drop, length, refl, subst, sym}
 use Rattle.std.proofs.lemmas.List.{length-drop, nil_from_length}
 use Rattle.lc_frame.specs.StreamEncoder.{EncoderState}
 use Rattle.lc_session.specs.Batch.{AreWhole, waiting_in}

@@ -1,4 +1,4 @@
-use Rattle.std.proofs.Common.{ℕ, List, ◌-◌, ◌≤◌, ◌∙◌, ap, arith, length, refl, subst, sym}
+use Rattle.std.proofs.Common.{ℕ, List, ◌-◌, ◌≤◌, ◌∙◌, ap, arith, length, refl, subst}
 use Rattle.lc_frame.specs.StreamEncoder.{EncoderState}
 use Rattle.lc_driver.specs.Writing.{text}
 use Rattle.lc_session.specs.Batch.{BatchState, EndsAt, LetsGo, batch_of}
