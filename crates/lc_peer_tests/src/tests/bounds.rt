@@ -2,21 +2,25 @@
 use crate::tests::inbox::inbox;
 use crate::tests::same;
 use crate::tests::script::{peer, peer_of, text};
-use lc_frame::{Channel, FrameRef, Version};
+use lc_frame::{CHANNELS, Channel, FrameRef, Version};
 use lc_peer::{Config, Inbox, NewFault, Peer, PeerFault, Refusal, Take, Violation};
 use std::alloc::Global;
 use std::process::Abort;
 use std::test::Fail;
 
 /// Capacities and slots of which there is no peer, and why.
-const FAULTS: [([u32; 7], u32, &str); 4] = [
+const FAULTS: [([u32; CHANNELS], u32, &str); 4] = [
     (
         [8, 8, 0, 8, 8, 0, 8],
         4,
         "BadCapacity { channel: OverlapChannel }: the capacity of OverlapChannel is not 1 to 2^24",
     ),
-    ([8; 7], 0, "BadSlots: the slots are not 1 to 65,536"),
-    ([8; 7], 65_537, "BadSlots: the slots are not 1 to 65,536"),
+    ([8; CHANNELS], 0, "BadSlots: the slots are not 1 to 65,536"),
+    (
+        [8; CHANNELS],
+        65_537,
+        "BadSlots: the slots are not 1 to 65,536",
+    ),
     (
         [8, 8, 8, 8, 8, 8, 16_777_217],
         0,
@@ -25,7 +29,7 @@ const FAULTS: [([u32; 7], u32, &str); 4] = [
 ];
 
 // Why there is no peer.
-fn fault(alloc: Global, capacities: [u32; 7], slots: u32) -> Option<PeerFault> {
+fn fault(alloc: Global, capacities: [u32; CHANNELS], slots: u32) -> Option<PeerFault> {
     let version = Version::One;
     let config = Config {
         version,
@@ -35,7 +39,7 @@ fn fault(alloc: Global, capacities: [u32; 7], slots: u32) -> Option<PeerFault> {
     Peer::new(alloc, config).err()
 }
 
-fn fault_text(alloc: Global, capacities: [u32; 7], slots: u32) -> Option<String> {
+fn fault_text(alloc: Global, capacities: [u32; CHANNELS], slots: u32) -> Option<String> {
     let fault = fault(alloc, capacities, slots)?;
     format!(in alloc; "{fault:?}: {fault}").ok()
 }
@@ -56,7 +60,7 @@ fn want_of_memory_has_its_text(rt: HostRuntime) {
 
 #[test]
 fn the_widest_peer(rt: HostRuntime) -> Result<(), Fail> {
-    let mut widest = [16_777_216; 7];
+    let mut widest = [16_777_216; CHANNELS];
     widest[0] = 1;
     let long = vec![in rt.alloc(); 7_u8; 65_536]?;
     let mut peer = peer(rt.alloc(), widest, 65_536)?;
@@ -72,7 +76,7 @@ const CHANNEL: Channel = Channel::DataChannel;
 // What a peer of a version that holds nothing answers to a message of so many bytes.
 fn long_message(alloc: Global, version: Version, len: usize) -> Result<Option<String>, Fail> {
     let long = vec![in alloc; 7_u8; len]?;
-    let mut peer = peer_of(alloc, version, [8; 7], 4)?;
+    let mut peer = peer_of(alloc, version, [8; CHANNELS], 4)?;
     Ok(text(alloc, &peer.send(CHANNEL, &long)))
 }
 
@@ -95,7 +99,7 @@ fn the_longest_message_of_each_version(rt: HostRuntime) -> Result<(), Fail> {
 fn are_bad(rt: &impl Abort, alloc: Global) {
     let inbox = Inbox::new(alloc, 0).err();
     let capacity = fault(alloc, [8, 8, 8, 8, 8, 8, 0], 7);
-    let slots = fault(alloc, [8; 7], 0);
+    let slots = fault(alloc, [8; CHANNELS], 0);
     let channel = Channel::StaticTokenChannel;
     let bad = Some(PeerFault::BadCapacity { channel });
     let wanted = (Some(NewFault::BadCapacity), bad, Some(PeerFault::BadSlots));
@@ -215,7 +219,7 @@ fn called(rt: &impl Abort, peer: &mut Peer) -> Result<(), Fail> {
 fn memory_is_asked_for_by_three_calls(rt: HostRuntime) -> Result<(), Fail> {
     are_bad(&rt, rt.alloc());
     let _ = inbox(rt.alloc(), 8)?;
-    let mut peer = peer(rt.alloc(), [8; 7], 7)?;
+    let mut peer = peer(rt.alloc(), [8; CHANNELS], 7)?;
     called(&rt, &mut peer)?;
     let _: Vec<u8> = Vec::with_capacity(rt.alloc(), 1)?;
     Ok(())

@@ -2,7 +2,7 @@
 ghost use Rattle.std.specs.Prelude.{◌<◌};
 
 use crate::tests::script::Side;
-use lc_frame::{Channel, FrameRef, Version};
+use lc_frame::{CHANNELS, Channel, FrameRef, Version};
 use lc_peer::{Peer, Take};
 use rand_core::utils::NextWord;
 use rand_pcg::Pcg32;
@@ -183,9 +183,9 @@ fn is_balanced(rt: &impl Abort, peer: &Peer, channel: Channel, done: &Done) {
 
 // A hundred calls, frames and takes on any channel.
 fn goes_on(rt: &impl Abort, rng: &mut Pcg32, peer: &mut Peer) {
-    let mut all = [Done::default(); 7];
+    let mut all = [Done::default(); CHANNELS];
     for _ in 0..100 {
-        let number = below(rng, 7).min(below(rng, 7)) as usize;
+        let number = below(rng, CHANNELS as u32).min(below(rng, CHANNELS as u32)) as usize;
         let channel = Channel::ALL[number];
         let mut done = all[number];
         match below(rng, 5) {

@@ -3,7 +3,7 @@
 //! the run says, `feed` bytes for the decoder alone, and `take` the room of its buffer, whose bytes
 //! were 238. `sums` shows what both books of a channel counted, and `each` asks on every channel.
 use crate::tests::{Subject, answers};
-use lc_frame::{Channel, Decoded, StreamDecoder, Version, decode};
+use lc_frame::{CHANNELS, Channel, Decoded, StreamDecoder, Version, decode};
 use lc_peer::{Config, Delivery, Peer};
 use std::alloc::Global;
 use std::fmt::Debug;
@@ -11,7 +11,7 @@ use std::process::Abort;
 use std::test::Fail;
 
 /// A peer on which nothing has happened.
-pub fn peer(alloc: Global, capacities: [u32; 7], slots: u32) -> Result<Peer, Fail> {
+pub fn peer(alloc: Global, capacities: [u32; CHANNELS], slots: u32) -> Result<Peer, Fail> {
     peer_of(alloc, Version::One, capacities, slots)
 }
 
@@ -19,7 +19,7 @@ pub fn peer(alloc: Global, capacities: [u32; 7], slots: u32) -> Result<Peer, Fai
 pub fn peer_of(
     alloc: Global,
     version: Version,
-    capacities: [u32; 7],
+    capacities: [u32; CHANNELS],
     slots: u32,
 ) -> Result<Peer, Fail> {
     let config = Config {
@@ -51,7 +51,7 @@ impl Side {
     /// A new peer with rings of 8 bytes, which writes this version.
     pub fn new(alloc: Global, version: Version, slots: u32) -> Result<Side, Fail> {
         let decoder = StreamDecoder::new(alloc)?;
-        let peer = peer_of(alloc, version, [8; 7], slots)?;
+        let peer = peer_of(alloc, version, [8; CHANNELS], slots)?;
         let cut = Cut::Everywhere;
         Ok(Side { peer, decoder, cut })
     }
