@@ -1,6 +1,6 @@
 //! Calls on receiving rings, a call and its answer on each line, with bytes in hexadecimal. `front`
 //! shows the first message's length and its two slices, `take` has the bytes of its buffer and shows
-//! them after the call, and `turn` pushes a message and takes it. `fill` and `drain` push and pop
+//! them after the call, `show` formats the ring, and `turn` pushes a message and takes it. `fill` and `drain` push and pop
 //! messages of one byte.
 use super::{Subject, answers, same, text};
 use lc_frame::MAX_BODY;
@@ -77,6 +77,7 @@ impl Subject for RecvRing {
             "pop" => text(alloc, &self.pop()),
             "fill" => text(alloc, &fill(self)),
             "drain" => text(alloc, &drain(self)),
+            "show" => text(alloc, self),
             _ => text(alloc, &(self.bytes(), self.free(), self.capacity())),
         }
     }
@@ -193,6 +194,28 @@ turn 6465666768 => Some(5) 64656667|68 Ok(Some(5)) [6465666768eeeeee]
 fn messages_go_round_the_end(rt: HostRuntime) -> Result<(), Fail> {
     let mut ring = RecvRing::new(rt.alloc(), 7)?;
     answers(&rt, rt.alloc(), &mut ring, TURNS);
+    Ok(())
+}
+
+// The third message goes round the end of the ring's memory.
+const SHOWN: &str = "show => RecvRing { bytes: [], lengths: [] }
+push 010203 => Ok(())
+push 04 => Ok(())
+show => RecvRing { bytes: [1, 2, 3, 4], lengths: [3, 1] }
+pop => Some(3)
+push 050607 => Ok(())
+show => RecvRing { bytes: [4, 5, 6, 7], lengths: [1, 3] }
+push 08 => Ok(())
+front => Some(1) 04|
+pop => Some(1)
+front => Some(3) 05|0607
+show => RecvRing { bytes: [5, 6, 7, 8], lengths: [3, 1] }
+";
+
+#[test]
+fn a_ring_shows_what_waits(rt: HostRuntime) -> Result<(), Fail> {
+    let mut ring = RecvRing::new(rt.alloc(), 5)?;
+    answers(&rt, rt.alloc(), &mut ring, SHOWN);
     Ok(())
 }
 
