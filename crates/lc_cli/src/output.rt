@@ -1,7 +1,7 @@
 //! Writing bytes as text.
-ghost use Rattle.std.specs.Prelude.{◌≡◌, IfErr, OnOk};
+ghost use Rattle.std.specs.Prelude.{◌≡◌, ◌<◌, ◌*◌, IfErr, OnOk, length, slice_index};
 ghost use Rattle.std.specs.Io.KnownBytes.{Appends};
-ghost use Rattle.hex.specs.Hex.{encode_lower};
+ghost use Rattle.hex.specs.Hex.{encode_lower, lower_digits};
 
 use crate::fault::Fault;
 use std::alloc::Global;
@@ -19,6 +19,32 @@ pub fn buffered<W: Write>(alloc: Global, out: &mut W) -> Result<BufWriter<&mut W
     BufWriter::new(alloc, out).map_err(|_| Fault::OutOfMemory)
 }
 
+// The lower case digit of a number below 16. It is reckoned, so that many are at once.
+#[inline(always)]
+fn digit(number: u8) -> u8
+    requires { number < 16 }
+    ensures { result ≡ slice_index lower_digits number }
+{
+    if number < 10 {
+        b'0' + number
+    } else {
+        b'a' - 10 + number
+    }
+}
+
+// Puts the digits of the bytes, two for each.
+#[inline]
+fn encode(bytes: &[u8], digits: &mut [u8])
+    requires { length digits.old ≡ 2 * length bytes.now }
+    ensures { digits.new ≡ encode_lower bytes.now }
+{
+    'bytes: for place in 0..bytes.len() {
+        let byte = bytes[place];
+        digits[2 * place] = digit(byte >> 4);
+        digits[2 * place + 1] = digit(byte & 0x0f);
+    }
+}
+
 // Writes the bytes in lower case hexadecimal. Takes no memory.
 fn write_hex<W: Write>(bytes: &[u8], out: &mut W) -> io::Result<()>
     ensures { OnOk result (Appends (W.contents out.old) (W.contents out.new) (encode_lower bytes.now)) }
@@ -28,9 +54,7 @@ fn write_hex<W: Write>(bytes: &[u8], out: &mut W) -> io::Result<()>
     while !rest.is_empty() {
         let (piece, others) = rest.split_at(rest.len().min(PIECE));
         let text = &mut digits[..2 * piece.len()];
-        let Ok(()) = hex::encode_to_slice(piece, text) else {
-            unreachable!()
-        };
+        encode(piece, text);
         out.write_all(text)?;
         rest = others;
     }

@@ -15,7 +15,7 @@ loop-rest-preserved g c =
     let piece = c.split_at.result.0.now in (
       front ++ piece,
       split-parts _ front c.loop-rest.rest.now piece c.split_at.result.1.now _ whole c.split_at.ensures.front c.split_at.ensures.back,
-      Appends-encoded _ _ _ front piece written (subst (Appends _ _) c.in-Ok.ensures.written c.in_ok-write_all.ensures.bytes),
+      Appends-encoded _ _ _ front piece written (subst (Appends _ _) c.encode.ensures c.in_ok-write_all.ensures.bytes),
     )
 
 pub loop-rest-smaller : goal.loop-rest-smaller
