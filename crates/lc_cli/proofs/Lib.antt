@@ -1,3 +1,4 @@
 mod Decimal
+mod Digits
 mod Open
 mod Written

@@ -1,5 +1,9 @@
 //! The line of each answer.
-use crate::output::write_hex_line;
+ghost use Rattle.std.specs.Prelude.{◌≡◌, [], ◌∷◌, ◌++◌, OnOk};
+ghost use Rattle.std.specs.Io.KnownBytes.{Appends};
+ghost use Rattle.std.specs.Fmt.{decimal};
+
+use crate::output::{write_decimal, write_hex_line};
 use lc_world::{Answer, Detail, Refusal};
 use std::io;
 use std::io::Write;
@@ -8,16 +12,19 @@ use std::io::Write;
 pub fn write_answer<W: Write>(answer: &Answer, out: &mut W) -> io::Result<()> {
     match answer {
         Answer::Accepted => out.write_all(b"ok\n"),
-        Answer::Absolved(amount) => writeln!(out, "absolved {amount}"),
+        Answer::Absolved(amount) => write_numbered(b"absolved ", u64::from(*amount), out),
         Answer::NothingToAbsolve => out.write_all(b"nothing to absolve\n"),
         Answer::Arrived => out.write_all(b"arrived\n"),
         Answer::Delivered { bytes, frames } => {
-            writeln!(out, "delivered {bytes} bytes {frames} frames")
+            out.write_all(b"delivered ")?;
+            write_decimal(*bytes, out)?;
+            out.write_all(b" bytes ")?;
+            write_decimal(*frames, out)?;
+            out.write_all(b" frames\n")
         }
         Answer::NothingInFlight => out.write_all(b"nothing in flight\n"),
         Answer::Violated(violation) => {
-            let number = violation.number();
-            writeln!(out, "violation V{number}")
+            write_numbered(b"violation V", u64::from(violation.number()), out)
         }
         Answer::Took(body) => {
             out.write_all(b"took ")?;
@@ -30,9 +37,25 @@ pub fn write_answer<W: Write>(answer: &Answer, out: &mut W) -> io::Result<()> {
 }
 
 fn write_refusal<W: Write>(refusal: Refusal, out: &mut W) -> io::Result<()> {
-    let number = refusal.number();
+    let number = u64::from(refusal.number());
     match refusal.detail() {
-        Some(Detail { name, value }) => writeln!(out, "refused {number} {name} {value}"),
-        None => writeln!(out, "refused {number}"),
+        Some(Detail { name, value }) => {
+            out.write_all(b"refused ")?;
+            write_decimal(number, out)?;
+            out.write_all(b" ")?;
+            out.write_all(name.as_bytes())?;
+            write_numbered(b" ", value, out)
+        }
+        None => write_numbered(b"refused ", number, out),
     }
+}
+
+// Writes the words, the number behind them, and a line feed.
+fn write_numbered<W: Write>(words: &[u8], number: u64, out: &mut W) -> io::Result<()>
+    ensures { OnOk result (Appends (W.contents out.old) (W.contents out.new)
+        (words.now ++ (decimal number ++ (10 ∷ [])))) }
+{
+    out.write_all(words)?;
+    write_decimal(number, out)?;
+    out.write_all(b"\n")
 }

@@ -5,6 +5,7 @@
 mod answer;
 mod argument;
 mod command;
+mod decoding;
 mod fault;
 mod input;
 mod listing;
@@ -22,6 +23,6 @@ pub use fault::{Fault, Status};
 pub use input::{MAX_INPUT, read_all};
 pub use listing::frames;
 pub use looping::print_loopback;
-pub use output::buffered;
+pub use output::{buffered, write_decimal};
 pub use replaying::{replay, replay_as};
 pub use script::parse_script;

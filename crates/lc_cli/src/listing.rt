@@ -1,12 +1,15 @@
 //! `lcmux frames`: the frames of a stream, one a line.
-ghost use Rattle.std.specs.Prelude.{◌≡◌, ◌<◌, ◌≤◌, ◌+◌, OnOk, IfOk, length};
+ghost use Rattle.std.specs.Prelude.{◌≡◌, ◌<◌, ◌≤◌, ◌+◌, ◌∷◌, ◌++◌, OnOk, IfOk, length};
+ghost use Rattle.std.specs.Io.KnownBytes.{Appends};
+ghost use Rattle.std.specs.Fmt.{decimal};
+ghost use Rattle.lc_frame.specs.Channel.{number_of};
 ghost use Rattle.lc_frame.specs.Held.{IsUndecided};
 
 use crate::fault::{Fault, Status};
 use crate::input::{MAX_INPUT, PIECE};
-use crate::output::{buffered, write_hex_line};
+use crate::output::{buffered, write_decimal, write_hex_line};
 use crate::words::{ABSOLVE, FINISH, ISSUE, LIMIT_RECEIVING, LIMIT_SENDING, PLEAD, SEND};
-use lc_frame::{FrameFault, FrameRef, StreamDecoder};
+use lc_frame::{Channel, FrameFault, FrameRef, StreamDecoder};
 use std::alloc::{AllocError, Global};
 use std::io;
 use std::io::{Read, Write};
@@ -41,10 +44,11 @@ fn print_frames<R: Read, W: Write>(alloc: Global, input: &mut R, out: &mut W) ->
 
 // Writes the frame's line, with its line feed. Takes no memory.
 fn write_frame<W: Write>(frame: &FrameRef<'_>, out: &mut W) -> io::Result<()> {
-    let number = frame.channel().number();
+    let channel = frame.channel();
     let (word, value) = match frame {
         FrameRef::Send { body, .. } => {
-            write!(out, "{SEND} {number} ")?;
+            write_head(SEND, channel, out)?;
+            out.write_all(b" ")?;
             return write_hex_line(body, out);
         }
         FrameRef::Issue { amount, .. } => (ISSUE, u64::from(*amount)),
@@ -52,9 +56,25 @@ fn write_frame<W: Write>(frame: &FrameRef<'_>, out: &mut W) -> io::Result<()> {
         FrameRef::Plead { target, .. } => (PLEAD, u64::from(*target)),
         FrameRef::LimitSending { bound, .. } => (LIMIT_SENDING, *bound),
         FrameRef::LimitReceiving { bound, .. } => (LIMIT_RECEIVING, *bound),
-        FrameRef::Finish { .. } => return writeln!(out, "{FINISH} {number}"),
+        FrameRef::Finish { .. } => {
+            write_head(FINISH, channel, out)?;
+            return out.write_all(b"\n");
+        }
     };
-    writeln!(out, "{word} {number} {value}")
+    write_head(word, channel, out)?;
+    out.write_all(b" ")?;
+    write_decimal(value, out)?;
+    out.write_all(b"\n")
+}
+
+// Writes the word of a frame and the number of its channel.
+fn write_head<W: Write>(word: &[u8], channel: Channel, out: &mut W) -> io::Result<()>
+    ensures { OnOk result (Appends (W.contents out.old) (W.contents out.new)
+        (word.now ++ (32 ∷ decimal (number_of channel)))) }
+{
+    out.write_all(word)?;
+    out.write_all(b" ")?;
+    write_decimal(u64::from(channel.number()), out)
 }
 
 // How far a stream has been read.

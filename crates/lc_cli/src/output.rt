@@ -1,9 +1,11 @@
 //! Writing bytes as text.
 ghost use Rattle.std.specs.Prelude.{◌≡◌, ◌<◌, ◌*◌, IfErr, OnOk, length, slice_index};
 ghost use Rattle.std.specs.Io.KnownBytes.{Appends};
+ghost use Rattle.std.specs.Fmt.{decimal};
 ghost use Rattle.hex.specs.Hex.{encode_lower, lower_digits};
 
 use crate::fault::Fault;
+use itoa::Buffer;
 use std::alloc::Global;
 use std::io;
 use std::io::{BufWriter, Write};
@@ -65,4 +67,12 @@ fn write_hex<W: Write>(bytes: &[u8], out: &mut W) -> io::Result<()>
 pub fn write_hex_line<W: Write>(bytes: &[u8], out: &mut W) -> io::Result<()> {
     write_hex(bytes, out)?;
     out.write_all(b"\n")
+}
+
+/// Writes the number in decimal digits, all at once. Takes no memory.
+#[inline]
+pub fn write_decimal<W: Write>(number: u64, out: &mut W) -> io::Result<()>
+    ensures { OnOk result (Appends (W.contents out.old) (W.contents out.new) (decimal number)) }
+{
+    out.write_all(Buffer::new().format(number).as_bytes())
 }

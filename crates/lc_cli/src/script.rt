@@ -1,18 +1,18 @@
 //! Scripts: one event a line.
-ghost use Rattle.std.specs.Prelude.{◌≡◌, Err};
+ghost use Rattle.std.specs.Prelude.{◌≡◌, ◌<◌, Err, IfSome, length};
 
+use crate::decoding::decode;
 use crate::fault::Fault;
 use crate::number::parse_decimal;
 use crate::words::{
     ABSOLVE, ARRIVE, DELIVER, FINISH, HONOUR, ISSUE, LIMIT_RECEIVING, LIMIT_SENDING, PLEAD, SEND,
     TAKE,
 };
-use hex::FromHexError;
 use lc_frame::{Body, Channel};
 use lc_world::{Act, Event, Side};
+use memchr::memchr;
 use std::alloc::Global;
 use std::str;
-use std::str::Split;
 
 // Why a line gives no event.
 #[derive(Clone, Copy)]
@@ -26,7 +26,13 @@ pub fn parse_script(alloc: Global, script: &[u8]) -> Result<Vec<Event>, Fault>
     ensures { ¬ (result ≡ Err Fault.Usage) }
 {
     let mut events = Vec::new(alloc);
-    for (number, line) in (1..=u64::MAX).zip(script.split(|byte| *byte == b'\n')) {
+    let mut rest = Some(script);
+    for number in 1..=u64::MAX {
+        let Some(lines) = rest else {
+            break;
+        };
+        let (line, others) = cut(lines, memchr(b'\n', lines));
+        rest = others;
         if line.is_empty() || line[0] == b'#' {
             continue;
         }
@@ -39,26 +45,43 @@ pub fn parse_script(alloc: Global, script: &[u8]) -> Result<Vec<Event>, Fault>
     Ok(events)
 }
 
+// What stands before a place, and what stands behind it. With no place all stands before it.
+#[inline]
+fn cut(bytes: &[u8], place: Option<usize>) -> (&[u8], Option<&[u8]>)
+    requires { IfSome place (λ k. k < length bytes.now) }
+{
+    match place {
+        Some(place) => (&bytes[..place], Some(&bytes[place + 1..])),
+        None => (bytes, None),
+    }
+}
+
 fn parse_line(alloc: Global, line: &[u8]) -> Result<Event, LineFault> {
-    let line = str::from_utf8(line).map_err(|_| LineFault::Bad)?;
-    let mut fields = Fields(line.split(' '));
+    let mut fields = Fields(Some(line));
     let side = fields.side()?;
     let act = fields.act(alloc)?;
     fields.end()?;
     Ok(Event { side, act })
 }
 
-// The fields of a line, separated by single spaces: two spaces have an empty field between them.
-#[derive(Drop)]
-struct Fields<'a>(Split<'a, char>);
+// The fields of a line that are not read yet, separated by single spaces: two spaces have an empty
+// field between them. Each field is compared byte by byte with what it may be, so that a line that
+// is no UTF-8 is a bad one.
+#[derive(Clone, Copy)]
+struct Fields<'a>(Option<&'a [u8]>);
 
 impl<'a> Fields<'a> {
-    fn field(&mut self) -> Result<&'a str, LineFault> {
-        self.0.next().ok_or(LineFault::Bad)
+    // Most fields are so short that their end is near.
+    #[inline]
+    fn field(&mut self) -> Result<&'a [u8], LineFault> {
+        let rest = self.0.ok_or(LineFault::Bad)?;
+        let (field, others) = cut(rest, rest.iter().position(|byte| *byte == b' '));
+        self.0 = others;
+        Ok(field)
     }
 
-    fn end(&mut self) -> Result<(), LineFault> {
-        match self.0.next() {
+    fn end(&self) -> Result<(), LineFault> {
+        match self.0 {
             Some(_) => Err(LineFault::Bad),
             None => Ok(()),
         }
@@ -66,8 +89,8 @@ impl<'a> Fields<'a> {
 
     fn side(&mut self) -> Result<Side, LineFault> {
         match self.field()? {
-            "A" => Ok(Side::A),
-            "B" => Ok(Side::B),
+            [b'A'] => Ok(Side::A),
+            [b'B'] => Ok(Side::B),
             _ => Err(LineFault::Bad),
         }
     }
@@ -83,7 +106,7 @@ impl<'a> Fields<'a> {
     }
 
     // An act that concerns a channel.
-    fn act_on_channel(&mut self, alloc: Global, word: &str) -> Result<Act, LineFault> {
+    fn act_on_channel(&mut self, alloc: Global, word: &[u8]) -> Result<Act, LineFault> {
         let channel = self.channel()?;
         match word {
             SEND => Ok(Act::Send {
@@ -118,7 +141,7 @@ impl<'a> Fields<'a> {
     }
 
     fn channel(&mut self) -> Result<Channel, LineFault> {
-        let number = match self.field()?.as_bytes() {
+        let number = match self.field()? {
             [digit @ b'0'..=b'6'] => *digit - b'0',
             _ => return Err(LineFault::Bad),
         };
@@ -130,20 +153,22 @@ impl<'a> Fields<'a> {
     }
 
     fn bound(&mut self) -> Result<u64, LineFault> {
-        parse_decimal(self.field()?).ok_or(LineFault::Bad)
+        let digits = str::from_utf8(self.field()?).map_err(|_| LineFault::Bad)?;
+        parse_decimal(digits).ok_or(LineFault::Bad)
     }
 
-    // The bytes of a body, of which `-` has none.
+    // The bytes of a body, of which `-` has none. No memory is asked for where the line is no text.
     fn body(&mut self, alloc: Global) -> Result<Body, LineFault> {
-        let digits = match self.field()? {
-            "" => return Err(LineFault::Bad),
-            "-" => "",
+        let rest = self.0.ok_or(LineFault::Bad)?;
+        str::from_utf8(rest).map_err(|_| LineFault::Bad)?;
+        let (field, others) = cut(rest, memchr(b' ', rest));
+        self.0 = others;
+        let digits: &[u8] = match field {
+            [] => return Err(LineFault::Bad),
+            [b'-'] => &[],
             digits => digits,
         };
-        match hex::decode(alloc, digits) {
-            Ok(bytes) => Ok(Body::from_vec(bytes)),
-            Err(FromHexError::OutOfMemory) => Err(LineFault::OutOfMemory),
-            Err(_) => Err(LineFault::Bad),
-        }
+        let bytes = decode(alloc, digits).map_err(|_| LineFault::OutOfMemory)?;
+        bytes.map(Body::from_vec).ok_or(LineFault::Bad)
     }
 }

@@ -1,0 +1,30 @@
+-- Two digits and the byte that they write, told by the digits' values.
+use Rattle.std.proofs.Common.{◌≡◌, ℕ, ◌+◌, ◌*◌, ◌<◌, ◌≤◌, Option, None, Some, Ok, Err, MatchOption, refl, subst, sym, arith, ◌⊎◌, inl, inr}
+use Rattle.hex.specs.Hex.{digit_or_error, hex_digit_value, pair_value, ◌>>=◌}
+use Rattle.hex.specs.declared.error.FromHexError.{FromHexError}
+use Rattle.hex.specs.declared.error.FromHexError.TheVariants.{InvalidHexCharacter}
+
+-- x is the value of a digit, or 255 where there is none
+abbrev pub IsValue : Option ℕ → ℕ → Type 0
+IsValue o x = MatchOption o (x ≡ 255) (λ v. (x ≡ v) × (v < 16))
+
+two : (a b i x y : ℕ) (o p : Option ℕ) → IsValue o x → IsValue p y → x < 16 → y < 16
+    → (digit_or_error a i o >>= (λ h. digit_or_error b (i + 1) p >>= (λ l. Ok (h * 16 + l)))) ≡ Ok (x * 16 + y)
+two a b i x y None p g h small low = absurd (omega (arith, g, small))
+two a b i x y (Some v) None g h small low = absurd (omega (arith, h, low))
+two a b i x y (Some v) (Some w) (e, g) (f, h) small low = rw (e, f) refl
+
+bad : (a b i x y : ℕ) (o p : Option ℕ) → IsValue o x → IsValue p y → (16 ≤ x) ⊎ (16 ≤ y)
+    → (e : FromHexError) × ((digit_or_error a i o >>= (λ h. digit_or_error b (i + 1) p >>= (λ l. Ok (h * 16 + l)))) ≡ Err e)
+bad a b i x y None p g h large = (InvalidHexCharacter a i, refl)
+bad a b i x y (Some v) None g h large = (InvalidHexCharacter b (i + 1), refl)
+bad a b i x y (Some v) (Some w) (e, g) (f, h) (inl large) = absurd (omega (arith, e, g, large))
+bad a b i x y (Some v) (Some w) (e, g) (f, h) (inr large) = absurd (omega (arith, f, h, large))
+
+-- two digits write a byte
+pub pair-ok : (a b i x y : ℕ) → IsValue (hex_digit_value a) x → IsValue (hex_digit_value b) y → x < 16 → y < 16 → pair_value a b i ≡ Ok (x * 16 + y)
+pair-ok a b i x y g h small low = two a b i x y (hex_digit_value a) (hex_digit_value b) g h small low
+
+-- one of the two is no digit
+pub pair-err : (a b i x y : ℕ) → IsValue (hex_digit_value a) x → IsValue (hex_digit_value b) y → (16 ≤ x) ⊎ (16 ≤ y) → (e : FromHexError) × (pair_value a b i ≡ Err e)
+pair-err a b i x y g h large = bad a b i x y (hex_digit_value a) (hex_digit_value b) g h large

@@ -1,0 +1,64 @@
+//! Reading bytes that are written as text.
+ghost use Rattle.std.specs.Prelude.{◌≡◌, ◌<◌, ◌*◌, ◌%◌, ℕ, Ok, Err, None, IfOk, MatchOption, MatchBool, length};
+ghost use Rattle.hex.specs.Hex.{decode_of, decode_pairs, hex_digit_value, pair_value};
+ghost use Rattle.hex.specs.declared.error.FromHexError.{FromHexError};
+
+use std::alloc::{AllocError, Global};
+
+// The value of a digit in either case, and 255 for any other byte.
+#[inline(always)]
+fn value(digit: u8) -> u8
+    ensures { MatchOption (hex_digit_value digit) (result ≡ 255) (λ v. (result ≡ v) × (v < 16)) }
+{
+    match digit {
+        b'0'..=b'9' => digit - b'0',
+        b'a'..=b'f' => digit - b'a' + 10,
+        b'A'..=b'F' => digit - b'A' + 10,
+        _ => 255,
+    }
+}
+
+// The byte of two digits.
+#[inline(always)]
+fn pair(high: u8, low: u8) -> Option<u8>
+    ensures { MatchOption result
+        ((i : ℕ) → (e : FromHexError) × (pair_value high low i ≡ Err e))
+        (λ byte. (i : ℕ) → pair_value high low i ≡ Ok byte) }
+{
+    let (first, second) = (value(high), value(low));
+    if first >= 16 || second >= 16 {
+        return None;
+    }
+    Some(first * 16 + second)
+}
+
+// Whether the text is pairs of digits, whose bytes are then put.
+fn decode_into(text: &[u8], bytes: &mut [u8]) -> bool
+    requires { length text.now ≡ 2 * length bytes.old }
+    ensures { MatchBool result (decode_pairs 0 text.now ≡ Ok bytes.new)
+        ((e : FromHexError) × (decode_pairs 0 text.now ≡ Err e)) }
+{
+    'bytes: for place in 0..bytes.len() {
+        let Some(byte) = pair(text[2 * place], text[2 * place + 1]) else {
+            return false;
+        };
+        bytes[place] = byte;
+    }
+    true
+}
+
+/// The bytes that a text writes in hexadecimal, in either case. `None` for any other text, for one of
+/// an odd length before memory is asked for.
+pub(crate) fn decode(alloc: Global, text: &[u8]) -> Result<Option<Vec<u8>>, AllocError>
+    ensures read { IfOk result (λ found. MatchOption found
+        ((e : FromHexError) × (decode_of text.now ≡ Err e))
+        (λ bytes. decode_of text.now ≡ Ok bytes.items)) }
+    ensures odd { length text.now % 2 ≡ 1 → result ≡ Ok None }
+{
+    if text.len() % 2 != 0 {
+        return Ok(None);
+    }
+    let mut bytes = vec![in alloc; 0u8; text.len() / 2]?;
+    let is_text = decode_into(text, bytes.as_mut_slice());
+    Ok(is_text.then_some(bytes))
+}
