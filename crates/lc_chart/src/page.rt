@@ -2,6 +2,7 @@
 //! and its marks.
 ghost use Rattle.std.specs.Prelude.{◌≤◌};
 
+use crate::shapes;
 use crate::shapes::{Paint, Point, diamond, disc, line, rect, text};
 use lc_frame::Channel;
 use std::fmt::Display;
@@ -90,7 +91,7 @@ pub(crate) fn frame_mark<W: Write>(out: &mut W, channel: Channel, at: Point) -> 
     requires { at.y ≤ 10000000 }
 {
     disc(out, Paint::of("mark", channel), at, 10)?;
-    inside(out, at, &channel.number())
+    inside(out, at, channel.number())
 }
 
 /// The mark of a message that was taken: a square with its channel's number.
@@ -100,7 +101,7 @@ pub(crate) fn take_mark<W: Write>(out: &mut W, channel: Channel, at: Point) -> i
 {
     let corner = Point::new(at.x - 10, at.y - 10);
     rect(out, Paint::of("mark", channel), corner, 20, 20)?;
-    inside(out, at, &channel.number())
+    inside(out, at, channel.number())
 }
 
 /// The mark of what was refused or breaks the rules: a diamond with its number.
@@ -108,14 +109,14 @@ pub(crate) fn wrong_mark<W: Write>(out: &mut W, number: u8, at: Point) -> io::Re
     requires { at.y ≤ 10000000 }
 {
     diamond(out, Paint::plain("wrong"), at)?;
-    inside(out, at, &number)
+    inside(out, at, number)
 }
 
-fn inside<W: Write>(out: &mut W, at: Point, number: &u8) -> io::Result<()>
+fn inside<W: Write>(out: &mut W, at: Point, number: u8) -> io::Result<()>
     requires { at.y ≤ 10000000 }
 {
     let base = Point::new(at.x, at.y + 4);
-    text(out, Paint::plain("in"), base, number)
+    shapes::number(out, Paint::plain("in"), base, u64::from(number))
 }
 
 /// The words of a line of the legend, behind its shape.

@@ -6,7 +6,8 @@ use crate::page::{
     take_mark, wrong_mark,
 };
 use crate::session::{Arrow, Bar, Session, Span, channel_of, client_of, other};
-use crate::shapes::{Paint, Point, disc, line, rect, text};
+use crate::shapes;
+use crate::shapes::{Paint, Point, disc, line, number, rect, text};
 use crate::words::{Asked, Happened, Phrase, Told};
 use lc_frame::{CHANNELS, Channel, Lane};
 use lc_world::{Answer, Event, Side};
@@ -285,7 +286,7 @@ impl Stack {
         match bar {
             Bar::Held(held) => {
                 self.part("held", at, held, out)?;
-                text(out, Paint::plain("sum"), number_place(at, 0), &held)
+                number(out, Paint::plain("sum"), number_place(at, 0), held)
             }
             Bar::Ring {
                 buffered,
@@ -313,9 +314,9 @@ impl Stack {
             };
             return text(out, sum, number_place(at, 0), &words);
         }
-        text(out, sum, number_place(at, 0), &buffered)?;
-        text(out, sum, number_place(at, 1), &outstanding)?;
-        text(out, sum, number_place(at, 2), &room)
+        number(out, sum, number_place(at, 0), buffered)?;
+        number(out, sum, number_place(at, 1), outstanding)?;
+        number(out, sum, number_place(at, 2), room)
     }
 }
 
@@ -411,7 +412,7 @@ fn draw_number<W: Write>(side: Side, number: u16, at: Point, out: &mut W) -> io:
         Side::B => at.x + 18,
     };
     let paint = Paint::plain(anchored(side, "soft end", "soft"));
-    text(out, paint, Point::new(x, at.y + 4), &number)
+    shapes::number(out, paint, Point::new(x, at.y + 4), u64::from(number))
 }
 
 fn draw_mark<W: Write>(event: &Event, answer: &Answer, at: Point, out: &mut W) -> io::Result<()>

@@ -1,6 +1,10 @@
 //! The shapes of a picture, each one element of SVG.
-ghost use Rattle.std.specs.Prelude.{◌≡◌};
+ghost use Rattle.std.specs.Prelude.{◌≡◌, ◌++◌, OnOk};
+ghost use Rattle.std.specs.Io.KnownBytes.{Appends};
+ghost use Rattle.std.specs.Fmt.{decimal};
+ghost use Rattle.lc_chart.specs.Classes.{class_text};
 
+use lc_cli::write_decimal;
 use lc_frame::Channel;
 use std::fmt::Display;
 use std::io::Write;
@@ -69,37 +73,40 @@ pub fn rect<W: Write>(
     width: u64,
     height: u64,
 ) -> io::Result<()> {
-    let Point { x, y } = at;
-    writeln!(
-        out,
-        "<rect class=\"{paint}\" x=\"{x}\" y=\"{y}\" width=\"{width}\" height=\"{height}\"/>"
-    )
+    put_head(out, b"<rect class=\"", paint)?;
+    put_number(out, b"\" x=\"", at.x)?;
+    put_number(out, b"\" y=\"", at.y)?;
+    put_number(out, b"\" width=\"", width)?;
+    put_number(out, b"\" height=\"", height)?;
+    out.write_all(b"\"/>\n")
 }
 
 /// A straight line. The style sheet gives an arrow its head, at the line's end.
 pub fn line<W: Write>(out: &mut W, paint: Paint, from: Point, to: Point) -> io::Result<()> {
-    let Point { x, y } = from;
-    write!(out, "<line class=\"{paint}\" x1=\"{x}\" y1=\"{y}\"")?;
-    let Point { x, y } = to;
-    writeln!(out, " x2=\"{x}\" y2=\"{y}\"/>")
+    put_head(out, b"<line class=\"", paint)?;
+    put_number(out, b"\" x1=\"", from.x)?;
+    put_number(out, b"\" y1=\"", from.y)?;
+    out.write_all(b"\"")?;
+    put_number(out, b" x2=\"", to.x)?;
+    put_number(out, b"\" y2=\"", to.y)?;
+    out.write_all(b"\"/>\n")
 }
 
 /// A disc round a place.
 pub fn disc<W: Write>(out: &mut W, paint: Paint, at: Point, radius: u64) -> io::Result<()> {
-    let Point { x, y } = at;
-    writeln!(
-        out,
-        "<circle class=\"{paint}\" cx=\"{x}\" cy=\"{y}\" r=\"{radius}\"/>"
-    )
+    put_head(out, b"<circle class=\"", paint)?;
+    put_number(out, b"\" cx=\"", at.x)?;
+    put_number(out, b"\" cy=\"", at.y)?;
+    put_number(out, b"\" r=\"", radius)?;
+    out.write_all(b"\"/>\n")
 }
 
 /// A square that stands on a corner, round a place.
 pub fn diamond<W: Write>(out: &mut W, paint: Paint, at: Point) -> io::Result<()> {
-    let Point { x, y } = at;
-    writeln!(
-        out,
-        "<path class=\"{paint}\" d=\"M{x} {y}m-13 0l13 -13l13 13l-13 13z\"/>"
-    )
+    put_head(out, b"<path class=\"", paint)?;
+    put_number(out, b"\" d=\"M", at.x)?;
+    put_number(out, b" ", at.y)?;
+    out.write_all(b"m-13 0l13 -13l13 13l-13 13z\"/>\n")
 }
 
 /// A line of text, at the left end of its base unless the style sheet says otherwise. Its content is
@@ -110,9 +117,50 @@ pub fn text<W: Write, T: Display>(
     at: Point,
     content: &T,
 ) -> io::Result<()> {
-    let Point { x, y } = at;
-    writeln!(
-        out,
-        "<text class=\"{paint}\" x=\"{x}\" y=\"{y}\">{content}</text>"
-    )
+    put_text_head(out, paint, at)?;
+    write!(out, "{content}")?;
+    out.write_all(b"</text>\n")
+}
+
+/// A line of text that is a number.
+pub(crate) fn number<W: Write>(
+    out: &mut W,
+    paint: Paint,
+    at: Point,
+    number: u64,
+) -> io::Result<()> {
+    put_text_head(out, paint, at)?;
+    write_decimal(number, out)?;
+    out.write_all(b"</text>\n")
+}
+
+fn put_text_head<W: Write>(out: &mut W, paint: Paint, at: Point) -> io::Result<()> {
+    put_head(out, b"<text class=\"", paint)?;
+    put_number(out, b"\" x=\"", at.x)?;
+    put_number(out, b"\" y=\"", at.y)?;
+    out.write_all(b"\">")
+}
+
+// Writes the words and the classes behind them. Here and below each piece is written where formatting
+// would write it, so that a failed write has the same pieces before it.
+fn put_head<W: Write>(out: &mut W, words: &[u8], paint: Paint) -> io::Result<()>
+    ensures { OnOk result (Appends (W.contents out.old) (W.contents out.new)
+        (words.now ++ class_text paint.name.now paint.channel)) }
+{
+    out.write_all(words)?;
+    out.write_all(paint.name.as_bytes())?;
+    match paint.channel {
+        Some(channel) => put_number(out, b" c", u64::from(channel.number())),
+        None => Ok(()),
+    }
+}
+
+// Writes the words and the number behind them.
+#[inline]
+fn put_number<W: Write>(out: &mut W, words: &[u8], number: u64) -> io::Result<()>
+    ensures { OnOk result (Appends (W.contents out.old) (W.contents out.new)
+        (words.now ++ decimal number)) }
+{
+    out.write_all(words)?;
+    write_decimal(number, out)
 }

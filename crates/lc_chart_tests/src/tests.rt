@@ -2,6 +2,7 @@
 mod devices;
 mod faults;
 mod layout;
+mod same_shapes;
 
 use lc_chart::run;
 use std::alloc::Global;
