@@ -143,6 +143,7 @@ fn put_text_head<W: Write>(out: &mut W, paint: Paint, at: Point) -> io::Result<(
 
 // Writes the words and the classes behind them. Here and below each piece is written where formatting
 // would write it, so that a failed write has the same pieces before it.
+#[inline(always)]
 fn put_head<W: Write>(out: &mut W, words: &[u8], paint: Paint) -> io::Result<()>
     ensures { OnOk result (Appends (W.contents out.old) (W.contents out.new)
         (words.now ++ class_text paint.name.now paint.channel)) }
@@ -156,7 +157,7 @@ fn put_head<W: Write>(out: &mut W, words: &[u8], paint: Paint) -> io::Result<()>
 }
 
 // Writes the words and the number behind them.
-#[inline]
+#[inline(always)]
 fn put_number<W: Write>(out: &mut W, words: &[u8], number: u64) -> io::Result<()>
     ensures { OnOk result (Appends (W.contents out.old) (W.contents out.new)
         (words.now ++ decimal number)) }

@@ -70,7 +70,7 @@ pub fn write_hex_line<W: Write>(bytes: &[u8], out: &mut W) -> io::Result<()> {
 }
 
 /// Writes the number in decimal digits, all at once. Takes no memory.
-#[inline]
+#[inline(always)]
 pub fn write_decimal<W: Write>(number: u64, out: &mut W) -> io::Result<()>
     ensures { OnOk result (Appends (W.contents out.old) (W.contents out.new) (decimal number)) }
 {
