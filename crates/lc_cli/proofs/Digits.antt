@@ -1,5 +1,5 @@
 -- Two digits and the byte that they write, told by the digits' values.
-use Rattle.std.proofs.Common.{◌≡◌, ℕ, zero, suc, ◌+◌, ◌-◌, ◌*◌, ◌/◌, ◌<◌, ◌≤◌, Bool, true, ◌&&◌, T, eqb, get_or, Option, None, Some, Ok, Err, MatchOption, refl, subst, sym, arith, ◌⊎◌, inl, inr, eq-zero-or-pos, eqb→eq}
+use Rattle.std.proofs.Common.{◌≡◌, ℕ, zero, suc, ◌+◌, ◌-◌, ◌*◌, ◌/◌, ◌<◌, ◌≤◌, Bool, true, ◌&&◌, T, eqb, get_or, Option, None, Some, Ok, Err, MatchOption, refl, arith, ◌⊎◌, inl, inr, eq-zero-or-pos, eqb→eq}
 use lib.Ieee.Fits.{and_l, and_r}
 use Rattle.hex.specs.Hex.{digit_or_error, hex_digit_value, pair_value, ◌>>=◌}
 use Rattle.hex.specs.declared.error.FromHexError.{FromHexError}
