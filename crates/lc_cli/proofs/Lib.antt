@@ -1,4 +1,5 @@
 mod Decimal
 mod Digits
+mod LastDigits
 mod Open
 mod Written

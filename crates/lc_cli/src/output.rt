@@ -1,11 +1,10 @@
 //! Writing bytes as text.
-ghost use Rattle.std.specs.Prelude.{◌≡◌, ◌<◌, ◌*◌, IfErr, OnOk, length, slice_index};
+ghost use Rattle.std.specs.Prelude.{◌≡◌, ◌<◌, ◌≤◌, ◌*◌, IfErr, OnOk, length, drop, slice_index};
 ghost use Rattle.std.specs.Io.KnownBytes.{Appends};
 ghost use Rattle.std.specs.Fmt.{decimal};
 ghost use Rattle.hex.specs.Hex.{encode_lower, lower_digits};
 
 use crate::fault::Fault;
-use itoa::Buffer;
 use std::alloc::Global;
 use std::io;
 use std::io::{BufWriter, Write};
@@ -69,10 +68,34 @@ pub fn write_hex_line<W: Write>(bytes: &[u8], out: &mut W) -> io::Result<()> {
     out.write_all(b"\n")
 }
 
+// The digits of the longest number.
+const DECIMAL: usize = 20;
+
+// Puts the digits of the number last, and says where they begin.
+#[inline]
+fn put_decimal(number: u64, digits: &mut [u8]) -> usize
+    requires { length digits.old ≡ 20 }
+    ensures within { result ≤ length digits.new }
+    ensures digits { drop result digits.new ≡ decimal number }
+{
+    let mut rest = number;
+    let mut first = DECIMAL;
+    'digits: while rest >= 10 {
+        first -= 1;
+        digits[first] = b'0' + (rest % 10) as u8;
+        rest /= 10;
+    }
+    first -= 1;
+    digits[first] = b'0' + rest as u8;
+    first
+}
+
 /// Writes the number in decimal digits, all at once. Takes no memory.
-#[inline(always)]
+#[inline]
 pub fn write_decimal<W: Write>(number: u64, out: &mut W) -> io::Result<()>
     ensures { OnOk result (Appends (W.contents out.old) (W.contents out.new) (decimal number)) }
 {
-    out.write_all(Buffer::new().format(number).as_bytes())
+    let mut digits = [0u8; DECIMAL];
+    let first = put_decimal(number, &mut digits);
+    out.write_all(&digits[first..])
 }

@@ -1,5 +1,6 @@
 //! Scripts: one event a line.
-ghost use Rattle.std.specs.Prelude.{◌≡◌, ◌<◌, Err, IfSome, length};
+ghost use Rattle.std.specs.Prelude.{◌≡◌, ◌<◌, ◌+◌, Err, IfSome, MatchOption, length, take, drop};
+ghost use Rattle.std.specs.Option.{option_map};
 
 use crate::decoding::decode;
 use crate::fault::Fault;
@@ -10,7 +11,6 @@ use crate::words::{
 };
 use lc_frame::{Body, Channel};
 use lc_world::{Act, Event, Side};
-use memchr::memchr;
 use std::alloc::Global;
 use std::str;
 
@@ -31,7 +31,7 @@ pub fn parse_script(alloc: Global, script: &[u8]) -> Result<Vec<Event>, Fault>
         let Some(lines) = rest else {
             break;
         };
-        let (line, others) = cut(lines, memchr(b'\n', lines));
+        let (line, others) = cut(lines, lines.iter().position(|byte| *byte == b'\n'));
         rest = others;
         if line.is_empty() || line[0] == b'#' {
             continue;
@@ -49,6 +49,8 @@ pub fn parse_script(alloc: Global, script: &[u8]) -> Result<Vec<Event>, Fault>
 #[inline]
 fn cut(bytes: &[u8], place: Option<usize>) -> (&[u8], Option<&[u8]>)
     requires { IfSome place (λ k. k < length bytes.now) }
+    ensures before { MatchOption place (result.0.now ≡ bytes.now) (λ k. result.0.now ≡ take k bytes.now) }
+    ensures behind { option_map (λ rest. rest.now) result.1 ≡ option_map (λ k. drop (k + 1) bytes.now) place }
 {
     match place {
         Some(place) => (&bytes[..place], Some(&bytes[place + 1..])),
@@ -161,7 +163,7 @@ impl<'a> Fields<'a> {
     fn body(&mut self, alloc: Global) -> Result<Body, LineFault> {
         let rest = self.0.ok_or(LineFault::Bad)?;
         str::from_utf8(rest).map_err(|_| LineFault::Bad)?;
-        let (field, others) = cut(rest, memchr(b' ', rest));
+        let (field, others) = cut(rest, rest.iter().position(|byte| *byte == b' '));
         self.0 = others;
         let digits: &[u8] = match field {
             [] => return Err(LineFault::Bad),

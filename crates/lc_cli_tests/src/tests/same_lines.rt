@@ -1,4 +1,4 @@
-//! The lines of answers and frames are those of formatting, and are written by the same calls.
+//! The lines of answers and frames are those of formatting; those of answers are written by the same calls.
 use super::before::lines;
 use super::same;
 use lc_frame::{Body, Channel, FrameRef, Version};

@@ -110,13 +110,13 @@ fn is_same(rt: &impl Abort, alloc: Global, script: &[u8]) -> bool {
 #[test]
 fn made_lines_are_read_as_before(rt: HostRuntime) -> Result<(), Fail> {
     let mut state = 62;
-    let mut good = 0;
+    let mut good = 0u32;
     let (mut line, mut script) = (Vec::new(rt.alloc()), Vec::new(rt.alloc()));
     for number in 0..60_000 {
         line.clear();
         append_line(&mut state, &mut line).ok_or("no memory")?;
         if is_same(&rt, rt.alloc(), line.as_slice()) {
-            good += 1;
+            good = good.saturating_add(1);
             script.extend_from_slice(line.as_slice())?;
             script.push(b'\n')?;
         }
