@@ -8,3 +8,7 @@ use Rattle.lc_frame.specs.Channel.{number_of}
 abbrev pub class_text : List ℕ → Option Channel → List ℕ
 class_text name None = name
 class_text name (Some channel) = name ++ (codes " c" ++ decimal (number_of channel))
+
+-- the front of an element of text, by its classes and its place
+abbrev pub text_head : List ℕ → Option Channel → ℕ → ℕ → List ℕ
+text_head name channel x y = codes "<text class=\"" ++ class_text name channel ++ (codes "\" x=\"" ++ decimal x) ++ (codes "\" y=\"" ++ decimal y) ++ codes "\">"

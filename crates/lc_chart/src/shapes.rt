@@ -1,8 +1,8 @@
 //! The shapes of a picture, each one element of SVG.
-ghost use Rattle.std.specs.Prelude.{◌≡◌, ◌++◌, OnOk};
+ghost use Rattle.std.specs.Prelude.{◌≡◌, ◌++◌, OnOk, codes};
 ghost use Rattle.std.specs.Io.KnownBytes.{Appends};
 ghost use Rattle.std.specs.Fmt.{decimal};
-ghost use Rattle.lc_chart.specs.Classes.{class_text};
+ghost use Rattle.lc_chart.specs.Classes.{class_text, text_head};
 
 use lc_cli::write_decimal;
 use lc_frame::Channel;
@@ -118,23 +118,23 @@ pub fn text<W: Write, T: Display>(
     content: &T,
 ) -> io::Result<()> {
     put_text_head(out, paint, at)?;
-    write!(out, "{content}")?;
-    out.write_all(b"</text>\n")
+    writeln!(out, "{content}</text>")
 }
 
 /// A line of text that is a number.
-pub(crate) fn number<W: Write>(
-    out: &mut W,
-    paint: Paint,
-    at: Point,
-    number: u64,
-) -> io::Result<()> {
+pub(crate) fn number<W: Write>(out: &mut W, paint: Paint, at: Point, number: u64) -> io::Result<()>
+    ensures { OnOk result (Appends (W.contents out.old) (W.contents out.new)
+        (text_head paint.name.now paint.channel at.x at.y ++ (decimal number ++ codes "</text>\n"))) }
+{
     put_text_head(out, paint, at)?;
     write_decimal(number, out)?;
     out.write_all(b"</text>\n")
 }
 
-fn put_text_head<W: Write>(out: &mut W, paint: Paint, at: Point) -> io::Result<()> {
+fn put_text_head<W: Write>(out: &mut W, paint: Paint, at: Point) -> io::Result<()>
+    ensures { OnOk result (Appends (W.contents out.old) (W.contents out.new)
+        (text_head paint.name.now paint.channel at.x at.y)) }
+{
     put_head(out, b"<text class=\"", paint)?;
     put_number(out, b"\" x=\"", at.x)?;
     put_number(out, b"\" y=\"", at.y)?;

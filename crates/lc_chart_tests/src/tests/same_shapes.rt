@@ -106,14 +106,22 @@ impl Classes {
     }
 }
 
-// What is written, and behind each call's bytes a mark.
+// What is written, and behind each call's bytes a mark. The call of this number fails, and leaves a mark
+// of its own.
 #[derive(Drop)]
 struct Calls {
     bytes: Vec<u8>,
+    calls: u64,
+    failing: u64,
 }
 
 impl Write for Calls {
     fn write(&mut self, buf: &[u8]) -> io::Result<usize> {
+        self.calls = self.calls.saturating_add(1);
+        if self.calls == self.failing {
+            self.bytes.push(b'!')?;
+            return Err(io::Error::other("a call that fails"));
+        }
         self.bytes.extend_from_slice(buf)?;
         self.bytes.push(b'~')?;
         Ok(buf.len())
@@ -124,9 +132,22 @@ impl Write for Calls {
     }
 }
 
-fn no_calls(alloc: Global) -> Calls {
+fn no_calls(alloc: Global, failing: u64) -> Calls {
     Calls {
         bytes: Vec::new(alloc),
+        calls: 0,
+        failing,
+    }
+}
+
+// A content that goes on behind a failed write.
+struct Careless;
+
+impl std::fmt::Display for Careless {
+    fn fmt<W: std::fmt::Write>(&self, f: &mut std::fmt::Formatter<W>) -> std::fmt::Result {
+        let _ = f.write_str("one ");
+        let _ = f.write_str("two");
+        Ok(())
     }
 }
 
@@ -156,12 +177,40 @@ fn is_same(
     at: Point,
     to: Point,
 ) -> Result<(), Fail> {
-    let (mut found, mut wanted) = (no_calls(alloc), no_calls(alloc));
+    let (mut found, mut wanted) = (no_calls(alloc, 0), no_calls(alloc, 0));
     are_drawn(classes, at, to, &mut found)?;
     were_drawn(classes, at, to, &mut wanted)?;
     let wanted = String::from_utf8(wanted.bytes).map_err(|_| "no text")?;
     let found = String::from_utf8(found.bytes).ok();
     same(rt, "the shapes", found, wanted.as_str());
+    Ok(())
+}
+
+// Whether the first fault is met at the same call, with the same bytes before and behind it.
+fn fails_alike(rt: &impl Abort, alloc: Global, failing: u64) -> Result<(), Fail> {
+    let classes = Classes {
+        name: "mark",
+        channel: Some(Channel::DataChannel),
+    };
+    let (at, to) = (Point::new(1, 20), Point::new(300, 4_000));
+    let (mut found, mut wanted) = (no_calls(alloc, failing), no_calls(alloc, failing));
+    let is_drawn = are_drawn(classes, at, to, &mut found).is_ok();
+    let was_drawn = were_drawn(classes, at, to, &mut wanted).is_ok();
+    assert_eq!(rt; is_drawn, was_drawn);
+    let is_told = shapes::text(&mut found, classes.paint(), at, &Careless).is_ok();
+    let was_told = before::text(&mut wanted, &classes, at, &Careless).is_ok();
+    assert_eq!(rt; is_told, was_told);
+    let wanted = String::from_utf8(wanted.bytes).map_err(|_| "no text")?;
+    let found = String::from_utf8(found.bytes).ok();
+    same(rt, "the calls", found, wanted.as_str());
+    Ok(())
+}
+
+#[test]
+fn a_failed_write_is_met_as_before(rt: HostRuntime) -> Result<(), Fail> {
+    for failing in 1..=90 {
+        fails_alike(&rt, rt.alloc(), failing)?;
+    }
     Ok(())
 }
 
