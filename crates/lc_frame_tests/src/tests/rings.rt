@@ -1,7 +1,7 @@
 //! Calls on receiving rings, a call and its answer on each line, with bytes in hexadecimal. `front`
 //! shows the first message's length and its two slices, `take` has the bytes of its buffer and shows
-//! them after the call, `show` formats the ring, and `turn` pushes a message and takes it. `fill` and `drain` push and pop
-//! messages of one byte.
+//! them after the call, `show` formats the ring, and `turn` pushes a message and takes it. `fill` and
+//! `drain` push and pop messages of one byte.
 use super::{Subject, answers, same, text};
 use lc_frame::MAX_BODY;
 use lc_ring::{Full, NewFault, RecvRing};
