@@ -1,2 +1,3 @@
 pub mod Ring
+pub mod Laps
 pub mod Cuts

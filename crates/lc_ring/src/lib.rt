@@ -2,6 +2,7 @@
 //! grows.
 #![tactic(auto)]
 
+mod laps;
 mod ring;
 
 pub use lc_frame::BufferTooSmall;

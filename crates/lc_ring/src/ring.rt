@@ -1,11 +1,12 @@
 //! A bounded list of messages.
 //!
-//! A `RecvRing` has two of the kit's circular buffers, one of bytes and one of lengths, each with
-//! as many places as the ring has bytes, so that a ring full of messages of one byte fits.
+//! A `RecvRing` has bytes in laps (`laps.rt`) and one of the kit's circular buffers for lengths,
+//! with as many places as the ring has bytes, so that a ring full of messages of one byte fits.
 //! Contracts see neither: they see the list of messages that the lengths cut out of the bytes
-//! (`cut` in `specs/Cuts.antt`). A message goes in and comes out in at most two pieces, copied as
-//! slices. `RecvRing::new` asks for five bytes of address space for each byte of the ring; a page
-//! of memory is taken by the system only once a message reaches it.
+//! (`cut` in `specs/Cuts.antt`). A message goes in and comes out in one piece, copied as a slice.
+//! `RecvRing::new` asks for five bytes of address space for each byte of the ring, and for the
+//! longest message that fits it; a page of memory is taken by the system only once a message reaches
+//! it.
 ghost use Rattle.std.specs.Prelude.{◌≡◌, ◌+◌, ◌≤◌, ◌↔◌, ◌++◌, length, Err, IfOk, IfErr, IfSome, OnOk, is_ok, if◌then◌else◌};
 ghost use Rattle.std.specs.Option.{option_map};
 ghost use Rattle.std.specs.Result.{result_err};
@@ -14,6 +15,7 @@ ghost use Rattle.lc_frame.specs.declared.version.Version.TheVariants.{Two};
 ghost use Rattle.lc_frame.specs.Kind.{max_body};
 ghost use Rattle.lc_ring.specs.Ring.{new_ring, IsLength, IsRing, bytes, free, push_refusal, push, front, pop, take_answer, with_front};
 
+use crate::laps::LapBytes;
 use circular_buffer::HeapCircularBuffer;
 use lc_frame::{BufferTooSmall, is_capacity};
 use std::alloc::{AllocError, Global};
@@ -44,18 +46,19 @@ pub enum NewFault {
 /// and the capacity.
 #[derive(Debug, Drop)]
 pub struct RecvRing {
-    bytes: HeapCircularBuffer<u8>,
+    bytes: LapBytes,
     lengths: HeapCircularBuffer<u32>,
 }
 
 impl Model for RecvRing {
     ghost use Rattle.std.specs.Prelude.{◌≡◌, ◌≤◌};
     ghost use Rattle.lc_ring.specs.Ring.{Ring};
+    ghost use Rattle.lc_ring.specs.Laps.{waiting};
     ghost use Rattle.lc_ring.specs.Cuts.{cut, AreOneRing};
 
     ghost Value = { Ring };
 
-    ghost view = { λ ring. record { messages = cut ring.lengths.items ring.bytes.items; capacity = ring.bytes.capacity } };
+    ghost view = { λ ring. record { messages = cut ring.lengths.items (waiting ring.bytes); capacity = ring.bytes.turn } };
 
     ghost invariant = { λ ring. AreOneRing ring.lengths ring.bytes };
 }
@@ -67,7 +70,7 @@ fn with_room(alloc: Global, capacity: usize) -> Result<RecvRing, AllocError>
     ensures value { IfOk result (λ ring. ring ≡ new_ring capacity) }
 {
     Ok(RecvRing {
-        bytes: HeapCircularBuffer::with_capacity(alloc, capacity)?,
+        bytes: LapBytes::new(alloc, capacity)?,
         lengths: HeapCircularBuffer::with_capacity(alloc, capacity)?,
     })
 }
@@ -96,7 +99,7 @@ impl RecvRing {
         ensures value { result ≡ self.now.capacity }
         ensures kept { IsRing self.now }
     {
-        self.bytes.capacity()
+        self.bytes.turn()
     }
 
     /// The bytes of the messages that wait.
@@ -130,20 +133,24 @@ impl RecvRing {
         }
     }
 
+    // The first message in one piece, `None` where none waits.
+    #[inline]
+    fn first(&self) -> Option<&[u8]>
+        ensures { option_map (λ message. message.now) result ≡ front self.now }
+    {
+        let len = self.front_len()?;
+        Some(self.bytes.first(len))
+    }
+
     /// The first message, `None` where none waits. It is the two slices, one after the other; the
-    /// second is empty unless the message goes round the end of the ring's memory.
+    /// second is empty unless the message goes round the end of a memory of as many bytes as the
+    /// ring's capacity, in which each message lies behind the one before.
     #[inline]
     pub fn front(&self) -> Option<(&[u8], &[u8])>
         ensures { option_map (λ parts. parts.0.now ++ parts.1.now) result ≡ front self.now }
     {
         let len = self.front_len()?;
-        let (near, far) = self.bytes.as_slices();
-        if len <= near.len() {
-            let (message, _) = near.split_at(len);
-            return Some((message, &[]));
-        }
-        let (rest, _) = far.split_at(len - near.len());
-        Some((near, rest))
+        Some(self.bytes.parts(len))
     }
 
     /// Takes a message in as the last, exactly where it is no longer than what is free.
@@ -159,7 +166,7 @@ impl RecvRing {
         if message.len() > free {
             return Err(Full { free });
         }
-        self.bytes.fill_from_slice(message);
+        self.bytes.push(message);
         self.lengths.push_back(message.len() as u32);
         Ok(())
     }
@@ -173,7 +180,7 @@ impl RecvRing {
         ensures shrinks { IfSome result (λ len. bytes self.new + len ≡ bytes self.old) }
     {
         let len = self.lengths.pop_front()? as usize;
-        self.bytes.truncate_front(self.bytes.len() - len);
+        self.bytes.take(len);
         Some(len)
     }
 
@@ -191,19 +198,15 @@ impl RecvRing {
     {
         // A reader tells what every ring keeps.
         let _bytes = self.bytes();
-        let Some((near, far)) = self.front() else {
+        let Some(message) = self.first() else {
             return Ok(None);
         };
-        let need = near.len() + far.len();
+        let need = message.len();
         if buffer.len() < need {
             return Err(BufferTooSmall { need });
         }
-        let (first, rest) = buffer.split_at_mut(near.len());
-        first.copy_from_slice(near);
-        if !far.is_empty() {
-            let (second, _) = rest.split_at_mut(far.len());
-            second.copy_from_slice(far);
-        }
+        let (front, _) = buffer.split_at_mut(need);
+        front.copy_from_slice(message);
         Ok(self.pop())
     }
 }

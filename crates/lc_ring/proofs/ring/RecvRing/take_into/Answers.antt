@@ -6,4 +6,4 @@ pub returns-clause-after : goal.returns-clause-after
 returns-clause-after c = search rules
 
 pub returns-then-buffer-need-clause-need : goal.returns-then-buffer-need-clause-need
-returns-then-buffer-need-clause-need c = first_is_message c.args.self.now c.in-Some.near.now c.in-Some.far.now c.bytes-bytes.ensures.kept c.in-Some.ensures
+returns-then-buffer-need-clause-need c = first_is_message c.args.self.now c.in-Some.message.now c.bytes-bytes.ensures.kept c.in-Some.ensures

@@ -1,0 +1,152 @@
+//! Bytes that wait in a row, in one block that they go round in laps.
+//!
+//! A message lies in the block in one piece. A lap that reaches its turn is over, and what comes
+//! next lies at the front of the block again; the block has room behind the turn for the rest of the
+//! message that reached it. Where no byte waits the next lap begins at once, so that bytes which are
+//! soon taken stay in the memory that was touched last, and a page is only ever touched where more
+//! wait. The number of bytes up to the next cut is kept beside: it counts round the turn whatever
+//! the laps do, and says where a message is shown in two slices.
+ghost use Rattle.std.specs.Prelude.{◌≡◌, ◌+◌, ◌≤◌, ◌++◌, min, length, take, drop, IfOk};
+ghost use Rattle.lc_frame.specs.Bounds.{IsCapacity};
+ghost use Rattle.lc_frame.specs.declared.version.Version.TheVariants.{Two};
+ghost use Rattle.lc_frame.specs.Kind.{max_body};
+ghost use Rattle.lc_ring.specs.Laps.{new_laps, IsPushed, IsTaken};
+
+use lc_frame::MAX_BODY;
+use std::alloc::{AllocError, Global};
+use std::fmt::{self, Debug, Formatter};
+use std::marker::Model;
+
+/// The bytes that wait, as those of a lap and of the next.
+#[derive(Drop)]
+pub(crate) struct LapBytes {
+    // The lap, with what is gone of it at its front. The next lap lies over what is gone.
+    block: Vec<u8>,
+    gone: usize,
+    next: usize,
+    turn: usize,
+    until_cut: usize,
+}
+
+impl Model for LapBytes {
+    ghost use Rattle.std.specs.Prelude.{drop, take, vec_capacity};
+    ghost use Rattle.lc_ring.specs.Laps.{Laps, AreLaps};
+
+    ghost Value = { Laps };
+
+    ghost view = { λ b. record { near = drop b.gone b.block.items; far = take b.next b.block.items; turn = b.turn; cut = b.until_cut } };
+
+    ghost invariant = { λ b. AreLaps b.block.items b.gone b.next b.turn b.until_cut (vec_capacity b.block) };
+}
+
+impl Debug for LapBytes {
+    fn fmt<W: fmt::Write>(&self, f: &mut Formatter<W>) -> fmt::Result {
+        let (_, near) = self.block.as_slice().split_at(self.gone);
+        let (far, _) = self.block.as_slice().split_at(self.next);
+        f.debug_list()
+            .entries(near.iter())
+            .entries(far.iter())
+            .finish()
+    }
+}
+
+// Writes the bytes into the block from a place on.
+#[inline]
+fn write(block: &mut [u8], at: usize, bytes: &[u8])
+    requires { at + length bytes.now ≤ length block.old }
+    ensures { block.new ≡ take at block.old ++ bytes.now ++ drop (at + length bytes.now) block.old }
+{
+    let (_, rest) = block.split_at_mut(at);
+    let (place, _) = rest.split_at_mut(bytes.len());
+    place.copy_from_slice(bytes);
+}
+
+impl LapBytes {
+    /// No bytes, in laps of so many. None of the memory is touched.
+    pub(crate) fn new(alloc: Global, turn: usize) -> Result<LapBytes, AllocError>
+        requires { IsCapacity turn }
+        ensures { IfOk result (λ laps. laps ≡ new_laps turn) }
+    {
+        Ok(LapBytes {
+            block: Vec::with_capacity(alloc, turn + turn.min(MAX_BODY))?,
+            gone: 0,
+            next: 0,
+            turn,
+            until_cut: turn,
+        })
+    }
+
+    #[inline]
+    pub(crate) fn turn(&self) -> usize
+        ensures { result ≡ self.now.turn }
+    {
+        self.turn
+    }
+
+    /// The bytes that wait.
+    #[inline]
+    pub(crate) fn len(&self) -> usize
+        ensures { result ≡ length self.now.near + length self.now.far }
+    {
+        self.block.len() - self.gone + self.next
+    }
+
+    /// The first bytes of the lap.
+    #[inline]
+    pub(crate) fn first(&self, len: usize) -> &[u8]
+        requires { len ≤ length self.now.near }
+        ensures { result.now ≡ take len self.now.near }
+    {
+        let (_, near) = self.block.as_slice().split_at(self.gone);
+        near.split_at(len).0
+    }
+
+    /// The first bytes of the lap, up to the next cut and from there on.
+    #[inline]
+    pub(crate) fn parts(&self, len: usize) -> (&[u8], &[u8])
+        requires { len ≤ length self.now.near }
+        ensures whole { result.0.now ++ result.1.now ≡ take len self.now.near }
+        ensures cut { length result.0.now ≡ min len self.now.cut }
+    {
+        let first = self.first(len);
+        if len <= self.until_cut {
+            return (first, &[]);
+        }
+        first.split_at(self.until_cut)
+    }
+
+    /// Takes bytes in as the last, in one piece.
+    #[inline]
+    pub(crate) fn push(&mut self, bytes: &[u8])
+        requires room { length self.old.near + length self.old.far + length bytes.now ≤ self.old.turn }
+        requires at_most { length bytes.now ≤ max_body Two }
+        ensures { IsPushed self.old bytes.now self.new }
+    {
+        if self.block.len() < self.turn {
+            // The block has room for this, so that it is not asked for memory.
+            let _ = self.block.extend_from_slice(bytes);
+            return;
+        }
+        write(&mut self.block, self.next, bytes);
+        self.next += bytes.len();
+    }
+
+    /// Drops the first bytes of the lap.
+    #[inline]
+    pub(crate) fn take(&mut self, len: usize)
+        requires { len ≤ length self.old.near }
+        ensures { IsTaken len self.old self.new }
+    {
+        self.until_cut = if len < self.until_cut {
+            self.until_cut - len
+        } else {
+            self.until_cut + self.turn - len
+        };
+        self.gone += len;
+        if self.gone == self.block.len() {
+            self.block.truncate(self.next);
+            self.gone = 0;
+            self.next = 0;
+        }
+    }
+}
