@@ -31,12 +31,13 @@ abbrev pub IsTaken : ℕ → Laps → Laps → Type 0
 IsTaken len old new = ((len < length old.near) × (new ≡ record old { near = drop len old.near; cut = cut_after len old })) ⊎ ((len ≡ length old.near) × (new ≡ record old { near = old.far; far = []; cut = cut_after len old }))
 
 -- how bytes lie in a block: the next lap over what is gone, and only once the lap has reached the turn; behind the turn there is room for a message
-pub record AreLaps (items : List ℕ) (gone next turn cut capacity : ℕ) : Type 0 where
-  pub within : gone ≤ length items
-  pub idle : (length items ≡ 0) ⊎ (gone < length items)
+pub record AreLaps (items : List ℕ) (gone end next turn cut capacity : ℕ) : Type 0 where
+  pub within : gone ≤ end
+  pub held : end ≤ length items
+  pub idle : (end ≡ 0) ⊎ (gone < end)
   pub below : next ≤ gone
-  pub over : (next ≡ 0) ⊎ (turn ≤ length items)
-  pub fits : length items + next ≤ turn + gone
+  pub over : (next ≡ 0) ⊎ (turn ≤ end)
+  pub fits : end + next ≤ turn + gone
   pub ahead : (1 ≤ cut) × (cut ≤ turn)
   pub is_turn : IsCapacity turn
   pub room : turn + min turn (max_body Two) ≤ capacity

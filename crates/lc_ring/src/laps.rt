@@ -3,10 +3,10 @@
 //! A message lies in the block in one piece. A lap that reaches its turn is over, and what comes
 //! next lies at the front of the block again; the block has room behind the turn for the rest of the
 //! message that reached it. Where no byte waits the next lap begins at once, so that bytes which are
-//! soon taken stay in the memory that was touched last, and a page is only ever touched where more
-//! wait. The number of bytes up to the next cut is kept beside: it counts round the turn whatever
-//! the laps do, and says where a message is shown in two slices.
-ghost use Rattle.std.specs.Prelude.{◌≡◌, ◌+◌, ◌≤◌, ◌++◌, min, length, take, drop, IfOk};
+//! soon taken lie where the last ones did, in memory that is near and resident. The number of bytes
+//! up to the next cut is kept beside: it counts round the turn whatever the laps do, and says where
+//! a message is shown in two slices.
+ghost use Rattle.std.specs.Prelude.{◌≡◌, ◌+◌, ◌≤◌, ◌++◌, min, length, take, drop, vec_capacity, IfOk};
 ghost use Rattle.lc_frame.specs.Bounds.{IsCapacity};
 ghost use Rattle.lc_frame.specs.declared.version.Version.TheVariants.{Two};
 ghost use Rattle.lc_frame.specs.Kind.{max_body};
@@ -20,9 +20,11 @@ use std::marker::Model;
 /// The bytes that wait, as those of a lap and of the next.
 #[derive(Drop)]
 pub(crate) struct LapBytes {
-    // The lap, with what is gone of it at its front. The next lap lies over what is gone.
+    // As many bytes as were ever written. What waits of the lap lies from `gone` to `end`, and what
+    // waits of the next lap before `next`, over what is gone.
     block: Vec<u8>,
     gone: usize,
+    end: usize,
     next: usize,
     turn: usize,
     until_cut: usize,
@@ -34,14 +36,15 @@ impl Model for LapBytes {
 
     ghost Value = { Laps };
 
-    ghost view = { λ b. record { near = drop b.gone b.block.items; far = take b.next b.block.items; turn = b.turn; cut = b.until_cut } };
+    ghost view = { λ b. record { near = drop b.gone (take b.end b.block.items); far = take b.next b.block.items; turn = b.turn; cut = b.until_cut } };
 
-    ghost invariant = { λ b. AreLaps b.block.items b.gone b.next b.turn b.until_cut (vec_capacity b.block) };
+    ghost invariant = { λ b. AreLaps b.block.items b.gone b.end b.next b.turn b.until_cut (vec_capacity b.block) };
 }
 
 impl Debug for LapBytes {
     fn fmt<W: fmt::Write>(&self, f: &mut Formatter<W>) -> fmt::Result {
-        let (_, near) = self.block.as_slice().split_at(self.gone);
+        let (lap, _) = self.block.as_slice().split_at(self.end);
+        let (_, near) = lap.split_at(self.gone);
         let (far, _) = self.block.as_slice().split_at(self.next);
         f.debug_list()
             .entries(near.iter())
@@ -50,7 +53,7 @@ impl Debug for LapBytes {
     }
 }
 
-// Writes the bytes into the block from a place on.
+// Writes the bytes into a slice from a place on.
 #[inline]
 fn write(block: &mut [u8], at: usize, bytes: &[u8])
     requires { at + length bytes.now ≤ length block.old }
@@ -59,6 +62,33 @@ fn write(block: &mut [u8], at: usize, bytes: &[u8])
     let (_, rest) = block.split_at_mut(at);
     let (place, _) = rest.split_at_mut(bytes.len());
     place.copy_from_slice(bytes);
+}
+
+// Writes the bytes from a place on, where they go beyond all that was written before. There is room,
+// so that no memory is asked for.
+#[inline(never)]
+fn extend(block: &mut Vec<u8>, at: usize, bytes: &[u8])
+    requires { at + length bytes.now ≤ vec_capacity block.old }
+    ensures items { at ≤ length block.old.items → block.new.items ≡ take at block.old.items ++ bytes.now }
+    ensures capacity { vec_capacity block.old ≤ vec_capacity block.new }
+{
+    block.truncate(at);
+    let _ = block.extend_from_slice(bytes);
+}
+
+// Writes the bytes into the block from a place on.
+#[inline]
+fn put(block: &mut Vec<u8>, at: usize, bytes: &[u8])
+    requires within { at ≤ length block.old.items }
+    requires room { at + length bytes.now ≤ vec_capacity block.old }
+    ensures items { block.new.items ≡ take at block.old.items ++ bytes.now ++ drop (at + length bytes.now) block.old.items }
+    ensures capacity { vec_capacity block.old ≤ vec_capacity block.new }
+{
+    if at + bytes.len() <= block.len() {
+        write(block, at, bytes);
+    } else {
+        extend(block, at, bytes);
+    }
 }
 
 impl LapBytes {
@@ -70,6 +100,7 @@ impl LapBytes {
         Ok(LapBytes {
             block: Vec::with_capacity(alloc, turn + turn.min(MAX_BODY))?,
             gone: 0,
+            end: 0,
             next: 0,
             turn,
             until_cut: turn,
@@ -88,7 +119,7 @@ impl LapBytes {
     pub(crate) fn len(&self) -> usize
         ensures { result ≡ length self.now.near + length self.now.far }
     {
-        self.block.len() - self.gone + self.next
+        self.end - self.gone + self.next
     }
 
     /// The first bytes of the lap.
@@ -122,13 +153,13 @@ impl LapBytes {
         requires at_most { length bytes.now ≤ max_body Two }
         ensures { IsPushed self.old bytes.now self.new }
     {
-        if self.block.len() < self.turn {
-            // The block has room for this, so that it is not asked for memory.
-            let _ = self.block.extend_from_slice(bytes);
-            return;
+        if self.end < self.turn {
+            put(&mut self.block, self.end, bytes);
+            self.end += bytes.len();
+        } else {
+            put(&mut self.block, self.next, bytes);
+            self.next += bytes.len();
         }
-        write(&mut self.block, self.next, bytes);
-        self.next += bytes.len();
     }
 
     /// Drops the first bytes of the lap.
@@ -143,9 +174,9 @@ impl LapBytes {
             self.until_cut + self.turn - len
         };
         self.gone += len;
-        if self.gone == self.block.len() {
-            self.block.truncate(self.next);
+        if self.gone == self.end {
             self.gone = 0;
+            self.end = self.next;
             self.next = 0;
         }
     }
