@@ -1,6 +1,6 @@
 //! The client's book: guarantees received, spent, absolved and waived, both limits, and the plead
 //! that is kept.
-ghost use Rattle.std.specs.Prelude.{◌≡◌, ◌+◌, ◌<◌, ◌≤◌, ◌↔◌, if◌then◌else◌, is_ok, true, IsSome, IfSome, IfOk, IsTrue, OnOk};
+ghost use Rattle.std.specs.Prelude.{◌≡◌, ◌+◌, ◌<◌, ◌≤◌, ◌↔◌, if◌then◌else◌, is_ok, true, None, IsSome, IfSome, IfOk, IsTrue, OnOk};
 ghost use Rattle.std.specs.Result.{result_err};
 ghost use Rattle.std.specs.Option.{ForSome};
 ghost use Rattle.lc_frame.specs.declared.kind.Kind.TheVariants.{Finish};
@@ -9,7 +9,7 @@ ghost use Rattle.lc_book.specs.Client.{IsClient, AreClientParts, client_of_parts
 
 use crate::fault::{Refusal, Violation};
 use crate::finish::{check_own, waived_of};
-use crate::limit::{after_message, check_limit, is_bound, take_from};
+use crate::limit::{check_limit, is_bound, judge_left, judge_message, use_up};
 use lc_frame::{MAX_AMOUNT, MAX_TOTAL, Version};
 use std::marker::Model;
 
@@ -138,7 +138,8 @@ impl ClientBook {
         ensures sum { result + self.now.spent + self.now.absolved + waived self.now ≡ self.now.received }
         ensures kept { IsClient self.now }
     {
-        self.received - self.spent - self.absolved - self.waived()
+        let unused = self.received - self.spent - self.absolved;
+        if self.finished { 0 } else { unused }
     }
 
     /// All guarantees that arrived, 0 to 2^62.
@@ -208,28 +209,46 @@ impl ClientBook {
         self.finished
     }
 
+    /// What `spend` would answer.
+    #[inline]
+    pub fn judge_spend(&self, len: u32) -> Result<(), Refusal>
+        ensures { result_err result ≡ spend_refusal self.now len }
+    {
+        check_own(self.finished)?;
+        judge_message(self.version, self.send_left, len as usize)?;
+        let held = self.held();
+        if u64::from(len) > held {
+            return Err(Refusal::NoGuarantee { held });
+        }
+        Ok(())
+    }
+
     /// A message of `len` bytes is sent. Refused by 15, 1, 2, 3 and 4, in this order.
+    #[inline]
     pub fn spend(&mut self, len: u32) -> Result<(), Refusal>
         ensures answer { result_err result ≡ spend_refusal self.old len }
         ensures after { self.new ≡ (if is_ok result then spend self.old len else self.old) }
     {
-        check_own(self.finished)?;
-        let send_left = after_message(self.version, self.send_left, len as usize)?;
-        let cost = u64::from(len);
-        let held = self.held();
-        if cost > held {
-            return Err(Refusal::NoGuarantee { held });
-        }
-        self.spent += cost;
-        self.send_left = send_left;
+        self.judge_spend(len)?;
+        self.note_spent(len);
         Ok(())
     }
 
-    /// `n` guarantees are given up. Refused by 15, 5 and 6, in this order.
-    pub fn absolve(&mut self, n: u32) -> Result<(), Refusal>
-        ensures answer { result_err result ≡ absolve_refusal self.old n }
+    /// A message of `len` bytes is sent that `judge_spend` doesn't refuse.
+    #[inline]
+    pub fn note_spent(&mut self, len: u32)
+        requires { spend_refusal self.old len ≡ None }
+        ensures { self.new ≡ spend self.old len }
+    {
+        self.spent += u64::from(len);
+        use_up(&mut self.send_left, u64::from(len));
+    }
+
+    /// What `absolve` would answer.
+    #[inline]
+    pub fn judge_absolve(&self, n: u32) -> Result<(), Refusal>
+        ensures answer { result_err result ≡ absolve_refusal self.now n }
         ensures small { OnOk result (n ≤ max_amount) }
-        ensures after { self.new ≡ (if is_ok result then absolve self.old n else self.old) }
     {
         check_own(self.finished)?;
         if n == 0 {
@@ -239,57 +258,138 @@ impl ClientBook {
         if u64::from(n) > held {
             return Err(Refusal::NotHeld { held });
         }
-        self.absolved += u64::from(n);
         Ok(())
     }
 
-    /// The plead that is kept is honoured: where more is held than its target, the rest is
-    /// absolved, and the answer is that amount. The plead is forgotten in both cases. Refused by 15.
-    pub fn honour(&mut self) -> Result<Option<u32>, Refusal>
-        ensures refused { result_err result ≡ honour_refusal self.old }
-        ensures answer { IfOk result (λ amount. amount ≡ amount_to_absolve self.old) }
+    /// `n` guarantees are given up. Refused by 15, 5 and 6, in this order.
+    #[inline]
+    pub fn absolve(&mut self, n: u32) -> Result<(), Refusal>
+        ensures answer { result_err result ≡ absolve_refusal self.old n }
+        ensures small { OnOk result (n ≤ max_amount) }
+        ensures after { self.new ≡ (if is_ok result then absolve self.old n else self.old) }
+    {
+        self.judge_absolve(n)?;
+        self.note_absolved(n);
+        Ok(())
+    }
+
+    /// `n` guarantees are given up that `judge_absolve` doesn't refuse.
+    #[inline]
+    pub fn note_absolved(&mut self, n: u32)
+        requires { absolve_refusal self.old n ≡ None }
+        ensures { self.new ≡ absolve self.old n }
+    {
+        self.absolved += u64::from(n);
+    }
+
+    /// What `honour` would answer.
+    #[inline]
+    pub fn judge_honour(&self) -> Result<Option<u32>, Refusal>
+        ensures refused { result_err result ≡ honour_refusal self.now }
+        ensures answer { IfOk result (λ amount. amount ≡ amount_to_absolve self.now) }
         ensures range { IfOk result (λ amount. IfSome amount (λ n. (0 < n) × (n ≤ max_amount))) }
-        ensures after { self.new ≡ (if is_ok result then honour self.old else self.old) }
     {
         check_own(self.finished)?;
-        let Some(target) = self.asked.take() else {
+        let Some(target) = self.asked else {
             return Ok(None);
         };
         let held = self.held();
         if held <= u64::from(target) {
             return Ok(None);
         }
-        let amount = held - u64::from(target);
-        self.absolved += amount;
-        Ok(Some(amount as u32))
+        Ok(Some((held - u64::from(target)) as u32))
+    }
+
+    /// The plead that is kept is honoured: where more is held than its target, the rest is
+    /// absolved, and the answer is that amount. The plead is forgotten in both cases. Refused by 15.
+    #[inline]
+    pub fn honour(&mut self) -> Result<Option<u32>, Refusal>
+        ensures refused { result_err result ≡ honour_refusal self.old }
+        ensures answer { IfOk result (λ amount. amount ≡ amount_to_absolve self.old) }
+        ensures range { IfOk result (λ amount. IfSome amount (λ n. (0 < n) × (n ≤ max_amount))) }
+        ensures after { self.new ≡ (if is_ok result then honour self.old else self.old) }
+    {
+        let due = self.judge_honour()?;
+        self.note_honoured(due);
+        Ok(due)
+    }
+
+    /// The plead that is kept is honoured by the amount that `judge_honour` answers.
+    #[inline]
+    pub fn note_honoured(&mut self, due: Option<u32>)
+        requires { due ≡ amount_to_absolve self.old }
+        ensures { self.new ≡ honour self.old }
+    {
+        if let Some(amount) = due {
+            self.absolved += u64::from(amount);
+        }
+        self.asked = None;
+    }
+
+    /// What `limit_sending` would answer.
+    #[inline]
+    pub fn judge_limit_sending(&self, bound: u64) -> Result<(), Refusal>
+        ensures answer { result_err result ≡ limit_sending_refusal self.now bound }
+        ensures small { OnOk result (bound ≤ max_total) }
+    {
+        check_own(self.finished)?;
+        check_limit(self.send_left, bound)
     }
 
     /// At most `bound` bytes are sent from here on; 0 ends the channel. Refused by 15, 7 and 8, in
     /// this order.
+    #[inline]
     pub fn limit_sending(&mut self, bound: u64) -> Result<(), Refusal>
         ensures answer { result_err result ≡ limit_sending_refusal self.old bound }
         ensures after { self.new ≡ (if is_ok result then limit_client self.old bound else self.old) }
     {
-        check_own(self.finished)?;
-        check_limit(self.send_left, bound)?;
-        self.send_left = Some(bound);
+        self.judge_limit_sending(bound)?;
+        self.note_limit_sending(bound);
         Ok(())
+    }
+
+    /// At most `bound` bytes are sent from here on, which `judge_limit_sending` doesn't refuse.
+    #[inline]
+    pub fn note_limit_sending(&mut self, bound: u64)
+        requires { limit_sending_refusal self.old bound ≡ None }
+        ensures { self.new ≡ limit_client self.old bound }
+    {
+        self.send_left = Some(bound);
+    }
+
+    /// What `finish` would answer.
+    #[inline]
+    pub fn judge_finish(&self) -> Result<(), Refusal>
+        ensures answer { result_err result ≡ finish_refusal self.now }
+        ensures known { OnOk result (has self.now.version Finish ≡ true) }
+    {
+        if !self.version.has_finish() {
+            return Err(Refusal::WrongVersion);
+        }
+        check_own(self.finished)
     }
 
     /// The client sends nothing more, and gives up all guarantees that it holds or that still come.
     /// A plead that is kept is forgotten. Refused by 17 and 15, in this order.
+    #[inline]
     pub fn finish(&mut self) -> Result<(), Refusal>
         ensures answer { result_err result ≡ finish_refusal self.old }
         ensures known { OnOk result (has self.old.version Finish ≡ true) }
         ensures after { self.new ≡ (if is_ok result then finish self.old else self.old) }
     {
-        if !self.version.has_finish() {
-            return Err(Refusal::WrongVersion);
-        }
-        check_own(self.finished)?;
+        self.judge_finish()?;
+        self.note_finished();
+        Ok(())
+    }
+
+    /// The client sends nothing more, which `judge_finish` doesn't refuse.
+    #[inline]
+    pub fn note_finished(&mut self)
+        requires { finish_refusal self.old ≡ None }
+        ensures { self.new ≡ finish self.old }
+    {
         self.asked = None;
         self.finished = true;
-        Ok(())
     }
 
     /// `n` guarantees arrive; where the client finished they are waived. Violations V5, V6 and V8, in
@@ -300,10 +400,9 @@ impl ClientBook {
         ensures after { self.new ≡ (if is_ok result then add_received self.old n else self.old) }
     {
         let amount = u64::from(n);
-        let receive_left = match take_from(self.receive_left, amount) {
-            Ok(left) => left,
-            Err(_) => return Err(Violation::IssuedPastLimit),
-        };
+        if judge_left(self.receive_left, amount).is_err() {
+            return Err(Violation::IssuedPastLimit);
+        }
         if self.held() + amount > u64::from(MAX_AMOUNT) {
             return Err(Violation::TooManyGuarantees);
         }
@@ -311,7 +410,7 @@ impl ClientBook {
             return Err(Violation::TotalPassed);
         }
         self.received += amount;
-        self.receive_left = receive_left;
+        use_up(&mut self.receive_left, amount);
         Ok(())
     }
 

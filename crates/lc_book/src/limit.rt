@@ -1,5 +1,5 @@
 //! What is left of a limit, on sending or on receiving.
-ghost use Rattle.std.specs.Prelude.{◌≡◌, ◌<◌, ◌≤◌, ◌↔◌, if◌then◌else◌, Ok, Err, IfOk, OnOk, IsTrue};
+ghost use Rattle.std.specs.Prelude.{◌≡◌, ◌<◌, ◌≤◌, ◌↔◌, if◌then◌else◌, false, Some, None, IfOk, OnOk, IsTrue};
 ghost use Rattle.std.specs.Option.{ForSome};
 ghost use Rattle.std.specs.Result.{result_err};
 ghost use Rattle.lc_frame.specs.Kind.{max_body, max_total};
@@ -20,14 +20,27 @@ pub fn after_message(
     ensures value { IfOk result (λ after. after ≡ less left len) }
     ensures range { OnOk result ((0 < len) × (len ≤ max_body version)) }
 {
+    judge_message(version, left, len)?;
+    let mut after = left;
+    use_up(&mut after, len as u64);
+    Ok(after)
+}
+
+/// Whether a message of `len` bytes may go on a stream of the version where `left` is left of a limit
+/// on sending. Refused by 1, 2 and 3, in this order.
+#[inline]
+pub(crate) fn judge_message(version: Version, left: Option<u64>, len: usize) -> Result<(), Refusal>
+    ensures answer { result_err result ≡ message_refusal version left len }
+    ensures range { OnOk result ((0 < len) × (len ≤ max_body version)) }
+{
     if len == 0 {
         return Err(Refusal::EmptyBody);
     }
     if len > version.max_body() {
         return Err(Refusal::BodyTooLong);
     }
-    match take_from(left, len as u64) {
-        Ok(after) => Ok(after),
+    match judge_left(left, len as u64) {
+        Ok(()) => Ok(()),
         Err(left) => Err(Refusal::PastSendLimit { left }),
     }
 }
@@ -47,14 +60,25 @@ pub fn check_limit(left: Option<u64>, bound: u64) -> Result<(), Refusal>
     }
 }
 
-/// What is left of a limit after `n` bytes, as an error what was left where `n` is past it.
-pub(crate) fn take_from(left: Option<u64>, n: u64) -> Result<Option<u64>, u64>
-    ensures { result ≡ (if is_past left n then Err (left_of left) else Ok (less left n)) }
+/// Whether `n` bytes are within what is left of a limit, as an error what is left where they are not.
+#[inline]
+pub(crate) fn judge_left(left: Option<u64>, n: u64) -> Result<(), u64>
+    ensures { result_err result ≡ (if is_past left n then Some (left_of left) else None) }
 {
     match left {
         Some(left) if n > left => Err(left),
-        Some(left) => Ok(Some(left - n)),
-        None => Ok(None),
+        _ => Ok(()),
+    }
+}
+
+/// Takes `n` bytes off what is left of a limit. Where there is none, nothing is written.
+#[inline]
+pub(crate) fn use_up(left: &mut Option<u64>, n: u64)
+    requires { is_past left.old n ≡ false }
+    ensures { left.new ≡ less left.old n }
+{
+    if let Some(left) = left {
+        *left -= n;
     }
 }
 

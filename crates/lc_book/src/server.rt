@@ -1,6 +1,6 @@
 //! The server's book: guarantees issued, used up by messages, absolved and waived, what is buffered,
 //! and both limits.
-ghost use Rattle.std.specs.Prelude.{◌≡◌, ◌≤◌, ◌<◌, ◌↔◌, ◌⊎◌, if◌then◌else◌, is_ok, IsSome, IfSome, IsTrue, OnOk, ◌+◌};
+ghost use Rattle.std.specs.Prelude.{◌≡◌, ◌≤◌, ◌<◌, ◌↔◌, ◌⊎◌, if◌then◌else◌, is_ok, None, IsSome, IfSome, IsTrue, OnOk, ◌+◌};
 ghost use Rattle.std.specs.Result.{result_err};
 ghost use Rattle.lc_frame.specs.Bounds.{IsCapacity};
 ghost use Rattle.lc_frame.specs.declared.version.Version.TheVariants.{Two};
@@ -9,7 +9,7 @@ ghost use Rattle.lc_book.specs.Server.{IsServer, AreServerParts, server_of_parts
 
 use crate::fault::{Refusal, Violation};
 use crate::finish::{check_arrival, check_own, waived_of};
-use crate::limit::{check_limit, is_bound, take_from};
+use crate::limit::{check_limit, is_bound, judge_left, use_up};
 use lc_frame::{MAX_TOTAL, is_capacity};
 use std::marker::Model;
 
@@ -146,7 +146,8 @@ impl ServerBook {
         ensures small { result ≤ max_amount }
         ensures fits { result + buffered self.now ≤ self.now.capacity }
     {
-        self.issued - self.arrived - self.absolved - self.waived()
+        let unused = self.issued - self.arrived - self.absolved;
+        if self.finished { 0 } else { unused }
     }
 
     /// The guarantees that the client gave up by finishing, as far as that arrived, 0 to 2^62.
@@ -215,21 +216,20 @@ impl ServerBook {
         self.finished || matches!(self.send_left, Some(0))
     }
 
-    /// `n` guarantees are issued. Refused by 15, 5, 9, 10 and 12, in this order.
-    pub fn issue(&mut self, n: u32) -> Result<(), Refusal>
-        ensures answer { result_err result ≡ issue_refusal self.old n }
+    /// What `issue` would answer.
+    #[inline]
+    pub fn judge_issue(&self, n: u32) -> Result<(), Refusal>
+        ensures answer { result_err result ≡ issue_refusal self.now n }
         ensures small { OnOk result (n ≤ max_amount) }
-        ensures after { self.new ≡ (if is_ok result then issue self.old n else self.old) }
     {
         check_own(self.finished)?;
         if n == 0 {
             return Err(Refusal::ZeroAmount);
         }
         let amount = u64::from(n);
-        let receive_left = match take_from(self.receive_left, amount) {
-            Ok(left) => left,
-            Err(left) => return Err(Refusal::PastReceiveLimit { left }),
-        };
+        if let Err(left) = judge_left(self.receive_left, amount) {
+            return Err(Refusal::PastReceiveLimit { left });
+        }
         let room = self.room();
         if amount > room {
             return Err(Refusal::NoRoom { room });
@@ -237,9 +237,29 @@ impl ServerBook {
         if self.issued + amount > MAX_TOTAL {
             return Err(Refusal::TotalReached);
         }
-        self.issued += amount;
-        self.receive_left = receive_left;
         Ok(())
+    }
+
+    /// `n` guarantees are issued. Refused by 15, 5, 9, 10 and 12, in this order.
+    #[inline]
+    pub fn issue(&mut self, n: u32) -> Result<(), Refusal>
+        ensures answer { result_err result ≡ issue_refusal self.old n }
+        ensures small { OnOk result (n ≤ max_amount) }
+        ensures after { self.new ≡ (if is_ok result then issue self.old n else self.old) }
+    {
+        self.judge_issue(n)?;
+        self.note_issued(n);
+        Ok(())
+    }
+
+    /// `n` guarantees are issued that `judge_issue` doesn't refuse.
+    #[inline]
+    pub fn note_issued(&mut self, n: u32)
+        requires { issue_refusal self.old n ≡ None }
+        ensures { self.new ≡ issue self.old n }
+    {
+        self.issued += u64::from(n);
+        use_up(&mut self.receive_left, u64::from(n));
     }
 
     /// The client is asked to absolve until it holds at most `target`. Refused by 15 and 11, in this
@@ -256,15 +276,35 @@ impl ServerBook {
         Ok(())
     }
 
+    /// What `limit_receiving` would answer.
+    #[inline]
+    pub fn judge_limit_receiving(&self, bound: u64) -> Result<(), Refusal>
+        ensures answer { result_err result ≡ limit_receiving_refusal self.now bound }
+        ensures small { OnOk result (bound ≤ max_total) }
+    {
+        check_own(self.finished)?;
+        check_limit(self.receive_left, bound)
+    }
+
     /// At most `bound` guarantees are issued from here on. Refused by 15, 7 and 8, in this order.
+    #[inline]
     pub fn limit_receiving(&mut self, bound: u64) -> Result<(), Refusal>
         ensures answer { result_err result ≡ limit_receiving_refusal self.old bound }
         ensures after { self.new ≡ (if is_ok result then limit_server self.old bound else self.old) }
     {
-        check_own(self.finished)?;
-        check_limit(self.receive_left, bound)?;
-        self.receive_left = Some(bound);
+        self.judge_limit_receiving(bound)?;
+        self.note_limit_receiving(bound);
         Ok(())
+    }
+
+    /// At most `bound` guarantees are issued from here on, which `judge_limit_receiving` doesn't
+    /// refuse.
+    #[inline]
+    pub fn note_limit_receiving(&mut self, bound: u64)
+        requires { limit_receiving_refusal self.old bound ≡ None }
+        ensures { self.new ≡ limit_server self.old bound }
+    {
+        self.receive_left = Some(bound);
     }
 
     /// A buffered message of `len` bytes was taken.
@@ -287,12 +327,11 @@ impl ServerBook {
         if cost > self.outstanding() {
             return Err(Violation::NotGuaranteed);
         }
-        let send_left = match take_from(self.send_left, cost) {
-            Ok(left) => left,
-            Err(_) => return Err(Violation::SentPastLimit),
-        };
+        if judge_left(self.send_left, cost).is_err() {
+            return Err(Violation::SentPastLimit);
+        }
         self.arrived += cost;
-        self.send_left = send_left;
+        use_up(&mut self.send_left, cost);
         Ok(())
     }
 

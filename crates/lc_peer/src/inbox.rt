@@ -1,11 +1,11 @@
 //! The receiving end of one channel.
-ghost use Rattle.std.specs.Prelude.{◌≡◌, ◌≤◌, ◌↔◌, ◌++◌, length, if◌then◌else◌, is_ok, Err, IfOk, IfErr, IfSome};
+ghost use Rattle.std.specs.Prelude.{◌≡◌, ◌≤◌, ◌↔◌, ◌++◌, length, if◌then◌else◌, is_ok, Err, None, IfOk, IfErr, IfSome};
 ghost use Rattle.std.specs.Option.{option_map};
 ghost use Rattle.std.specs.Result.{result_err};
 ghost use Rattle.lc_frame.specs.Bounds.{IsCapacity};
 ghost use Rattle.lc_frame.specs.declared.version.Version.TheVariants.{Two};
 ghost use Rattle.lc_frame.specs.Kind.{max_body, max_amount, max_total};
-ghost use Rattle.lc_book.specs.Server.{buffered, AreFreed, message_violation, add_arrived, absolve_violation, add_absolved, send_limit_violation, note_send_limit, finish_violation, note_finish};
+ghost use Rattle.lc_book.specs.Server.{buffered, AreFreed, issue_refusal, issue, limit_receiving_refusal, limit_server, message_violation, add_arrived, absolve_violation, add_absolved, send_limit_violation, note_send_limit, finish_violation, note_finish};
 ghost use Rattle.lc_ring.specs.Ring.{IsLength, push, front, with_front};
 ghost use Rattle.lc_peer.specs.Inbox.{new_inbox, IsInbox, IsTake, answer_by_length, note_front, take_answer, take_first, take_refusal, NamesLength, Takes};
 
@@ -84,10 +84,36 @@ impl Inbox {
         ensures value { result ≡ self.now.book }
         ensures kept { IsInbox self.now }
     {
-        let book = self.book;
+        *self.book_in_place()
+    }
+
+    // The book, where it lies.
+    #[inline]
+    pub(crate) fn book_in_place(&self) -> &ServerBook
+        ensures value { result.now ≡ self.now.book }
+        ensures kept { IsInbox self.now }
+    {
         // The readers tell what every book and every ring keeps.
-        let (_room, _bytes) = (book.room(), self.ring.bytes());
-        book
+        let (_room, _bytes) = (self.book.room(), self.ring.bytes());
+        &self.book
+    }
+
+    // Guarantees are issued that the book doesn't refuse.
+    #[inline]
+    pub(crate) fn note_issued(&mut self, n: u32)
+        requires { issue_refusal self.old.book n ≡ None }
+        ensures { self.new ≡ record self.old { book = issue self.old.book n } }
+    {
+        self.book.note_issued(n);
+    }
+
+    // Receiving is limited, which the book doesn't refuse.
+    #[inline]
+    pub(crate) fn note_limit_receiving(&mut self, bound: u64)
+        requires { limit_receiving_refusal self.old.book bound ≡ None }
+        ensures { self.new ≡ record self.old { book = limit_server self.old.book bound } }
+    {
+        self.book.note_limit_receiving(bound);
     }
 
     /// Takes over a book that came from this inbox and was changed by calls of the server's own. An
@@ -109,16 +135,13 @@ impl Inbox {
         ensures answer { result_err result ≡ message_violation self.old.book (length body.now) }
         ensures after { self.new ≡ (if is_ok result then record { book = add_arrived self.old.book (length body.now); ring = push self.old.ring body.now } else self.old) }
     {
-        let mut next = self.book;
         // What is outstanding fits what is free.
-        let _room = next.room();
-        next.message(body.len() as u32)?;
+        let _room = self.book.room();
+        self.book.message(body.len() as u32)?;
         match self.ring.push(body) {
-            Ok(()) => {}
+            Ok(()) => Ok(()),
             Err(_) => unreachable!(),
         }
-        self.book = next;
-        Ok(())
     }
 
     /// The news arrives that the client absolved `n` guarantees. Violations V9 and V3, in this order.
@@ -128,10 +151,7 @@ impl Inbox {
         ensures answer { result_err result ≡ absolve_violation self.old.book n }
         ensures after { self.new ≡ (if is_ok result then record self.old { book = add_absolved self.old.book n } else self.old) }
     {
-        let mut next = self.book;
-        next.was_absolved(n)?;
-        self.book = next;
-        Ok(())
+        self.book.was_absolved(n)
     }
 
     /// The client's limit arrives: it sends at most `bound` bytes from there on. Violations V9 and V4,
@@ -142,10 +162,7 @@ impl Inbox {
         ensures answer { result_err result ≡ send_limit_violation self.old.book bound }
         ensures after { self.new ≡ (if is_ok result then record self.old { book = note_send_limit self.old.book bound } else self.old) }
     {
-        let mut next = self.book;
-        next.sending_limited(bound)?;
-        self.book = next;
-        Ok(())
+        self.book.sending_limited(bound)
     }
 
     /// The client's Finish arrives: it sends nothing more, and what is outstanding is waived.
@@ -155,10 +172,7 @@ impl Inbox {
         ensures answer { result_err result ≡ finish_violation self.old.book }
         ensures after { self.new ≡ (if is_ok result then record self.old { book = note_finish self.old.book } else self.old) }
     {
-        let mut next = self.book;
-        next.finished()?;
-        self.book = next;
-        Ok(())
+        self.book.finished()
     }
 
     /// Takes the first message into the front of the buffer. Refused by 16 alone, where the buffer

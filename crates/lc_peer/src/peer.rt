@@ -2,7 +2,7 @@
 //!
 //! A `Peer` has for each channel a `ChannelState`, the client's book and an `Inbox`, and one list
 //! of the frames that wait to go out, whose places are taken when the peer is made. An own call
-//! judges on copies of its channel's books, then puts the frame, then writes the books back, so
+//! asks its channel's books, then looks for a place, and then counts the frame and puts it, so
 //! that what refuses comes before what changes. An arrival is judged and kept by its channel
 //! alone (`channel_state.rt`). An `Inbox` is the server's book with the ring: where the book
 //! allows a message, the ring has room for it, since outstanding and buffered bytes fit the
@@ -17,12 +17,11 @@ ghost use Rattle.lc_frame.specs.declared.frame.Frame.TheVariants.{Send, Issue, A
 ghost use Rattle.lc_frame.specs.FrameRef.{frame_of};
 ghost use Rattle.lc_frame.specs.declared.version.Version.TheVariants.{Two};
 ghost use Rattle.lc_frame.specs.Frame.{channel_of, IsValid};
-ghost use Rattle.lc_book.specs.Client.{IsClient, spend_refusal, spend};
-ghost use Rattle.lc_book.specs.Sums.{client_after_put, server_after_put};
+ghost use Rattle.lc_book.specs.Client.{IsClient, spend_refusal};
 ghost use Rattle.lc_ring.specs.Ring.{front, with_front};
 ghost use Rattle.lc_peer.specs.Inbox.{IsInbox, IsTake, take_answer, take_refusal, NamesLength};
-ghost use Rattle.lc_peer.specs.Peer.{client, inbox, server, AreWaiting};
-ghost use Rattle.lc_peer.specs.Calls.{refusal, queue_refusal, IsSendAnswer, put, due, honour_refusal, put_honour, take_on, TakesOn, next, without_next};
+ghost use Rattle.lc_peer.specs.Peer.{channel as at, set_channel, client, inbox, server, AreWaiting};
+ghost use Rattle.lc_peer.specs.Calls.{refusal, refusal_by_books, queue_refusal, IsSendAnswer, put, due, due as due_on, honour_refusal, put_honour, channel_after_honour, take_on, TakesOn, next, without_next};
 ghost use Rattle.lc_peer.specs.Arrivals.{arrivals};
 ghost use Rattle.lc_peer.specs.Config.{IsNewAnswer, new_peer};
 
@@ -80,25 +79,25 @@ fn judge_slot(waiting: &HeapCircularBuffer<Frame>) -> Result<(), Refusal>
     }
 }
 
-// Puts a frame last, where it may wait.
-fn enqueue(waiting: &mut HeapCircularBuffer<Frame>, frame: Frame) -> Result<(), Refusal>
-    ensures answer { result_err result ≡ (if nat_lt (length waiting.old.items) waiting.old.capacity then None else Some QueueFull) }
-    ensures after { waiting.new ≡ (if is_ok result then buffer (waiting.old.items ++ frame ∷ []) waiting.old.capacity else waiting.old) }
+// Puts a frame last, where one more may wait.
+#[inline]
+fn push(waiting: &mut HeapCircularBuffer<Frame>, frame: Frame)
+    requires { length waiting.old.items < waiting.old.capacity }
+    ensures { waiting.new ≡ buffer (waiting.old.items ++ frame ∷ []) waiting.old.capacity }
 {
-    judge_slot(waiting)?;
     match waiting.try_push_back(frame) {
-        Ok(()) => Ok(()),
+        Ok(()) => {}
         Err(_) => unreachable!(),
     }
 }
 
 // Judges the length of a message.
-pub(crate) fn spend(book: &mut ClientBook, len: usize) -> Result<(), Refusal>
-    ensures answer { result_err result ≡ spend_refusal book.old len }
-    ensures after { OnOk result (book.new ≡ spend book.old len) }
+#[inline]
+pub(crate) fn judge_spend(book: &ClientBook, len: usize) -> Result<(), Refusal>
+    ensures { result_err result ≡ spend_refusal book.now len }
 {
     // A length of more than 32 bits is too long as well.
-    book.spend(u32::try_from(len).unwrap_or(u32::MAX))
+    book.judge_spend(u32::try_from(len).unwrap_or(u32::MAX))
 }
 
 impl Peer {
@@ -139,13 +138,12 @@ impl Peer {
         ensures answer { IsSendAnswer self.old (Send channel body.now) (result_err result) }
         ensures after { self.new ≡ (if is_ok result then put self.old (Send channel body.now) else self.old) }
     {
-        let mut book = self.client(channel);
-        spend(&mut book, body.len())?;
+        judge_spend(self.client_book(channel), body.len())?;
         let Ok(bytes) = Vec::from_slice(self.alloc, body) else {
             return Err(Refusal::OutOfMemory);
         };
         let body = Body::from_vec(bytes);
-        self.put(Frame::Send { channel, body }, book, self.server(channel))
+        self.put(Frame::Send { channel, body })
     }
 
     /// `n` guarantees are given up. Refused by 15, 5, 6 and 13, in this order.
@@ -153,13 +151,8 @@ impl Peer {
         ensures answer { result_err result ≡ refusal self.old (Absolve channel n) }
         ensures after { self.new ≡ (if is_ok result then put self.old (Absolve channel n) else self.old) }
     {
-        let mut book = self.client(channel);
-        book.absolve(n)?;
-        self.put(
-            Frame::Absolve { channel, amount: n },
-            book,
-            self.server(channel),
-        )
+        self.client_book(channel).judge_absolve(n)?;
+        self.put(Frame::Absolve { channel, amount: n })
     }
 
     /// The plead that is kept is honoured. Refused by 15, and by 13 where something would be absolved.
@@ -168,13 +161,11 @@ impl Peer {
         ensures amount { IfOk result (λ amount. amount ≡ due self.old channel) }
         ensures after { self.new ≡ (if is_ok result then put_honour self.old channel else self.old) }
     {
-        let mut book = self.client(channel);
-        let due = book.honour()?;
-        match due {
-            Some(amount) => enqueue(&mut self.waiting, Frame::Absolve { channel, amount })?,
-            None => {}
+        let due = self.client_book(channel).judge_honour()?;
+        if let Some(amount) = due {
+            self.enqueue(Frame::Absolve { channel, amount })?;
         }
-        self.channels[channel.index()].client = book;
+        self.note_honoured(channel, due);
         Ok(due)
     }
 
@@ -184,13 +175,8 @@ impl Peer {
         ensures answer { result_err result ≡ refusal self.old (LimitSending channel bound) }
         ensures after { self.new ≡ (if is_ok result then put self.old (LimitSending channel bound) else self.old) }
     {
-        let mut book = self.client(channel);
-        book.limit_sending(bound)?;
-        self.put(
-            Frame::LimitSending { channel, bound },
-            book,
-            self.server(channel),
-        )
+        self.client_book(channel).judge_limit_sending(bound)?;
+        self.put(Frame::LimitSending { channel, bound })
     }
 
     /// The client sends nothing more on the channel, and gives up all guarantees that it holds or
@@ -199,9 +185,8 @@ impl Peer {
         ensures answer { result_err result ≡ refusal self.old (Finish channel) }
         ensures after { self.new ≡ (if is_ok result then put self.old (Finish channel) else self.old) }
     {
-        let mut book = self.client(channel);
-        book.finish()?;
-        self.put(Frame::Finish { channel }, book, self.server(channel))
+        self.client_book(channel).judge_finish()?;
+        self.put(Frame::Finish { channel })
     }
 
     /// `n` guarantees are issued. Refused by 15, 5, 9, 10, 12 and 13, in this order.
@@ -209,13 +194,8 @@ impl Peer {
         ensures answer { result_err result ≡ refusal self.old (Issue channel n) }
         ensures after { self.new ≡ (if is_ok result then put self.old (Issue channel n) else self.old) }
     {
-        let mut book = self.server(channel);
-        book.issue(n)?;
-        self.put(
-            Frame::Issue { channel, amount: n },
-            self.client(channel),
-            book,
-        )
+        self.server_book(channel).judge_issue(n)?;
+        self.put(Frame::Issue { channel, amount: n })
     }
 
     /// The client is asked to absolve until it holds at most `target`. Refused by 15, 11 and 13, in
@@ -224,9 +204,8 @@ impl Peer {
         ensures answer { result_err result ≡ refusal self.old (Plead channel target) }
         ensures after { self.new ≡ (if is_ok result then put self.old (Plead channel target) else self.old) }
     {
-        let book = self.server(channel);
-        book.plead(target)?;
-        self.put(Frame::Plead { channel, target }, self.client(channel), book)
+        self.server_book(channel).plead(target)?;
+        self.put(Frame::Plead { channel, target })
     }
 
     /// At most `bound` guarantees are issued from here on. Refused by 15, 7, 8 and 13, in this order.
@@ -234,35 +213,46 @@ impl Peer {
         ensures answer { result_err result ≡ refusal self.old (LimitReceiving channel bound) }
         ensures after { self.new ≡ (if is_ok result then put self.old (LimitReceiving channel bound) else self.old) }
     {
-        let mut book = self.server(channel);
-        book.limit_receiving(bound)?;
-        self.put(
-            Frame::LimitReceiving { channel, bound },
-            self.client(channel),
-            book,
-        )
+        self.server_book(channel).judge_limit_receiving(bound)?;
+        self.put(Frame::LimitReceiving { channel, bound })
     }
 
-    // Puts a frame that its channel's books accepted, with the books that it leaves, where it may
-    // wait.
-    fn put(
-        &mut self,
-        frame: Frame,
-        sending: ClientBook,
-        receiving: ServerBook,
-    ) -> Result<(), Refusal>
+    // Puts a frame that its channel's books accept, where it may wait. Always inlined, since each caller
+    // knows the frame's kind.
+    #[inline(always)]
+    fn put(&mut self, frame: Frame) -> Result<(), Refusal>
         requires valid { IsValid self.old.version frame }
-        requires client { sending ≡ client_after_put frame (client self.old (channel_of frame)) }
-        requires server { receiving ≡ server_after_put frame (server self.old (channel_of frame)) }
+        requires accepted { refusal_by_books self.old frame ≡ None }
         ensures answer { result_err result ≡ queue_refusal self.old }
         ensures after { self.new ≡ (if is_ok result then put self.old frame else self.old) }
     {
+        self.judge_slot()?;
         let at = frame.channel().index();
-        enqueue(&mut self.waiting, frame)?;
-        let state = &mut self.channels[at];
-        state.client = sending;
-        state.inbox.adopt(receiving);
+        self.channels[at].put(frame.view());
+        push(&mut self.waiting, frame);
         Ok(())
+    }
+
+    // Puts a frame last, where it may wait.
+    #[inline]
+    fn enqueue(&mut self, frame: Frame) -> Result<(), Refusal>
+        requires { IsValid self.old.version frame }
+        ensures answer { result_err result ≡ queue_refusal self.old }
+        ensures after { self.new ≡ (if is_ok result then record self.old { waiting = self.old.waiting ++ frame ∷ [] } else self.old) }
+    {
+        self.judge_slot()?;
+        push(&mut self.waiting, frame);
+        Ok(())
+    }
+
+    // The book of a channel as client honours the plead that is kept, by the amount that is due.
+    #[inline]
+    fn note_honoured(&mut self, channel: Channel, due: Option<u32>)
+        requires { due ≡ due_on self.old channel }
+        ensures { self.new ≡ set_channel self.old channel (channel_after_honour (at self.old channel)) }
+    {
+        let at = channel.index();
+        self.channels[at].client.note_honoured(due);
     }
 
     /// A frame arrives, which has to be valid.
@@ -368,7 +358,17 @@ impl Peer {
         ensures version { result.version ≡ self.now.version }
         ensures kept { IsClient result }
     {
-        let book = self.channels[channel.index()].client;
+        *self.client_book(channel)
+    }
+
+    // The same, where it lies.
+    #[inline]
+    pub(crate) fn client_book(&self, channel: Channel) -> &ClientBook
+        ensures value { result.now ≡ client self.now channel }
+        ensures version { result.now.version ≡ self.now.version }
+        ensures kept { IsClient result.now }
+    {
+        let book = &self.channels[channel.index()].client;
         // A reader tells what every book keeps.
         let _held = book.held();
         book
@@ -380,6 +380,15 @@ impl Peer {
         ensures value { result ≡ server self.now channel }
         ensures kept { IsInbox (inbox self.now channel) }
     {
-        self.channels[channel.index()].inbox.book()
+        *self.server_book(channel)
+    }
+
+    // The same, where it lies.
+    #[inline]
+    pub(crate) fn server_book(&self, channel: Channel) -> &ServerBook
+        ensures value { result.now ≡ server self.now channel }
+        ensures kept { IsInbox (inbox self.now channel) }
+    {
+        self.channels[channel.index()].inbox.book_in_place()
     }
 }

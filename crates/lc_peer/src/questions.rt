@@ -6,7 +6,7 @@ ghost use Rattle.lc_book.specs.Limit.{is_past};
 ghost use Rattle.lc_peer.specs.Calls.{refusal, due, honour_refusal};
 ghost use Rattle.lc_peer.specs.Questions.{send_refusal, needs, needs_more, ready_on};
 
-use crate::peer::{Peer, spend};
+use crate::peer::{Peer, judge_spend};
 use lc_book::Refusal;
 use lc_frame::{CHANNELS, Channel};
 
@@ -54,8 +54,7 @@ impl Peer {
     pub fn would_send(&self, channel: Channel, len: usize) -> Result<(), Refusal>
         ensures { result_err result ≡ send_refusal self.now channel len }
     {
-        let mut book = self.client(channel);
-        spend(&mut book, len)?;
+        judge_spend(self.client_book(channel), len)?;
         self.judge_slot()
     }
 
@@ -63,8 +62,7 @@ impl Peer {
     pub fn would_absolve(&self, channel: Channel, n: u32) -> Result<(), Refusal>
         ensures { result_err result ≡ refusal self.now (Absolve channel n) }
     {
-        let mut book = self.client(channel);
-        book.absolve(n)?;
+        self.client_book(channel).judge_absolve(n)?;
         self.judge_slot()
     }
 
@@ -73,8 +71,7 @@ impl Peer {
         ensures answer { result_err result ≡ honour_refusal self.now channel }
         ensures amount { IfOk result (λ amount. amount ≡ due self.now channel) }
     {
-        let mut book = self.client(channel);
-        let due = book.honour()?;
+        let due = self.client_book(channel).judge_honour()?;
         if due.is_some() {
             self.judge_slot()?;
         }
@@ -85,8 +82,7 @@ impl Peer {
     pub fn would_limit_sending(&self, channel: Channel, bound: u64) -> Result<(), Refusal>
         ensures { result_err result ≡ refusal self.now (LimitSending channel bound) }
     {
-        let mut book = self.client(channel);
-        book.limit_sending(bound)?;
+        self.client_book(channel).judge_limit_sending(bound)?;
         self.judge_slot()
     }
 
@@ -94,8 +90,7 @@ impl Peer {
     pub fn would_finish(&self, channel: Channel) -> Result<(), Refusal>
         ensures { result_err result ≡ refusal self.now (Finish channel) }
     {
-        let mut book = self.client(channel);
-        book.finish()?;
+        self.client_book(channel).judge_finish()?;
         self.judge_slot()
     }
 
@@ -103,8 +98,7 @@ impl Peer {
     pub fn would_issue(&self, channel: Channel, n: u32) -> Result<(), Refusal>
         ensures { result_err result ≡ refusal self.now (Issue channel n) }
     {
-        let mut book = self.server(channel);
-        book.issue(n)?;
+        self.server_book(channel).judge_issue(n)?;
         self.judge_slot()
     }
 
@@ -112,8 +106,7 @@ impl Peer {
     pub fn would_plead(&self, channel: Channel, target: u32) -> Result<(), Refusal>
         ensures { result_err result ≡ refusal self.now (Plead channel target) }
     {
-        let book = self.server(channel);
-        book.plead(target)?;
+        self.server_book(channel).plead(target)?;
         self.judge_slot()
     }
 
@@ -121,8 +114,7 @@ impl Peer {
     pub fn would_limit_receiving(&self, channel: Channel, bound: u64) -> Result<(), Refusal>
         ensures { result_err result ≡ refusal self.now (LimitReceiving channel bound) }
     {
-        let mut book = self.server(channel);
-        book.limit_receiving(bound)?;
+        self.server_book(channel).judge_limit_receiving(bound)?;
         self.judge_slot()
     }
 
@@ -135,7 +127,7 @@ impl Peer {
             Ok(()) => Needs::Nothing,
             Err(Refusal::QueueFull) => Needs::Slot,
             Err(Refusal::NoGuarantee { held }) => {
-                let left = self.client(channel).receive_left();
+                let left = self.client_book(channel).receive_left();
                 needs_more(left, (len as u64).saturating_sub(held))
             }
             Err(_) => Needs::Never,
@@ -146,8 +138,8 @@ impl Peer {
     pub fn ready_on(&self, channel: Channel) -> Ready
         ensures { result ≡ ready_on self.now channel }
     {
-        let client = self.client(channel);
-        let server = self.server(channel);
+        let client = self.client_book(channel);
+        let server = self.server_book(channel);
         let message = self.front(channel).is_some();
         Ready {
             message,

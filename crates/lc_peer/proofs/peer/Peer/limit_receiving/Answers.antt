@@ -1,5 +1,0 @@
-use Rattle.std.proofs.Common.{rules}
-use Rattle.lc_peer.proofs.peer.Peer.limit_receiving.Goals as goal
-
-pub put-requires-clause-server : goal.put-requires-clause-server
-put-requires-clause-server c = search rules
