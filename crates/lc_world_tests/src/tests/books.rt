@@ -3,6 +3,7 @@ use super::{Subject, answers, text};
 use lc_book::{ClientBook, ClientParts, Refusal, ServerBook, ServerParts, Violation};
 use lc_frame::{MAX_AMOUNT, MAX_BODY, MAX_TOTAL, Version};
 use std::alloc::Global;
+use std::process::Abort;
 use std::test::Fail;
 
 // What 2^62 - 1 guarantees leave that went through a channel.
@@ -32,7 +33,7 @@ const OLD_SERVER: ServerParts = ServerParts {
 
 // An own call of a side that takes a number.
 fn own(books: &mut Books, name: &str, number: u64) -> Option<Result<(), Refusal>> {
-    let Books { client, server } = books;
+    let Books { client, server, .. } = books;
     let amount = u32::try_from(number).unwrap_or(0);
     Some(match name {
         "spend" => client.spend(amount),
@@ -41,6 +42,64 @@ fn own(books: &mut Books, name: &str, number: u64) -> Option<Result<(), Refusal>
         "issue" => server.issue(amount),
         "plead" => server.plead(amount),
         "limit_receiving" => server.limit_receiving(number),
+        _ => return None,
+    })
+}
+
+// Own calls in two: the one that judges, and where it refuses nothing the one that counts.
+fn spend(book: &mut ClientBook, len: u32) -> Result<(), Refusal> {
+    book.judge_spend(len)?;
+    book.note_spent(len);
+    Ok(())
+}
+
+fn absolve(book: &mut ClientBook, n: u32) -> Result<(), Refusal> {
+    book.judge_absolve(n)?;
+    book.note_absolved(n);
+    Ok(())
+}
+
+fn limit_sending(book: &mut ClientBook, bound: u64) -> Result<(), Refusal> {
+    book.judge_limit_sending(bound)?;
+    book.note_limit_sending(bound);
+    Ok(())
+}
+
+fn finish(book: &mut ClientBook) -> Result<(), Refusal> {
+    book.judge_finish()?;
+    book.note_finished();
+    Ok(())
+}
+
+fn issue(book: &mut ServerBook, n: u32) -> Result<(), Refusal> {
+    book.judge_issue(n)?;
+    book.note_issued(n);
+    Ok(())
+}
+
+fn limit_receiving(book: &mut ServerBook, bound: u64) -> Result<(), Refusal> {
+    book.judge_limit_receiving(bound)?;
+    book.note_limit_receiving(bound);
+    Ok(())
+}
+
+fn honour(book: &mut ClientBook) -> Result<Option<u32>, Refusal> {
+    let due = book.judge_honour()?;
+    book.note_honoured(due);
+    Ok(due)
+}
+
+// An own call of a side that takes a number, in two.
+fn own_in_two(books: &mut Books, name: &str, number: u64) -> Option<Result<(), Refusal>> {
+    let Books { client, server, .. } = books;
+    let amount = u32::try_from(number).unwrap_or(0);
+    Some(match name {
+        "spend" => spend(client, amount),
+        "absolve" => absolve(client, amount),
+        "limit_sending" => limit_sending(client, number),
+        "issue" => issue(server, amount),
+        "plead" => server.plead(amount),
+        "limit_receiving" => limit_receiving(server, number),
         _ => return None,
     })
 }
@@ -103,31 +162,43 @@ fn waived(alloc: Global, client: &ClientBook, server: &ServerBook) -> Option<Str
     text(alloc, &(given_up, lost, finished))
 }
 
-// Both books of a channel.
+// Both books of a channel, and whether own calls are made in two: one that judges, and one that counts.
 #[derive(Drop)]
 struct Books {
     client: ClientBook,
     server: ServerBook,
+    in_two: bool,
 }
 
 impl Books {
-    fn new(version: Version, capacity: u32) -> Result<Books, Fail> {
+    fn new(version: Version, capacity: u32, in_two: bool) -> Result<Books, Fail> {
         Ok(Books {
             client: ClientBook::new(version),
             server: ServerBook::new(capacity).ok_or("no server")?,
+            in_two,
         })
     }
 
-    fn near_the_end() -> Result<Books, Fail> {
+    fn near_the_end(in_two: bool) -> Result<Books, Fail> {
         Ok(Books {
             client: ClientBook::restore(OLD_CLIENT).ok_or("no client")?,
             server: ServerBook::restore(OLD_SERVER).ok_or("no server")?,
+            in_two,
         })
+    }
+
+    // An own call that takes a number, in one or in two.
+    fn own(&mut self, name: &str, number: u64) -> Option<Result<(), Refusal>> {
+        if self.in_two {
+            own_in_two(self, name, number)
+        } else {
+            own(self, name, number)
+        }
     }
 
     // A call that takes a number.
     fn call(&mut self, alloc: Global, name: &str, number: u64) -> Option<String> {
-        if let Some(answer) = own(self, name, number) {
+        if let Some(answer) = self.own(name, number) {
             return text(alloc, &answer);
         }
         let answer = client_meets(&mut self.client, name, number).or(server_meets(
@@ -141,7 +212,9 @@ impl Books {
     // A call without a number, and what a side can see of its book.
     fn look(&mut self, alloc: Global, name: &str) -> Option<String> {
         match name {
+            "honour" if self.in_two => text(alloc, &honour(&mut self.client)),
             "honour" => text(alloc, &self.client.honour()),
+            "finish" if self.in_two => text(alloc, &finish(&mut self.client)),
             "finish" => text(alloc, &self.client.finish()),
             "finished" => text(alloc, &self.server.finished()),
             "waived" => waived(alloc, &self.client, &self.server),
@@ -351,8 +424,8 @@ issued 2 => Err(TotalPassed)
 issued 1 => Ok(())
 ";
 
-#[test]
-fn calls_have_their_answers(rt: HostRuntime) -> Result<(), Fail> {
+// All sequences, with own calls made in one or in two.
+fn all_answers(rt: &impl Abort, alloc: Global, in_two: bool) -> Result<(), Fail> {
     for (capacity, calls) in &[
         (8, NO_GUARANTEES),
         (1, FULL_RING),
@@ -365,16 +438,26 @@ fn calls_have_their_answers(rt: HostRuntime) -> Result<(), Fail> {
         (8, LIMITED),
         (8, NEVER_FINISHED),
     ] {
-        let mut books = Books::new(Version::One, *capacity)?;
-        answers(&rt, rt.alloc(), &mut books, calls);
+        let mut books = Books::new(Version::One, *capacity, in_two)?;
+        answers(rt, alloc, &mut books, calls);
     }
     for (capacity, calls) in &[(8, LONGER), (16, FINISHED), (8, AFTER_FINISH), (8, LATER)] {
-        let mut books = Books::new(Version::Two, *capacity)?;
-        answers(&rt, rt.alloc(), &mut books, calls);
+        let mut books = Books::new(Version::Two, *capacity, in_two)?;
+        answers(rt, alloc, &mut books, calls);
     }
-    let mut books = Books::near_the_end()?;
-    answers(&rt, rt.alloc(), &mut books, TOTALS);
+    let mut books = Books::near_the_end(in_two)?;
+    answers(rt, alloc, &mut books, TOTALS);
     Ok(())
+}
+
+#[test]
+fn calls_have_their_answers(rt: HostRuntime) -> Result<(), Fail> {
+    all_answers(&rt, rt.alloc(), false)
+}
+
+#[test]
+fn a_call_judges_and_then_counts(rt: HostRuntime) -> Result<(), Fail> {
+    all_answers(&rt, rt.alloc(), true)
 }
 
 // Whether there is a server with a ring of so many bytes.
