@@ -42,6 +42,16 @@ whole_holds v head used bytes held found e =
       begins = omega (arith, found.begins, found.used_is, ap length fills);
     }
 
+-- a frame stands at no place before its end
+pub open_under : (v : Version) (head : Head) (used : ℕ) (bytes : List ℕ) → FindsFrame v head used bytes → (k : ℕ) → k < used → IsOpen v (take k bytes)
+open_under v head used bytes found k lt = record {
+  no_frame = λ f s.
+      let whole_there : FrameStands v f bytes = subst (FrameStands v f) (take-append-drop k bytes) (frame_goes_on v f (take k bytes) (drop k bytes) s) in
+      let same : f ≡ frame_in v head (take used bytes) = found.only.same f whole_there in
+      omega (arith, lt, found.used_is, ap (λ (g : Frame). length (encoding v g)) same, ap length s.is, length-append (encoding v f) s.rest, length-take k bytes);
+  no_fault = λ d s. found.only.no_fault d (subst (FaultStands v d) (take-append-drop k bytes) (fault_goes_on v d (take k bytes) (drop k bytes) s));
+}
+
 -- ---- one step
 
 module _ (v : Version) (old piece : List ℕ) (need : ℕ) (wanted : NeedsMore v old need) where
@@ -140,6 +150,45 @@ takes_part v old new piece need wanted short e =
       knows = still_wants v old piece need wanted new (length piece) held (omega (arith, ap length e, length-append old piece));
     }
 
+-- ---- where all of the piece was copied at once
+
+module _ (v : Version) (old piece : List ℕ) (need : ℕ) (wanted : NeedsMore v old need) (text : List ℕ) (e : text ≡ old ++ piece) where
+  front_at : (k : ℕ) → take (length old + k) text ≡ old ++ take k piece
+  front_at k = ap (λ (x : List ℕ). take (length old + k) x) e ∙ take-append-add old piece k
+
+  -- a frame that comes to stand ends behind what was held
+  pub past_held : (head : Head) (used : ℕ) → FindsFrame v head used text → length old < used
+  past_held head used found =
+      let f = frame_in v head (take used text) in
+      let stands = found.only.stands in
+      let part : take used text ≡ encoding v f = ap (λ (x : List ℕ). take used x) stands.is ∙ take_at (encoding v f) stands.rest used (sym found.used_is) in
+      elim (cases_lt (length old) used) [
+        | inl past ↦ past
+        | inr within ↦
+            let same : take used text ≡ take used old = ap (λ (x : List ℕ). take used x) e ∙ take-append-le used old piece within in
+            absurd ((open_before v used old wanted.now_open).no_frame f (encoding_stands v f (take used old) stands.valid (sym same ∙ part)))
+      ]
+
+  pub leaps_frame : (new : List ℕ) (head : Head) (used : ℕ) → FindsFrame v head used text → new ≡ take used text → (taken : ℕ) → used ≡ length old + taken → Takes v old new piece taken (Whole head)
+  leaps_frame new head used found cut taken whole =
+      let knows = whole_holds v head used text new found cut in
+      record {
+        count = omega (arith, found.within, whole, ap length e, length-append old piece);
+        held = cut ∙ ap (λ (n : ℕ). take n text) whole ∙ front_at taken;
+        shortest = λ k lt. subst (IsOpen v) (front_at k) (open_under v head used text found (length old + k) (omega (arith, lt, whole)));
+        stop = λ lt. known_frame v head new knows;
+        knows = knows;
+      }
+
+  pub leaps_part : (more : ℕ) → NeedsMore v text more → Takes v old text piece (length piece) (Wants more)
+  leaps_part more needs = record {
+    count = omega arith;
+    held = e ∙ ap (λ (x : List ℕ). old ++ x) (sym (take_all (length piece) piece (omega arith)));
+    shortest = λ k lt. subst (IsOpen v) (front_at k) (open_before v (length old + k) text needs.now_open);
+    stop = λ lt. absurd (omega (arith, lt));
+    knows = needs;
+  }
+
 -- ---- where nothing was held
 
 pub takes_frame : (v : Version) (old new piece : List ℕ) (head : Head) (used : ℕ) → old ≡ [] → new ≡ old ++ take used piece → FindsFrame v head used piece → Takes v old new piece used (Whole head)
@@ -148,18 +197,9 @@ takes_frame v old new piece head used none e found =
     record {
       count = found.within;
       held = e;
-      shortest = λ k lt. subst (λ (x : List ℕ). IsOpen v (x ++ take k piece)) (sym none) (before k lt);
+      shortest = λ k lt. subst (λ (x : List ℕ). IsOpen v (x ++ take k piece)) (sym none) (open_under v head used piece found k lt);
       stop = λ lt. known_frame v head new whole;
       knows = whole;
-    }
-  where
-    before : (k : ℕ) → k < used → IsOpen v (take k piece)
-    before k lt = record {
-      no_frame = λ f s.
-          let whole_there : FrameStands v f piece = subst (FrameStands v f) (take-append-drop k piece) (frame_goes_on v f (take k piece) (drop k piece) s) in
-          let same : f ≡ frame_in v head (take used piece) = found.only.same f whole_there in
-          omega (arith, lt, found.used_is, ap (λ (g : Frame). length (encoding v g)) same, ap length s.is, length-append (encoding v f) s.rest, length-take k piece);
-      no_fault = λ d s. found.only.no_fault d (subst (FaultStands v d) (take-append-drop k piece) (fault_goes_on v d (take k piece) (drop k piece) s));
     }
 
 pub takes_all : (v : Version) (old new piece : List ℕ) (need : ℕ) → old ≡ [] → new ≡ old ++ piece → NeedsMore v piece need → Takes v old new piece (length piece) (Wants need)

@@ -1,9 +1,11 @@
 -- What the end of a stream means to what is held of it. These rules are this project's own.
-use Rattle.std.specs.Prelude.{◌≡◌, ◌<◌, ◌⊎◌, [], length, Result, Ok, Err}
+use Rattle.std.specs.Prelude.{◌≡◌, ℕ, ◌<◌, ◌⊎◌, List, [], length, Result, Ok, Err}
 use Rattle.lc_frame.specs.declared.frame.Frame.{Frame}
 use Rattle.lc_frame.specs.declared.frame_fault.FrameFault.{FrameFault}
 use Rattle.lc_frame.specs.declared.frame_fault.FrameFault.TheVariants.{Truncated}
-use Rattle.lc_frame.specs.Held.{Held, HasFrame, HasFault, IsUndecided}
+use Rattle.lc_frame.specs.declared.decoded.Decoded.{Decoded}
+use Rattle.lc_frame.specs.declared.decoded.Decoded.TheVariants.{More}
+use Rattle.lc_frame.specs.Held.{Held, fed, HasFrame, HasFault, IsUndecided}
 
 -- part of a frame or of a greeting is there, and no fault
 pub record IsPart (h : Held) : Type 0 where
@@ -15,3 +17,8 @@ abbrev pub EndsAs : {T : Type 0} → Result T FrameFault → Held → Type 0
 EndsAs (Ok _) h = (h.bytes ≡ []) ⊎ ((f : Frame) × HasFrame f h)
 EndsAs (Err Truncated) h = IsPart h
 EndsAs (Err fault) h = HasFault fault h
+
+-- a piece of which no more can be told is held, and nothing of another
+abbrev pub TakesMore : Decoded → Held → List ℕ → Held → Type 0
+TakesMore More old piece new = new ≡ fed old piece
+TakesMore answer old piece new = new ≡ old

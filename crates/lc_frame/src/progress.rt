@@ -24,6 +24,9 @@ pub(crate) enum Progress {
     Broken,
 }
 
+// Up to so many bytes are copied before it is known whether all of them are the frame's.
+const FEW: usize = 16;
+
 // How many bytes were taken, and what is known then.
 #[derive(Clone, Copy, Debug)]
 struct Step {
@@ -133,6 +136,42 @@ fn begin(
     }
 }
 
+// Takes a few bytes where few are held: all are copied and scanned at once, and those behind a frame
+// dropped again.
+#[inline(always)]
+fn leap(
+    version: Version,
+    buffer: &mut Vec<u8>,
+    progress: &mut Progress,
+    need: usize,
+    piece: &[u8],
+) -> usize
+    requires room { max_frame version ≤ vec_capacity buffer.old }
+    requires wanted { NeedsMore version buffer.old.items need }
+    requires few_held { length buffer.old.items ≤ FEW }
+    requires few { length piece.now ≤ FEW }
+    ensures step { Takes version buffer.old.items buffer.new.items piece.now result progress.new }
+    ensures capacity { vec_capacity buffer.old ≤ vec_capacity buffer.new }
+{
+    let held = buffer.len();
+    append(buffer, piece);
+    match scan_front(version, buffer) {
+        Scan::Whole { head: found, used } => {
+            buffer.truncate(used);
+            *progress = Progress::Whole(found);
+            used - held
+        }
+        Scan::Needs(further) => {
+            *progress = Progress::Wants(further);
+            piece.len()
+        }
+        Scan::Fault(_) => {
+            buffer.truncate(held);
+            resume(version, buffer, progress, need, piece)
+        }
+    }
+}
+
 /// Takes the shortest front of the piece after which a frame or a fault stands, or all of it.
 #[inline(always)]
 pub(crate) fn take_in(
@@ -149,6 +188,8 @@ pub(crate) fn take_in(
 {
     if buffer.is_empty() {
         begin(version, buffer, progress, need, piece)
+    } else if buffer.len() <= FEW && piece.len() <= FEW {
+        leap(version, buffer, progress, need, piece)
     } else {
         resume(version, buffer, progress, need, piece)
     }

@@ -1,16 +1,19 @@
 //! Finding the frames of a stream that comes in pieces.
-ghost use Rattle.std.specs.Prelude.{◌≡◌, ◌<◌, ◌≤◌, ℕ, [], length, take, All, IfOk, IfSome, IfNone};
+ghost use Rattle.std.specs.Prelude.{◌≡◌, ◌<◌, ◌≤◌, ℕ, [], length, take, All, IsTrue, false, IfOk, IfSome, IfNone};
 ghost use Rattle.lc_frame.specs.declared.frame.Frame.{Frame};
 ghost use Rattle.lc_frame.specs.declared.frame_fault.FrameFault.{FrameFault};
 ghost use Rattle.lc_frame.specs.FrameRef.{frame_of};
-ghost use Rattle.lc_frame.specs.Held.{nothing_held, IsSettled, fed, IsValidIn, encoding_in, HasFrame, HasFault, IsUndecided, IsDecided};
-ghost use Rattle.lc_frame.specs.StreamDecoder.{EndsAs};
+ghost use Rattle.lc_frame.specs.Decoded.{Decodes};
+ghost use Rattle.lc_frame.specs.Held.{nothing_held, held_in, IsSettled, fed, IsValidIn, encoding_in, HasFrame, HasFault, IsUndecided, IsDecided};
+ghost use Rattle.lc_frame.specs.StreamDecoder.{EndsAs, TakesMore};
 
+use crate::decoded::Decoded;
 use crate::encoding::MAX_FRAME;
 use crate::frame_fault::FrameFault;
 use crate::frame_ref::FrameRef;
 use crate::greeting::open;
 use crate::progress::{Progress, append, take_in};
+use crate::scan::{Scan, scan_front};
 use crate::version::Version;
 use std::alloc::{AllocError, Global};
 use std::marker::Model;
@@ -85,6 +88,53 @@ impl StreamDecoder {
                 start.taken
             }
             Progress::Broken => 0,
+        }
+    }
+
+    /// Takes all of a piece that is too short for more to be known of what is held, or else nothing.
+    /// Whether it did.
+    #[inline(always)]
+    pub fn take_part(&mut self, piece: &[u8]) -> bool
+        ensures took { IsTrue result → self.new ≡ fed self.old piece.now }
+        ensures undecided { IsTrue result → IsUndecided self.new }
+        ensures other { result ≡ false → self.new ≡ self.old }
+    {
+        match self.progress {
+            Progress::Wants(need) => {
+                let missing = need - self.buffer.len();
+                if piece.len() < missing {
+                    append(&mut self.buffer, piece);
+                    return true;
+                }
+                false
+            }
+            Progress::Whole(_) => false,
+            Progress::Fault(_) => false,
+            Progress::Greeted => false,
+            Progress::Broken => false,
+        }
+    }
+
+    /// Decodes the front of a piece, as [`decode`](crate::decode) does, where nothing is held of a
+    /// stream of this version. A piece that is `Decoded::More` is taken in as it is decoded, and nothing
+    /// is taken else.
+    #[inline(always)]
+    pub fn decode_or_take<'a>(&mut self, version: Version, piece: &'a [u8]) -> Decoded<'a>
+        requires { self.old ≡ held_in version [] }
+        ensures decodes { Decodes version result piece.now }
+        ensures held { TakesMore result self.old piece.now self.new }
+    {
+        match scan_front(version, piece) {
+            Scan::Whole { head, used } => Decoded::Whole {
+                frame: head.frame_in(version, piece.split_at(used).0),
+                used,
+            },
+            Scan::Fault(fault) => Decoded::Fault(fault),
+            Scan::Needs(more) => {
+                append(&mut self.buffer, piece);
+                self.progress = Progress::Wants(more);
+                Decoded::More
+            }
         }
     }
 

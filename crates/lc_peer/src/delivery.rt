@@ -8,7 +8,7 @@ ghost use Rattle.lc_peer.specs.Steps.{Steps};
 use crate::peer::Peer;
 use crate::sink::FrameSink;
 use lc_book::Violation;
-use lc_frame::{Decoded, FrameFault, StreamDecoder, Version, decode};
+use lc_frame::{Decoded, FrameFault, StreamDecoder, Version};
 
 /// Why a delivery stopped.
 #[derive(Clone, Copy, Debug, PartialEq, Eq)]
@@ -59,18 +59,18 @@ fn step_in_piece<C, S: FrameSink<C>>(
     requires { decoder.old ≡ held_in version [] }
     ensures { Steps S.arrived S.violated result sink.old decoder.old piece.now sink.new decoder.new }
 {
-    match decode(version, piece) {
+    match decoder.decode_or_take(version, piece) {
         Decoded::Whole { frame, used } => match sink.arrive_in(context, frame) {
             Ok(()) => Step::Arrived(used),
             Err(violation) => Step::Stopped(Stop::Violated(violation), feed(decoder, piece)),
         },
-        Decoded::More => Step::Open(feed(decoder, piece)),
+        Decoded::More => Step::Open(piece.len()),
         Decoded::Fault(fault) => Step::Stopped(Stop::Fault(fault), feed(decoder, piece)),
     }
 }
 
 // Where part of a frame or of a greeting is held, or a whole frame: it is completed there.
-fn step_in_decoder<C, S: FrameSink<C>>(
+fn complete<C, S: FrameSink<C>>(
     sink: &mut S,
     context: &C,
     decoder: &mut StreamDecoder,
@@ -92,6 +92,21 @@ fn step_in_decoder<C, S: FrameSink<C>>(
             None => Step::Open(taken),
         },
     }
+}
+
+// Where something is held. A piece that leaves a frame as open as it was is only taken in.
+fn step_in_decoder<C, S: FrameSink<C>>(
+    sink: &mut S,
+    context: &C,
+    decoder: &mut StreamDecoder,
+    piece: &[u8],
+) -> Step
+    ensures { Steps S.arrived S.violated result sink.old decoder.old piece.now sink.new decoder.new }
+{
+    if decoder.take_part(piece) {
+        return Step::Open(piece.len());
+    }
+    complete(sink, context, decoder, piece)
 }
 
 // One step: what stands at the front of what is held and of the piece is dealt with.

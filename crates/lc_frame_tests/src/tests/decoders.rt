@@ -1,7 +1,7 @@
 //! Streams that are fed in pieces.
 use super::frames::{bytes_of, frame_in};
 use super::{Subject, answers, same, text};
-use lc_frame::{Channel, FrameRef, StreamDecoder, Version};
+use lc_frame::{Channel, Decoded, FrameRef, StreamDecoder, Version};
 use std::alloc::{AllocError, Global};
 use std::test::Fail;
 
@@ -101,6 +101,111 @@ impl Subject for Cut {
 fn streams_are_read_however_they_are_cut(rt: HostRuntime) {
     for len in 0..21 {
         answers(&rt, rt.alloc(), &mut Cut(len), STREAMS);
+    }
+}
+
+// Streams with frames of about as many bytes as are copied before they are known to be the frame's.
+const LONGER: &str =
+    "11 00 0c 61 62 63 64 65 66 67 68 69 6a 6b 6c 21 00 00 00 05 => Send { channel: DataChannel, body: [97, 98, 99, 100, 101, 102, 103, 104, 105, 106, 107, 108] }, Issue { channel: DataChannel, amount: 5 }, Ok(()) Some(One)
+11 00 0d 61 62 63 64 65 66 67 68 69 6a 6b 6c 6d 17 => Send { channel: DataChannel, body: [97, 98, 99, 100, 101, 102, 103, 104, 105, 106, 107, 108, 109] }, Err(BadTag) Some(One)
+11 00 0e 61 62 63 64 65 66 67 68 69 6a 6b 6c 6d 6e 11 00 00 => Send { channel: DataChannel, body: [97, 98, 99, 100, 101, 102, 103, 104, 105, 106, 107, 108, 109, 110] }, Err(ZeroLength) Some(One)
+11 00 0f 61 62 63 64 65 66 67 68 69 6a 6b 6c 6d 6e 6f 11 00 02 70 => Send { channel: DataChannel, body: [97, 98, 99, 100, 101, 102, 103, 104, 105, 106, 107, 108, 109, 110, 111] }, Err(Truncated) Some(One)
+60 00 00 00 00 00 00 00 0a 11 00 01 61 21 00 00 00 05 60 40 00 00 00 00 00 00 01 => LimitReceiving { channel: ReconciliationChannel, bound: 10 }, Send { channel: DataChannel, body: [97] }, Issue { channel: DataChannel, amount: 5 }, Err(BadNumber) Some(One)
+4c 43 4d 02 11 00 00 00 0b 61 62 63 64 65 66 67 68 69 6a 6b 71 21 00 00 00 05 70 => Send { channel: DataChannel, body: [97, 98, 99, 100, 101, 102, 103, 104, 105, 106, 107] }, Finish { channel: DataChannel }, Issue { channel: DataChannel, amount: 5 }, Finish { channel: ReconciliationChannel }, Ok(()) Some(Two)
+4c 43 4d 02 11 00 00 00 0c 61 62 63 64 65 66 67 68 69 6a 6b 6c 11 00 10 00 01 => Send { channel: DataChannel, body: [97, 98, 99, 100, 101, 102, 103, 104, 105, 106, 107, 108] }, Err(BadNumber) Some(Two)
+";
+
+// The longest of these streams has so many bytes.
+const LONGEST: usize = 27;
+
+#[test]
+fn longer_streams_are_read_however_they_are_cut(rt: HostRuntime) {
+    for len in 0..LONGEST + 1 {
+        answers(&rt, rt.alloc(), &mut Cut(len), LONGER);
+    }
+}
+
+// Decoders that are fed each stream in pieces, of which each has so many bytes.
+#[derive(Drop)]
+struct Chunks(usize);
+
+impl Subject for Chunks {
+    fn answer(&mut self, alloc: Global, digits: &str) -> Option<String> {
+        let bytes = bytes_of(alloc, digits)?;
+        let mut decoder = StreamDecoder::new(alloc).ok()?;
+        let mut seen = String::new(alloc);
+        for piece in bytes.chunks(self.0.max(1)) {
+            drain(alloc, &mut decoder, piece, &mut seen)?;
+        }
+        write!(seen, "{:?} {:?}", decoder.end(), decoder.version()).ok()?;
+        Some(seen)
+    }
+}
+
+#[test]
+fn streams_are_read_in_pieces_of_each_size(rt: HostRuntime) {
+    for len in 1..LONGEST + 1 {
+        answers(&rt, rt.alloc(), &mut Chunks(len), STREAMS);
+        answers(&rt, rt.alloc(), &mut Chunks(len), LONGER);
+    }
+}
+
+// The same by the calls that spare a feed where they can.
+#[derive(Drop)]
+struct Spared(usize);
+
+// Writes down the frames of a piece, which are decoded in it where nothing is held, and drops each.
+fn drain_spared(
+    alloc: Global,
+    decoder: &mut StreamDecoder,
+    piece: &[u8],
+    seen: &mut String,
+) -> Option<()> {
+    let mut rest = piece;
+    for _ in 0..=piece.len() {
+        if decoder.take_part(rest) {
+            return Some(());
+        }
+        let used = match decoder.version() {
+            Some(version) if decoder.held() == 0 => {
+                match decoder.decode_or_take(version, rest) {
+                    Decoded::Whole { frame, used } => {
+                        show(alloc, frame, seen)?;
+                        used
+                    }
+                    Decoded::More => return Some(()),
+                    Decoded::Fault(_) => decoder.feed(rest),
+                }
+            }
+            _ => decoder.feed(rest),
+        };
+        rest = rest.get(used..)?;
+        if let Some(frame) = decoder.frame() {
+            show(alloc, frame, seen)?;
+            decoder.clear();
+        }
+    }
+    Some(())
+}
+
+impl Subject for Spared {
+    fn answer(&mut self, alloc: Global, digits: &str) -> Option<String> {
+        let bytes = bytes_of(alloc, digits)?;
+        let mut decoder = StreamDecoder::new(alloc).ok()?;
+        let mut seen = String::new(alloc);
+        for piece in bytes.chunks(self.0.max(1)) {
+            drain_spared(alloc, &mut decoder, piece, &mut seen)?;
+        }
+        write!(seen, "{:?} {:?}", decoder.end(), decoder.version()).ok()?;
+        Some(seen)
+    }
+}
+
+#[test]
+fn spared_feeds_read_the_same(rt: HostRuntime) {
+    for len in 1..LONGEST + 1 {
+        answers(&rt, rt.alloc(), &mut Spared(len), STREAMS);
+        answers(&rt, rt.alloc(), &mut Spared(len), LONGER);
     }
 }
 

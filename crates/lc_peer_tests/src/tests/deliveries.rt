@@ -270,10 +270,12 @@ const HOSTILE_IN_TWO: [&str; 6] = [
 /// The longest of the streams has so many bytes.
 const LONGEST: usize = 20;
 
-// A stream comes to new peers whole, cut in two behind each of its bytes, and byte by byte.
+// A stream comes to new peers whole, cut in two behind each of its bytes, in pieces of each size, and
+// byte by byte.
 fn cut_anywhere(rt: &impl Abort, alloc: Global, script: &str) -> Result<(), Fail> {
     for count in 0..LONGEST + 1 {
         run_cut(rt, alloc, Cut::Behind(count), script)?;
+        run_cut(rt, alloc, Cut::Every(count), script)?;
     }
     run_cut(rt, alloc, Cut::Everywhere, script)
 }

@@ -37,6 +37,8 @@ pub enum Cut {
     Behind(usize),
     /// Behind each byte.
     Everywhere,
+    /// Behind so many bytes, and as many more, and so on.
+    Every(usize),
 }
 
 /// A peer with the decoder of the stream that comes to it, and where such a stream is cut.
@@ -126,6 +128,11 @@ fn stream(alloc: Global, side: &mut Side, digits: &str) -> Option<String> {
         }
         Cut::Everywhere => {
             for piece in bytes.chunks(1) {
+                did = and_then(did, side, piece);
+            }
+        }
+        Cut::Every(count) => {
+            for piece in bytes.chunks(count.max(1)) {
                 did = and_then(did, side, piece);
             }
         }

@@ -5,7 +5,7 @@ use Rattle.lc_frame.specs.Held.{Held, IsValidIn, IsUndecided}
 use Rattle.lc_peer.proofs.Feeds.{all_open, ends, shortest_fault}
 use Rattle.lc_frame.proofs.Held.{whole_has}
 use Rattle.lc_peer.proofs.Deliveries.{one_held}
-use Rattle.lc_peer.proofs.delivery.step_in_decoder.Goals as goal
+use Rattle.lc_peer.proofs.delivery.complete.Goals as goal
 
 pub returns-in-Ok : goal.returns-in-Ok
 returns-in-Ok g c =
