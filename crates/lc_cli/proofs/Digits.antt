@@ -1,7 +1,7 @@
 -- Two digits and the byte that they write, told by the digits' values.
-use Rattle.std.proofs.Common.{◌≡◌, ℕ, zero, suc, ◌+◌, ◌-◌, ◌*◌, ◌/◌, ◌<◌, ◌≤◌, Bool, true, ◌&&◌, T, eqb, get_or, Option, None, Some, Ok, Err, MatchOption, refl, arith, ◌⊎◌, inl, inr, eq-zero-or-pos, eqb→eq}
+use Rattle.std.proofs.Common.{◌≡◌, ℕ, zero, suc, ◌+◌, ◌-◌, ◌*◌, ◌/◌, ◌<◌, ◌≤◌, Bool, true, is_some, ◌&&◌, T, eqb, get_or, Option, None, Some, Ok, Err, MatchOption, refl, arith, ◌⊎◌, inl, inr, eq-zero-or-pos, eqb→eq}
 use lib.Ieee.Fits.{and_l, and_r}
-use Rattle.hex.specs.Hex.{digit_or_error, hex_digit_value, pair_value, ◌>>=◌}
+use Rattle.hex.specs.Hex.{digit_or_error, hex_digit_value, is_hex_digit, pair_value, ◌>>=◌}
 use Rattle.hex.specs.declared.error.FromHexError.{FromHexError}
 use Rattle.hex.specs.declared.error.FromHexError.TheVariants.{InvalidHexCharacter}
 use Rattle.lc_cli.specs.declared.decoding.TheConstants.{VALUES}
@@ -22,6 +22,14 @@ bad a b i x y None p g h large = (InvalidHexCharacter a i, refl)
 bad a b i x y (Some v) None g h large = (InvalidHexCharacter b (i + 1), refl)
 bad a b i x y (Some v) (Some w) (e, g) (f, h) (inl large) = absurd (omega (arith, e, g, large))
 bad a b i x y (Some v) (Some w) (e, g) (f, h) (inr large) = absurd (omega (arith, f, h, large))
+
+some : (o : Option ℕ) (x : ℕ) → IsValue o x → x < 16 → is_some o ≡ true
+some None x e small = absurd (omega (arith, e, small))
+some (Some v) x e small = refl
+
+-- a byte is a digit where its value is below 16
+pub is_digit : (d x : ℕ) → IsValue (hex_digit_value d) x → x < 16 → is_hex_digit d ≡ true
+is_digit d x e small = some (hex_digit_value d) x e small
 
 -- two digits write a byte
 pub pair-ok : (a b i x y : ℕ) → IsValue (hex_digit_value a) x → IsValue (hex_digit_value b) y → x < 16 → y < 16 → pair_value a b i ≡ Ok (x * 16 + y)

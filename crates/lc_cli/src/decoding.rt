@@ -1,6 +1,6 @@
 //! Reading bytes that are written as text.
-ghost use Rattle.std.specs.Prelude.{◌≡◌, ◌<◌, ◌*◌, ◌%◌, ℕ, Ok, Err, None, IfOk, MatchOption, MatchBool, length};
-ghost use Rattle.hex.specs.Hex.{decode_of, decode_pairs, hex_digit_value, pair_value};
+ghost use Rattle.std.specs.Prelude.{◌≡◌, ◌<◌, ◌≤◌, ◌*◌, ◌%◌, ℕ, Ok, Err, None, IfOk, MatchOption, MatchBool, length, slice_index, true, false};
+ghost use Rattle.hex.specs.Hex.{decode_of, decode_pairs, hex_digit_value, is_hex_digit, pair_value};
 ghost use Rattle.hex.specs.declared.error.FromHexError.{FromHexError};
 
 use std::alloc::{AllocError, Global};
@@ -43,6 +43,21 @@ fn pair(high: u8, low: u8) -> Option<u8>
         return None;
     }
     Some(first * 16 + second)
+}
+
+/// How many digits the bytes begin with.
+#[inline]
+pub(crate) fn digit_count(bytes: &[u8]) -> usize
+    ensures within { result ≤ length bytes.now }
+    ensures digits { (k : ℕ) → k < result → is_hex_digit (slice_index bytes.now k) ≡ true }
+    ensures end { result < length bytes.now → is_hex_digit (slice_index bytes.now result) ≡ false }
+{
+    'digits: for place in 0..bytes.len() {
+        if value(bytes[place]) >= 16 {
+            return place;
+        }
+    }
+    bytes.len()
 }
 
 // Whether the text is pairs of digits, whose bytes are then put.

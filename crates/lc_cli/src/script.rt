@@ -1,8 +1,8 @@
 //! Scripts: one event a line.
-ghost use Rattle.std.specs.Prelude.{◌≡◌, ◌<◌, ◌+◌, Err, IfSome, MatchOption, length, take, drop};
+ghost use Rattle.std.specs.Prelude.{◌≡◌, ◌<◌, ◌+◌, Err, IfOk, IfSome, MatchOption, length, take, drop};
 ghost use Rattle.std.specs.Option.{option_map};
 
-use crate::decoding::decode;
+use crate::decoding::{decode, digit_count};
 use crate::fault::Fault;
 use crate::number::parse_decimal;
 use crate::words::{
@@ -26,23 +26,31 @@ pub fn parse_script(alloc: Global, script: &[u8]) -> Result<Vec<Event>, Fault>
     ensures { ¬ (result ≡ Err Fault.Usage) }
 {
     let mut events = Vec::new(alloc);
-    let mut rest = Some(script);
+    let mut rest = script;
     for number in 1..=u64::MAX {
-        let Some(lines) = rest else {
-            break;
-        };
-        let (line, others) = cut(lines, lines.iter().position(|byte| *byte == b'\n'));
-        rest = others;
-        if line.is_empty() || line[0] == b'#' {
-            continue;
-        }
-        match parse_line(alloc, line) {
-            Ok(event) => events.push(event)?,
-            Err(LineFault::Bad) => return Err(Fault::BadLine { line: number }),
-            Err(LineFault::OutOfMemory) => return Err(Fault::OutOfMemory),
+        match rest {
+            [] => break,
+            [b'\n', others @ ..] => rest = others,
+            [b'#', ..] => rest = behind(rest, end_of_line(rest)),
+            _ => {
+                let mut fields = Fields::new(rest);
+                match fields.event(alloc) {
+                    Ok(event) => events.push(event)?,
+                    Err(LineFault::Bad) => return Err(Fault::BadLine { line: number }),
+                    Err(LineFault::OutOfMemory) => return Err(Fault::OutOfMemory),
+                }
+                rest = fields.rest;
+            }
         }
     }
     Ok(events)
+}
+
+// Where the line ends, unless the script does.
+fn end_of_line(bytes: &[u8]) -> Option<usize>
+    ensures { IfSome result (λ k. k < length bytes.now) }
+{
+    bytes.iter().position(|byte| *byte == b'\n')
 }
 
 // What stands before a place, and what stands behind it. With no place all stands before it.
@@ -58,35 +66,85 @@ fn cut(bytes: &[u8], place: Option<usize>) -> (&[u8], Option<&[u8]>)
     }
 }
 
-fn parse_line(alloc: Global, line: &[u8]) -> Result<Event, LineFault> {
-    let mut fields = Fields(Some(line));
-    let side = fields.side()?;
-    let act = fields.act(alloc)?;
-    fields.end()?;
-    Ok(Event { side, act })
+// The body that digits write.
+fn body_of(alloc: Global, digits: &[u8]) -> Result<Body, LineFault> {
+    let bytes = decode(alloc, digits).map_err(|_| LineFault::OutOfMemory)?;
+    bytes.map(Body::from_vec).ok_or(LineFault::Bad)
 }
 
-// The fields of a line that are not read yet, separated by single spaces: two spaces have an empty
+// What stands behind a place, of which with no place there is nothing.
+fn behind(bytes: &[u8], place: Option<usize>) -> &[u8]
+    requires { IfSome place (λ k. k < length bytes.now) }
+{
+    match cut(bytes, place) {
+        (_, Some(others)) => others,
+        (_, None) => &[],
+    }
+}
+
+// A script from a field of a line on. Fields are separated by single spaces: two spaces have an empty
 // field between them. Each field is compared byte by byte with what it may be, so that a line that
-// is no UTF-8 is a bad one.
+// is no UTF-8 is a bad one. A line's end is met where its last field ends, and not looked for before.
 #[derive(Clone, Copy)]
-struct Fields<'a>(Option<&'a [u8]>);
+struct Fields<'a> {
+    rest: &'a [u8],
+    // Whether the line has a field that is not read yet.
+    has_more: bool,
+}
 
 impl<'a> Fields<'a> {
+    fn new(rest: &'a [u8]) -> Fields<'a> {
+        Fields {
+            rest,
+            has_more: true,
+        }
+    }
+
+    fn event(&mut self, alloc: Global) -> Result<Event, LineFault> {
+        let side = self.side()?;
+        let act = self.act(alloc)?;
+        if self.has_more {
+            return Err(LineFault::Bad);
+        }
+        Ok(Event { side, act })
+    }
+
+    // What is left of the script, from a field on.
+    fn ahead(&self) -> Result<&'a [u8], LineFault>
+        ensures { IfOk result (λ rest. rest.now ≡ self.now.rest.now) }
+    {
+        if self.has_more {
+            Ok(self.rest)
+        } else {
+            Err(LineFault::Bad)
+        }
+    }
+
+    // Reads the field up to the place of its end. With no place it ends with the script.
+    #[inline]
+    fn field_to(&mut self, place: Option<usize>) -> &'a [u8]
+        requires { IfSome place (λ k. k < length self.old.rest.now) }
+        ensures field { MatchOption place (result.now ≡ self.old.rest.now) (λ k. result.now ≡ take k self.old.rest.now) }
+    {
+        let rest = self.rest;
+        self.has_more = match place {
+            Some(place) => rest[place] == b' ',
+            None => false,
+        };
+        let (field, others) = cut(rest, place);
+        self.rest = match others {
+            Some(others) => others,
+            None => &[],
+        };
+        field
+    }
+
     // Most fields are so short that their end is near.
     #[inline]
     fn field(&mut self) -> Result<&'a [u8], LineFault> {
-        let rest = self.0.ok_or(LineFault::Bad)?;
-        let (field, others) = cut(rest, rest.iter().position(|byte| *byte == b' '));
-        self.0 = others;
-        Ok(field)
-    }
-
-    fn end(&self) -> Result<(), LineFault> {
-        match self.0 {
-            Some(_) => Err(LineFault::Bad),
-            None => Ok(()),
-        }
+        let rest = self.ahead()?;
+        let end = rest.iter().position(|byte| *byte == b' ' || *byte == b'\n');
+        Ok(self.field_to(end))
     }
 
     fn side(&mut self) -> Result<Side, LineFault> {
@@ -159,18 +217,27 @@ impl<'a> Fields<'a> {
         parse_decimal(digits).ok_or(LineFault::Bad)
     }
 
-    // The bytes of a body, of which `-` has none. No memory is asked for where the line is no text.
+    // The bytes of a body. Most are nothing but digits up to the line's end, and so are text.
     fn body(&mut self, alloc: Global) -> Result<Body, LineFault> {
-        let rest = self.0.ok_or(LineFault::Bad)?;
-        str::from_utf8(rest).map_err(|_| LineFault::Bad)?;
-        let (field, others) = cut(rest, rest.iter().position(|byte| *byte == b' '));
-        self.0 = others;
-        let digits: &[u8] = match field {
-            [] => return Err(LineFault::Bad),
-            [b'-'] => &[],
-            digits => digits,
-        };
-        let bytes = decode(alloc, digits).map_err(|_| LineFault::OutOfMemory)?;
-        bytes.map(Body::from_vec).ok_or(LineFault::Bad)
+        let rest = self.ahead()?;
+        let count = digit_count(rest);
+        if count < rest.len() && rest[count] != b'\n' {
+            return self.other_body(alloc);
+        }
+        match self.field_to((count < rest.len()).then_some(count)) {
+            [] => Err(LineFault::Bad),
+            digits => body_of(alloc, digits),
+        }
+    }
+
+    // A body that is `-`, or a bad one. No memory is asked for where the line is no text.
+    fn other_body(&mut self, alloc: Global) -> Result<Body, LineFault> {
+        let (line, _) = cut(self.rest, end_of_line(self.rest));
+        str::from_utf8(line).map_err(|_| LineFault::Bad)?;
+        match self.field()? {
+            [b'-'] => body_of(alloc, &[]),
+            [] => Err(LineFault::Bad),
+            digits => body_of(alloc, digits),
+        }
     }
 }

@@ -128,6 +128,79 @@ fn made_lines_are_read_as_before(rt: HostRuntime) -> Result<(), Fail> {
     Ok(())
 }
 
+// Lines that are good, and some that are skipped.
+const LINES: [&[u8]; 8] = [
+    b"A send 3 00ffAB",
+    b"B send 0 -",
+    b"",
+    b"# \xff",
+    b"B take 6",
+    b"A arrive",
+    b"A issue 5 100",
+    b"B deliver 0",
+];
+
+// Scripts of a few lines, any of which may be bad. The last one has an end or none.
+#[test]
+fn made_scripts_are_read_as_before(rt: HostRuntime) -> Result<(), Fail> {
+    let mut state = 63;
+    let mut good = 0u32;
+    let mut script = Vec::new(rt.alloc());
+    for _ in 0..12_000 {
+        script.clear();
+        for _ in 0..next(&mut state) % 6 {
+            if next(&mut state) % 6 == 0 {
+                append_line(&mut state, &mut script).ok_or("no memory")?;
+            } else {
+                script.extend_from_slice(LINES[next(&mut state) % 8])?;
+            }
+            if next(&mut state) % 12 != 0 {
+                script.push(b'\n')?;
+            }
+        }
+        if is_same(&rt, rt.alloc(), script.as_slice()) {
+            good = good.saturating_add(1);
+        }
+    }
+    assert!(&rt; good > 2_000 && good < 10_000, "{good} good scripts");
+    Ok(())
+}
+
+// What may stand behind a body's digits: an end of the line, and what is bad there.
+const TAILS: [&[u8]; 16] = [
+    b"",
+    b"\n",
+    b" ",
+    b"-",
+    b"g",
+    b"\r\n",
+    b"\xff",
+    b" \xff",
+    b" 00",
+    b"\n\xff",
+    b"\nA arrive",
+    b"\n\nB take 7",
+    b"\0",
+    b"\xc3\xa9",
+    b"G0",
+    b"\n# 00",
+];
+
+// Bodies of each length, and what may stand behind them.
+#[test]
+fn long_bodies_are_read_as_before(rt: HostRuntime) -> Result<(), Fail> {
+    let mut digits = Vec::from_slice(rt.alloc(), b"B send 2 ")?;
+    for number in 0..300usize {
+        for tail in TAILS {
+            let mut script = digits.clone()?;
+            script.extend_from_slice(tail)?;
+            is_same(&rt, rt.alloc(), script.as_slice());
+        }
+        digits.push(b"0123456789abcdefABCDEF"[number * 7 % 22])?;
+    }
+    Ok(())
+}
+
 // Each byte at each place of a line of each kind.
 #[test]
 fn changed_bytes_are_read_as_before(rt: HostRuntime) -> Result<(), Fail> {
