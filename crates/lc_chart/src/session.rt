@@ -1,4 +1,7 @@
 //! A session as a picture shows it: where each frame arrived, and how the balances went.
+ghost use Rattle.std.specs.Prelude.{◌≡◌};
+ghost use Rattle.lc_chart.specs.Balances.{lone_channel};
+
 use crate::fault::ChartFault;
 use lc_cli::Fault;
 use lc_frame::{Channel, LANES, Lane, Version};
@@ -105,8 +108,8 @@ impl Session {
         let mut session = Session::empty(alloc, capacity);
         for (number, event) in (1..=MAX_EVENTS).zip(events) {
             let answer = world.step(event);
-            session.note_event(number, event, &answer)?;
-            session.note_bars(number, &world)?;
+            let channel = session.note_event(number, event, &answer)?;
+            session.note_bars(number, channel, &world)?;
             session.answers.push(answer)?;
             session.end = number.saturating_add(1);
         }
@@ -134,30 +137,37 @@ impl Session {
         }
     }
 
-    // Notes which frame the event put, and which arrived by it.
+    // Notes which frame the event put, and which arrived by it. Answers the channel on which alone it
+    // changed a bar, and `None` where there may be more.
     fn note_event(
         &mut self,
         number: u16,
         event: &Event,
         answer: &Answer,
-    ) -> Result<(), AllocError> {
+    ) -> Result<Option<Channel>, AllocError> {
         let side = event.side;
         if let Some(direction) = direction_of(event) {
             self.occurs[direction.index()] = true;
         }
-        match (answer, channel_of(&event.act)) {
-            (Answer::Accepted | Answer::Absolved(_), Some(channel)) => self.put(Arrow {
-                side,
-                channel,
-                from: number,
-                to: None,
-            }),
-            (Answer::Arrived, _) => self.land(other(side), Some(number), 1),
-            (Answer::Delivered { frames, .. }, _) => {
-                self.land(other(side), Some(number), *frames)
+        let channel = channel_of(&event.act);
+        let landed = match (answer, channel) {
+            (Answer::Accepted | Answer::Absolved(_), Some(channel)) => {
+                self.put(Arrow {
+                    side,
+                    channel,
+                    from: number,
+                    to: None,
+                })?;
+                None
             }
-            _ => Ok(()),
-        }
+            (Answer::Arrived, _) => self.land_first(other(side), number)?,
+            (Answer::Delivered { frames, .. }, _) => {
+                self.land(other(side), Some(number), *frames)?;
+                None
+            }
+            _ => None,
+        };
+        Ok(lone_channel(channel, answer, landed))
     }
 
     fn put(&mut self, arrow: Arrow) -> Result<(), AllocError> {
@@ -186,8 +196,27 @@ impl Session {
         Ok(())
     }
 
-    // Notes each bar that the event changed.
-    fn note_bars(&mut self, number: u16, world: &World) -> Result<(), AllocError> {
+    // The side's first frame in flight ends at an event. Answers the frame's channel.
+    fn land_first(&mut self, side: Side, to: u16) -> Result<Option<Channel>, AllocError> {
+        let Some(arrow) = self.first_in_flight(side) else {
+            return Ok(None);
+        };
+        let to = Some(to);
+        self.arrows.push(Arrow { to, ..arrow })?;
+        Ok(Some(arrow.channel))
+    }
+
+    // Notes each bar that the event changed, which are bars of this channel if there is one.
+    fn note_bars(
+        &mut self,
+        number: u16,
+        channel: Option<Channel>,
+        world: &World,
+    ) -> Result<(), AllocError> {
+        if let Some(channel) = channel {
+            self.note_direction(number, Lane::Client(channel), world)?;
+            return self.note_direction(number, Lane::Server(channel), world);
+        }
         for direction in (0..LANES as u8).filter_map(Lane::from_number) {
             self.note_direction(number, direction, world)?;
         }
@@ -235,6 +264,26 @@ pub(crate) fn other(side: Side) -> Side {
     match side {
         Side::A => Side::B,
         Side::B => Side::A,
+    }
+}
+
+// The channel on which alone an event changes a balance: that of its act, and of an arrival that of the
+// frame that arrived. A delivery may bring several.
+fn lone_channel(act: Option<Channel>, answer: &Answer, landed: Option<Channel>) -> Option<Channel>
+    ensures { result ≡ lone_channel act answer.now landed }
+{
+    match answer {
+        Answer::Arrived => landed,
+        Answer::Delivered { .. } => None,
+        Answer::Accepted
+        | Answer::Absolved(_)
+        | Answer::NothingToAbsolve
+        | Answer::NothingInFlight
+        | Answer::Violated(_)
+        | Answer::Took(_)
+        | Answer::Empty
+        | Answer::Ended
+        | Answer::Refused(_) => act,
     }
 }
 

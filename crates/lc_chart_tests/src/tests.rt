@@ -1,7 +1,9 @@
 //! What a run shows, and the scripts and the stream that are drawn.
+mod before;
 mod devices;
 mod faults;
 mod layout;
+mod same_pictures;
 mod same_shapes;
 
 use lc_chart::run;

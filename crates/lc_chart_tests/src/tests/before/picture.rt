@@ -1,0 +1,429 @@
+//! The picture of a session: a lifeline for each side, arrows between them, and the balances beside.
+ghost use Rattle.std.specs.Prelude.{◌≤◌, ◌≡◌};
+
+use super::page::{
+    MARGIN, bar_key, close, close_description, frame_mark, key, line_key, name_of, open, row,
+    take_mark, wrong_mark,
+};
+use super::session::{Arrow, Bar, Session, Span, channel_of, client_of, other};
+use super::shapes::{Paint, Point, disc, line, rect, text};
+use super::words::{Asked, Happened, Phrase, Told};
+use lc_frame::{CHANNELS, Channel, Lane};
+use lc_world::{Answer, Event, Side};
+use std::fmt::Display;
+use std::io::Write;
+use std::{fmt, io};
+
+// The width of a bar, and from the left of one to that of the next.
+const BAR: u64 = 84;
+
+const COLUMN: u64 = 94;
+
+// From the bars to a lifeline, and from one lifeline to the other.
+const GUTTER: u64 = 44;
+
+const MIDDLE: u64 = 480;
+
+// Where the rows begin.
+const TOP: u64 = 210;
+
+// The least capacity whose three balances do not fit one line of a bar.
+const WIDE: u32 = 1_000;
+
+// Where things stand.
+#[derive(Clone, Copy)]
+struct Layout {
+    // How many columns of bars a side has, at least one.
+    columns: u8,
+    // The number behind the last event.
+    end: u16,
+}
+
+impl Layout {
+    fn of(session: &Session) -> Layout {
+        Layout {
+            columns: rank(&session.occurs).max(1),
+            end: session.end,
+        }
+    }
+
+    fn width(self) -> u64
+        ensures { (result ≤ 100000) }
+    {
+        self.x(Side::B) + GUTTER + COLUMN * u64::from(self.columns) + MARGIN
+    }
+
+    fn height(self) -> u64 {
+        row(TOP, self.end) + 40
+    }
+
+    // The lifeline of a side.
+    fn x(self, side: Side) -> u64
+        ensures { (60 ≤ result) × (result ≤ 50000) }
+    {
+        let left = MARGIN + COLUMN * u64::from(self.columns) + GUTTER;
+        match side {
+            Side::A => left,
+            Side::B => left + MIDDLE,
+        }
+    }
+
+    // The left end of a column of bars, beside a side.
+    fn bar(self, side: Side, column: u8) -> u64
+        ensures { result ≤ 100000 }
+    {
+        let left = match side {
+            Side::A => MARGIN,
+            Side::B => self.x(Side::B) + GUTTER + COLUMN - BAR,
+        };
+        left + COLUMN * u64::from(column)
+    }
+
+    fn on_line(self, side: Side, number: u16) -> Point
+        ensures { (60 ≤ result.x) × (result.x ≤ 50000) × (200 ≤ result.y) × (result.y ≤ 10000000) }
+    {
+        Point::new(self.x(side), row(TOP, number))
+    }
+}
+
+// How many of these directions occur.
+fn rank(occurs: &[bool]) -> u8 {
+    let mut rank = 0u8;
+    for occurs in occurs {
+        if *occurs {
+            rank = rank.saturating_add(1);
+        }
+    }
+    rank
+}
+
+/// Draws the session that came of these events.
+pub(crate) fn draw_session<W: Write>(
+    session: &Session,
+    events: &[Event],
+    out: &mut W,
+) -> io::Result<()> {
+    let layout = Layout::of(session);
+    let (capacity, count) = (session.capacity, session.end.saturating_sub(1));
+    let title = Phrase::Peers {
+        capacity,
+        events: count,
+    };
+    let (width, height) = (layout.width(), layout.height());
+    open(out, width, height, &title)?;
+    describe(session, events, out)?;
+    close_description(out, width, height, &title)?;
+    let below = Point::new(MARGIN, 54);
+    text(
+        out,
+        Paint::plain("soft"),
+        below,
+        &Phrase::Reading { capacity },
+    )?;
+    draw_legend(session, out)?;
+    draw_frame(session, layout, out)?;
+    for span in &session.spans {
+        draw_span(session, layout, span, out)?;
+    }
+    for arrow in &session.arrows {
+        draw_arrow(layout, arrow, out)?;
+    }
+    for ((number, event), answer) in (1..=u16::MAX).zip(events).zip(&session.answers) {
+        draw_event(layout, number, event, answer, out)?;
+    }
+    close(out)
+}
+
+// The events and where frames arrived, one a line.
+fn describe<W: Write>(session: &Session, events: &[Event], out: &mut W) -> io::Result<()> {
+    for ((number, event), answer) in (1..=u16::MAX).zip(events).zip(&session.answers) {
+        let (side, asked, told) = (Name(event.side), Asked(&event.act), Told(answer));
+        write!(out, "{number}. {side}: {asked}")?;
+        if let Some(channel) = channel_of(&event.act) {
+            let channel = channel.number();
+            write!(out, " on channel {channel}")?;
+        }
+        writeln!(out, ": {told}.")?;
+    }
+    for arrow in &session.arrows {
+        let from = arrow.from;
+        match arrow.to {
+            Some(to) => writeln!(out, "The frame of event {from} arrives at event {to}.")?,
+            None => writeln!(out, "The frame of event {from} is in flight at the end.")?,
+        }
+    }
+    Ok(())
+}
+
+#[derive(Clone, Copy)]
+struct Name(Side);
+
+impl Display for Name {
+    fn fmt<W: fmt::Write>(&self, f: &mut fmt::Formatter<W>) -> fmt::Result {
+        match self.0 {
+            Side::A => write!(f, "A"),
+            Side::B => write!(f, "B"),
+        }
+    }
+}
+
+fn legend_place(column: u8, line: u8) -> Point
+    ensures x { (30 ≤ result.x) × (result.x ≤ 100000) }
+    ensures y { (78 ≤ result.y) × (result.y ≤ 100000) }
+{
+    Point::new(
+        MARGIN + 10 + 170 * u64::from(column),
+        82 + 24 * u64::from(line),
+    )
+}
+
+fn draw_legend<W: Write>(session: &Session, out: &mut W) -> io::Result<()> {
+    let channel = Channel::DataChannel;
+    frame_mark(out, channel, legend_place(0, 0))?;
+    key(out, legend_place(0, 0), "frame put")?;
+    take_mark(out, channel, legend_place(1, 0))?;
+    key(out, legend_place(1, 0), "message taken")?;
+    wrong_mark(out, 4, legend_place(2, 0))?;
+    key(out, legend_place(2, 0), "refused")?;
+    line_key(
+        out,
+        "flight key",
+        legend_place(3, 0),
+        "in flight at the end",
+    )?;
+    bar_key(out, "held key", legend_place(0, 1), "held by the client")?;
+    bar_key(out, "buffered key", legend_place(1, 1), "buffered")?;
+    bar_key(out, "outstanding key", legend_place(2, 1), "outstanding")?;
+    bar_key(out, "room", legend_place(3, 1), "room")?;
+    let occurring = Channel::ALL
+        .iter()
+        .filter(|channel| occurs(session, **channel));
+    for (place, channel) in (0..CHANNELS as u8).zip(occurring) {
+        let at = legend_place(place % 4, 2 + place / 4);
+        frame_mark(out, *channel, at)?;
+        key(out, at, name_of(*channel))?;
+    }
+    Ok(())
+}
+
+fn occurs(session: &Session, channel: Channel) -> bool {
+    session.occurs[Lane::Client(channel).index()] || session.occurs[Lane::Server(channel).index()]
+}
+
+// The lifelines, and the heads of the columns.
+fn draw_frame<W: Write>(session: &Session, layout: Layout, out: &mut W) -> io::Result<()> {
+    for side in [Side::A, Side::B] {
+        let top = layout.on_line(side, 0);
+        let head = Point::new(top.x, top.y - 12);
+        text(out, Paint::plain("head mid"), head, &Name(side))?;
+        let end = layout.on_line(side, layout.end);
+        line(out, Paint::plain("life"), top, end)?;
+    }
+    Ok(())
+}
+
+// A bar from one event to another, where its direction occurs.
+fn draw_span<W: Write>(
+    session: &Session,
+    layout: Layout,
+    span: &Span,
+    out: &mut W,
+) -> io::Result<()> {
+    let (client, channel) = (client_of(span.direction), span.direction.channel());
+    let place = span.direction.index();
+    if !session.occurs[place] {
+        return Ok(());
+    }
+    let column = rank(&session.occurs[..place]);
+    let (side, words) = match span.bar {
+        Bar::Held(_) => (client, "holds"),
+        Bar::Ring { .. } => (other(client), "ring"),
+    };
+    let y = row(TOP, span.from);
+    let at = Point::new(layout.bar(side, column), y);
+    if span.from == 0 {
+        column_head(out, channel, at, words)?;
+    }
+    let stack = Stack {
+        capacity: session.capacity,
+        channel,
+        height: row(TOP, span.to).saturating_sub(y),
+    };
+    rect(out, Paint::plain("room"), at, BAR, stack.height)?;
+    stack.draw(at, span.bar, out)
+}
+
+// How the parts of a bar are painted.
+#[derive(Clone, Copy)]
+struct Stack {
+    capacity: u32,
+    channel: Channel,
+    height: u64,
+}
+
+impl Stack {
+    // The first so many bytes of the bar.
+    fn part<W: Write>(
+        self,
+        name: &'static str,
+        at: Point,
+        bytes: u64,
+        out: &mut W,
+    ) -> io::Result<()> {
+        if bytes == 0 {
+            return Ok(());
+        }
+        let capacity = u64::from(self.capacity.max(1));
+        let len = BAR * bytes.min(capacity) / capacity;
+        rect(out, Paint::of(name, self.channel), at, len, self.height)
+    }
+
+    // What is buffered lies over what is buffered or outstanding, and that over the whole ring.
+    fn draw<W: Write>(self, at: Point, bar: Bar, out: &mut W) -> io::Result<()>
+        requires { (at.x ≤ 100000) × (at.y ≤ 10000000) }
+    {
+        match bar {
+            Bar::Held(held) => {
+                self.part("held", at, held, out)?;
+                text(out, Paint::plain("sum"), number_place(at, 0), &held)
+            }
+            Bar::Ring {
+                buffered,
+                outstanding,
+                room,
+            } => {
+                self.part("outstanding", at, buffered.saturating_add(outstanding), out)?;
+                self.part("buffered", at, buffered, out)?;
+                self.numbers(at, [buffered, outstanding, room], out)
+            }
+        }
+    }
+
+    // Three numbers, on one line where that is long enough.
+    fn numbers<W: Write>(self, at: Point, numbers: [u64; 3], out: &mut W) -> io::Result<()>
+        requires { (at.x ≤ 100000) × (at.y ≤ 10000000) }
+    {
+        let sum = Paint::plain("sum");
+        let [buffered, outstanding, room] = numbers;
+        if self.capacity < WIDE {
+            let words = Phrase::Ring {
+                buffered,
+                outstanding,
+                room,
+            };
+            return text(out, sum, number_place(at, 0), &words);
+        }
+        text(out, sum, number_place(at, 0), &buffered)?;
+        text(out, sum, number_place(at, 1), &outstanding)?;
+        text(out, sum, number_place(at, 2), &room)
+    }
+}
+
+fn number_place(at: Point, line: u8) -> Point
+    requires { (at.x ≤ 100000) × (at.y ≤ 10000000) }
+{
+    Point::new(at.x + 4, at.y + 12 + 12 * u64::from(line))
+}
+
+fn column_head<W: Write>(out: &mut W, channel: Channel, at: Point, words: &str) -> io::Result<()>
+    requires { (at.x ≤ 100000) × (200 ≤ at.y) × (at.y ≤ 10000000) }
+{
+    let mark = Point::new(at.x + 10, at.y - 16);
+    frame_mark(out, channel, mark)?;
+    key(out, mark, words)
+}
+
+// From where a frame was put to where it arrived, or towards it.
+fn draw_arrow<W: Write>(layout: Layout, arrow: &Arrow, out: &mut W) -> io::Result<()> {
+    let Arrow {
+        side,
+        channel,
+        from,
+        to,
+    } = *arrow;
+    let start = layout.on_line(side, from);
+    match to {
+        Some(to) => {
+            let end = layout.on_line(other(side), to);
+            line(out, Paint::of("arrow", channel), start, end)
+        }
+        None => {
+            let end = Point::new(
+                (layout.x(side) + 3 * layout.x(other(side))) / 4,
+                row(TOP, layout.end),
+            );
+            line(out, Paint::of("flight", channel), start, end)
+        }
+    }
+}
+
+// The mark of an event on its side's lifeline, its number outside and its words inside.
+fn draw_event<W: Write>(
+    layout: Layout,
+    number: u16,
+    event: &Event,
+    answer: &Answer,
+    out: &mut W,
+) -> io::Result<()> {
+    let at = layout.on_line(event.side, number);
+    draw_mark(event, answer, at, out)?;
+    draw_number(event.side, number, at, out)?;
+    let words = inside_of(event.side, at);
+    let above = Point::new(words.x, words.y - 8);
+    let below = Point::new(words.x, words.y + 16);
+    if let Some(channel) = channel_of(&event.act) {
+        let asked = Paint::of(anchored(event.side, "asked", "asked end"), channel);
+        text(out, asked, above, &Happened(&event.act, answer))?;
+    }
+    let note = match answer {
+        Answer::Accepted | Answer::Arrived | Answer::Absolved(_) | Answer::Took(_) => {
+            return Ok(());
+        }
+        Answer::Refused(_) | Answer::Violated(_) => anchored(event.side, "bad", "bad end"),
+        _ => anchored(event.side, "soft", "soft end"),
+    };
+    text(out, Paint::plain(note), below, &Told(answer))
+}
+
+fn anchored(side: Side, start: &'static str, end: &'static str) -> &'static str {
+    match side {
+        Side::A => start,
+        Side::B => end,
+    }
+}
+
+// Where the words of an event begin, or end at B.
+fn inside_of(side: Side, at: Point) -> Point
+    requires { (60 ≤ at.x) × (at.x ≤ 50000) }
+    ensures { result.y ≡ at.y }
+{
+    match side {
+        Side::A => Point::new(at.x + 18, at.y),
+        Side::B => Point::new(at.x - 18, at.y),
+    }
+}
+
+fn draw_number<W: Write>(side: Side, number: u16, at: Point, out: &mut W) -> io::Result<()>
+    requires { (60 ≤ at.x) × (at.x ≤ 50000) × (at.y ≤ 10000000) }
+{
+    let x = match side {
+        Side::A => at.x - 18,
+        Side::B => at.x + 18,
+    };
+    let paint = Paint::plain(anchored(side, "soft end", "soft"));
+    text(out, paint, Point::new(x, at.y + 4), &number)
+}
+
+fn draw_mark<W: Write>(event: &Event, answer: &Answer, at: Point, out: &mut W) -> io::Result<()>
+    requires x { (60 ≤ at.x) × (at.x ≤ 50000) }
+    requires y { (200 ≤ at.y) × (at.y ≤ 10000000) }
+{
+    match (answer, channel_of(&event.act)) {
+        (Answer::Refused(refusal), _) => wrong_mark(out, refusal.number(), at),
+        (Answer::Violated(violation), _) => wrong_mark(out, violation.number(), at),
+        (Answer::Took(_), Some(channel)) => take_mark(out, channel, at),
+        (Answer::Accepted, Some(channel)) => frame_mark(out, channel, at),
+        (Answer::Absolved(_), Some(channel)) => frame_mark(out, channel, at),
+        _ => disc(out, Paint::plain("dot"), at, 4),
+    }
+}
