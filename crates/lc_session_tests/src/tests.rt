@@ -1,4 +1,5 @@
 //! Sessions over devices in memory and over sockets.
+mod calls;
 mod desk;
 mod ends;
 mod exchange;

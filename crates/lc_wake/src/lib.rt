@@ -6,6 +6,7 @@
 //! the look wakes it once too often at most.
 #![tactic(auto)]
 
+mod calls;
 mod pump_waiter;
 mod waiter;
 mod wakers;

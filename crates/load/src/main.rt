@@ -5,7 +5,8 @@
 //!
 //! `ends ROUNDS`, `pump ROUNDS`, `both ROUNDS` and `over ROUNDS` have the threads of a session wait
 //! for each other so often: an end for a pump, the writing pump for an end, all ends and the pump for
-//! each other, and an end for the end of a pump's run.
+//! each other, and an end for the end of a pump's run. `slot ROUNDS` and `slots ROUNDS` are as `both`,
+//! over one slot and over 64, where some ends wait with a timeout, and some soon never wait again.
 //!
 //! `finishes MESSAGES` sends so many messages each way through each channel of two sessions, finishes
 //! all of them behind the last one, and takes until each has ended.
@@ -26,6 +27,7 @@ use std::fs::Files;
 use std::net::Net;
 use std::sync::Wait;
 use std::thread::Threads;
+use std::time::Clock;
 use std::{env, io};
 use test_threads::{balances_agree, keeps_order, takes_what_arrives};
 
@@ -65,19 +67,24 @@ fn run_inbox<R: Threads + Wait + Sync>(rt: &R, alloc: Global, messages: u32) -> 
 
 // What it is that waits in a session, by the word for it.
 fn load_of(what: &str, rounds: u32) -> Load {
-    let (capacity, slots, channels) = match what {
+    let (capacity, slots, channels, mixed) = match what {
         // A ring of one message: its sender waits for guarantees, and its taker for the message.
-        "ends" => (4, 16, 1),
+        "ends" => (4, 16, 1, false),
         // One slot: the pump waits for a frame, and who puts one for the slot.
-        "pump" => (1 << 16, 1, 1),
+        "pump" => (1 << 16, 1, 1, false),
         // Both, on all channels.
-        _ => (4, 1, 7),
+        "both" => (4, 1, 7, false),
+        // The same with room for several messages.
+        "slot" => (16, 1, 7, true),
+        // Many frames at a time.
+        _ => (64, 64, 7, true),
     };
     Load {
         capacity,
         slots,
         channels,
         messages: rounds / channels as u32,
+        mixed,
     }
 }
 
@@ -128,7 +135,7 @@ fn make_lanes(alloc: Global, slots: u32) -> &'static str {
 // What the program says of so many rounds, if it knows the word.
 fn answer_to<R, H>(rt: R, host: &H, alloc: Global, what: &str, count: u32) -> &'static str
 where
-    R: Threads + Wait + Copy + Send + Sync + 'static,
+    R: Threads + Wait + Clock + Copy + Send + Sync + 'static,
     H: Files + Net,
     H::Stream: Send + 'static,
 {
@@ -138,7 +145,9 @@ where
         "inbox" => run_inbox(&rt, alloc, count),
         "lanes" => make_lanes(alloc, count),
         "inboxes" => make_inboxes(alloc, count),
-        "ends" | "pump" | "both" => { waked(wakes_all(&rt, host, alloc, load_of(what, count))) }
+        "ends" | "pump" | "both" | "slot" | "slots" => {
+            waked(wakes_all(&rt, host, alloc, load_of(what, count)))
+        }
         "over" => waked(wakes_at_ends(&rt, host, alloc, count)),
         "finishes" => finish_channels(host, rt, alloc, count),
         _ => "not known",

@@ -21,6 +21,7 @@ use std::io::{PipeReader, PipeWriter, Write, pipe};
 use std::sync::Wait;
 use std::thread;
 use std::thread::{Threads, join};
+use std::time::{Clock, Duration};
 
 /// The bytes of a message.
 const MESSAGE: [u8; 4] = [7; 4];
@@ -33,20 +34,74 @@ pub struct Load {
     pub slots: u32,
     pub channels: usize,
     pub messages: u32,
+    /// Whether the ends of some channels wait with a timeout, and those of some have little to do and
+    /// then never wait again.
+    pub mixed: bool,
 }
 
-// Sends so many messages, and waits wherever one is refused.
-fn send_all<R: Wait>(rt: &R, end: &mut SendEnd, messages: u32)
+/// How long a wait with a timeout lasts at most.
+const SHORT: Duration = Duration::from_micros(200);
+
+/// What an end does: so many messages, and how it waits.
+#[derive(Clone, Copy)]
+struct Job {
+    messages: u32,
+    waits_shortly: bool,
+}
+
+impl Load {
+    // How many messages go through a channel.
+    fn messages_on(self, channel: usize) -> u32 {
+        if channel >= self.channels {
+            0
+        } else if self.mixed && channel % 3 == 2 {
+            self.messages / 4
+        } else {
+            self.messages
+        }
+    }
+
+    fn job_on(self, channel: usize) -> Job {
+        Job {
+            messages: self.messages_on(channel),
+            waits_shortly: self.mixed && channel % 3 == 1,
+        }
+    }
+}
+
+// Waits until something may have come.
+fn wait_to_send<R: Wait + Clock>(rt: &R, end: &mut SendEnd, job: Job) -> Wake
+    ensures { end.new ≡ end.old }
+{
+    if job.waits_shortly {
+        end.wait_timeout(rt, SHORT)
+    } else {
+        end.wait(rt)
+    }
+}
+
+fn wait_to_take<R: Wait + Clock>(rt: &R, end: &mut RecvEnd, job: Job) -> Wake
+    ensures { end.new ≡ end.old }
+{
+    if job.waits_shortly {
+        end.wait_timeout(rt, SHORT)
+    } else {
+        end.wait(rt)
+    }
+}
+
+// Sends its messages, and waits wherever one is refused.
+fn send_all<R: Wait + Clock>(rt: &R, end: &mut SendEnd, job: Job)
     ensures { IsSameOutbox end.old end.new }
 {
-    let mut left = messages;
+    let mut left = job.messages;
     for _ in rt.forever() {
         if left == 0 {
             return;
         }
         match end.send(rt, &MESSAGE) {
             Ok(()) => left -= 1,
-            Err(_) => match end.wait(rt) {
+            Err(_) => match wait_to_send(rt, end, job) {
                 Wake::Again => {}
                 Wake::Over => return,
             },
@@ -55,13 +110,13 @@ fn send_all<R: Wait>(rt: &R, end: &mut SendEnd, messages: u32)
 }
 
 // Issues so much, as soon as a slot is free. Whether it did.
-fn issue<R: Wait>(rt: &R, end: &mut RecvEnd, amount: u32) -> bool
+fn issue<R: Wait + Clock>(rt: &R, end: &mut RecvEnd, amount: u32, job: Job) -> bool
     ensures { IsSameSide end.old end.new }
 {
     for _ in rt.forever() {
         match end.issue(rt, amount) {
             Ok(()) => return true,
-            Err(Refusal::QueueFull) => match end.wait(rt) {
+            Err(Refusal::QueueFull) => match wait_to_take(rt, end, job) {
                 Wake::Again => {}
                 Wake::Over => return false,
             },
@@ -72,14 +127,14 @@ fn issue<R: Wait>(rt: &R, end: &mut RecvEnd, amount: u32) -> bool
 }
 
 // Takes a message as soon as one comes, and issues its bytes anew. Whether it did.
-fn take<R: Wait>(rt: &R, end: &mut RecvEnd) -> bool
+fn take<R: Wait + Clock>(rt: &R, end: &mut RecvEnd, job: Job) -> bool
     ensures { IsSameSide end.old end.new }
 {
     let mut buffer = MESSAGE;
     for _ in rt.forever() {
         match end.take_into(rt, &mut buffer) {
-            Ok(Take::Took(len)) => return issue(rt, end, len as u32),
-            Ok(_) => match end.wait(rt) {
+            Ok(Take::Took(len)) => return issue(rt, end, len as u32, job),
+            Ok(_) => match wait_to_take(rt, end, job) {
                 Wake::Again => {}
                 Wake::Over => return false,
             },
@@ -89,58 +144,42 @@ fn take<R: Wait>(rt: &R, end: &mut RecvEnd) -> bool
     unreachable!()
 }
 
-// Takes so many messages.
-fn take_all<R: Wait>(rt: &R, end: &mut RecvEnd, capacity: u32, messages: u32)
+// Takes its messages.
+fn take_all<R: Wait + Clock>(rt: &R, end: &mut RecvEnd, capacity: u32, job: Job)
     ensures { IsSameSide end.old end.new }
 {
-    let mut goes_on = issue(rt, end, capacity);
-    for _ in 0..messages {
+    let mut goes_on = issue(rt, end, capacity, job);
+    for _ in 0..job.messages {
         if goes_on {
-            goes_on = take(rt, end);
+            goes_on = take(rt, end, job);
         }
     }
 }
 
 // Each sending end in a thread of its own.
-fn send_each<R: Threads + Wait + Sync>(rt: &R, ends: &mut [SendEnd; 7], load: Load)
+fn send_each<R: Threads + Wait + Clock + Sync>(rt: &R, ends: &mut [SendEnd; 7], load: Load)
     ensures len { length ends.new ≡ length ends.old }
     ensures same { (k : ℕ) (d : OutboxState) → k < length ends.old → IsSameOutbox (slice_index_or ends.old k d) (slice_index_or ends.new k d) }
 {
-    let Load {
-        channels,
-        messages,
-        ..
-    } = load;
-    thread::for_each_mut(
-        rt,
-        ends,
-        7,
-        &|at, end| { send_all(rt, end, if at < channels { messages } else { 0 }) },
-    );
+    thread::for_each_mut(rt, ends, 7, &|at, end| send_all(rt, end, load.job_on(at)));
 }
 
 // And each receiving end.
-fn take_each<R: Threads + Wait + Sync>(rt: &R, ends: &mut [RecvEnd; 7], load: Load)
+fn take_each<R: Threads + Wait + Clock + Sync>(rt: &R, ends: &mut [RecvEnd; 7], load: Load)
     ensures len { length ends.new ≡ length ends.old }
     ensures same { (k : ℕ) (d : Side) → k < length ends.old → IsSameSide (slice_index_or ends.old k d) (slice_index_or ends.new k d) }
 {
-    let Load {
-        capacity,
-        channels,
-        messages,
-        ..
-    } = load;
     thread::for_each_mut(
         rt,
         ends,
         7,
-        &|at, end| { take_all(rt, end, capacity, if at < channels { messages } else { 0 }) },
+        &|at, end| { take_all(rt, end, load.capacity, load.job_on(at)) },
     );
 }
 
 fn send_meanwhile<R>(rt: &R, mut ends: [SendEnd; 7], load: Load) -> [SendEnd; 7]
 where
-    R: Threads + Wait + Sync,
+    R: Threads + Wait + Clock + Sync,
     ensures { AllZip IsSameOutbox ends result }
 {
     send_each(rt, &mut ends, load);
@@ -149,7 +188,7 @@ where
 
 fn take_meanwhile<R>(rt: &R, mut ends: [RecvEnd; 7], load: Load) -> [RecvEnd; 7]
 where
-    R: Threads + Wait + Sync,
+    R: Threads + Wait + Clock + Sync,
     ensures { AllZip IsSameSide ends result }
 {
     take_each(rt, &mut ends, load);
@@ -157,7 +196,7 @@ where
 }
 
 // All ends at work, and then the session is stopped.
-fn use_ends<R: Threads + Wait + Sync>(
+fn use_ends<R: Threads + Wait + Clock + Sync>(
     rt: &R,
     session: &Session,
     sending: [SendEnd; 7],
@@ -197,7 +236,7 @@ fn read_all<R: Wait>(rt: &R, mut pump: ReadPump, reader: PipeReader) -> ReadPump
 }
 
 // Both pumps at work.
-fn use_pumps<R: Threads + Wait + Sync>(
+fn use_pumps<R: Threads + Wait + Clock + Sync>(
     rt: &R,
     reading: ReadPump,
     reader: PipeReader,
@@ -219,7 +258,7 @@ fn use_pumps<R: Threads + Wait + Sync>(
 }
 
 // All parts of a session at work.
-fn use_all<R: Threads + Wait + Sync>(
+fn use_all<R: Threads + Wait + Clock + Sync>(
     rt: &R,
     parts: Parts,
     reader: PipeReader,
@@ -256,14 +295,17 @@ fn use_all<R: Threads + Wait + Sync>(
 
 // Whether so many messages went through each of so many channels.
 fn is_whole(report: &Report, load: Load) -> bool {
-    let bytes = u64::from(load.messages) * MESSAGE.len() as u64;
-    let clients = report.clients.iter().take(load.channels);
-    report.left == 0 && clients.filter(|client| client.spent == bytes).count() == load.channels
+    let mut whole = report.left == 0;
+    for (channel, client) in report.clients.iter().enumerate() {
+        let bytes = u64::from(load.messages_on(channel)) * MESSAGE.len() as u64;
+        whole &= client.spent == bytes;
+    }
+    whole
 }
 
 /// Whether all messages of a session go through while its ends and its writing pump wait for each
 /// other. Where a wake-up is lost there is no answer.
-pub fn wakes_all<R: Threads + Wait + Sync>(
+pub fn wakes_all<R: Threads + Wait + Clock + Sync>(
     rt: &R,
     files: &impl Files,
     alloc: Global,
@@ -317,7 +359,7 @@ fn wait_for_runs<R: Wait>(rt: &R, end: &mut SendEnd, mut writer: PipeWriter, rou
 }
 
 /// Whether an end that waits is woken by the end of a run, as often as this.
-pub fn wakes_at_ends<R: Threads + Wait + Sync>(
+pub fn wakes_at_ends<R: Threads + Wait + Clock + Sync>(
     rt: &R,
     files: &impl Files,
     alloc: Global,

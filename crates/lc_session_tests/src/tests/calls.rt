@@ -1,0 +1,93 @@
+//! Many ends that sleep and are told of something all at once: those that are woken wake the others.
+use crate::tests::staged::{await_count, in_time};
+use lc_frame::{Channel, Lane};
+use lc_wake::{PumpWaiter, Waiter, Wakers, Waking};
+use std::process::Abort;
+use std::sync::Wait;
+use std::sync::atomic::{AtomicU64, Ordering};
+use std::test::Fail;
+use std::thread;
+use std::thread::{Threads, join};
+
+const ROUNDS: u64 = 1000;
+
+const ENDS: u64 = 14;
+
+/// How many waits have begun, or are about to, and how many have ended.
+#[derive(Drop)]
+struct Waits {
+    begun: AtomicU64,
+    ended: AtomicU64,
+}
+
+// Waits for a slot in each round.
+fn wait_in_rounds<R: Wait>(rt: &R, end: &mut Waiter, waits: &Waits) {
+    for _ in 0..ROUNDS {
+        end.met_full_queue();
+        waits.begun.fetch_add(1, Ordering::SeqCst);
+        let _wake = end.wait(rt);
+        waits.ended.fetch_add(1, Ordering::SeqCst);
+    }
+}
+
+// All ends are told: that as many slots were freed, or that a frame came for each.
+fn tell_all(pump: &mut PumpWaiter, wakers: &Wakers, round: u64) {
+    if round % 2 == 0 {
+        pump.slots_freed(ENDS as usize);
+        return;
+    }
+    for channel in Channel::ALL {
+        wakers.frame_came(Lane::Client(channel));
+        wakers.frame_came(Lane::Server(channel));
+    }
+}
+
+// Tells all ends in each round once, after all have begun to wait, and goes on when all have ended.
+fn tell_in_rounds<R: Wait>(rt: &R, pump: &mut PumpWaiter, wakers: &Wakers, waits: &Waits) {
+    for round in 0..ROUNDS {
+        let all = ENDS * (round + 1);
+        await_count(rt, &waits.begun, all);
+        // So that sometimes all sleep, and sometimes some or none.
+        for _ in 0..round % 5 * 10 {
+            thread::yield_now();
+        }
+        tell_all(pump, wakers, round);
+        await_count(rt, &waits.ended, all);
+    }
+}
+
+fn wait_each<R: Threads + Wait + Sync>(rt: &R, ends: &mut [Waiter; 7], waits: &Waits) {
+    thread::for_each_mut(rt, ends, 7, &|_, end| wait_in_rounds(rt, end, waits));
+}
+
+// All ends wait in threads of their own, beside the one that tells them.
+fn run<R: Threads + Wait + Sync>(rt: &R, waking: Waking) {
+    let Waking {
+        mut sending,
+        mut receiving,
+        mut pump,
+        wakers,
+    } = waking;
+    let waits = Waits {
+        begun: AtomicU64::new(0),
+        ended: AtomicU64::new(0),
+    };
+    join(
+        rt,
+        || {
+            join(
+                rt,
+                || wait_each(rt, &mut sending, &waits),
+                || wait_each(rt, &mut receiving, &waits),
+            );
+        },
+        || tell_in_rounds(rt, &mut pump, &wakers, &waits),
+    );
+}
+
+#[test]
+fn all_that_are_told_wake(rt: HostRuntime) -> Result<(), Fail> {
+    let waking = Waking::new(rt.alloc())?;
+    in_time(&rt, || run(&rt, waking));
+    Ok(())
+}
