@@ -3,6 +3,7 @@ mod decoders;
 mod frames;
 mod memory;
 mod rings;
+mod same_rings;
 mod texts;
 mod values;
 
