@@ -11,6 +11,7 @@ pub record Laps : Type 0 where
   pub turn : ℕ
   pub cut : ℕ
 
+-- none wait
 abbrev pub new_laps : ℕ → Laps
 new_laps turn = record { near = []; far = []; turn = turn; cut = turn }
 
