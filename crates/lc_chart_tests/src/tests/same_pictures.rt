@@ -44,8 +44,13 @@ fn below(state: &mut u64, bound: u64) -> u64 {
 fn write_event(state: &mut u64, script: &mut Vec<u8>) -> io::Result<()> {
     let side = if below(state, 2) == 0 { 'A' } else { 'B' };
     let channel = below(state, 8).min(6);
-    let most = 10u64.pow(below(state, 5) as u32);
-    let amount = 1 + below(state, most);
+    let most = match below(state, 4) {
+        0 => 10,
+        1 => 100,
+        2 => 1_000,
+        _ => 10_000,
+    };
+    let amount = below(state, most).saturating_add(1);
     match below(state, 24) {
         0..=5 => {
             write!(script, "{side} send {channel} ")?;
