@@ -13,20 +13,31 @@ const ROUNDS: u64 = 1000;
 
 const ENDS: u64 = 14;
 
-/// How many waits have begun, or are about to, and how many have ended.
+/// In how many rounds all ends were told, or are about to be; how often an end began a round, and how
+/// often one was through it.
 #[derive(Drop)]
-struct Waits {
+struct Rounds {
+    told: AtomicU64,
     begun: AtomicU64,
     ended: AtomicU64,
 }
 
-// Waits for a slot in each round.
-fn wait_in_rounds<R: Wait>(rt: &R, end: &mut Waiter, waits: &Waits) {
-    for _ in 0..ROUNDS {
+// Waits until it is told, since a wait may end once too often.
+fn await_round<R: Wait>(rt: &R, end: &mut Waiter, rounds: &Rounds, round: u64) {
+    for _ in rt.forever() {
+        if rounds.told.load(Ordering::SeqCst) > round {
+            return;
+        }
         end.met_full_queue();
-        waits.begun.fetch_add(1, Ordering::SeqCst);
         let _wake = end.wait(rt);
-        waits.ended.fetch_add(1, Ordering::SeqCst);
+    }
+}
+
+fn wait_in_rounds<R: Wait>(rt: &R, end: &mut Waiter, rounds: &Rounds) {
+    for round in 0..ROUNDS {
+        rounds.begun.fetch_add(1, Ordering::SeqCst);
+        await_round(rt, end, rounds, round);
+        rounds.ended.fetch_add(1, Ordering::SeqCst);
     }
 }
 
@@ -42,22 +53,23 @@ fn tell_all(pump: &mut PumpWaiter, wakers: &Wakers, round: u64) {
     }
 }
 
-// Tells all ends in each round once, after all have begun to wait, and goes on when all have ended.
-fn tell_in_rounds<R: Wait>(rt: &R, pump: &mut PumpWaiter, wakers: &Wakers, waits: &Waits) {
+// Tells all ends in each round once, after all have begun it, and goes on when all are through.
+fn tell_in_rounds<R: Wait>(rt: &R, pump: &mut PumpWaiter, wakers: &Wakers, rounds: &Rounds) {
     for round in 0..ROUNDS {
         let all = ENDS * (round + 1);
-        await_count(rt, &waits.begun, all);
+        await_count(rt, &rounds.begun, all);
         // So that sometimes all sleep, and sometimes some or none.
         for _ in 0..round % 5 * 10 {
             thread::yield_now();
         }
+        rounds.told.store(round + 1, Ordering::SeqCst);
         tell_all(pump, wakers, round);
-        await_count(rt, &waits.ended, all);
+        await_count(rt, &rounds.ended, all);
     }
 }
 
-fn wait_each<R: Threads + Wait + Sync>(rt: &R, ends: &mut [Waiter; 7], waits: &Waits) {
-    thread::for_each_mut(rt, ends, 7, &|_, end| wait_in_rounds(rt, end, waits));
+fn wait_each<R: Threads + Wait + Sync>(rt: &R, ends: &mut [Waiter; 7], rounds: &Rounds) {
+    thread::for_each_mut(rt, ends, 7, &|_, end| wait_in_rounds(rt, end, rounds));
 }
 
 // All ends wait in threads of their own, beside the one that tells them.
@@ -68,7 +80,8 @@ fn run<R: Threads + Wait + Sync>(rt: &R, waking: Waking) {
         mut pump,
         wakers,
     } = waking;
-    let waits = Waits {
+    let rounds = Rounds {
+        told: AtomicU64::new(0),
         begun: AtomicU64::new(0),
         ended: AtomicU64::new(0),
     };
@@ -77,11 +90,11 @@ fn run<R: Threads + Wait + Sync>(rt: &R, waking: Waking) {
         || {
             join(
                 rt,
-                || wait_each(rt, &mut sending, &waits),
-                || wait_each(rt, &mut receiving, &waits),
+                || wait_each(rt, &mut sending, &rounds),
+                || wait_each(rt, &mut receiving, &rounds),
             );
         },
-        || tell_in_rounds(rt, &mut pump, &wakers, &waits),
+        || tell_in_rounds(rt, &mut pump, &wakers, &rounds),
     );
 }
 
