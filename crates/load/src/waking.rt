@@ -39,8 +39,8 @@ pub struct Load {
     pub mixed: bool,
 }
 
-/// How long a wait with a timeout lasts at most.
-const SHORT: Duration = Duration::from_micros(200);
+/// How many microseconds a wait with a timeout lasts at most.
+const SHORT: u64 = 200;
 
 /// What an end does: so many messages, and how it waits.
 #[derive(Clone, Copy)]
@@ -74,7 +74,7 @@ fn wait_to_send<R: Wait + Clock>(rt: &R, end: &mut SendEnd, job: Job) -> Wake
     ensures { end.new ≡ end.old }
 {
     if job.waits_shortly {
-        end.wait_timeout(rt, SHORT)
+        end.wait_timeout(rt, Duration::from_micros(SHORT))
     } else {
         end.wait(rt)
     }
@@ -84,7 +84,7 @@ fn wait_to_take<R: Wait + Clock>(rt: &R, end: &mut RecvEnd, job: Job) -> Wake
     ensures { end.new ≡ end.old }
 {
     if job.waits_shortly {
-        end.wait_timeout(rt, SHORT)
+        end.wait_timeout(rt, Duration::from_micros(SHORT))
     } else {
         end.wait(rt)
     }
@@ -148,8 +148,9 @@ fn take<R: Wait + Clock>(rt: &R, end: &mut RecvEnd, job: Job) -> bool
 fn take_all<R: Wait + Clock>(rt: &R, end: &mut RecvEnd, capacity: u32, job: Job)
     ensures { IsSameSide end.old end.new }
 {
+    let messages = job.messages;
     let mut goes_on = issue(rt, end, capacity, job);
-    for _ in 0..job.messages {
+    for _ in 0..messages {
         if goes_on {
             goes_on = take(rt, end, job);
         }
