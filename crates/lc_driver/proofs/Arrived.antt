@@ -1,8 +1,8 @@
 -- What came of the bytes that were read, one read and another.
-use Rattle.std.proofs.Common.{◌≡◌, ℕ, ◌+◌, ◌*◌, ◌<◌, ◌≤◌, List, [], ◌∷◌, ◌++◌, length, Option, Some, None, refl, sym, ap, subst, ◌∙◌, append_assoc, arith, length-append}
+use Rattle.std.proofs.Common.{◌≡◌, ℕ, ◌+◌, ◌*◌, ◌<◌, ◌≤◌, List, [], ◌∷◌, ◌++◌, length, take, Option, Some, None, refl, sym, ap, subst, ◌∙◌, append_assoc, arith, length-append}
 use Rattle.std.specs.Prelude.{All, IfSome}
-use Rattle.std.proofs.lemmas.List.{append-nil}
-use Rattle.std.proofs.lemmas.List.Elements.{All-append}
+use Rattle.std.proofs.lemmas.List.{append-nil, length-take-le}
+use Rattle.std.proofs.lemmas.List.Elements.{All-append, All-take}
 use Rattle.std.specs.Io.KnownBytes.{Consumes, Keeps}
 use Rattle.lc_frame.specs.declared.frame.Frame.{Frame}
 use Rattle.lc_frame.specs.Held.{Held, fed, before, HasFault, IsUndecided, IsSettled}
@@ -34,7 +34,7 @@ consumes_then (Some a) None c x y p q = absurd p
 consumes_then (Some a) (Some b) None x y p q = absurd q
 consumes_then (Some a) (Some b) (Some c) x y p q = p ∙ ap (λ (z : List ℕ). x ++ z) q ∙ sym (append_assoc x y c)
 
-consumes_nothing : (a : Option (List ℕ)) → Consumes a a []
+pub consumes_nothing : (a : Option (List ℕ)) → Consumes a a []
 consumes_nothing None = tt
 consumes_nothing (Some a) = refl
 
@@ -127,6 +127,41 @@ reads_on {T} arrives violates {a} {b} {c} {held} {old} {p} {q} {i} {turns} j y p
       undecided = leaves.undecided;
       going = stop ∙ none;
     }
+
+-- one read more, whose bytes are the first of memory that was filled, and by which no frame became whole. It counts where it gave any
+pub reads_filled : {T : Type 0} (arrives : T → Frame → T → Type 0) (violates : Violation → T → Frame → T → Type 0) {a b c : Option (List ℕ)} {held : Held} {old p : T} {i : IntakeState} {turns : ℕ} (k : ℕ) (j : IntakeState) (n : ℕ) (memory : List ℕ) → SoFar arrives a b held old i p turns → Consumes b c (take n memory) → k ≤ n → n ≤ 512 * k → n ≤ length memory → All (λ b. b < 256) memory → All (λ b. b < 256) j.held.bytes → j.held ≡ fed i.held (take n memory) → IsUndecided j.held → j.stop ≡ i.stop → SoFar arrives a c held old j p (turns + k)
+reads_filled {T} arrives violates {a} {b} {c} {held} {old} {p} {i} {turns} k j n memory s consumed more less within fits held_fits grown undecided stop =
+    let y = take n memory in
+    let len = length-take-le n memory within in
+    let split = open_split j.held held_fits undecided in
+    let none : frames_of (fed i.held y) ≡ [] = ap frames_of (sym grown) ∙ split.0 in
+    let f = further arrives violates s y in
+    let here : ArriveUpTo arrives violates p (frames_of (fed i.held y)) 0 None p = subst (λ (fs : List Frame). ArriveUpTo arrives violates p fs 0 None p) (sym none) (up_to_all arrives violates p p [] 0 refl refl) in
+    record {
+      read = s.read ++ y;
+      consumed = consumes_then a b c s.read y s.consumed consumed;
+      few = omega (arith, s.few, less, len, length-append s.read y);
+      some = omega (arith, s.some, more, len, length-append s.read y);
+      bytes = more_bytes held.bytes s.read y s.bytes (All-take (λ (b : ℕ). b < 256) n memory fits);
+      arrived = all_up_to arrives violates old p (frames_of (fed held (s.read ++ y))) (f.count + 0) (f.came p 0 None here);
+      rest = sym split.1 ∙ ap rest_of grown ∙ sym f.left;
+      undecided = undecided;
+      going = stop ∙ s.going;
+    }
+
+-- what nothing changed
+pub same_so_far : {T : Type 0} (arrives : T → Frame → T → Type 0) {a b : Option (List ℕ)} {held : Held} {old p : T} {i : IntakeState} {turns : ℕ} (c : Option (List ℕ)) (j : IntakeState) → SoFar arrives a b held old i p turns → c ≡ b → j.held ≡ i.held → j.stop ≡ i.stop → SoFar arrives a c held old j p turns
+same_so_far arrives {a = a} c j s still held stop = record {
+  read = s.read;
+  consumed = subst (λ (o : Option (List ℕ)). Consumes a o s.read) (sym still) s.consumed;
+  few = s.few;
+  some = s.some;
+  bytes = s.bytes;
+  arrived = s.arrived;
+  rest = held ∙ s.rest;
+  undecided = subst IsUndecided (sym held) s.undecided;
+  going = stop ∙ s.going;
+}
 
 stop_of_end : (stop : Stop) → Some stop ≡ stop_of (end_of stop)
 stop_of_end (stops.Fault fault) = refl

@@ -1,6 +1,7 @@
 -- What reading a stream of either version does: which frames arrive, what is held, and how it ends. One relation says it for all outcomes, so that two calls one after the other compose: whatever the cuts and the faults, the frames that arrive are the first of those that were put. These rules are this project's own.
-use Rattle.std.specs.Prelude.{◌≡◌, ℕ, ◌*◌, ◌<◌, ◌≤◌, List, [], ◌++◌, length, All, Option, Some, None, IsSome, ⊤}
-use Rattle.std.specs.Io.KnownBytes.{Consumes, IsAtEnd}
+use Rattle.std.specs.Prelude.{◌≡◌, ℕ, ◌*◌, ◌<◌, ◌≤◌, List, [], ◌++◌, length, All, Option, Some, None, Ok, Err, IsSome, ⊤}
+use Rattle.std.specs.Io.KnownBytes.{Consumes, Keeps, ReadConsumes, IsAtEnd}
+use Rattle.std.specs.declared.io.Error.{Error}
 use Rattle.lc_frame.specs.declared.frame.Frame.{Frame}
 use Rattle.lc_frame.specs.Held.{Held, fed, HasFault, IsUndecided}
 use Rattle.lc_frame.specs.StreamDecoder.{IsPart}
@@ -15,12 +16,17 @@ use Rattle.lc_peer.specs.Deliveries.{violation_of}
 use Rattle.lc_driver.specs.declared.reading.ReadEnd.{ReadEnd}
 use Rattle.lc_driver.specs.declared.reading.ReadEnd.TheVariants.{Clean, Truncated, Fault, Violated, ReadFailed, TurnsSpent}
 use Rattle.lc_driver.specs.declared.counts.Counts.{Counts}
-use Rattle.lc_driver.specs.Counts.{count_up, count_on}
+use Rattle.lc_driver.specs.Counts.{count_up, count_on, CountsCall}
 use Rattle.lc_peer.specs.Intake.{IntakeState}
 
 -- the bytes asked for per read
 abbrev pub max_read : ℕ
 max_read = 512
+
+-- what a counted read into memory gave, and what it left of the reader
+abbrev pub ReadGives : Option ℕ → List ℕ → Option (List ℕ) → Option (List ℕ) → Counts → Counts → Type 0
+ReadGives (Some n) memory before after old new = ReadConsumes {E = Error} before after (Ok n) memory × CountsCall (Ok n) (length memory) old new
+ReadGives None memory before after old new = Keeps before after × ((e : Error) × CountsCall (Err e) (length memory) old new)
 
 -- the answer where the stream was given up
 abbrev pub end_of : Stop → ReadEnd

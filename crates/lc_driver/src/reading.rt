@@ -1,9 +1,9 @@
 //! Reading what comes to a peer, or to another sink.
-ghost use Rattle.std.specs.Prelude.{◌≡◌, ◌+◌, ◌≤◌, None, IfSome};
+ghost use Rattle.std.specs.Prelude.{◌≡◌, ◌+◌, ◌<◌, ◌≤◌, length, All, None, IfSome};
 ghost use Rattle.lc_driver.specs.Reading.{EndsHere, Reads, ReadsInto, CountsReads, CountsAll, EndsInput, end_of};
 
 use crate::counted::CountedRead;
-use lc_frame::FrameFault;
+use lc_frame::{Fill, Filled, FrameFault};
 use lc_peer::{FrameSink, Intake, Peer, Stop, Violation};
 
 /// The bytes asked for per read.
@@ -35,6 +35,27 @@ impl From<Stop> for ReadEnd {
         match stop {
             Stop::Fault(fault) => ReadEnd::Fault(fault),
             Stop::Violated(violation) => ReadEnd::Violated(violation),
+        }
+    }
+}
+
+// Memory is filled by a counted read.
+struct ByReads;
+
+impl<R: CountedRead> Fill<R> for ByReads {
+    ghost use Rattle.lc_driver.specs.Reading.{ReadGives};
+
+    ghost fills = { λ old answer memory new. ReadGives answer memory (R.remaining old) (R.remaining new) (R.counts old) (R.counts new) };
+
+    #[inline]
+    fn fill(&self, source: &mut R, memory: &mut [u8]) -> Option<usize>
+        ensures bound { IfSome result (λ n. n ≤ length memory.new) }
+        ensures bytes { All (λ b. b < 256) memory.new }
+        ensures fills { ReadGives result memory.new (R.remaining source.old) (R.remaining source.new) (R.counts source.old) (R.counts source.new) }
+    {
+        match source.read_counted(memory) {
+            Ok(count) => Some(count),
+            Err(_) => None,
         }
     }
 }
@@ -73,6 +94,12 @@ pub fn read_into<C, S: FrameSink<C>, R: CountedRead>(
     let _calls = reader.calls();
     let mut buffer = [0; READ_LEN];
     'reads: for _ in 0..max_reads {
+        match intake.fill(&ByReads, reader) {
+            Filled::Took(0) => return input_end(intake),
+            Filled::Took(_) => continue 'reads,
+            Filled::Failed => return ReadEnd::ReadFailed,
+            Filled::Few => {}
+        }
         match reader.read_counted(&mut buffer) {
             Ok(0) => return input_end(intake),
             Ok(n) => match intake.deliver(sink, context, buffer.split_at(n).0).stop {

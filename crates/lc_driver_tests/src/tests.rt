@@ -3,6 +3,7 @@ mod counted;
 mod failing;
 mod hostile;
 mod interrupted;
+mod same_reading;
 mod script;
 mod side;
 mod worked;

@@ -13,5 +13,7 @@ pub mod Scan
 pub mod Held
 pub mod Splits
 pub mod Progress
+pub mod Hold
+pub mod Fill
 pub mod StreamDecoder
 pub mod StreamEncoder

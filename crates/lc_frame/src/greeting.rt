@@ -1,11 +1,12 @@
 //! How a stream decoder takes the first bytes of a stream, which tell its version.
-ghost use Rattle.std.specs.Prelude.{◌≡◌, ◌<◌, ◌≤◌, ◌+◌, length, vec_capacity};
+ghost use Rattle.std.specs.Prelude.{◌≡◌, ◌<◌, ◌≤◌, ◌+◌, length};
 ghost use Rattle.lc_frame.specs.declared.version.Version.TheVariants.{Two};
 ghost use Rattle.lc_frame.specs.Version.{greeting, IsGreetingPart};
 ghost use Rattle.lc_frame.specs.Kind.{max_frame};
 ghost use Rattle.lc_frame.specs.Progress.{IsDue, OpensAs, Opens};
 
-use crate::progress::{Progress, append, resume};
+use crate::hold::Hold;
+use crate::progress::{Progress, resume};
 use crate::version::{GREETING, Version};
 
 /// What the first bytes of a stream are known to be, and how many of a piece were taken.
@@ -22,7 +23,7 @@ pub(crate) enum Opening {
 }
 
 // The next byte of a greeting behind a part of it.
-fn due_after(part: &[u8]) -> u8
+fn due_after(part: &Hold) -> u8
     requires { IsGreetingPart part.now }
     ensures { IsDue result part.now }
 {
@@ -30,11 +31,9 @@ fn due_after(part: &[u8]) -> u8
 }
 
 /// Takes bytes of a greeting, of which the buffer has a part.
-pub(crate) fn take_greeting(buffer: &mut Vec<u8>, piece: &[u8]) -> Opening
-    requires part { IsGreetingPart buffer.old.items }
-    requires room { length (greeting Two) ≤ vec_capacity buffer.old }
-    ensures opens { OpensAs result buffer.old.items buffer.new.items piece.now }
-    ensures capacity { vec_capacity buffer.old ≤ vec_capacity buffer.new }
+pub(crate) fn take_greeting(buffer: &mut Hold, piece: &[u8]) -> Opening
+    requires { IsGreetingPart buffer.old }
+    ensures { OpensAs result buffer.old buffer.new piece.now }
 {
     let mut taken = 0;
     'bytes: while taken < piece.len() {
@@ -43,10 +42,10 @@ pub(crate) fn take_greeting(buffer: &mut Vec<u8>, piece: &[u8]) -> Opening
             if buffer.is_empty() {
                 return Opening::One;
             }
-            append(buffer, &[byte]);
+            buffer.append(&[byte]);
             return Opening::Broken(taken + 1);
         }
-        append(buffer, &[byte]);
+        buffer.append(&[byte]);
         taken += 1;
         if buffer.len() == GREETING.len() {
             return Opening::Whole(taken);
@@ -64,11 +63,9 @@ pub(crate) struct Start {
 
 /// Takes bytes at the start of a stream, past a greeting that becomes whole.
 #[inline(never)]
-pub(crate) fn open(buffer: &mut Vec<u8>, progress: &mut Progress, piece: &[u8]) -> Start
-    requires part { IsGreetingPart buffer.old.items }
-    requires room { max_frame Two ≤ vec_capacity buffer.old }
-    ensures opens { Opens buffer.old.items buffer.new.items piece.now result.version result.taken progress.new }
-    ensures room { max_frame Two ≤ vec_capacity buffer.new }
+pub(crate) fn open(buffer: &mut Hold, progress: &mut Progress, piece: &[u8]) -> Start
+    requires { IsGreetingPart buffer.old }
+    ensures { Opens buffer.old buffer.new piece.now result.version result.taken progress.new }
 {
     match take_greeting(buffer, piece) {
         Opening::One => Start {

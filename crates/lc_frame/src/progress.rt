@@ -1,11 +1,11 @@
 //! How a stream decoder takes bytes of frames, and what it remembers of those that it holds.
-ghost use Rattle.std.specs.Prelude.{◌≡◌, ◌+◌, ◌<◌, ◌≤◌, [], ◌++◌, length, vec_capacity};
-ghost use Rattle.lc_frame.specs.Kind.{max_frame};
+ghost use Rattle.std.specs.Prelude.{◌≡◌, ◌+◌, ◌<◌, ◌≤◌, [], ◌++◌, length};
 ghost use Rattle.lc_frame.specs.Scan.{NeedsMore};
 ghost use Rattle.lc_frame.specs.Progress.{Takes, Advances};
 
 use crate::frame_fault::FrameFault;
 use crate::head::Head;
+use crate::hold::Hold;
 use crate::scan::{Scan, scan_front};
 use crate::version::Version;
 
@@ -34,33 +34,22 @@ struct Step {
     progress: Progress,
 }
 
-/// Appends bytes for which there is room.
-#[inline]
-pub(crate) fn append(buffer: &mut Vec<u8>, bytes: &[u8])
-    requires { length buffer.old.items + length bytes.now ≤ vec_capacity buffer.old }
-    ensures items { buffer.new.items ≡ buffer.old.items ++ bytes.now }
-    ensures capacity { vec_capacity buffer.old ≤ vec_capacity buffer.new }
-{
-    let _ = buffer.extend_from_slice(bytes);
-}
-
 // Takes bytes up to the next place where more is known.
 #[inline]
-fn advance(version: Version, buffer: &mut Vec<u8>, need: usize, piece: &[u8]) -> Step
-    requires room { max_frame version ≤ vec_capacity buffer.old }
-    requires wanted { NeedsMore version buffer.old.items need }
-    ensures step { Advances version buffer.old.items buffer.new.items piece.now result.taken result.progress }
-    ensures capacity { vec_capacity buffer.old ≤ vec_capacity buffer.new }
+#[tactic(auto, using(crate::proofs::Fronts::frame_fits))]
+fn advance(version: Version, buffer: &mut Hold, need: usize, piece: &[u8]) -> Step
+    requires { NeedsMore version buffer.old need }
+    ensures { Advances version buffer.old buffer.new piece.now result.taken result.progress }
 {
     let taken = (need - buffer.len()).min(piece.len());
-    append(buffer, piece.split_at(taken).0);
+    buffer.append(piece.split_at(taken).0);
     if buffer.len() < need {
         return Step {
             taken,
             progress: Progress::Wants(need),
         };
     }
-    let progress = match scan_front(version, buffer) {
+    let progress = match scan_front(version, buffer.as_slice()) {
         Scan::Whole { head, .. } => Progress::Whole(head),
         Scan::Fault(fault) => Progress::Fault(fault),
         Scan::Needs(more) => Progress::Wants(more),
@@ -73,15 +62,13 @@ fn advance(version: Version, buffer: &mut Vec<u8>, need: usize, piece: &[u8]) ->
 /// copied on its way to the decoder.
 pub(crate) fn resume(
     version: Version,
-    buffer: &mut Vec<u8>,
+    buffer: &mut Hold,
     progress: &mut Progress,
     wanted: usize,
     piece: &[u8],
 ) -> usize
-    requires room { max_frame version ≤ vec_capacity buffer.old }
-    requires wanted { NeedsMore version buffer.old.items wanted }
-    ensures step { Takes version buffer.old.items buffer.new.items piece.now result progress.new }
-    ensures capacity { vec_capacity buffer.old ≤ vec_capacity buffer.new }
+    requires { NeedsMore version buffer.old wanted }
+    ensures { Takes version buffer.old buffer.new piece.now result progress.new }
 {
     let mut need = wanted;
     let mut taken = 0;
@@ -108,27 +95,26 @@ pub(crate) fn resume(
 
 // Takes bytes where none are held: of a frame that lies whole in the piece all at once.
 #[inline(always)]
+#[tactic(auto, using(crate::proofs::Fronts::frame_fits))]
 fn begin(
     version: Version,
-    buffer: &mut Vec<u8>,
+    buffer: &mut Hold,
     progress: &mut Progress,
     need: usize,
     piece: &[u8],
 ) -> usize
-    requires room { max_frame version ≤ vec_capacity buffer.old }
-    requires wanted { NeedsMore version buffer.old.items need }
-    requires empty { buffer.old.items ≡ [] }
-    ensures step { Takes version buffer.old.items buffer.new.items piece.now result progress.new }
-    ensures capacity { vec_capacity buffer.old ≤ vec_capacity buffer.new }
+    requires wanted { NeedsMore version buffer.old need }
+    requires empty { buffer.old ≡ [] }
+    ensures { Takes version buffer.old buffer.new piece.now result progress.new }
 {
     match scan_front(version, piece) {
         Scan::Whole { head, used } => {
-            append(buffer, piece.split_at(used).0);
+            buffer.append(piece.split_at(used).0);
             *progress = Progress::Whole(head);
             used
         }
         Scan::Needs(more) => {
-            append(buffer, piece);
+            buffer.append(piece);
             *progress = Progress::Wants(more);
             piece.len()
         }
@@ -139,23 +125,22 @@ fn begin(
 // Takes a few bytes where few are held: all are copied and scanned at once, and those behind a frame
 // dropped again.
 #[inline(always)]
+#[tactic(auto, using(crate::proofs::Fronts::frame_fits))]
 fn leap(
     version: Version,
-    buffer: &mut Vec<u8>,
+    buffer: &mut Hold,
     progress: &mut Progress,
     need: usize,
     piece: &[u8],
 ) -> usize
-    requires room { max_frame version ≤ vec_capacity buffer.old }
-    requires wanted { NeedsMore version buffer.old.items need }
-    requires few_held { length buffer.old.items ≤ FEW }
+    requires wanted { NeedsMore version buffer.old need }
+    requires few_held { length buffer.old ≤ FEW }
     requires few { length piece.now ≤ FEW }
-    ensures step { Takes version buffer.old.items buffer.new.items piece.now result progress.new }
-    ensures capacity { vec_capacity buffer.old ≤ vec_capacity buffer.new }
+    ensures { Takes version buffer.old buffer.new piece.now result progress.new }
 {
     let held = buffer.len();
-    append(buffer, piece);
-    match scan_front(version, buffer) {
+    buffer.append(piece);
+    match scan_front(version, buffer.as_slice()) {
         Scan::Whole { head: found, used } => {
             buffer.truncate(used);
             *progress = Progress::Whole(found);
@@ -176,15 +161,13 @@ fn leap(
 #[inline(always)]
 pub(crate) fn take_in(
     version: Version,
-    buffer: &mut Vec<u8>,
+    buffer: &mut Hold,
     progress: &mut Progress,
     need: usize,
     piece: &[u8],
 ) -> usize
-    requires room { max_frame version ≤ vec_capacity buffer.old }
-    requires wanted { NeedsMore version buffer.old.items need }
-    ensures step { Takes version buffer.old.items buffer.new.items piece.now result progress.new }
-    ensures capacity { vec_capacity buffer.old ≤ vec_capacity buffer.new }
+    requires { NeedsMore version buffer.old need }
+    ensures { Takes version buffer.old buffer.new piece.now result progress.new }
 {
     if buffer.is_empty() {
         begin(version, buffer, progress, need, piece)

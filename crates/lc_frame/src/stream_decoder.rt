@@ -5,14 +5,16 @@ ghost use Rattle.lc_frame.specs.declared.frame_fault.FrameFault.{FrameFault};
 ghost use Rattle.lc_frame.specs.FrameRef.{frame_of};
 ghost use Rattle.lc_frame.specs.Decoded.{Decodes};
 ghost use Rattle.lc_frame.specs.Held.{nothing_held, held_in, IsSettled, fed, IsValidIn, encoding_in, HasFrame, HasFault, IsUndecided, IsDecided};
+ghost use Rattle.lc_frame.specs.Fill.{FilledAs};
 ghost use Rattle.lc_frame.specs.StreamDecoder.{EndsAs, TakesMore};
 
 use crate::decoded::Decoded;
-use crate::encoding::MAX_FRAME;
+use crate::fill::{Fill, Filled};
 use crate::frame_fault::FrameFault;
 use crate::frame_ref::FrameRef;
 use crate::greeting::open;
-use crate::progress::{Progress, append, take_in};
+use crate::hold::{FILL_LEN, Hold};
+use crate::progress::{Progress, take_in};
 use crate::scan::{Scan, scan_front};
 use crate::version::Version;
 use std::alloc::{AllocError, Global};
@@ -23,23 +25,20 @@ use std::marker::Model;
 /// whole frame was cleared.
 #[derive(Debug, Drop)]
 pub struct StreamDecoder {
-    buffer: Vec<u8>,
+    buffer: Hold,
     progress: Progress,
     version: Version,
 }
 
 impl Model for StreamDecoder {
-    ghost use Rattle.std.specs.Prelude.{◌≤◌, vec_capacity};
-    ghost use Rattle.lc_frame.specs.declared.version.Version.TheVariants.{Two};
-    ghost use Rattle.lc_frame.specs.Kind.{max_frame};
     ghost use Rattle.lc_frame.specs.Progress.{Remembers, known_version};
     ghost use Rattle.lc_frame.specs.Held.{Held};
 
     ghost Value = { Held };
 
-    ghost view = { λ decoder. record { version = known_version decoder.version decoder.progress; bytes = decoder.buffer.items } };
+    ghost view = { λ decoder. record { version = known_version decoder.version decoder.progress; bytes = decoder.buffer } };
 
-    ghost invariant = { λ decoder. (max_frame Two ≤ vec_capacity decoder.buffer) × Remembers decoder.version decoder.progress decoder.buffer.items };
+    ghost invariant = { λ decoder. Remembers decoder.version decoder.progress decoder.buffer };
 }
 
 impl StreamDecoder {
@@ -49,7 +48,7 @@ impl StreamDecoder {
         ensures { IfOk result (λ decoder. decoder ≡ nothing_held) }
     {
         Ok(StreamDecoder {
-            buffer: Vec::with_capacity(alloc, MAX_FRAME)?,
+            buffer: Hold::new(alloc)?,
             progress: Progress::Greeted,
             version: Version::One,
         })
@@ -69,7 +68,7 @@ impl StreamDecoder {
         match self.progress {
             Progress::Wants(need) => {
                 if piece.len() < need - self.buffer.len() {
-                    append(&mut self.buffer, piece);
+                    self.buffer.append(piece);
                     return piece.len();
                 }
                 take_in(
@@ -103,7 +102,7 @@ impl StreamDecoder {
             Progress::Wants(need) => {
                 let missing = need - self.buffer.len();
                 if piece.len() < missing {
-                    append(&mut self.buffer, piece);
+                    self.buffer.append(piece);
                     return true;
                 }
                 false
@@ -131,10 +130,33 @@ impl StreamDecoder {
             },
             Scan::Fault(fault) => Decoded::Fault(fault),
             Scan::Needs(more) => {
-                append(&mut self.buffer, piece);
+                self.buffer.append(piece);
                 self.progress = Progress::Wants(more);
                 Decoded::More
             }
+        }
+    }
+
+    /// Inside a frame that lacks more than 512 bytes, has the memory for so many filled where its next
+    /// bytes are held, and holds those that were given. So they need no other memory on their way.
+    #[inline]
+    pub fn fill<R, F: Fill<R>>(&mut self, filler: &F, source: &mut R) -> Filled
+        ensures { FilledAs F.fills result source.old source.new self.old self.new }
+    {
+        match self.progress {
+            Progress::Wants(need) => {
+                if need - self.buffer.len() <= FILL_LEN {
+                    return Filled::Few;
+                }
+                match self.buffer.fill(filler, source) {
+                    Some(count) => Filled::Took(count),
+                    None => Filled::Failed,
+                }
+            }
+            Progress::Whole(_) => Filled::Few,
+            Progress::Fault(_) => Filled::Few,
+            Progress::Greeted => Filled::Few,
+            Progress::Broken => Filled::Few,
         }
     }
 
@@ -173,7 +195,7 @@ impl StreamDecoder {
     {
         match self.progress {
             Progress::Wants(_) => None,
-            Progress::Whole(head) => Some(head.frame_in(self.version, &self.buffer)),
+            Progress::Whole(head) => Some(head.frame_in(self.version, self.buffer.as_slice())),
             Progress::Fault(_) => None,
             Progress::Greeted => None,
             Progress::Broken => None,

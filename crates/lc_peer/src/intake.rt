@@ -1,12 +1,13 @@
 //! The bytes of a stream on their way in.
 ghost use Rattle.std.specs.Prelude.{◌≡◌, ◌<◌, None, All, IfOk, IfSome};
 ghost use Rattle.lc_frame.specs.Held.{nothing_held, IsUndecided, IsSettled};
+ghost use Rattle.lc_frame.specs.Fill.{FilledAs};
 ghost use Rattle.lc_peer.specs.Deliveries.{DeliversTo};
 ghost use Rattle.lc_peer.specs.Intake.{IntakeEnds, GivesUp};
 
 use crate::delivery::{Delivery, Stop, deliver_to};
 use crate::sink::FrameSink;
-use lc_frame::StreamDecoder;
+use lc_frame::{Fill, Filled, StreamDecoder};
 use std::alloc::{AllocError, Global};
 use std::marker::Model;
 
@@ -87,5 +88,18 @@ impl Intake {
         let delivery = deliver_to(sink, context, &mut self.decoder, piece);
         self.stop = delivery.stop;
         delivery
+    }
+
+    /// Inside a frame that lacks more than 512 bytes, has the memory where they are to be held filled
+    /// with the next bytes of the stream, and holds those that were given; else it does nothing.
+    #[inline]
+    pub fn fill<R, F: Fill<R>>(&mut self, filler: &F, source: &mut R) -> Filled
+        ensures held { FilledAs F.fills result source.old source.new self.old.held self.new.held }
+        ensures bytes { All (λ b. b < 256) self.new.held.bytes }
+        ensures stop { self.new.stop ≡ self.old.stop }
+    {
+        let filled = self.decoder.fill(filler, source);
+        let _held = self.decoder.held();
+        filled
     }
 }

@@ -5,11 +5,9 @@ use Rattle.lc_frame.proofs.greeting.take_greeting.Given as goal
 
 abbrev pub invariant-bytes : goal.invariant-bytes
 invariant-bytes l = record {
-  part : IsGreetingPart l.buffer.items;
+  part : IsGreetingPart l.buffer;
   within : l.taken ≤ length l.piece;
-  held : l.buffer.items ≡ l.initial.buffer.items ++ take l.taken l.piece;
-  room : length (greeting Two) ≤ vec_capacity l.buffer;
-  capacity : vec_capacity l.initial.buffer ≤ vec_capacity l.buffer;
+  held : l.buffer ≡ l.initial.buffer ++ take l.taken l.piece;
 }
 
 abbrev pub decreases-bytes : goal.decreases-bytes

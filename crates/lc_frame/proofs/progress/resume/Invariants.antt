@@ -1,16 +1,15 @@
-use Rattle.std.proofs.Common.{◌≡◌, ℕ, ◌<◌, ◌≤◌, ◌++◌, length, take, drop, vec_capacity}
+use Rattle.std.proofs.Common.{◌≡◌, ℕ, ◌<◌, ◌≤◌, ◌++◌, length, take, drop}
 use Rattle.lc_frame.specs.Decoded.{IsOpen}
 use Rattle.lc_frame.specs.Scan.{NeedsMore}
 use Rattle.lc_frame.proofs.progress.resume.Given as goal
 
 abbrev pub invariant-steps : goal.invariant-steps
 invariant-steps l = record {
-  capacity : vec_capacity l.initial.buffer ≤ vec_capacity l.buffer;
-  wanted : NeedsMore l.version l.buffer.items l.need;
+  wanted : NeedsMore l.version l.buffer l.need;
   within : l.taken ≤ length l.piece;
   left : l.rest ≡ drop l.taken l.piece;
-  held : l.buffer.items ≡ l.initial.buffer.items ++ take l.taken l.piece;
-  shortest : (k : ℕ) → k < l.taken → IsOpen l.version (l.initial.buffer.items ++ take k l.piece);
+  held : l.buffer ≡ l.initial.buffer ++ take l.taken l.piece;
+  shortest : (k : ℕ) → k < l.taken → IsOpen l.version (l.initial.buffer ++ take k l.piece);
 }
 
 abbrev pub decreases-steps : goal.decreases-steps

@@ -3,4 +3,4 @@ use Rattle.lc_frame.proofs.Openings.{whole_stands}
 use Rattle.lc_frame.proofs.stream_decoder.StreamDecoder.end.Goals as goal
 
 pub returns-in-Whole : goal.returns-in-Whole
-returns-in-Whole c = inr (_, whole_stands _ _ _ _ c.self.invariant.1 c.self.view_is _ c.in-Whole.is)
+returns-in-Whole c = inr (_, whole_stands _ _ _ _ c.self.invariant c.self.view_is _ c.in-Whole.is)

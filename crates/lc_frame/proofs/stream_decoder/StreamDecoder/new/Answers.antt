@@ -1,7 +1,7 @@
-use Rattle.std.proofs.Common.{subst, sym, arith}
+use Rattle.std.proofs.Common.{subst, sym}
 use Rattle.lc_frame.specs.Version.{IsGreetingPart}
 use Rattle.lc_frame.proofs.Openings.{nothing_is_part}
 use Rattle.lc_frame.proofs.stream_decoder.StreamDecoder.new.Goals as goal
 
 pub invariant_of-result : goal.invariant_of-result
-invariant_of-result c = (omega (arith, c.in_ok-with_capacity.ensures.capacity), subst IsGreetingPart (sym c.in_ok-with_capacity.ensures.items) nothing_is_part)
+invariant_of-result c = subst IsGreetingPart (sym c.in_ok-new.ensures) nothing_is_part

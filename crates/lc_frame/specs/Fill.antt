@@ -1,0 +1,42 @@
+-- What comes of it where memory of a decoder is filled: the bytes that were given are held behind those that were. These rules are this project's own.
+use Rattle.std.specs.Prelude.{◌≡◌, ℕ, ◌<◌, ◌≤◌, List, ◌++◌, length, take, All, Option, Some, None}
+use Rattle.lc_frame.specs.declared.fill.Filled.{Filled}
+use Rattle.lc_frame.specs.declared.fill.Filled.TheVariants.{Few, Failed, Took}
+use Rattle.lc_frame.specs.Held.{Held, fed, IsUndecided}
+use Rattle.lc_frame.specs.Hold.{fill_len}
+
+-- bytes that are held, after so many were put behind them, or none where that failed
+abbrev pub Grows : Option ℕ → List ℕ → List ℕ → List ℕ → Type 0
+Grows None memory old new = new ≡ old
+Grows (Some n) memory old new = (n ≤ fill_len) × (new ≡ old ++ take n memory)
+
+-- memory for so many bytes was filled from a source
+pub record FillsFrom {R : Type 0} (fills : R → Option ℕ → List ℕ → R → Type 0) (answer : Option ℕ) (before after : R) (old new : List ℕ) : Type 0 where
+  pub memory : List ℕ
+  pub size : length memory ≡ fill_len
+  pub filled : fills before answer memory after
+  pub bytes : All (λ b. b < 256) memory
+  pub grows : Grows answer memory old new
+
+-- so many bytes were given, and are held: still neither a frame nor a fault stands
+pub record TakesFrom {R : Type 0} (fills : R → Option ℕ → List ℕ → R → Type 0) (n : ℕ) (before after : R) (old new : Held) : Type 0 where
+  pub memory : List ℕ
+  pub size : length memory ≡ fill_len
+  pub filled : fills before (Some n) memory after
+  pub bytes : All (λ b. b < 256) memory
+  pub within : n ≤ fill_len
+  pub grown : new ≡ fed old (take n memory)
+  pub undecided : IsUndecided new
+
+-- the source failed, and what is held is the same
+pub record FailsFrom {R : Type 0} (fills : R → Option ℕ → List ℕ → R → Type 0) (before after : R) (old new : Held) : Type 0 where
+  pub memory : List ℕ
+  pub size : length memory ≡ fill_len
+  pub filled : fills before None memory after
+  pub same : new ≡ old
+
+-- what came of it, by the answer
+abbrev pub FilledAs : {R : Type 0} → (R → Option ℕ → List ℕ → R → Type 0) → Filled → R → R → Held → Held → Type 0
+FilledAs fills Few before after old new = (new ≡ old) × (after ≡ before)
+FilledAs fills Failed before after old new = FailsFrom fills before after old new
+FilledAs fills (Took n) before after old new = TakesFrom fills n before after old new
