@@ -1,5 +1,5 @@
 //! The bytes of a message.
-ghost use Rattle.std.specs.Prelude.{◌≡◌, ◌==◌};
+ghost use Rattle.std.specs.Prelude.{◌≡◌, ◌==◌, ◌≤◌, [], length, vec_capacity};
 ghost use Rattle.std.proofs.Common.{rules};
 ghost use Rattle.std.specs.Cmp.Lexicographic.{pointwise};
 ghost use Rattle.std.specs.Cmp.Rules.{comparing};
@@ -26,6 +26,18 @@ impl Body {
     pub fn from_vec(bytes: Vec<u8>) -> Body
         ensures { result ≡ bytes.items }
     {
+        Body { bytes }
+    }
+
+    /// The copy of a message, in memory that was taken for it: none is asked for.
+    #[inline]
+    pub fn copied(room: Vec<u8>, message: &[u8]) -> Body
+        requires empty { room.items ≡ [] }
+        requires enough { length message.now ≤ vec_capacity room }
+        ensures { result ≡ message.now }
+    {
+        let mut bytes = room;
+        let _ = bytes.extend_from_slice(message);
         Body { bytes }
     }
 

@@ -133,17 +133,19 @@ impl Peer {
 
     /// A message is sent, of 1 to `Version::max_body` bytes.
     /// Refused by 15, 1, 2, 3 and 4, by 14 where the copy of the body gets no memory, and by 13, in
-    /// this order: the copy is made before a place is looked for.
+    /// this order: memory is asked for before a place is looked for, and filled after that.
     pub fn send(&mut self, channel: Channel, body: &[u8]) -> Result<(), Refusal>
         ensures answer { IsSendAnswer self.old (Send channel body.now) (result_err result) }
         ensures after { self.new ≡ (if is_ok result then put self.old (Send channel body.now) else self.old) }
     {
         judge_spend(self.client_book(channel), body.len())?;
-        let Ok(bytes) = Vec::from_slice(self.alloc, body) else {
+        let Ok(room) = Vec::with_capacity(self.alloc, body.len()) else {
             return Err(Refusal::OutOfMemory);
         };
-        let body = Body::from_vec(bytes);
-        self.put(Frame::Send { channel, body })
+        self.judge_slot()?;
+        let body = Body::copied(room, body);
+        self.place(Frame::Send { channel, body });
+        Ok(())
     }
 
     /// `n` guarantees are given up. Refused by 15, 5, 6 and 13, in this order.
@@ -227,10 +229,21 @@ impl Peer {
         ensures after { self.new ≡ (if is_ok result then put self.old frame else self.old) }
     {
         self.judge_slot()?;
+        self.place(frame);
+        Ok(())
+    }
+
+    // Counts and puts a frame that its channel's books accept, where one more may wait.
+    #[inline(always)]
+    fn place(&mut self, frame: Frame)
+        requires valid { IsValid self.old.version frame }
+        requires accepted { refusal_by_books self.old frame ≡ None }
+        requires room { queue_refusal self.old ≡ None }
+        ensures { self.new ≡ put self.old frame }
+    {
         let at = frame.channel().index();
         self.channels[at].put(frame.view());
         push(&mut self.waiting, frame);
-        Ok(())
     }
 
     // Puts a frame last, where it may wait.
