@@ -8,7 +8,8 @@
 //! `writing.rt`) lets those leave the peer whose first byte a write took, and a fault cuts the
 //! copies off again. Between calls it holds the rest of the greeting or of one frame at most.
 //! `Intake` is a `StreamDecoder` and why the stream was given up, if it was. `read_in` reads into
-//! 512 bytes of its own and hands them to `deliver_to`.
+//! 512 bytes of its own and hands them to `deliver_to`; inside a frame that lacks more it reads to
+//! where the decoder holds that.
 //!
 //! Each of the three loops stands once, for a peer and for who has bytes, or a sink of frames, of
 //! its own: `write_all` (in `writing.rt`) writes bytes until all are written, `deliver_to` (in

@@ -3,7 +3,10 @@ use Rattle.std.specs.Prelude.{◌≡◌, ℕ, ◌<◌, ◌≤◌, List, ◌++◌
 use Rattle.lc_frame.specs.declared.fill.Filled.{Filled}
 use Rattle.lc_frame.specs.declared.fill.Filled.TheVariants.{Few, Failed, Took}
 use Rattle.lc_frame.specs.Held.{Held, fed, IsUndecided}
-use Rattle.lc_frame.specs.Hold.{fill_len}
+
+-- how many bytes of a body are asked for at once
+abbrev pub fill_len : ℕ
+fill_len = 512
 
 -- bytes that are held, after so many were put behind them, or none where that failed
 abbrev pub Grows : Option ℕ → List ℕ → List ℕ → List ℕ → Type 0

@@ -13,7 +13,6 @@ pub mod Scan
 pub mod Held
 pub mod Splits
 pub mod Progress
-pub mod Hold
 pub mod Fill
 pub mod StreamDecoder
 pub mod StreamEncoder

@@ -2,11 +2,13 @@
 ghost use Rattle.std.specs.Prelude.{◌≡◌, ◌+◌, ◌≤◌, ◌==◌, [], ◌++◌, length, take, vec_len, vec_capacity, IfOk};
 ghost use Rattle.lc_frame.specs.declared.version.Version.TheVariants.{Two};
 ghost use Rattle.lc_frame.specs.Kind.{max_frame};
-ghost use Rattle.lc_frame.specs.Fill.{FillsFrom};
+ghost use Rattle.lc_frame.specs.Fill.{fill_len, FillsFrom};
 
 use crate::encoding::MAX_FRAME;
 use crate::fill::Fill;
 use std::alloc::{AllocError, Global};
+use std::fmt;
+use std::fmt::{Debug, Formatter};
 use std::marker::Model;
 
 /// The bytes of a body that are asked for at once.
@@ -16,7 +18,7 @@ pub(crate) const FILL_LEN: usize = 512;
 ///
 /// Behind them in memory lie bytes that were held before. That part never shrinks, so that no byte of
 /// the memory is made ready twice, and none where no frame reached.
-#[derive(Debug, Drop)]
+#[derive(Drop)]
 pub(crate) struct Hold {
     bytes: Vec<u8>,
     len: usize,
@@ -24,13 +26,20 @@ pub(crate) struct Hold {
 
 impl Model for Hold {
     ghost use Rattle.std.specs.Prelude.{◌≤◌, ℕ, List, length, take, vec_capacity};
-    ghost use Rattle.lc_frame.specs.Hold.{hold_room};
+    ghost use Rattle.lc_frame.specs.declared.version.Version.TheVariants.{Two};
+    ghost use Rattle.lc_frame.specs.Kind.{max_frame};
 
     ghost Value = { List ℕ };
 
     ghost view = { λ hold. take hold.len hold.bytes.items };
 
-    ghost invariant = { λ hold. (hold.len ≤ length hold.bytes.items) × (hold_room ≤ vec_capacity hold.bytes) };
+    ghost invariant = { λ hold. (hold.len ≤ length hold.bytes.items) × (max_frame Two ≤ vec_capacity hold.bytes) };
+}
+
+impl Debug for Hold {
+    fn fmt<W: fmt::Write>(&self, f: &mut Formatter<W>) -> fmt::Result {
+        f.debug_list().entries(self.as_slice().iter()).finish()
+    }
 }
 
 // Has so many bytes in memory, of which the first are kept.
@@ -49,12 +58,12 @@ fn make_ready(bytes: &mut Vec<u8>, kept: usize, end: usize)
 }
 
 impl Hold {
-    /// Nothing, with the memory for the longest frame and what is read with its end.
+    /// Nothing, with the memory for the longest frame.
     pub(crate) fn new(alloc: Global) -> Result<Hold, AllocError>
         ensures { IfOk result (λ hold. hold ≡ []) }
     {
         Ok(Hold {
-            bytes: Vec::with_capacity(alloc, MAX_FRAME + FILL_LEN)?,
+            bytes: Vec::with_capacity(alloc, MAX_FRAME)?,
             len: 0,
         })
     }
@@ -113,7 +122,7 @@ impl Hold {
     /// Has the memory behind what is held filled from a source, and holds what that gave.
     #[inline(always)]
     pub(crate) fn fill<R, F: Fill<R>>(&mut self, filler: &F, source: &mut R) -> Option<usize>
-        requires { length self.old ≤ max_frame Two }
+        requires { length self.old + fill_len ≤ max_frame Two }
         ensures { FillsFrom F.fills result source.old source.new self.old self.new }
     {
         let end = self.len + FILL_LEN;

@@ -140,6 +140,7 @@ impl StreamDecoder {
     /// Inside a frame that lacks more than 512 bytes, has the memory for so many filled where its next
     /// bytes are held, and holds those that were given. So they need no other memory on their way.
     #[inline]
+    #[tactic(auto, using(crate::proofs::Fronts::frame_fits))]
     pub fn fill<R, F: Fill<R>>(&mut self, filler: &F, source: &mut R) -> Filled
         ensures { FilledAs F.fills result source.old source.new self.old self.new }
     {

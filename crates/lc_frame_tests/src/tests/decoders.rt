@@ -309,6 +309,18 @@ fn the_longest_frame_comes_in_pieces(rt: HostRuntime) -> Result<(), Fail> {
     Ok(())
 }
 
+// A decoder is written as what it holds, whatever it held before.
+#[test]
+fn a_decoder_shows_what_is_held(rt: HostRuntime) -> Result<(), Fail> {
+    let mut decoder = StreamDecoder::new(rt.alloc())?;
+    let _whole = decoder.feed(b"\x11\x00\x02hi");
+    decoder.clear();
+    let _open = decoder.feed(b"\x21\x00");
+    let wanted = "StreamDecoder { buffer: [33, 0], progress: Wants(5), version: One }";
+    same(&rt, "a decoder", text(rt.alloc(), &decoder), wanted);
+    Ok(())
+}
+
 // A buffer, to which each frame is appended.
 const APPENDED: &str = "11 00 02 68 69 => [7, 17, 0, 2, 104, 105]
 21 00 00 00 05 => [7, 17, 0, 2, 104, 105, 33, 0, 0, 0, 5]
