@@ -24,10 +24,6 @@ use std::fmt::{Debug, Formatter};
 use std::marker::Model;
 use std::sync::Wait;
 
-/// A message of so many bytes or more is copied only where a slot is seen to be free: what a copy
-/// costs that the queue then gives back is more than a look.
-const LONG: usize = 1_024;
-
 /// The sending end of a channel, which one thread at a time has: the end of the lane on which the
 /// channel's client puts, its credit, and what else its client has to know. All numbers count bytes
 /// of messages.
@@ -87,13 +83,6 @@ fn check_open(credit: &CreditOut) -> Result<(), Refusal>
         return Err(Refusal::ChannelFinished);
     }
     Ok(())
-}
-
-// Whether a message of this length is not worth its copy, since the queue is full.
-fn is_in_vain(lane: &mut LaneEnd, len: usize) -> bool
-    ensures { lane.new ≡ lane.old }
-{
-    len >= LONG && lane.is_full()
 }
 
 // Puts the frame of what is pending, and counts it; or gives it back where no slot is free.
@@ -222,17 +211,13 @@ impl Outbox {
         check_open(&self.credit)?;
         let left = after_message(self.lane.version(), self.send_left, body.len())?;
         self.credit.spend(body.len() as u32)?;
-        let Ok(room) = Vec::with_capacity(self.alloc, body.len()) else {
+        let Ok(bytes) = Vec::from_slice(self.alloc, body) else {
             self.credit.give_back();
             return Err(Refusal::OutOfMemory);
         };
-        if is_in_vain(&mut self.lane, body.len()) {
-            self.credit.give_back();
-            return Err(Refusal::QueueFull);
-        }
         let frame = Frame::Send {
             channel: self.channel,
-            body: Body::copied(room, body),
+            body: Body::from_vec(bytes),
         };
         put_used(rt, &mut self.lane, &mut self.credit, frame)?;
         self.send_left = left;

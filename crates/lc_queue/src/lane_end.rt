@@ -78,11 +78,4 @@ impl LaneEnd {
         // moment of the call.
         self.queue.push_as::<Push, R>(rt, &mut self.pass, frame)
     }
-
-    /// Whether all slots were taken at a step of the call, which no clause here can say either.
-    pub fn is_full(&mut self) -> bool
-        ensures { self.new ≡ self.old }
-    {
-        self.queue.is_full_as::<Push>(&mut self.pass)
-    }
 }

@@ -52,20 +52,3 @@ fn a_send_alone_asks_for_memory(rt: HostRuntime) -> Result<(), Fail> {
     let _: Vec<u8> = Vec::with_capacity(rt.alloc(), 1)?;
     Ok(())
 }
-
-// The message is one of those that are copied only where a slot is free, and there is none.
-#[test]
-fn a_send_asks_for_memory_before_a_slot(rt: HostRuntime) -> Result<(), Fail> {
-    let (mut desk, _rest) = new_desk(rt.alloc(), Version::Two, 1).ok_or("there is no desk")?;
-    let added = desk.incoming.add(Channel::DataChannel, 5_000);
-    let filled = desk.other.limit(&rt, 9);
-    assert!(rt; added.is_ok() && filled.is_ok());
-    let sent = desk.outbox.send(&rt, &[7; 2_000]);
-    assert_eq!(rt; desk.outbox.held(), 5_000);
-    if sent == Err(Refusal::OutOfMemory) {
-        return Err("a send asked for memory before a slot")?;
-    }
-    assert_eq!(rt; sent, Err(Refusal::QueueFull));
-    let _: Vec<u8> = Vec::with_capacity(rt.alloc(), 1)?;
-    Ok(())
-}

@@ -5,7 +5,7 @@ use lc_frame::Version;
 
 /// Of each example: the slots, the calls with what they answer, and what was received, held, spent,
 /// absolved and waived at the end.
-const WORKED: [(u32, &str, &str); 11] = [
+const WORKED: [(u32, &str, &str); 10] = [
     (
         4,
         "send 6869 => Err(NoGuarantee { held: 0 })
@@ -77,24 +77,6 @@ const WORKED: [(u32, &str, &str); 11] = [
         send 616263 => Ok(())
         pop => 110003616263",
         "(5, 2, 3, 0, 0)",
-    ),
-    // A message that finds no slot is refused alike, whether it is short or long.
-    (
-        1,
-        "add 4000 => Ok(())
-        other 9 => Ok(())
-        long 1023 => Err(QueueFull)
-        long 1024 => Err(QueueFull)
-        long 4001 => Err(NoGuarantee { held: 4000 })
-        held => 4000
-        pop => 520000000000000009
-        long 1024 => Ok(())
-        long 1024 => Err(QueueFull)
-        popped 1024 => true
-        long 1023 => Ok(())
-        popped 1023 => true
-        pop => nothing",
-        "(4000, 1953, 2047, 0, 0)",
     ),
     (
         4,
