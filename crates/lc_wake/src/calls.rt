@@ -1,7 +1,7 @@
 //! Which of the ends that sleep is woken next.
 //!
-//! A pump that tells many ends of something does not wake them all itself. It calls a few, and each
-//! of those calls another one on its way out of its sleep. Why each that was told is woken stands in
+//! A pump that tells many ends of something does not wake them all itself. It calls one, and who is
+//! called calls others on its way out of its sleep. Why each that was told is woken stands in
 //! `wakers.rt`.
 ghost use Rattle.std.specs.Prelude.{◌<◌};
 ghost use Rattle.lc_frame.specs.Lane.{lane_count};
@@ -9,12 +9,9 @@ ghost use Rattle.lc_frame.specs.Lane.{lane_count};
 use lc_frame::{LANES, Lane};
 use std::sync::atomic::{AtomicU64, Ordering};
 
-/// How many ends are called at a time.
+/// How many ends are called at a time by one that comes out of its sleep. Who tells others calls one:
+/// a pump, for which all wait, makes no more calls than that takes.
 const CALLED: u32 = 2;
-
-/// How often a step is tried while others change the word. After that all that are due are woken at
-/// once.
-const TRIES: usize = 64;
 
 /// Some of the ends: a bit for each, at the place of its lane.
 #[derive(Clone, Copy, PartialEq, Eq)]
@@ -146,11 +143,11 @@ impl Roll {
         }
     }
 
-    // As many as may be are called of those that are due, from a lane on in turn.
-    fn calling(self, lane: usize) -> Roll {
+    // Of those that are due more are called, from a lane on in turn, until so many are.
+    fn calling(self, lane: usize, most: u32) -> Roll {
         let mut roll = self;
-        for _ in 0..CALLED {
-            if roll.called.count() < CALLED {
+        for _ in 0..most {
+            if roll.called.count() < most {
                 let next = roll.due.first_from(lane);
                 roll.due = roll.due.without(next);
                 roll.called = roll.called.with(next);
@@ -161,9 +158,9 @@ impl Roll {
 
     fn after(self, change: Change) -> Roll {
         match change {
-            Change::Told(ends) => self.told(ends).calling(0),
-            Change::SleepsOn(lane) => self.came_out(Ends::of(lane)).calling(lane.index()),
-            Change::Leaves(lane) => self.left(Ends::of(lane)).calling(lane.index()),
+            Change::Told(ends) => self.told(ends).calling(0, 1),
+            Change::SleepsOn(lane) => self.came_out(Ends::of(lane)).calling(lane.index(), CALLED),
+            Change::Leaves(lane) => self.left(Ends::of(lane)).calling(lane.index(), CALLED),
         }
     }
 }
@@ -186,17 +183,15 @@ impl Calls {
         self.word.fetch_or(Ends::of(lane).0, Ordering::SeqCst);
     }
 
-    /// Notes a change, and says who has to be woken for it.
+    /// Notes a change, and says who has to be woken for it. Where another changes the word meanwhile,
+    /// which is seldom, all that are due are woken at once.
     pub(crate) fn note(&self, change: Change) -> Ends {
-        for _ in 0..TRIES {
-            let word = self.word.load(Ordering::SeqCst);
-            let before = Roll::of(word);
-            let after = before.after(change);
-            let noted = after == before || self.replace(word, after);
-            if noted {
-                let called = after.called.without(before.called);
-                return called.with(change.awake(before));
-            }
+        let word = self.word.load(Ordering::SeqCst);
+        let before = Roll::of(word);
+        let after = before.after(change);
+        if after == before || self.replace(word, after) {
+            let called = after.called.without(before.called);
+            return called.with(change.awake(before));
         }
         self.call_all(change)
     }

@@ -26,18 +26,18 @@
 //! who tells many ends, as a pump does, unparks few of them. An end that waits without a timeout says
 //! in `calls` that it *sleeps*, before the look that precedes its first park, and until its wait
 //! ends. Ends that are told and do not sleep there are unparked at once. Those that sleep become
-//! *due*, and of the due as many are *called* as may be called at a time: who changed the word so
-//! unparks them next. An end whose sleep ends takes itself out of all three, and by the same step
-//! calls another that is due, in turn from its own lane on; one that came out of its park and found
+//! *due*, and of the due one is *called* where none is: who changed the word so unparks it next. An
+//! end whose sleep ends takes itself out of all three, and by the same step calls others that are
+//! due, in turn from its own lane on, until two are called; one that came out of its park and found
 //! no news does so too, but sleeps on, and looks for news once more before it parks.
 //!
-//! - **Who is due comes out of its park.** After each step on `calls` as many are called as may be,
-//!   or no one is due. Who is called is unparked after the step that called it, and so comes out of
+//! - **Who is due comes out of its park.** After each step on `calls` some end is called, or no one
+//!   is due. Who is called is unparked after the step that called it, and so comes out of
 //!   its park, and then calls the next; between these two it runs nothing but the lines here, holds
 //!   no lock, and calls nothing of a caller's, such as the clock of a wait with a timeout. Since
-//!   each goes on in turn from its own lane, an end that is due is called after thirteen others at
-//!   most. Where a step was tried in vain very often, all who are due or called are unparked and
-//!   taken out of the word: then no one is due.
+//!   each goes on in turn from its own lane, each chain of calls passes an end that is due by twelve
+//!   others at most. Where a step fails, since another thread changed the word meanwhile, all who are
+//!   due or called are unparked and taken out of the word: then no one is due.
 //! - **Who is woken finds why.** Take an end that is told, and look at `calls` in the step behind
 //!   that. If the end does not sleep there, it is unparked, or begins to sleep later and then looks
 //!   at `told`. If it sleeps there, it is due or called from this step on, until it is unparked with
