@@ -221,6 +221,13 @@ fn number_at(place: u32) -> u64 {
 }
 
 #[test]
+fn a_paint_is_written_as_its_classes(rt: HostRuntime) {
+    let paints = (Paint::plain("room"), Paint::of("mark", Channel::ALL[3]));
+    let text = format!(in rt.alloc(); "{}, {}", paints.0, paints.1).ok();
+    same(&rt, "two paints", text, "room, mark c3");
+}
+
+#[test]
 fn shapes_are_those_of_before(rt: HostRuntime) -> Result<(), Fail> {
     for place in 0..66 {
         let at = Point::new(number_at(place), number_at(65 - place));

@@ -2,7 +2,6 @@
 use crate::tests::staged::{await_count, in_time};
 use lc_frame::{Channel, Lane};
 use lc_wake::{PumpWaiter, Waiter, Wakers, Waking};
-use std::process::Abort;
 use std::sync::Wait;
 use std::sync::atomic::{AtomicU64, Ordering};
 use std::test::Fail;
