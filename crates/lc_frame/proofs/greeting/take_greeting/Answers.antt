@@ -1,4 +1,4 @@
-use Rattle.std.proofs.Common.{ℕ, List, refl, subst, sym, ap, ◌∙◌, length, arith}
+use Rattle.std.proofs.Common.{refl, sym, ap, ◌∙◌, length, arith}
 use Rattle.lc_frame.specs.Progress.{IsDue}
 use Rattle.lc_frame.proofs.Openings.{further, takes_part, still_part, is_whole, breaks, part_short, not_empty}
 use Rattle.lc_frame.proofs.greeting.take_greeting.Goals as goal

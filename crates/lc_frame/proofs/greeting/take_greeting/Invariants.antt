@@ -1,6 +1,5 @@
-use Rattle.std.proofs.Common.{◌≡◌, ◌-◌, ◌≤◌, ◌++◌, length, take, vec_capacity}
-use Rattle.lc_frame.specs.declared.version.Version.TheVariants.{Two}
-use Rattle.lc_frame.specs.Version.{greeting, IsGreetingPart}
+use Rattle.std.proofs.Common.{◌≡◌, ◌-◌, ◌≤◌, ◌++◌, length, take}
+use Rattle.lc_frame.specs.Version.{IsGreetingPart}
 use Rattle.lc_frame.proofs.greeting.take_greeting.Given as goal
 
 abbrev pub invariant-bytes : goal.invariant-bytes

@@ -1,4 +1,4 @@
-use Rattle.std.proofs.Common.{◌≤◌, List, ℕ, subst, arith}
+use Rattle.std.proofs.Common.{List, ℕ, subst, arith}
 use Rattle.lc_frame.specs.Scan.{FindsFrame, NeedsMore}
 use Rattle.lc_frame.proofs.Pieces.{past_held, leaps_frame, leaps_part}
 use Rattle.lc_frame.proofs.progress.leap.Goals as goal

@@ -1,4 +1,4 @@
-use Rattle.std.proofs.Common.{◌≡◌, ◌+◌, ◌++◌, ◌≤◌, ℕ, List, length, take, drop, ap, ◌∙◌, arith}
+use Rattle.std.proofs.Common.{◌≡◌, ◌++◌, ◌≤◌, ℕ, List, length, take, drop, ap, ◌∙◌, arith}
 use Rattle.lc_frame.proofs.Holds.{filled_front}
 use Rattle.lc_frame.proofs.hold.Hold.fill.Goals as goal
 
