@@ -2,4 +2,5 @@ pub mod Counting
 pub mod Tries
 pub mod Frames
 pub mod Written
+pub mod Lent
 pub mod Arrived

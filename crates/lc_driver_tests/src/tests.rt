@@ -3,6 +3,7 @@ mod counted;
 mod failing;
 mod hostile;
 mod interrupted;
+mod long_messages;
 mod same_reading;
 mod script;
 mod side;

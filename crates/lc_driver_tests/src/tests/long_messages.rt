@@ -1,0 +1,102 @@
+//! A message that is too long to be copied on its way out, between two short ones, to a writer that
+//! fails, stops short or takes nothing at each place.
+use crate::tests::side::Side;
+use lc_driver::WriteFault;
+use lc_frame::{Channel, FrameRef, Version};
+use std::alloc::Global;
+use std::process::Abort;
+use std::test::Fail;
+use test_devices::{Odd, Pipe, Plan};
+
+const SHORT: &[u8] = b"abc";
+
+/// One byte more than the longest message of version One.
+const LONG: usize = 65_536;
+
+/// How many bytes a write takes at most, and what happens at which of them; after how many bytes and
+/// writes the writing ends, and how; and how many bytes are pending and how many frames wait then.
+type Cut = ((usize, Odd, u64), (u64, u64, End), (usize, usize));
+
+/// How a writing ends.
+#[derive(Clone, Copy)]
+enum End {
+    Whole,
+    Failed,
+    Zero,
+}
+
+/// A short frame has 8 bytes and the long one 65,541, of which the first 4,101 go out together with what
+/// stands before it.
+const CUTS: [Cut; 12] = [
+    ((usize::MAX, Odd::Fails, 0), (65_557, 3, End::Whole), (0, 0)),
+    ((usize::MAX, Odd::Fails, 1), (0, 1, End::Failed), (0, 3)),
+    ((usize::MAX, Odd::Fails, 2), (4_109, 2, End::Failed), (61_440, 1)),
+    ((usize::MAX, Odd::Moves(0), 2), (4_109, 2, End::Zero), (61_440, 1)),
+    ((usize::MAX, Odd::Fails, 3), (65_549, 3, End::Failed), (0, 1)),
+    ((usize::MAX, Odd::Moves(3), 1), (65_557, 4, End::Whole), (0, 0)),
+    ((3, Odd::Fails, 2), (3, 2, End::Failed), (5, 2)),
+    ((8, Odd::Fails, 2), (8, 2, End::Failed), (0, 2)),
+    ((9, Odd::Fails, 2), (9, 2, End::Failed), (65_540, 1)),
+    ((4_108, Odd::Fails, 2), (4_108, 2, End::Failed), (61_441, 1)),
+    ((40_000, Odd::Fails, 3), (44_109, 3, End::Failed), (21_440, 1)),
+    ((61_439, Odd::Fails, 3), (65_548, 3, End::Failed), (1, 1)),
+];
+
+// A side that wrote its greeting, at which the three messages wait.
+fn side(rt: &impl Abort, alloc: Global, long: &[u8]) -> Result<Side, Fail> {
+    let channel = Channel::DataChannel;
+    let mut side = Side::new(alloc, Version::Two, 32, 32)?;
+    let (greeted, _) = side.write(Plan::whole(), Pipe::of(Vec::new(alloc)));
+    let heard = side.link.peer.arrive(FrameRef::Issue {
+        channel,
+        amount: 100_000,
+    });
+    assert_eq!(rt; (greeted, heard), (Ok(4), Ok(())));
+    for body in [SHORT, long, SHORT] {
+        assert_eq!(rt; side.link.peer.send(channel, body), Ok(()));
+    }
+    Ok(side)
+}
+
+// The bytes of the three frames.
+fn stream(alloc: Global, long: &[u8]) -> Result<Vec<u8>, Fail> {
+    let mut bytes = Vec::from_slice(alloc, b"\x11\x00\x00\x00\x03abc")?;
+    bytes.extend_from_slice(b"\x11\x00\x01\x00\x00")?;
+    bytes.extend_from_slice(long)?;
+    bytes.extend_from_slice(b"\x11\x00\x00\x00\x03abc")?;
+    Ok(bytes)
+}
+
+// The writing ends as is wanted, and a further one goes on with the next byte.
+fn is_cut(rt: &impl Abort, alloc: Global, long: &[u8], cut: Cut) -> Result<(), Fail> {
+    let ((most, odd, at), (written, calls, end), left) = cut;
+    let wanted = match end {
+        End::Whole => Ok(written),
+        End::Failed => Err(WriteFault::Failed { written }),
+        End::Zero => Err(WriteFault::Zero { written }),
+    };
+    let plan = Plan {
+        most,
+        ..Plan::odd(odd, at)
+    };
+    let mut side = side(rt, alloc, long)?;
+    let (answer, writer) = side.write(plan, Pipe::of(Vec::new(alloc)));
+    assert_eq!(rt; (answer, writer.plan.calls), (wanted, calls));
+    assert_eq!(rt; (side.link.pending(), side.link.peer.waiting()), left);
+    let (answer, writer) = side.write(Plan::whole(), writer.pipe);
+    assert_eq!(rt; answer, Ok(65_557_u64.saturating_sub(written)));
+    assert_eq!(rt; writer.pipe.bytes, stream(alloc, long)?);
+    Ok(())
+}
+
+#[test]
+fn a_long_message_is_cut_anywhere(rt: HostRuntime) -> Result<(), Fail> {
+    let mut long = Vec::new(rt.alloc());
+    for place in 0..LONG {
+        long.push((place % 251) as u8)?;
+    }
+    for &cut in &CUTS {
+        is_cut(&rt, rt.alloc(), &long, cut)?;
+    }
+    Ok(())
+}
