@@ -37,7 +37,7 @@
 //!   no lock, and calls nothing of a caller's, such as the clock of a wait with a timeout. Since
 //!   each goes on in turn from its own lane, each chain of calls passes an end that is due by twelve
 //!   others at most. Where a step fails, since another thread changed the word meanwhile, all who are
-//!   due or called are unparked and taken out of the word: then no one is due.
+//!   due or called are unparked, and are neither any more: then no one is due.
 //! - **Who is woken finds why.** Take an end that is told, and look at `calls` in the step behind
 //!   that. If the end does not sleep there, it is unparked, or begins to sleep later and then looks
 //!   at `told`. If it sleeps there, it is due or called from this step on, until it is unparked with
