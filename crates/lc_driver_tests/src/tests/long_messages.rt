@@ -30,15 +30,35 @@ enum End {
 const CUTS: [Cut; 12] = [
     ((usize::MAX, Odd::Fails, 0), (65_557, 3, End::Whole), (0, 0)),
     ((usize::MAX, Odd::Fails, 1), (0, 1, End::Failed), (0, 3)),
-    ((usize::MAX, Odd::Fails, 2), (4_109, 2, End::Failed), (61_440, 1)),
-    ((usize::MAX, Odd::Moves(0), 2), (4_109, 2, End::Zero), (61_440, 1)),
-    ((usize::MAX, Odd::Fails, 3), (65_549, 3, End::Failed), (0, 1)),
-    ((usize::MAX, Odd::Moves(3), 1), (65_557, 4, End::Whole), (0, 0)),
+    (
+        (usize::MAX, Odd::Fails, 2),
+        (4_109, 2, End::Failed),
+        (61_440, 1),
+    ),
+    (
+        (usize::MAX, Odd::Moves(0), 2),
+        (4_109, 2, End::Zero),
+        (61_440, 1),
+    ),
+    (
+        (usize::MAX, Odd::Fails, 3),
+        (65_549, 3, End::Failed),
+        (0, 1),
+    ),
+    (
+        (usize::MAX, Odd::Moves(3), 1),
+        (65_557, 4, End::Whole),
+        (0, 0),
+    ),
     ((3, Odd::Fails, 2), (3, 2, End::Failed), (5, 2)),
     ((8, Odd::Fails, 2), (8, 2, End::Failed), (0, 2)),
     ((9, Odd::Fails, 2), (9, 2, End::Failed), (65_540, 1)),
     ((4_108, Odd::Fails, 2), (4_108, 2, End::Failed), (61_441, 1)),
-    ((40_000, Odd::Fails, 3), (44_109, 3, End::Failed), (21_440, 1)),
+    (
+        (40_000, Odd::Fails, 3),
+        (44_109, 3, End::Failed),
+        (21_440, 1),
+    ),
     ((61_439, Odd::Fails, 3), (65_548, 3, End::Failed), (1, 1)),
 ];
 
