@@ -7,6 +7,7 @@ ghost use Rattle.lc_frame.specs.Encoding.{encoding};
 ghost use Rattle.lc_frame.specs.declared.frame.Frame.TheVariants.{Send};
 ghost use Rattle.lc_frame.specs.StreamEncoder.{begun};
 ghost use Rattle.lc_driver.specs.Outgo.{new_outgo};
+ghost use Rattle.lc_driver.specs.Writing.{lent_from};
 
 use lc_frame::{Channel, FrameRef, StreamEncoder, Version};
 use std::alloc::{AllocError, Global};
@@ -82,11 +83,11 @@ impl Outgo {
     }
 
     /// Puts the header of a message last and the first so many bytes of its body, where there is room for
-    /// them. There is for 4,096 where nothing is pending.
+    /// them. There is where nothing is pending.
     pub(crate) fn begin(&mut self, channel: Channel, body: &[u8], count: usize) -> bool
         requires valid { IsValid self.old.version (Send channel body.now) }
         requires within { count ≤ length body.now }
-        requires few { count ≤ 4096 }
+        requires few { count ≤ lent_from }
         ensures after { self.new.pending ≡ (if result then self.old.pending ++ begun self.old.version channel body.now count else self.old.pending) }
         ensures version { self.new.version ≡ self.old.version }
         ensures room { self.old.pending ≡ [] → IsTrue result }

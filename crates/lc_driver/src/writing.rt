@@ -16,12 +16,11 @@ use lc_frame::{Channel, FrameRef};
 use lc_peer::Peer;
 use thiserror::Error;
 
-/// The longest message that is copied on its way out, which is the longest of version One. What is longer
-/// goes out from its own memory, by a write more.
+/// The longest message that is copied on its way out, which is the longest of version One. Of what is
+/// longer the first bytes end one write, and the rest is lent to the next from its own memory.
 const MAX_COPIED: usize = 65_535;
 
-/// So much of such a message goes out together with what stands before it, so that no write is of a
-/// header alone.
+/// From which byte on such a message is lent: enough go before it that no write is of a header alone.
 const LENT_FROM: usize = 4_096;
 
 /// Why not all was written, and how many bytes were.
@@ -66,7 +65,7 @@ fn written_of(wrote: &Result<u64, WriteFault>) -> u64
 #[inline]
 fn long_message(frame: FrameRef<'_>) -> Option<(Channel, &[u8])>
     ensures some { IfSome result (λ message. (frame_of frame.entry ≡ Send message.0 message.1.now) × (max_copied < length message.1.now)) }
-    ensures none { result ≡ None → (channel : Channel) (body : List ℕ) → frame_of frame.entry ≡ Send channel body → length body ≤ max_copied }
+    ensures none { IfNone result ((channel : Channel) (body : List ℕ) → frame_of frame.entry ≡ Send channel body → length body ≤ max_copied) }
 {
     match frame {
         FrameRef::Send { channel, body } if body.len() > MAX_COPIED => Some((channel, body)),
@@ -82,7 +81,7 @@ struct Lent {
 }
 
 // Encodes frames that wait after what is pending, as long as a whole one has room. A message that is long
-// is only begun, and ends it.
+// is only begun, and is the last: answers where.
 fn join_waiting(peer: &Peer, outgo: &mut Outgo) -> Option<Lent>
     requires { outgo.old.version ≡ peer.now.version }
     ensures version { outgo.new.version ≡ outgo.old.version }
@@ -232,15 +231,14 @@ fn note_begun(peer: &mut Peer, outgo: &mut Outgo, taken: usize)
     ensures pending { IfSome (next peer.old) (λ frame. outgo.new.pending ≡ drop taken (encoding outgo.old.version frame)) }
     ensures version { outgo.new.version ≡ outgo.old.version }
 {
-    let version = outgo.version();
-    match peer.next_out() {
-        Some(frame) => {
-            if taken < frame.encoded_len(version) {
-                let _room = outgo.append(frame.view());
-                outgo.advance(taken);
-            }
+    let Some(frame) = peer.next_out() else {
+        unreachable!()
+    };
+    if taken < frame.encoded_len(outgo.version()) {
+        if !outgo.append(frame.view()) {
+            unreachable!();
         }
-        None => unreachable!(),
+        outgo.advance(taken);
     }
 }
 
@@ -290,8 +288,8 @@ fn write_lent<W: CountedWrite>(
     result
 }
 
-// Writes what is pending, and after it frames that wait, as many as have room. None are written where
-// there is nothing.
+// Writes what is pending, and after it frames that wait, as many as have room: no byte only where there is
+// none.
 fn write_batch<W: CountedWrite>(
     peer: &mut Peer,
     outgo: &mut Outgo,
@@ -316,8 +314,8 @@ fn write_batch<W: CountedWrite>(
 /// several in one write as far as they fit the longest frame. `Ok` carries the number of bytes that
 /// were written.
 ///
-/// A message of more than 65,535 bytes is not copied: its first bytes end one write, and what is left of
-/// it is the next.
+/// Of a message of more than 65,535 bytes the header and the first 4,096 end one write. The rest is
+/// written from its own memory, and copied only where a fault leaves some of it.
 ///
 /// Outgo has the peer's version: a struct that holds both says so in a ghost field, which every
 /// call here keeps. A frame leaves the peer when the writer takes its first byte. After a fault what

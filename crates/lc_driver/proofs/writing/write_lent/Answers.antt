@@ -1,4 +1,4 @@
-use Rattle.std.proofs.Common.{◌≡◌, ℕ, ◌+◌, ◌≤◌, List, Option, IfSome, ◌++◌, length, take, drop, refl, sym, ap, subst, ◌∙◌, arith}
+use Rattle.std.proofs.Common.{◌≡◌, ℕ, ◌+◌, ◌≤◌, List, Option, IfSome, ◌++◌, length, take, drop, sym, ap, subst, ◌∙◌, arith}
 use Rattle.std.specs.Io.KnownBytes.{Appends}
 use Rattle.lc_frame.specs.declared.frame.Frame.{Frame}
 use Rattle.lc_frame.specs.Frame.{body_of}
@@ -11,7 +11,7 @@ pub unreachable-requires-in_default-long_message : goal.unreachable-requires-in_
 unreachable-requires-in_default-long_message g c =
     let l = c.requires.lent in
     let is = same_message c.args.outgo.now.version c.args.rest c.args.outgo.now.pending c.args.peer.now c.args.lent l _ c.in-Some.ensures.value in
-    omega (arith, l.long, c.in_default-long_message.ensures.none refl l.channel l.body is)
+    omega (arith, l.long, c.in_default-long_message.ensures.none l.channel l.body is)
 
 pub note_lent-requires-clause-within : goal.note_lent-requires-clause-within
 note_lent-requires-clause-within g c =
