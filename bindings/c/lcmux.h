@@ -25,18 +25,26 @@
  * says so. lcmux_peer_deliver answers more than that, in a struct of its own.
  *
  * Later, or never. LCMUX_NO_GUARANTEE means later: keep the message, read, and send it once enough is
- * held. So does LCMUX_QUEUE_FULL: write, and make the same call again. LCMUX_OUT_OF_MEMORY may pass, and
- * LCMUX_NO_ROOM does once messages are taken. LCMUX_CHANNEL_FINISHED, LCMUX_PAST_SEND_LIMIT and the other
- * refusals are for good: the call is not allowed, and waiting changes nothing.
+ * held; of a message that is longer than the other side's ring it comes for good. LCMUX_QUEUE_FULL means
+ * later, too: write, and make the same call again. LCMUX_OUT_OF_MEMORY may pass. LCMUX_NO_ROOM, LCMUX_NOT_HELD
+ * and LCMUX_NOTHING_TO_ASK tell how much there is now, which moves with what is taken and with what comes.
+ * LCMUX_CHANNEL_FINISHED, LCMUX_PAST_SEND_LIMIT and the other refusals are for good: the call is not allowed,
+ * and waiting changes nothing. lcmux_peer_needs tells of a message which of these it is.
  *
  * Waiting. Read also while there is something to write. Two sides that each write all before they read
  * wait for each other for ever, once both have more to write than the sockets between them hold: let
  * poll wait for both directions of a socket that does not block, and keep what a write did not take.
  *
+ * A program goes round: it takes on each channel until that answers LCMUX_EMPTY or LCMUX_ENDED, issues anew
+ * what was taken, makes the calls again that were refused for now, waits for bytes that come and, where
+ * lcmux_peer_wants_write says 1 or a write left bytes, for room to write, writes, reads and delivers. When it
+ * has nothing more to send and to issue, and all is written, it shuts its direction of the socket down and
+ * reads on until the other side has, too. A side that has read the end may still have bytes to write.
+ *
  * Memory. The library asks for memory in lcmux_peer_new and lcmux_peer_send alone, by the three
  * functions of heap.c. A program may bring its own: lcmux_heap.h says how.
  *
- * For x86-64 Linux, System V calling convention; a processor with SSE4.2 (x86-64-v2).
+ * For Linux, in the C calling convention of the processor: x86-64 with SSE4.2 (x86-64-v2), or aarch64.
  */
 #ifndef LCMUX_H
 #define LCMUX_H
@@ -182,6 +190,19 @@ typedef struct lcmux_ready {
     lcmux_channel_ready channels[7];
 } lcmux_ready;
 
+/* Bytes where they lie; bytes is no null pointer where len is 0, either. */
+typedef struct lcmux_piece {
+    const uint8_t *bytes;
+    size_t len;
+} lcmux_piece;
+
+/* A message where it lies: the bytes of the first piece, and then those of the rest, which is empty unless the
+ * message goes round the end of its ring. */
+typedef struct lcmux_front {
+    lcmux_piece first;
+    lcmux_piece rest;
+} lcmux_front;
+
 /* Makes a peer behind an empty handle. LCMUX_HAS_PEER, LCMUX_BAD_VERSION, LCMUX_BAD_CAPACITY,
  * LCMUX_BAD_SLOTS and LCMUX_OUT_OF_MEMORY, in this order; the handle is then as it was. It asks for 18
  * blocks: the rings, the list of frames, two buffers of 1,048,581 bytes of addresses, for a frame that
@@ -242,7 +263,8 @@ lcmux_answer lcmux_peer_needs(lcmux_peer *peer, uint32_t channel, size_t len) LC
 /* The number is how many frames more may wait to go out. */
 lcmux_answer lcmux_peer_slots_left(lcmux_peer *peer) LCMUX_NONNULL;
 
-/* What there is to do on all channels. With another code than LCMUX_OK the struct is as it was. */
+/* What there is to do on all channels, now: behind a take it may be another. With another code than LCMUX_OK
+ * the struct is as it was. */
 lcmux_answer lcmux_peer_ready(lcmux_peer *peer, lcmux_ready *ready) LCMUX_NONNULL;
 
 /* The next bytes of the stream that comes, of either version, cut anywhere; len may be 0. Whole frames
@@ -269,6 +291,15 @@ lcmux_answer lcmux_peer_wants_write(lcmux_peer *peer) LCMUX_NONNULL;
 
 /* The number is the length of the first message, which stays. LCMUX_EMPTY, LCMUX_ENDED. */
 lcmux_answer lcmux_peer_front_len(lcmux_peer *peer, uint32_t channel) LCMUX_NONNULL;
+
+/* Lends the first message where it lies, without a copy; it stays, and the number is its length. Its bytes are
+ * the peer's: they lie there until the next lcmux_peer_take, lcmux_peer_pop, lcmux_peer_deliver or
+ * lcmux_peer_free of it. LCMUX_EMPTY, LCMUX_ENDED. With another code than LCMUX_OK both pieces are empty. */
+lcmux_answer lcmux_peer_front(lcmux_peer *peer, uint32_t channel, lcmux_front *message) LCMUX_NONNULL;
+
+/* Drops the first message; the number is its length, and its bytes are room of the ring again. LCMUX_EMPTY,
+ * LCMUX_ENDED. */
+lcmux_answer lcmux_peer_pop(lcmux_peer *peer, uint32_t channel) LCMUX_NONNULL;
 
 /* Takes the first message, to the front of buffer; the number is its length, and its bytes are room of
  * the ring again. LCMUX_BUFFER_TOO_SMALL, which takes nothing, LCMUX_EMPTY, LCMUX_ENDED. */

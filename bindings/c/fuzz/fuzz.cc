@@ -5,6 +5,7 @@
 #include "model.h"
 #include "watch.h"
 
+#include <cstring>
 #include <iterator>
 #include <optional>
 #include <random>
@@ -222,8 +223,23 @@ private:
         ready(me);
         for (uint32_t c = 0; c < model::channels; c++) {
             answers(lcmux_peer_front_len(&side.peer, c), code ? lcmux_answer{code, 0} : side.model->channels[c].front_len());
+            front(me, c);
             books(me, c);
         }
+    }
+
+    /* The message that is lent is the first that waits. */
+    void front(size_t me, uint32_t channel) {
+        uint32_t code = barred(me, channel);
+        lcmux_answer want = code ? lcmux_answer{code, 0} : sides[me].model->channels[channel].front_len();
+        lcmux_front front = {{nullptr, 1}, {nullptr, 1}};
+        answers(lcmux_peer_front(&sides[me].peer, channel, &front), want);
+        same("the length of what is lent", front.first.len + front.rest.len, want.number);
+        if (want.code != LCMUX_OK)
+            return;
+        const uint8_t *body = sides[me].model->channels[channel].waiting()[0]->body.data();
+        same("the first piece", memcmp(front.first.bytes, body, front.first.len), 0);
+        same("the rest", memcmp(front.rest.bytes, body + front.first.len, front.rest.len), 0);
     }
 
     void ready(size_t me) {
@@ -444,7 +460,18 @@ private:
         compare(me);
     }
 
+    void pop(size_t me, uint32_t channel) {
+        uint32_t code = barred(me, channel);
+        lcmux_answer want = code ? lcmux_answer{code, 0} : sides[me].model->channels[channel].front_len();
+        note("pop", me, channel, want.number);
+        answers(lcmux_peer_pop(&sides[me].peer, channel), want);
+        if (want.code == LCMUX_OK)
+            sides[me].model->channels[channel].taken++;
+    }
+
     void take(size_t me, uint32_t channel, uint8_t how, uint8_t byte) {
+        if (how % 4 == 3)
+            return pop(me, channel);
         uint32_t code = barred(me, channel);
         lcmux_answer want = code ? lcmux_answer{code, 0} : sides[me].model->channels[channel].front_len();
         size_t room = std::min(number_about(want.number, how, byte), want.number + 64);

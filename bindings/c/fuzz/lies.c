@@ -154,6 +154,24 @@ WRAPPED(lcmux_answer, lcmux_peer_take, lcmux_peer *peer, uint32_t channel, uint8
     return answer;
 }
 
+WRAPPED(lcmux_answer, lcmux_peer_front, lcmux_peer *peer, uint32_t channel, lcmux_front *message) {
+    lcmux_answer answer = __real_lcmux_peer_front(peer, channel, message);
+    if (lie("the pieces of a lent message are exchanged")) {
+        lcmux_piece first = message->first;
+        message->first = message->rest;
+        message->rest = first;
+    }
+    if (lie("a lent message is a byte short") && message->rest.len > 0)
+        message->rest.len--;
+    return answer;
+}
+
+WRAPPED(lcmux_answer, lcmux_peer_pop, lcmux_peer *peer, uint32_t channel) {
+    if (lie("a pop leaves the message"))
+        return lcmux_peer_front_len(peer, channel);
+    return __real_lcmux_peer_pop(peer, channel);
+}
+
 WRAPPED(lcmux_answer, lcmux_peer_would_send, lcmux_peer *peer, uint32_t channel, size_t len) {
     lcmux_answer answer = __real_lcmux_peer_would_send(peer, channel, len);
     if (lie("a limit is not asked") && answer.code == LCMUX_PAST_SEND_LIMIT)

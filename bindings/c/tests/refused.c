@@ -63,6 +63,7 @@ static void empty_handle(lcmux_peer *peer) {
     lcmux_client client = {.held = 1};
     lcmux_server server = {.issued = 1};
     lcmux_ready ready = {.channels[6].plead = 7};
+    lcmux_front front = {{buffer, 8}, {buffer, 8}};
     lcmux_delivery delivery = lcmux_peer_deliver(peer, buffer, 4);
     must(delivery.code == LCMUX_NO_PEER && delivery.taken == 0 && delivery.frames == 0, "deliver");
     must(lcmux_peer_send(peer, 1, buffer, 4).code == LCMUX_NO_PEER, "send");
@@ -76,7 +77,10 @@ static void empty_handle(lcmux_peer *peer) {
     must(lcmux_peer_write(peer, buffer, 4).code == LCMUX_NO_PEER, "write");
     must(lcmux_peer_pending(peer).code == LCMUX_NO_PEER, "pending");
     must(lcmux_peer_end(peer).code == LCMUX_NO_PEER, "end");
-    must(lcmux_peer_front_len(peer, 1).code == LCMUX_NO_PEER, "front");
+    must(lcmux_peer_front_len(peer, 1).code == LCMUX_NO_PEER, "front length");
+    must(lcmux_peer_front(peer, 1, &front).code == LCMUX_NO_PEER && !front.first.len && !front.rest.len, "front");
+    must(front.first.bytes && front.rest.bytes, "pieces that are empty are no null pointers");
+    must(lcmux_peer_pop(peer, 1).code == LCMUX_NO_PEER, "pop");
     must(lcmux_peer_take(peer, 1, buffer, 8).code == LCMUX_NO_PEER, "take");
     must(lcmux_peer_client(peer, 1, &client).code == LCMUX_NO_PEER && client.held == 1, "client");
     must(lcmux_peer_server(peer, 1, &server).code == LCMUX_NO_PEER && server.issued == 1, "server");
@@ -102,14 +106,42 @@ static void empty_buffers(lcmux_peer *peer) {
     must(delivery.code == LCMUX_OK && delivery.taken == 0 && delivery.frames == 0, "deliver nothing");
     must(lcmux_peer_send(peer, 1, NULL, 0).code == LCMUX_EMPTY_BODY, "send nothing");
     must(lcmux_peer_take(peer, 1, NULL, 0).code == LCMUX_EMPTY, "take into nothing");
-    must(lcmux_peer_issue(peer, 1, 3).code == LCMUX_OK, "issue");
+    must(lcmux_peer_issue(peer, 1, 4).code == LCMUX_OK, "issue");
     lcmux_answer wrote = lcmux_peer_write(peer, NULL, 0);
     must(wrote.code == LCMUX_OK && wrote.number == 0, "write to nothing");
     delivery = lcmux_peer_deliver(peer, (const uint8_t *)"\x11\0\3abc", 6);
     must(delivery.frames == 1, "deliver");
     lcmux_answer took = lcmux_peer_take(peer, 1, NULL, 0);
     must(took.code == LCMUX_BUFFER_TOO_SMALL && took.number == 3, "take into too little");
+    delivery = lcmux_peer_deliver(peer, (const uint8_t *)"\x11\0\1d", 4);
+    must(delivery.frames == 1 && lcmux_peer_pop(peer, 1).number == 3, "drop what was too long");
+    took = lcmux_peer_take(peer, 1, NULL, 0);
+    must(took.code == LCMUX_BUFFER_TOO_SMALL && took.number == 1, "take one byte into nothing");
     must(lcmux_text(LCMUX_OK, NULL, 0).code == LCMUX_BUFFER_TOO_SMALL, "tell nothing");
+}
+
+/* Each balance of a channel by its name, before both sides finish it and after; behind an empty handle. */
+static void balances(lcmux_peer *peer) {
+    static const uint8_t before[] = "LCM\2\x22\0\0\0\7\x42\0\0\0\3\x62\0\0\0\0\0\0\0\x1e\x12\0\0\0\2hi\x32\0\0\0\1\x52\0\0\0\0\0\0\0\x28";
+    lcmux_client client, sending = {.held = 4, .received = 7, .spent = 1, .absolved = 2, .send_left = 9, .receive_left = 30, .asked = 3};
+    lcmux_server server, receiving = {.capacity = 11, .issued = 5, .outstanding = 2, .buffered = 2, .room = 7, .send_left = 40, .receive_left = 20};
+    must(lcmux_peer_new(&(lcmux_config){2, 8, {8, 8, 11, 8, 8, 8, 8}}, peer).code == LCMUX_OK, "new in version 2");
+    must(lcmux_peer_issue(peer, 2, 5).code == LCMUX_OK, "issue");
+    must(lcmux_peer_limit_receiving(peer, 2, 20).code == LCMUX_OK, "limit receiving");
+    must(lcmux_peer_deliver(peer, before, sizeof before - 1).frames == 6, "six frames");
+    must(lcmux_peer_send(peer, 2, (const uint8_t *)"x", 1).code == LCMUX_OK, "send");
+    must(lcmux_peer_absolve(peer, 2, 2).code == LCMUX_OK, "absolve");
+    must(lcmux_peer_limit_sending(peer, 2, 9).code == LCMUX_OK, "limit sending");
+    must(lcmux_peer_client(peer, 2, &client).code == LCMUX_OK && !memcmp(&client, &sending, sizeof client), "client before");
+    must(lcmux_peer_server(peer, 2, &server).code == LCMUX_OK && !memcmp(&server, &receiving, sizeof server), "server before");
+
+    must(lcmux_peer_finish(peer, 2).code == LCMUX_OK, "finish");
+    must(lcmux_peer_deliver(peer, (const uint8_t *)"\x72", 1).frames == 1, "a finish");
+    sending.held = 0, sending.waived = 4, sending.asked = LCMUX_NONE, sending.finished = 1;
+    receiving.outstanding = 0, receiving.waived = 2, receiving.room = 9, receiving.finished = 1;
+    must(lcmux_peer_client(peer, 2, &client).code == LCMUX_OK && !memcmp(&client, &sending, sizeof client), "client behind");
+    must(lcmux_peer_server(peer, 2, &server).code == LCMUX_OK && !memcmp(&server, &receiving, sizeof server), "server behind");
+    must(lcmux_peer_free(peer).code == LCMUX_OK, "free in version 2");
 }
 
 /* The sentence of each code. */
@@ -219,6 +251,7 @@ int main(void) {
     must(requests == 18, "a configuration that is refused asks for no memory");
     must(lcmux_version() == LCMUX_VERSION_NUMBER, "version");
     puts("handles and configurations as the header says");
+    balances(&peer);
     tell_all();
     return 0;
 }

@@ -1,5 +1,5 @@
 /* Runs the cases of rows.txt through the library: `rows FILE` delivers the bytes of a line whole,
- * `rows FILE 1` a byte at a time. Prints how many lines were answered as they say. */
+ * `rows FILE 1` a byte at a time, and takes what is lent to it. Prints how many lines were answered as they say. */
 #include "lcmux.h"
 
 #include <inttypes.h>
@@ -193,6 +193,18 @@ static bool own_call(lcmux_peer *peer, const char *word, uint32_t channel, const
     return true;
 }
 
+/* The first message, which is lent, copied and dropped. */
+static lcmux_answer take_lent(lcmux_peer *peer, uint32_t channel, uint8_t *bytes) {
+    lcmux_front front = {{NULL, 1}, {NULL, 1}};
+    lcmux_answer lent = lcmux_peer_front(peer, channel, &front);
+    if (front.first.len + front.rest.len != lent.number || !front.first.bytes || !front.rest.bytes)
+        return (lcmux_answer){LCMUX_NO_CODE, 0};
+    memcpy(bytes, front.first.bytes, front.first.len);
+    memcpy(bytes + front.first.len, front.rest.bytes, front.rest.len);
+    lcmux_answer popped = lcmux_peer_pop(peer, channel);
+    return lent.code == popped.code && lent.number == popped.number ? popped : (lcmux_answer){LCMUX_NO_CODE, 0};
+}
+
 static bool other_call(struct side *me, struct side *other, const char *word, const char *first, const char *second) {
     static uint8_t bytes[1 << 21];
     uint32_t channel = (uint32_t)strtoull(first, NULL, 10);
@@ -206,7 +218,9 @@ static bool other_call(struct side *me, struct side *other, const char *word, co
     else if (!strcmp(word, "server"))
         say_server(&me->peer, channel);
     else if (!strcmp(word, "take")) {
-        answer = lcmux_peer_take(&me->peer, channel, bytes, *second ? strtoull(second, NULL, 10) : sizeof bytes);
+        answer = *second       ? lcmux_peer_take(&me->peer, channel, bytes, strtoull(second, NULL, 10))
+                 : piece == 1 ? take_lent(&me->peer, channel, bytes)
+                              : lcmux_peer_take(&me->peer, channel, bytes, sizeof bytes);
         say_code(answer.code, answer.number);
         if (answer.code == LCMUX_OK)
             say_hex("took ", bytes, answer.number);

@@ -1,7 +1,8 @@
 //! What a round of two peers on one thread costs through this crate: a message of 16, 1,024 or 61,440
 //! bytes there, and its guarantees back, as `peer` through `write_to` and `read_from`, as `pieces` through
-//! `write` and `deliver`. `cargo bench --bench rounds` prints a line `name value unit` for each. With
-//! BENCH_FIXED=TURNS nothing is timed, and each figure has that many rounds; an argument is what the names
+//! `write` and `deliver`; and what each question costs, as `ask`. `cargo bench --bench rounds` prints a line
+//! `name value unit` for each, and as a ratio which part of the rate of `pieces` that of `peer` is. With
+//! BENCH_FIXED=TURNS nothing is timed, and each figure has that many turns; an argument is what the names
 //! of the figures begin with that are taken.
 
 use lcmux::{Channel, Config, Peer, Take};
@@ -21,6 +22,9 @@ const REPETITIONS: usize = 3;
 
 /// Moves all that waits at one peer to the other.
 type Carry = fn(&mut Peer, &mut Peer, &mut Vec<u8>) -> Result<(), Box<dyn Error>>;
+
+/// What a figure counts.
+type Turn = fn(&mut Exchange) -> Result<(), Box<dyn Error>>;
 
 /// A message goes from the client to the server, over a wire in memory.
 struct Exchange {
@@ -83,37 +87,59 @@ impl Exchange {
         self.promise()
     }
 
-    fn rounds(&mut self, count: u64) -> Result<Duration, Box<dyn Error>> {
+    fn turns(&mut self, turn: Turn, count: u64) -> Result<Duration, Box<dyn Error>> {
         let start = Instant::now();
         for _ in 0..count {
-            self.round()?;
+            turn(self)?;
         }
         Ok(start.elapsed())
     }
 
-    // Rounds a second, by the middle repetition.
-    fn rate(&mut self) -> Result<f64, Box<dyn Error>> {
+    // Turns a second, by the middle repetition.
+    fn rate(&mut self, turn: Turn) -> Result<f64, Box<dyn Error>> {
         let mut count = 1;
-        while self.rounds(count)? < TARGET / 4 {
+        while self.turns(turn, count)? < TARGET / 4 {
             count *= 2;
         }
         count *= 4;
         let mut taken = [Duration::ZERO; REPETITIONS];
         for one in &mut taken {
-            *one = self.rounds(count)?;
+            *one = self.turns(turn, count)?;
         }
         taken.sort();
         Ok(count as f64 / taken[REPETITIONS / 2].as_secs_f64())
     }
+
+    // The client answers a question; the server has sent it the guarantees of one message.
+    fn ask<T>(&self, question: impl FnOnce(&Peer) -> T) -> Result<(), Box<dyn Error>> {
+        black_box(question(black_box(&self.client)));
+        Ok(())
+    }
 }
 
-const FIGURES: [(&str, Carry, usize); 6] = [
-    ("peer.16", streams, 16),
-    ("peer.1k", streams, 1_024),
-    ("peer.60k", streams, 61_440),
-    ("pieces.16", pieces, 16),
-    ("pieces.1k", pieces, 1_024),
-    ("pieces.60k", pieces, 61_440),
+/// The length of the messages that a question is about, for which the guarantees are held.
+const ASKED: usize = 16;
+
+const FIGURES: [(&str, Carry, usize, Turn); 11] = [
+    ("peer.16", streams, 16, Exchange::round),
+    ("pieces.16", pieces, 16, Exchange::round),
+    ("peer.1k", streams, 1_024, Exchange::round),
+    ("pieces.1k", pieces, 1_024, Exchange::round),
+    ("peer.60k", streams, 61_440, Exchange::round),
+    ("pieces.60k", pieces, 61_440, Exchange::round),
+    ("ask.would_send", pieces, ASKED, |it| {
+        it.ask(|peer| peer.would_send(CHANNEL, ASKED))
+    }),
+    ("ask.needs", pieces, ASKED, |it| {
+        it.ask(|peer| peer.needs(CHANNEL, ASKED))
+    }),
+    ("ask.slots_left", pieces, ASKED, |it| {
+        it.ask(Peer::slots_left)
+    }),
+    ("ask.wants_write", pieces, ASKED, |it| {
+        it.ask(Peer::wants_write)
+    }),
+    ("ask.ready", pieces, ASKED, |it| it.ask(Peer::ready)),
 ];
 
 fn main() -> Result<(), Box<dyn Error>> {
@@ -125,18 +151,25 @@ fn main() -> Result<(), Box<dyn Error>> {
         .skip(1)
         .find(|argument| argument != "--bench")
         .unwrap_or_default();
-    for (name, carry, len) in FIGURES {
+    let mut before = ("", 0.0);
+    for (name, carry, len, turn) in FIGURES {
         if !name.starts_with(&prefix) {
             continue;
         }
         let mut exchange = Exchange::new(carry, len)?;
-        match fixed {
-            Some(count) => {
-                exchange.rounds(count)?;
-                println!("{name} 1 per_turn");
-            }
-            None => println!("{name}.messages {:.0} messages/s", exchange.rate()?),
+        if let Some(count) = fixed {
+            exchange.turns(turn, count)?;
+            println!("{name} 1 per_turn");
+            continue;
         }
+        let (kind, of) = name.split_once('.').unwrap_or_default();
+        let rate = exchange.rate(turn)?;
+        let what = if kind == "ask" { "calls" } else { "messages" };
+        println!("{name}.{what} {rate:.0} {what}/s");
+        if kind == "pieces" && before.0 == of {
+            println!("peer.{of}.ratio {:.2} of_pieces", before.1 / rate);
+        }
+        before = (of, rate);
     }
     Ok(())
 }

@@ -1,5 +1,11 @@
 /// A logical channel. Each runs in both directions, independently. What goes on which is the caller's
 /// choice.
+///
+/// ```
+/// use lcmux::Channel;
+/// let numbers = Channel::ALL.map(Channel::number);
+/// assert_eq!(numbers, [0, 1, 2, 3, 4, 5, 6]);
+/// ```
 #[derive(Clone, Copy, Debug, PartialEq, Eq, Hash, PartialOrd, Ord)]
 pub enum Channel {
     /// Channel 0.

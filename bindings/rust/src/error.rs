@@ -4,6 +4,15 @@ use std::fmt::{self, Display, Formatter};
 use std::io::{self, ErrorKind};
 
 /// Why a call was refused; it then changed nothing. Numbers are bytes of messages.
+///
+/// ```
+/// # use lcmux::{Channel::Data, Config, Peer, Refusal};
+/// # let mut peer = Peer::new(&Config::new([8; 7], 4))?;
+/// let refusal = peer.send(Data, b"hello").unwrap_err();
+/// assert_eq!(refusal, Refusal::NoGuarantee { held: 0 });
+/// assert_eq!((refusal.number(), refusal.detail()), (4, Some(("held", 0))));
+/// # Ok::<(), lcmux::PeerFault>(())
+/// ```
 #[derive(Clone, Copy, Debug, PartialEq, Eq)]
 #[non_exhaustive]
 pub enum Refusal {
@@ -183,6 +192,15 @@ impl Display for Refusal {
 impl Error for Refusal {}
 
 /// What is wrong with a frame that arrived from a peer that breaks the rules.
+///
+/// ```
+/// # use lcmux::{Config, Peer, Stop, Violation};
+/// # let mut peer = Peer::new(&Config::new([8; 7], 4))?;
+/// let delivery = peer.deliver(b"\x31\0\0\0\x01"); // which absolves of what was not issued
+/// assert_eq!(delivery.stop, Some(Stop::Violated(Violation::AbsolvedTooMuch)));
+/// assert_eq!(Violation::AbsolvedTooMuch.number(), 3);
+/// # Ok::<(), lcmux::PeerFault>(())
+/// ```
 #[derive(Clone, Copy, Debug, PartialEq, Eq)]
 #[non_exhaustive]
 pub enum Violation {
@@ -245,6 +263,14 @@ impl Display for Violation {
 impl Error for Violation {}
 
 /// Why the bytes of a stream are no frame.
+///
+/// ```
+/// # use lcmux::{Config, Fault, Peer, Stop};
+/// # let mut peer = Peer::new(&Config::new([8; 7], 4))?;
+/// assert_eq!(peer.deliver(b"\xff").stop, Some(Stop::Fault(Fault::BadTag)));
+/// assert_eq!(Fault::BadTag.number(), 1);
+/// # Ok::<(), lcmux::PeerFault>(())
+/// ```
 #[derive(Clone, Copy, Debug, PartialEq, Eq)]
 #[non_exhaustive]
 pub enum Fault {
@@ -287,6 +313,17 @@ impl Display for Fault {
 impl Error for Fault {}
 
 /// Why a stream was given up. The session is over then.
+///
+/// ```
+/// use lcmux::Stop;
+///
+/// fn log(stop: Stop) {
+///     match stop {
+///         Stop::Violated(violation) => eprintln!("V{}: {violation}", violation.number()),
+///         Stop::Fault(fault) => eprintln!("F{}: {fault}", fault.number()),
+///     }
+/// }
+/// ```
 #[derive(Clone, Copy, Debug, PartialEq, Eq)]
 pub enum Stop {
     /// A frame breaks the rules.
@@ -318,6 +355,13 @@ impl Display for Stop {
 impl Error for Stop {}
 
 /// Why there is no peer.
+///
+/// ```
+/// use lcmux::{Config, Peer, PeerFault};
+/// let fault = Peer::new(&Config::new([8; 7], 0)).unwrap_err();
+/// assert_eq!(fault, PeerFault::BadSlots);
+/// assert_eq!(fault.to_string(), "the slots are not 1 to 65,536");
+/// ```
 #[derive(Clone, Copy, Debug, PartialEq, Eq)]
 #[non_exhaustive]
 pub enum PeerFault {
@@ -373,6 +417,15 @@ impl Display for PeerFault {
 impl Error for PeerFault {}
 
 /// Why [`Peer::read_from`](crate::Peer::read_from) stopped. The frames before a stop have arrived.
+///
+/// ```
+/// # use lcmux::{Config, Fault, Peer, ReadError, Stop};
+/// # let mut peer = Peer::new(&Config::new([8; 7], 4))?;
+/// let error = peer.read_from(&mut &b"\x21\0\0\0\x05\xff"[..]).unwrap_err();
+/// assert_eq!(error.frames(), 1);
+/// assert!(matches!(error, ReadError::Stopped { stop: Stop::Fault(Fault::BadTag), .. }));
+/// # Ok::<(), lcmux::PeerFault>(())
+/// ```
 #[derive(Debug)]
 #[non_exhaustive]
 pub enum ReadError {
@@ -439,6 +492,14 @@ impl From<ReadError> for io::Error {
 
 /// A count of bytes that is above what there was: that of a call of [`Peer::advance`](crate::Peer::advance),
 /// or of a reader or a writer that breaks the rules of its trait.
+///
+/// ```
+/// # use lcmux::{Config, Peer};
+/// # let mut peer = Peer::new(&Config::new([8; 7], 4))?;
+/// let overrun = peer.advance(1).unwrap_err(); // since no chunk waits
+/// assert_eq!((overrun.claimed, overrun.offered), (1, 0));
+/// # Ok::<(), lcmux::PeerFault>(())
+/// ```
 #[derive(Clone, Copy, Debug, PartialEq, Eq)]
 #[non_exhaustive]
 pub struct Overrun {

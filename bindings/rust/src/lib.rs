@@ -9,12 +9,40 @@
 //! interface of `lcmux.h`, by one small module with `unsafe` in it. What is proved and what is trusted
 //! at that edge stands in the repository's `docs/promises.md`.
 //!
-//! [`Peer`] is pure: bytes in by [`Peer::deliver`], bytes out by [`Peer::write`]. [`Peer::read_from`]
-//! and [`Peer::write_to`] do the same over any reader and writer, and [`Peer::drive`] both over one stream,
-//! so that neither direction waits for the other. `examples/tcp.rs` runs two peers in two processes over
-//! TCP.
+//! A [`Mux`] is a session: a [`Sender`] and a [`Receiver`] for each channel, each for a thread or a task of
+//! its own, and a [`Driver`], which moves their bytes over any transport. Below is one for threads;
+//! `examples/session.rs` runs two in two processes.
 //!
 //! ```no_run
+//! use lcmux::{Channel::Data, Config, Mux};
+//! use std::{error::Error, net::TcpStream, thread};
+//!
+//! fn echo(stream: TcpStream) -> Result<(), Box<dyn Error>> {
+//!     stream.set_nodelay(true)?;
+//!     let (mut mux, driver) = Mux::new(Config::new([65_536; 7], 64))?;
+//!     let run = thread::spawn(move || driver.run_blocking(stream.try_clone()?, stream));
+//!
+//!     let (sender, mut receiver) = (mux.sender(Data).unwrap(), mux.receiver(Data).unwrap());
+//!     while let Some(message) = receiver.recv_blocking()? {
+//!         sender.send_blocking(&message)?; // which waits until the other side has room
+//!     }
+//!     drop(sender); // the channel has ended: this way, too
+//!     mux.close();
+//!     run.join().unwrap()?;
+//!     Ok(())
+//! }
+//! ```
+//!
+//! The same in async is `receiver.recv().await?`, `sender.send(&message).await?` and a task for
+//! `driver.run(reader, writer)`, on any runtime.
+//!
+//! [`Peer`] is what lies below, and is pure: bytes in by [`Peer::deliver`], bytes out by [`Peer::write`].
+//! [`Peer::read_from`] and [`Peer::write_to`] do the same over any reader and writer. Over sockets that
+//! block, `write_to` alone on both sides dead-locks once both have more to write than the sockets hold;
+//! [`Peer::drive`] moves both directions of one stream, and where that does not block or has timeouts
+//! neither waits for the other. `examples/tcp.rs` runs two peers in two processes over TCP.
+//!
+//! ```rust,no_run
 //! use lcmux::{Channel::Data, Config, Incoming, Peer, Refusal, Take};
 //! use std::{error::Error, net::TcpStream, time::Duration};
 //!
@@ -51,12 +79,19 @@
 
 mod channel;
 mod error;
+mod mux;
 mod peer;
 mod questions;
 mod sys;
 
 pub use channel::Channel;
 pub use error::{Fault, Overrun, PeerFault, ReadError, Refusal, Stop, Violation};
+pub use mux::{
+    Breaker, CallError, Closed, Direction, Driver, Frame, FrameKind, IssuePolicy, Message, Mux,
+    MuxConfig, MuxFault, Permit, Pipe, PleadPolicy, PollRead, PollWrite, Receiver,
+    RecvTimeoutError, SendError, SendTimeoutError, Sender, Stats, TryRecvError, TrySendError,
+    WriteHalf,
+};
 pub use peer::{ClientBook, Config, Delivery, Incoming, Peer, Progress, ServerBook, Take, Version};
 pub use questions::{Needs, Ready};
 

@@ -6,10 +6,16 @@ use std::io::{self, ErrorKind, Read, Write};
 /// The bytes asked for per read, and written at most per write. A peer keeps two buffers this long.
 const PIECE: usize = 16_384;
 
-/// How many pieces a drive reads at most.
+/// How many pieces a drive reads at most where it could not write all.
 const PIECES: usize = 16;
 
 /// A version of the format.
+///
+/// ```
+/// use lcmux::{Config, Version};
+/// let mut config = Config::new([1 << 20; 7], 64);
+/// config.version = Version::Two; // for messages of more than 65,535 bytes
+/// ```
 #[derive(Clone, Copy, Debug, Default, PartialEq, Eq)]
 #[non_exhaustive]
 pub enum Version {
@@ -47,6 +53,12 @@ impl Version {
 }
 
 /// The bounds of a peer.
+///
+/// ```
+/// use lcmux::{Channel::Data, Config};
+/// let mut config = Config::new([4096; 7], 64);
+/// config.capacities[usize::from(Data.number())] = 1 << 20;
+/// ```
 #[derive(Clone, Copy, Debug, PartialEq, Eq)]
 #[non_exhaustive]
 pub struct Config {
@@ -80,6 +92,14 @@ impl Config {
 }
 
 /// What a delivery did.
+///
+/// ```
+/// # use lcmux::{Config, Peer};
+/// # let mut peer = Peer::new(&Config::new([8; 7], 4))?;
+/// let delivery = peer.deliver(b"\x21\0\0\0\x05\x21");
+/// assert_eq!((delivery.taken, delivery.frames, delivery.stop), (6, 1, None));
+/// # Ok::<(), lcmux::PeerFault>(())
+/// ```
 #[derive(Clone, Copy, Debug, PartialEq, Eq)]
 #[must_use]
 pub struct Delivery {
@@ -92,6 +112,17 @@ pub struct Delivery {
 }
 
 /// What a take answers: of [`Peer::take_into`] how long the message is, of [`Peer::take`] the message.
+///
+/// ```
+/// # use lcmux::{Channel::Data, Config, Peer, Take};
+/// # let mut peer = Peer::new(&Config::new([8; 7], 4))?;
+/// match peer.take(Data) {
+///     Take::Took(message) => println!("{} bytes", message.len()),
+///     Take::Empty => println!("read on"),
+///     Take::Ended => println!("that was all"),
+/// }
+/// # Ok::<(), lcmux::PeerFault>(())
+/// ```
 #[derive(Clone, Copy, Debug, PartialEq, Eq)]
 pub enum Take<T = usize> {
     /// The first message was taken.
@@ -113,6 +144,15 @@ impl<T> Take<T> {
 }
 
 /// What a [`Peer::drive`] did.
+///
+/// ```
+/// use lcmux::{Incoming, Progress};
+///
+/// /// Whether to wait until the stream may be written, beside that it may be read.
+/// fn waits_to_write(progress: Progress) -> bool {
+///     progress.blocked && progress.incoming == Incoming::WouldBlock
+/// }
+/// ```
 #[derive(Clone, Copy, Debug, PartialEq, Eq)]
 #[non_exhaustive]
 #[must_use]
@@ -128,6 +168,18 @@ pub struct Progress {
 }
 
 /// How the read of a [`Peer::drive`] went.
+///
+/// ```
+/// use lcmux::{Incoming, Stop};
+///
+/// fn goes_on(incoming: Incoming) -> Result<bool, Stop> {
+///     match incoming {
+///         Incoming::Stopped { stop, .. } => Err(stop),
+///         Incoming::Ended => Ok(false),
+///         _ => Ok(true),
+///     }
+/// }
+/// ```
 #[derive(Clone, Copy, Debug, PartialEq, Eq)]
 #[non_exhaustive]
 pub enum Incoming {
@@ -147,6 +199,16 @@ pub enum Incoming {
 }
 
 /// The balances of a channel as client, the side that sends. All count bytes of messages.
+///
+/// ```
+/// # use lcmux::{Channel::Data, Config, Peer};
+/// # let mut peer = Peer::new(&Config::new([8; 7], 4))?;
+/// let _ = peer.deliver(b"\x21\0\0\0\x05");
+/// peer.send(Data, b"hi")?;
+/// let book = peer.client(Data);
+/// assert_eq!((book.held, book.spent, book.received), (3, 2, 5));
+/// # Ok::<(), Box<dyn std::error::Error>>(())
+/// ```
 #[derive(Clone, Copy, Debug, PartialEq, Eq)]
 pub struct ClientBook {
     /// Guarantees that may be used up now, 0 to 2^24.
@@ -170,6 +232,16 @@ pub struct ClientBook {
 }
 
 /// The balances of a channel as server, the side that receives. All count bytes of messages.
+///
+/// ```
+/// # use lcmux::{Channel::Data, Config, Peer};
+/// # let mut peer = Peer::new(&Config::new([8; 7], 4))?;
+/// peer.issue(Data, 5)?;
+/// let _ = peer.deliver(b"\x11\0\x02hi");
+/// let book = peer.server(Data);
+/// assert_eq!((book.outstanding, book.buffered, book.room), (3, 2, 3));
+/// # Ok::<(), Box<dyn std::error::Error>>(())
+/// ```
 #[derive(Clone, Copy, Debug, PartialEq, Eq)]
 pub struct ServerBook {
     /// The bytes of the ring: outstanding, buffered and room together.
@@ -416,7 +488,8 @@ impl Peer {
     /// on with the next byte, also where the writer was one that would block.
     ///
     /// It reads nothing meanwhile. Where both sides do so over streams that block, each waits for the
-    /// other for ever once both have more to write than the sockets hold: [`Peer::drive`] does not.
+    /// other for ever once both have more to write than the sockets hold. [`Peer::drive`] reads, too, over
+    /// a stream that does not block or has timeouts.
     ///
     /// A writer that says that it took more than it was offered is an error of kind `InvalidData`, with
     /// an [`Overrun`] in it. All that it was offered then counts as written, and no byte goes out twice.
@@ -533,12 +606,14 @@ impl Peer {
     }
 
     /// Moves both directions once: writes until all is written or the stream takes no more now, then
-    /// reads pieces of 16,384 bytes until one is not full, at most 16, and delivers them. A call that would
-    /// block, or whose timeout is over, is no error, and nothing is lost by it.
+    /// reads a piece of at most 16,384 bytes and delivers it; where not all was written and the piece is
+    /// full it reads on, 16 pieces at most. A call that would block, or whose timeout is over, is no error,
+    /// and nothing is lost by it.
     ///
     /// Over a stream that does not block, or that has a timeout for reads and one for writes, neither
-    /// side holds up the other, whatever both have to write. Over one that blocks without a timeout the
-    /// write waits until the other side reads, and the read until it writes.
+    /// side holds up the other, whatever both have to write. Over one that blocks without timeouts the
+    /// write waits until the other side reads, and the one read until it writes: there both sides wait for
+    /// each other as by [`Peer::write_to`].
     ///
     /// After a stop it goes on to write, and reads nothing. An error of the write comes before the read: what came
     /// is still to be had by [`Peer::read_from`].
@@ -561,8 +636,10 @@ impl Peer {
             Err(error) if is_for_later(&error) => true,
             Err(error) => return Err(error),
         };
+        // Where all was written the stream may be one that blocks, and a second read wait for good.
+        let pieces = if blocked { PIECES } else { 1 };
         let (mut read, mut incoming) = (0, Incoming::WouldBlock);
-        for _ in 0..PIECES {
+        for _ in 0..pieces {
             match self.read_from(stream) {
                 Ok(0) => incoming = Incoming::Ended,
                 Ok(count) => {
@@ -596,6 +673,35 @@ impl Peer {
         }
     }
 
+    /// The first message where it lies, without a copy; it stays. It is the bytes of the one slice and then
+    /// those of the other, which is empty unless the message goes round the end of its ring. `None` where none
+    /// waits.
+    ///
+    /// ```
+    /// # use lcmux::{Channel::Data, Config, Peer, Take};
+    /// # let mut peer = Peer::new(&Config::new([8; 7], 4))?;
+    /// peer.issue(Data, 8)?;
+    /// let _ = peer.deliver(b"\x11\0\x02hi");
+    /// assert_eq!(peer.front(Data), Some((&b"hi"[..], &b""[..])));
+    /// assert_eq!(peer.pop(Data), Take::Took(2));
+    /// assert_eq!(peer.front(Data), None);
+    /// # Ok::<(), Box<dyn std::error::Error>>(())
+    /// ```
+    #[inline]
+    pub fn front(&self, channel: Channel) -> Option<(&[u8], &[u8])> {
+        self.handle.front(channel.number().into())
+    }
+
+    /// Drops the first message, and answers its length; its bytes are room of the ring again.
+    #[inline]
+    pub fn pop(&mut self, channel: Channel) -> Take {
+        match self.handle.pop(channel.number().into()) {
+            Answer { code: 0, number } => Take::Took(number as usize),
+            Answer { code: 49, .. } => Take::Ended,
+            _ => Take::Empty,
+        }
+    }
+
     /// Takes the first message, to the front of `buffer`; its bytes are room of the ring again. Refused
     /// by 16 alone, where the buffer is shorter than the message, and then takes nothing.
     #[inline]
@@ -615,14 +721,14 @@ impl Peer {
     /// # Ok::<(), Box<dyn std::error::Error>>(())
     /// ```
     pub fn take(&mut self, channel: Channel) -> Take<Vec<u8>> {
-        let front = self.handle.front_len(channel.number().into());
-        let mut message = match front.code {
-            0 => vec![0; front.number as usize],
-            49 => return Take::Ended,
-            _ => return Take::Empty,
-        };
-        self.handle.take(channel.number().into(), &mut message);
-        Take::Took(message)
+        let message = self
+            .front(channel)
+            .map(|(first, rest)| [first, rest].concat());
+        match (self.pop(channel), message) {
+            (Take::Took(_), Some(message)) => Take::Took(message),
+            (Take::Ended, _) => Take::Ended,
+            (_, _) => Take::Empty,
+        }
     }
 
     /// The balances of a channel as client.

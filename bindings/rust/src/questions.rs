@@ -3,6 +3,13 @@ use crate::sys::{self, Answer};
 use crate::{Channel, Peer, Refusal};
 
 /// What a message needs before it can be sent.
+///
+/// ```
+/// use lcmux::{Config, Channel::Data, Needs, Peer};
+/// let peer = Peer::new(&Config::new([8; 7], 4))?;
+/// assert_eq!(peer.needs(Data, 5), Needs::Guarantees(5));
+/// # Ok::<(), lcmux::PeerFault>(())
+/// ```
 #[derive(Clone, Copy, Debug, PartialEq, Eq)]
 pub enum Needs {
     /// Nothing more: a send of it may want memory, and is not refused else.
@@ -17,6 +24,14 @@ pub enum Needs {
 }
 
 /// What there is to do on a channel.
+///
+/// ```
+/// # use lcmux::{Channel::Data, Config, Peer};
+/// # let mut peer = Peer::new(&Config::new([8; 7], 4))?;
+/// let _ = peer.deliver(b"\x41\0\0\0\x02"); // a plead
+/// assert!(peer.ready()[usize::from(Data.number())].plead);
+/// # Ok::<(), lcmux::PeerFault>(())
+/// ```
 #[derive(Clone, Copy, Debug, Default, PartialEq, Eq)]
 #[non_exhaustive]
 pub struct Ready {

@@ -5,12 +5,15 @@
 //! - every slice is passed with its own pointer, which is never null, and its own length;
 //! - a handle is behind an `UnsafeCell`, since readers too take it out of its place while they run. So
 //!   `Handle` is not `Sync`, and no call calls back, so of the calls on one handle one runs at a time;
+//! - what `lcmux_peer_front` lends lies in a ring, whose memory stays in its place, and whose bytes only calls
+//!   by `&mut` change;
 //! - what stands behind a handle is plain data from `malloc`, which no thread owns: hence `Send`.
 #![allow(unsafe_code)]
 
 use std::cell::UnsafeCell;
 use std::ffi::c_void;
 use std::ptr;
+use std::slice;
 
 #[repr(C)]
 struct Raw {
@@ -83,6 +86,25 @@ pub(crate) struct Ready {
     pub channels: [ChannelReady; 7],
 }
 
+#[repr(C)]
+struct Piece {
+    bytes: *const u8,
+    len: usize,
+}
+
+impl Piece {
+    const EMPTY: Piece = Piece {
+        bytes: ptr::NonNull::dangling().as_ptr(),
+        len: 0,
+    };
+}
+
+#[repr(C)]
+struct Front {
+    first: Piece,
+    rest: Piece,
+}
+
 extern "C" {
     fn lcmux_peer_new(config: *const Config, peer: *mut Raw) -> Answer;
     fn lcmux_peer_free(peer: *mut Raw) -> Answer;
@@ -111,6 +133,8 @@ extern "C" {
     fn lcmux_peer_write(peer: *mut Raw, buffer: *mut u8, len: usize) -> Answer;
     fn lcmux_peer_pending(peer: *mut Raw) -> Answer;
     fn lcmux_peer_front_len(peer: *mut Raw, channel: u32) -> Answer;
+    fn lcmux_peer_front(peer: *mut Raw, channel: u32, message: *mut Front) -> Answer;
+    fn lcmux_peer_pop(peer: *mut Raw, channel: u32) -> Answer;
     fn lcmux_peer_take(peer: *mut Raw, channel: u32, buffer: *mut u8, len: usize) -> Answer;
     fn lcmux_peer_client(peer: *mut Raw, channel: u32, balances: *mut Client) -> Answer;
     fn lcmux_peer_server(peer: *mut Raw, channel: u32, balances: *mut Server) -> Answer;
@@ -279,6 +303,24 @@ impl Handle {
     #[inline]
     pub fn front_len(&self, channel: u32) -> Answer {
         unsafe { lcmux_peer_front_len(self.0.get(), channel) }
+    }
+
+    #[inline]
+    pub fn front(&self, channel: u32) -> Option<(&[u8], &[u8])> {
+        let mut front = Front {
+            first: Piece::EMPTY,
+            rest: Piece::EMPTY,
+        };
+        let lent = |piece: Piece| unsafe { slice::from_raw_parts(piece.bytes, piece.len) };
+        match unsafe { lcmux_peer_front(self.0.get(), channel, &mut front) }.code {
+            0 => Some((lent(front.first), lent(front.rest))),
+            _ => None,
+        }
+    }
+
+    #[inline]
+    pub fn pop(&mut self, channel: u32) -> Answer {
+        unsafe { lcmux_peer_pop(self.0.get(), channel) }
     }
 
     #[inline]

@@ -388,6 +388,18 @@ impl Pair {
         }
     }
 
+    fn pop(&mut self, me: usize, at: usize) {
+        let answer = self.sides[me].peer.pop(Channel::ALL[at]);
+        let way = &mut self.ways[1 - me][at];
+        match way.ring.pop_front() {
+            Some(body) => assert_eq!(answer, Take::Took(body.len())),
+            None if way.server_finished || way.server_send_left == Some(0) => {
+                assert_eq!(answer, Take::Ended);
+            }
+            None => assert_eq!(answer, Take::Empty),
+        }
+    }
+
     fn take(&mut self, me: usize, at: usize, room: usize) {
         let mut buffer = vec![0; room];
         let answer = self.sides[me].peer.take_into(Channel::ALL[at], &mut buffer);
@@ -438,6 +450,11 @@ impl Pair {
             )
         );
         assert_eq!(side.peer.front_len(channel), way.ring.front().map(Vec::len));
+        let front = side.peer.front(channel);
+        assert_eq!(
+            front.map(|(first, rest)| [first, rest].concat()),
+            way.ring.front().cloned()
+        );
         let waiting = side.waiting.iter().map(|next| next.1.len(side.version));
         assert_eq!(side.peer.pending(), side.begun + waiting.sum::<usize>());
         self.compare_ready(me);
@@ -489,7 +506,10 @@ fn play(versions: [Version; 2], seed: u64) {
             3 => pair.honour(me, at),
             4 => pair.write(me, random.below(30) as usize),
             5 | 6 => pair.deliver(me, random.below(20) as usize),
-            _ => pair.take(me, at, random.below(16) as usize),
+            _ => match random.below(16) as usize {
+                0 => pair.pop(me, at),
+                room => pair.take(me, at, room),
+            },
         }
         pair.compare(me, at);
     }

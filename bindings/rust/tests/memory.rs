@@ -34,7 +34,8 @@ fn used(len: usize) -> [Peer; 2] {
 }
 
 fn carry(peers: &mut [Peer; 2]) {
-    let wires = peers.each_mut().map(|peer| {
+    let [one, two] = &mut *peers;
+    let wires = [one, two].map(|peer| {
         let mut wire = Vec::new();
         peer.write_to(&mut wire).unwrap();
         wire

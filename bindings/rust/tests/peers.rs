@@ -157,6 +157,38 @@ fn messages_are_taken_one_by_one() {
     assert_eq!(ended.frames, 1);
     assert_eq!(peer.take_into(Data, &mut buffer), Ok(Take::Ended));
     assert_eq!((peer.front_len(Data), peer.take(Data)), (None, Take::Ended));
+    assert_eq!(
+        [Take::Took(5), Take::Empty, Take::Ended].map(Take::took),
+        [Some(5), None, None]
+    );
+}
+
+#[test]
+fn a_message_that_goes_round_the_end_of_its_ring_is_lent_in_two_pieces() {
+    let mut peer = Peer::new(&Config::new([8; 7], 4)).unwrap();
+    assert_eq!(peer.front(Data), None);
+    assert_eq!(peer.pop(Data), Take::Empty);
+    peer.issue(Data, 8).unwrap();
+    assert_eq!(peer.deliver(b"\x11\0\x05first").stop, None);
+    assert_eq!(peer.front(Data), Some((&b"first"[..], &b""[..])));
+    assert_eq!(peer.deliver(b"\x11\0\x02no").stop, None);
+    assert_eq!(peer.front(Data), Some((&b"first"[..], &b""[..])));
+    assert_eq!(peer.pop(Data), Take::Took(5));
+    peer.issue(Data, 5).unwrap();
+    assert_eq!(peer.deliver(b"\x11\0\x04next").stop, None);
+    assert_eq!(peer.pop(Data), Take::Took(2));
+    assert_eq!(peer.front(Data), Some((&b"n"[..], &b"ext"[..])));
+    assert_eq!(
+        (
+            peer.server(Data).buffered,
+            peer.front(Channel::Reconciliation)
+        ),
+        (4, None)
+    );
+    assert_eq!(peer.take(Data), Take::Took(b"next".to_vec()));
+    assert_eq!(peer.deliver(&[0x51, 0, 0, 0, 0, 0, 0, 0, 0]).stop, None);
+    assert_eq!(peer.front(Data), None);
+    assert_eq!(peer.pop(Data), Take::Ended);
 }
 
 /// A peer that sent, was asked and limited, and one that received, with what both say of the channel.

@@ -1,7 +1,7 @@
 //! The worked examples and hostile bytes of `bindings/rows.txt`, through the crate.
 mod common;
 
-use common::hex;
+use common::{hex, shared};
 use lcmux::{Channel, Config, Needs, Peer, Ready, Refusal, Stop, Take, Version};
 
 struct Side {
@@ -190,6 +190,12 @@ fn answer(me: &mut Side, other: &mut Side, words: &[&str], piece: usize) -> Stri
         "would-finish" => own(peer.would_finish(channel)),
         "would-honour" => honoured(peer.would_honour(channel)),
         "needs" => needed(peer.needs(channel, number(2) as usize)),
+        // A lent message, copied and dropped.
+        "take" if words.len() == 2 && piece == 1 => match peer.take(channel) {
+            Take::Took(message) => format!("took {}", unhex(&message)),
+            Take::Empty => "empty".into(),
+            Take::Ended => "ended".into(),
+        },
         "take" => {
             let mut buffer = vec![
                 0;
@@ -222,7 +228,7 @@ fn side(words: &[&str]) -> Side {
 }
 
 fn run(piece: usize) {
-    let rows = include_str!("../../rows.txt");
+    let rows = shared("rows.txt");
     let mut sides: Option<(Side, Side)> = None;
     let mut answers = 0;
     for line in rows

@@ -1,6 +1,8 @@
 //! `read_from` and `write_to` over readers and writers that are interrupted, block, fail, stop, and
 //! take or give less than they could.
 mod common;
+#[path = "common/watchdog.rs"]
+mod watchdog;
 
 use common::{hex, rows};
 use lcmux::{
@@ -13,6 +15,7 @@ use std::net::Shutdown;
 use std::os::unix::net::UnixStream;
 use std::time::{Duration, Instant};
 use std::{panic, thread};
+use watchdog::Watchdog;
 
 /// An issue of 5 on channel 1.
 const ISSUE: [u8; 5] = [0x21, 0, 0, 0, 5];
@@ -225,8 +228,8 @@ fn of_a_read_that_claims_more_than_was_asked_for_nothing_arrives() {
         let mut peer = peer();
         let error = io::Error::from(peer.read_from(&mut Boaster::new(more)).unwrap_err());
         assert_eq!(error.kind(), ErrorKind::InvalidData);
-        let claimed = overrun(&error).map(|it| (it.claimed > it.offered, it.offered > 0));
-        assert_eq!(claimed, Some((true, true)));
+        let counts = overrun(&error).map(|it| (it.claimed, it.offered));
+        assert_eq!(counts, Some((16_384_usize.saturating_add(more), 16_384)));
         assert_eq!(peer.client(Data).held, 0);
         assert_eq!(peer.read_from(&mut &ISSUE[..]).unwrap(), 5);
         assert_eq!(peer.client(Data).held, 5);
@@ -285,6 +288,7 @@ fn a_device_that_panics_leaves_both_streams_as_they_were() {
 fn a_chunk_stays_until_it_is_advanced_over() {
     let mut peer = peer();
     assert!(peer.chunk().is_empty());
+    assert!(!peer.wants_write());
     assert_eq!(peer.advance(0), Ok(()));
     assert!(peer.advance(1).is_err());
     peer.issue(Data, 5).unwrap();
@@ -304,9 +308,12 @@ fn a_chunk_stays_until_it_is_advanced_over() {
     peer.advance(6).unwrap();
     assert_eq!((peer.pending(), peer.chunk()), (5, &[0x23, 0, 0, 0, 8][..]));
     peer.advance(1).unwrap();
+    // Nothing waits any more but what the chunk still has.
+    assert!(peer.wants_write());
     let mut wire = Vec::new();
     assert_eq!(peer.write_to(&mut wire).unwrap(), 4);
     assert_eq!((&wire[..], peer.chunk()), (&[0, 0, 0, 8][..], &[][..]));
+    assert!(!peer.wants_write());
 }
 
 /// Two frames of which a writer took six bytes, and a third behind them.
@@ -444,16 +451,19 @@ fn a_drive_over_a_stream_that_was_given_up_still_writes() {
 
 type End = fn() -> io::Result<usize>;
 
-/// Gives the front of a message of 1 MiB, in reads as long as they may be.
+/// Gives the front of a message of 1 MiB, in reads as long as they may be, and takes nothing for now.
 struct Long {
     left: usize,
+    writes: usize,
     reads: usize,
     end: End,
 }
 
 impl Write for Long {
     fn write(&mut self, _: &[u8]) -> io::Result<usize> {
-        panic!("nothing waits to go out");
+        self.writes += 1;
+        assert_eq!(self.writes, 1, "the stream is written to on and on");
+        Err(ErrorKind::WouldBlock.into())
     }
 
     fn flush(&mut self) -> io::Result<()> {
@@ -464,6 +474,7 @@ impl Write for Long {
 impl Read for Long {
     fn read(&mut self, buffer: &mut [u8]) -> io::Result<usize> {
         self.reads += 1;
+        assert!(self.reads < 100, "the stream is read on and on");
         if self.left == 0 {
             return (self.end)();
         }
@@ -478,35 +489,57 @@ impl Read for Long {
     }
 }
 
-// How many bytes there are and what is behind them; then what one drive says, and how many reads it made.
+/// What one drive says of so many bytes and what is behind them, and how many reads it made; `frames` are to
+/// go out, which the stream does not take.
+fn driven(left: usize, end: End, frames: u32) -> String {
+    let mut peer = Peer::new(&Config::new([1 << 20; 7], 4)).unwrap();
+    peer.issue(Data, 1 << 20).unwrap();
+    let count = peer.chunk().len();
+    peer.advance(count).unwrap();
+    (0..frames).for_each(|_| peer.issue(Overlap, 1).unwrap());
+    let mut stream = Long {
+        left,
+        writes: 0,
+        reads: 0,
+        end,
+    };
+    let it = peer.drive(&mut stream).unwrap();
+    assert_eq!((it.written, it.blocked), (0, frames > 0));
+    format!("{} {:?}, {} reads", it.read, it.incoming, stream.reads)
+}
+
+const LATE: End = || Err(ErrorKind::WouldBlock.into());
+
 #[test]
-fn a_drive_reads_while_pieces_are_full() {
-    let late = || Err(ErrorKind::WouldBlock.into());
+fn a_drive_that_could_not_write_all_reads_while_pieces_are_full() {
     let cases: [(usize, End, _); 5] = [
-        (16_383, late, "16383 Open, 1 reads"),
-        (16_384, late, "16384 Open, 2 reads"),
-        (16_385, late, "16385 Open, 2 reads"),
+        (16_383, LATE, "16383 Open, 1 reads"),
+        (16_384, LATE, "16384 Open, 2 reads"),
+        (16_385, LATE, "16385 Open, 2 reads"),
         (
             32_768,
             || Ok(0),
             "32768 Stopped { stop: Fault(Truncated), frames: 0 }, 3 reads",
         ),
-        (300_000, late, "262144 Open, 16 reads"),
+        (300_000, LATE, "262144 Open, 16 reads"),
     ];
     for (left, end, want) in cases {
-        let mut peer = Peer::new(&Config::new([1 << 20; 7], 4)).unwrap();
-        peer.issue(Data, 1 << 20).unwrap();
-        let count = peer.chunk().len();
-        peer.advance(count).unwrap();
-        let mut stream = Long {
-            left,
-            reads: 0,
-            end,
-        };
-        let it = peer.drive(&mut stream).unwrap();
-        let shown = format!("{} {:?}, {} reads", it.read, it.incoming, stream.reads);
-        assert_eq!(shown, want);
+        assert_eq!(driven(left, end, 1), want);
     }
+}
+
+/// The stream may be one that blocks: a second read would wait for what the other side may never write.
+#[test]
+fn a_drive_that_wrote_all_reads_once() {
+    let blocks: End = || panic!("a second read waits for good");
+    for (left, want) in [
+        (16_383, "16383 Open, 1 reads"),
+        (16_384, "16384 Open, 1 reads"),
+        (300_000, "16384 Open, 1 reads"),
+    ] {
+        assert_eq!(driven(left, blocks, 0), want);
+    }
+    assert_eq!(driven(0, LATE, 0), "0 WouldBlock, 1 reads");
 }
 
 const SWAPPED: usize = 40;
@@ -540,6 +573,7 @@ fn swap(mut stream: UnixStream) {
 }
 
 fn swap_over(prepare: fn(&UnixStream) -> io::Result<()>) {
+    let _watchdog = Watchdog::new("a swap over a socket");
     let (here, there) = UnixStream::pair().unwrap();
     prepare(&here).and_then(|()| prepare(&there)).unwrap();
     let other = thread::spawn(move || swap(there));

@@ -11,11 +11,12 @@ use crate::fault::{Fault, both};
 use crate::patience::{Deadline, Patient};
 use crate::tasks::{RING, ask, collect, offer, serve};
 use lc_driver::{Counted, ReadEnd, Uninterrupted};
-use lc_frame::Version;
+use lc_frame::{CHANNELS, Version};
 use lc_inbox::apart;
 use lc_peer::Config;
 use lc_session::{Parts, ReadPump, RecvEnd, SendEnd, Session, WriteEnd, WritePump, finish};
 use std::alloc::Global;
+use std::io::BufReader;
 use std::net::{Shutdown, TcpStream};
 use std::sync::Wait;
 use std::thread::{Threads, join, join_mut};
@@ -23,6 +24,9 @@ use std::time::Clock;
 
 /// How many frames may wait to go out.
 const SLOTS: u32 = 16;
+
+/// How many bytes a read of the socket brings at most, where the pump asks for 512.
+const READ_AHEAD: usize = 65_536;
 
 /// What a sync came to.
 #[derive(Drop)]
@@ -55,22 +59,30 @@ impl Hold {
         answer
     }
 
-    // The socket as a pump has it: a signal is no dead transport, and patience ends.
-    fn device<'a, R>(&'a self, rt: &'a R) -> Counted<Uninterrupted<Patient<'a, R>>> {
-        Counted::new(Uninterrupted::new(Patient {
+    // The socket, as long as patience lasts.
+    fn patient<'a, R>(&'a self, rt: &'a R) -> Patient<'a, R> {
+        Patient {
             rt,
             socket: &self.socket,
             deadline: self.deadline,
-        }))
+        }
     }
 }
 
 // Reads up to the end of what the other side writes. A transport that fails and a frame that breaks
 // the rules are answered by the pump; all waits answer `Over` from then on, so that the tasks end.
-fn read<R: Wait + Clock>(rt: &R, hold: &Hold, pump: &mut ReadPump) -> Result<(), Fault>
+fn read<R: Wait + Clock>(
+    rt: &R,
+    alloc: Global,
+    hold: &Hold,
+    pump: &mut ReadPump,
+) -> Result<(), Fault>
     ensures { IsSameReading pump.old.side pump.new.side }
 {
-    match pump.run(rt, &mut hold.device(rt), u64::MAX) {
+    let Ok(socket) = BufReader::with_capacity(alloc, READ_AHEAD, hold.patient(rt)) else {
+        return Err(Fault::OutOfMemory);
+    };
+    match pump.run(rt, &mut Counted::new(Uninterrupted::new(socket)), u64::MAX) {
         ReadEnd::Clean => Ok(()),
         _ => Err(Fault::Over),
     }
@@ -80,7 +92,8 @@ fn read<R: Wait + Clock>(rt: &R, hold: &Hold, pump: &mut ReadPump) -> Result<(),
 fn write<R: Wait + Clock>(rt: &R, hold: &Hold, pump: &mut WritePump) -> Result<(), Fault>
     ensures { IsSamePump pump.old pump.new }
 {
-    match pump.run(rt, &mut hold.device(rt)) {
+    let socket = Uninterrupted::new(hold.patient(rt));
+    match pump.run(rt, &mut Counted::new(socket)) {
         WriteEnd::Stopped => Ok(hold.socket.shutdown(Shutdown::Write)?),
         WriteEnd::Failed | WriteEnd::Zero => Err(Fault::Over),
     }
@@ -137,10 +150,14 @@ fn work<'a, R: Threads + Wait + Sync>(
     rt: &'a R,
     alloc: Global,
     hold: &'a Hold,
-    send_ends: [SendEnd; 7],
-    recv_ends: [RecvEnd; 7],
+    send_ends: [SendEnd; CHANNELS],
+    recv_ends: [RecvEnd; CHANNELS],
     items: &'a str,
-) -> (Result<String, Fault>, [SendEnd; 7], [RecvEnd; 7])
+) -> (
+    Result<String, Fault>,
+    [SendEnd; CHANNELS],
+    [RecvEnd; CHANNELS],
+)
     ensures sending { AllZip IsSameOutbox send_ends result.1 }
     ensures receiving { AllZip IsSameSide recv_ends result.2 }
 {
@@ -176,6 +193,7 @@ fn work<'a, R: Threads + Wait + Sync>(
 // Both pumps, until the session is stopped and the other side's stream has ended.
 fn pump<'a, R: Threads + Wait + Clock + Sync>(
     rt: &'a R,
+    alloc: Global,
     hold: &'a Hold,
     mut reading: ReadPump,
     mut writing: WritePump,
@@ -186,7 +204,7 @@ fn pump<'a, R: Threads + Wait + Clock + Sync>(
     let (wrote, heard) = join_mut(
         rt,
         &mut || write(rt, hold, &mut writing),
-        &mut || read(rt, hold, &mut reading),
+        &mut || hold.give_up_at(read(rt, alloc, hold, &mut reading)),
     );
     (both(wrote, heard).map(|((), ())| ()), reading, writing)
 }
@@ -220,12 +238,16 @@ fn exchange<'a, R: Threads + Wait + Clock + Sync>(
     // the pumps, so they are second: they end by patience then.
     let ((worked, send_ends, recv_ends), (pumped, read_pump, write_pump)) = join(
         rt,
-        || -> (Result<String, Fault>, [SendEnd; 7], [RecvEnd; 7])
+        || -> (
+            Result<String, Fault>,
+            [SendEnd; CHANNELS],
+            [RecvEnd; CHANNELS],
+        )
             ensures { AllZip IsSameOutbox send_ends result.1 × AllZip IsSameSide recv_ends result.2 }
         { work(rt, alloc, &hold, send_ends, recv_ends, items) },
         || -> (Result<(), Fault>, ReadPump, WritePump)
             ensures { IsSameReading read_pump.side result.1.side × IsSamePump write_pump result.2 }
-        { pump(rt, &hold, read_pump, write_pump) },
+        { pump(rt, alloc, &hold, read_pump, write_pump) },
     );
     let parts = Parts {
         session: hold.session,
@@ -248,7 +270,7 @@ pub fn sync<'a, R: Threads + Wait + Clock + Sync>(
     socket.set_nodelay(true)?;
     let config = Config {
         version: Version::One,
-        capacities: [RING; 7],
+        capacities: [RING; CHANNELS],
         slots: SLOTS,
     };
     let Ok(parts) = Session::new(alloc, config) else {

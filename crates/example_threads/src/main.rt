@@ -19,8 +19,7 @@ ghost use Rattle.example_threads.specs.Kept.{KeepPromisesOf, session_config};
 use anyhow::{Error, anyhow};
 use lc_book::Refusal;
 use lc_driver::{Counted, Uninterrupted};
-use lc_frame::Version;
-use lc_inbox::apart;
+use lc_frame::{CHANNELS, Channel, Version};
 use lc_interleaving::finish_both;
 use lc_peer::{Config, Take};
 use lc_session::{Parts, ReadPump, RecvEnd, Report, SendEnd, Session, WritePump};
@@ -44,8 +43,11 @@ enum Role {
     Takes,
 }
 
-/// The seven ends of each kind.
-type Ends = ([SendEnd; 7], [RecvEnd; 7]);
+/// The channel on which they go.
+const CHANNEL: Channel = Channel::DataChannel;
+
+/// The ends of each kind.
+type Ends = ([SendEnd; CHANNELS], [RecvEnd; CHANNELS]);
 
 // Sends a message, and waits for guarantees or a slot where it is refused for want of one. Whether
 // it was sent.
@@ -120,26 +122,25 @@ fn take_all<R: Wait>(rt: &R, end: &mut RecvEnd)
     }
 }
 
-// A side's part on the second channel, whose ends are put back among the others. Who takes knows
-// when all has come, and stops first: a stream that ended earlier would end its waits.
+// A side's part on the channel. Who takes knows when all has come, and stops first: a stream that
+// ended earlier would end its waits.
 fn use_ends<R: Wait>(rt: &R, session: &Session, ends: Ends, role: Role) -> Ends
     ensures sending { AllZip IsSameOutbox ends.0 result.0 }
     ensures receiving { AllZip IsSameSide ends.1 result.1 }
 {
-    let (s0, mut s1, s2, s3, s4, s5, s6) = apart(ends.0);
-    let (r0, mut r1, r2, r3, r4, r5, r6) = apart(ends.1);
+    let (mut sending, mut receiving) = ends;
     match role {
         Role::Sends => {
-            if !send_all(rt, &mut s1) {
+            if !send_all(rt, &mut sending[CHANNEL.index()]) {
                 session.stop();
             }
         }
         Role::Takes => {
-            take_all(rt, &mut r1);
+            take_all(rt, &mut receiving[CHANNEL.index()]);
             session.stop();
         }
     }
-    ([s0, s1, s2, s3, s4, s5, s6], [r0, r1, r2, r3, r4, r5, r6])
+    (sending, receiving)
 }
 
 // Writes until the session is stopped. The writer goes then, which ends the stream.
@@ -223,7 +224,7 @@ fn new_side(alloc: Global) -> Result<Parts, Error>
 {
     let config = Config {
         version: Version::One,
-        capacities: [CAPACITY; 7],
+        capacities: [CAPACITY; CHANNELS],
         slots: 4,
     };
     match Session::new(alloc, config) {
@@ -258,8 +259,8 @@ fn exchange<R: Threads + Wait + Sync>(
 
 fn main(rt: HostRuntime) -> Result<(), Error> {
     let (alice, bob) = exchange(&rt, &rt, rt.alloc())?;
-    let spent = alice.clients[1].spent;
-    let room = bob.servers[1].room();
+    let spent = alice.clients[CHANNEL.index()].spent;
+    let room = bob.servers[CHANNEL.index()].room();
     println!(rt;
         "Alice sent {spent} bytes, and {} frames never went out",
         alice.left

@@ -1,7 +1,7 @@
 //! A peer to which the bytes of a walk are delivered.
 ghost use Rattle.std.specs.Prelude.{◌<◌};
 
-use lc_frame::{Channel, StreamDecoder, Version};
+use lc_frame::{CHANNELS, Channel, StreamDecoder, Version};
 use lc_peer::{Config, Delivery, Peer, Take};
 use std::alloc::Global;
 use std::io;
@@ -19,7 +19,7 @@ pub struct Receiver {
 impl Receiver {
     /// A receiver with room for so many bytes, to which the greeting of the version has come.
     pub fn new(alloc: Global, version: Version, room: u32) -> io::Result<Receiver> {
-        let mut capacities = [1; 7];
+        let mut capacities = [1; CHANNELS];
         capacities[CHANNEL.index()] = room;
         let config = Config {
             version,

@@ -38,6 +38,10 @@ taken_where (Some refusal) side c = side
 abbrev pub take_after : Option Side → Option Channel → ℕ → Option Side
 take_after held channel room = changed held channel (λ side c. taken_where (take_refusal (inbox side.peer c) room) side c)
 
+-- what a pop leaves behind the handle
+abbrev pub pop_after : Option Side → Option Channel → Option Side
+pop_after held channel = changed held channel (taken_where None)
+
 -- the buffer when a message stands at its front, which is else as it was
 abbrev pub filled_where : Option Refusal → Option (List ℕ) → List ℕ → List ℕ
 filled_where None message buffer = with_front message buffer

@@ -6,8 +6,8 @@
 //!
 //! C keeps an `LcmuxPeer`: a mark that is 0 where the handle is empty, and a `Slot`, whose
 //! pointer is that of a `Box<Side>`. A raw pointer may cross to C and a box may not, so `Slot`
-//! (in `handle.rt`) is a box with its fields in sight; its five functions are the only ones that
-//! are proved by hand, and the contracts of all others see which side, if any, a handle holds.
+//! (in `handle.rt`) is a box with its fields in sight; its five functions, and the one that lends a
+//! message by its address, are the only ones that are proved by hand, and the contracts of all others see which side, if any, a handle holds.
 //! `open` takes it out, and `reach` where there is a channel too.
 //!
 //! A `Side` is a peer, the `Intake` of its stream, and `Pending`, what is left of the greeting or of
@@ -24,6 +24,7 @@ mod answer;
 mod asking;
 mod balances;
 mod handle;
+mod lend;
 mod make;
 mod own;
 mod parts;
@@ -45,6 +46,7 @@ pub use asking::{
 };
 pub use balances::{LcmuxClient, LcmuxServer, NO_LIMIT, lcmux_peer_client, lcmux_peer_server};
 pub use handle::Slot;
+pub use lend::{LcmuxFront, LcmuxPiece, lcmux_peer_front};
 pub use make::{LcmuxConfig, lcmux_peer_free, lcmux_peer_new};
 pub use own::{
     lcmux_peer_absolve, lcmux_peer_finish, lcmux_peer_honour, lcmux_peer_issue,
@@ -53,7 +55,7 @@ pub use own::{
 pub use peer::LcmuxPeer;
 pub use pending::Pending;
 pub use side::Side;
-pub use take::{lcmux_peer_front_len, lcmux_peer_take};
+pub use take::{lcmux_peer_front_len, lcmux_peer_pop, lcmux_peer_take};
 pub use text::{lcmux_text, lcmux_version};
 pub use wire::{
     LcmuxDelivery, lcmux_peer_deliver, lcmux_peer_end, lcmux_peer_pending, lcmux_peer_write,

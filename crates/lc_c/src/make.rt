@@ -12,7 +12,7 @@ use crate::peer::{LcmuxPeer, open};
 use crate::pending::Pending;
 use crate::side::Side;
 use lc_book::Refusal;
-use lc_frame::Version;
+use lc_frame::{CHANNELS, Version};
 use lc_peer::{Config, Intake, Peer, PeerFault};
 use std::alloc::Global;
 
@@ -25,7 +25,7 @@ pub struct LcmuxConfig {
     /// How many frames may wait to go out, 1 to 65,536.
     pub slots: u32,
     /// The bytes of each channel's receiving ring, 1 to 2^24, by the channel's number.
-    pub capacities: [u32; 7],
+    pub capacities: [u32; CHANNELS],
 }
 
 // The version of a number.

@@ -2,7 +2,7 @@
 ghost use Rattle.std.specs.Prelude.{◌≡◌, length};
 ghost use Rattle.lc_frame.specs.Channel.{channel_at};
 ghost use Rattle.lc_c.specs.Reach.{answered};
-ghost use Rattle.lc_c.specs.Takes.{take_shown, take_answer, take_after, filled, front_answer};
+ghost use Rattle.lc_c.specs.Takes.{take_shown, take_answer, take_after, filled, front_answer, pop_after};
 
 use crate::answer::{DONE, EMPTY, ENDED, LcmuxAnswer, only, refused};
 use crate::peer::LcmuxPeer;
@@ -52,7 +52,7 @@ pub extern "C" fn lcmux_peer_take(
 }
 
 // What a take would answer that has room.
-fn front(peer: &Peer, channel: Channel) -> LcmuxAnswer
+pub(crate) fn front(peer: &Peer, channel: Channel) -> LcmuxAnswer
     ensures { result ≡ front_answer peer.now channel }
 {
     match peer.front(channel) {
@@ -83,6 +83,22 @@ pub extern "C" fn lcmux_peer_front_len(
             let answer = front(&side.peer, channel);
             *peer = LcmuxPeer::of(side);
             answer
+        }
+    }
+}
+
+/// The first message of a channel is dropped, and the number is its length. Codes 48 and 49.
+#[unsafe(no_mangle)]
+pub extern "C" fn lcmux_peer_pop(alloc: Global, peer: &mut LcmuxPeer, channel: u32) -> LcmuxAnswer
+    ensures answer { result ≡ answered peer.old.slot.held (channel_at channel) (λ side c. front_answer side.peer c) }
+    ensures after { peer.new.slot.held ≡ pop_after peer.old.slot.held (channel_at channel) }
+{
+    match reach(peer, alloc, channel) {
+        Target::Barred(answer) => answer,
+        Target::At(mut side, channel) => {
+            let take = side.peer.pop(channel);
+            *peer = LcmuxPeer::of(side);
+            shown(take)
         }
     }
 }

@@ -138,7 +138,7 @@ impl Session {
     }
 
     // Notes which frame the event put, and which arrived by it. Answers the channel on which alone it
-    // changed a bar, and `None` where there may be more.
+    // changed a bar, and `None` where there may be more, or where none is known, as of nothing that arrived.
     fn note_event(
         &mut self,
         number: u16,
@@ -206,7 +206,8 @@ impl Session {
         Ok(Some(arrow.channel))
     }
 
-    // Notes each bar that the event changed, which are bars of this channel if there is one.
+    // Notes each bar that the event changed, which are bars of this channel if there is one. With none all
+    // bars are looked at.
     fn note_bars(
         &mut self,
         number: u16,
@@ -268,7 +269,8 @@ pub(crate) fn other(side: Side) -> Side {
 }
 
 // The channel on which alone an event changes a balance: that of its act, and of an arrival that of the
-// frame that arrived. A delivery may bring several.
+// frame that arrived. A delivery may bring several, so it has none; nor has an arrival or a delivery that
+// brings nothing or breaks the rules, since its act has no channel.
 fn lone_channel(act: Option<Channel>, answer: &Answer, landed: Option<Channel>) -> Option<Channel>
     ensures { result ≡ lone_channel act answer.now landed }
 {

@@ -142,14 +142,16 @@ fn put_text_head<W: Write>(out: &mut W, paint: Paint, at: Point) -> io::Result<(
 }
 
 // Writes the words and the classes behind them. Here and below each piece is written where formatting
-// would write it, so that a failed write has the same pieces before it.
+// would write it, so that a failed write has the same pieces before it; of an empty name it writes none.
 #[inline(always)]
 fn put_head<W: Write>(out: &mut W, words: &[u8], paint: Paint) -> io::Result<()>
     ensures { OnOk result (Appends (W.contents out.old) (W.contents out.new)
         (words.now ++ class_text paint.name.now paint.channel)) }
 {
     out.write_all(words)?;
-    out.write_all(paint.name.as_bytes())?;
+    if !paint.name.is_empty() {
+        out.write_all(paint.name.as_bytes())?;
+    }
     match paint.channel {
         Some(channel) => put_number(out, b" c", u64::from(channel.number())),
         None => Ok(()),

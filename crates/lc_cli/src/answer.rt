@@ -2,6 +2,8 @@
 ghost use Rattle.std.specs.Prelude.{◌≡◌, [], ◌∷◌, ◌++◌, OnOk};
 ghost use Rattle.std.specs.Io.KnownBytes.{Appends};
 ghost use Rattle.std.specs.Fmt.{decimal};
+ghost use Rattle.lc_book.specs.Fault.{refusal_number, detail_of};
+ghost use Rattle.lc_cli.specs.Lines.{delivered_line, refused_line};
 
 use crate::output::{write_decimal, write_hex_line};
 use lc_world::{Answer, Detail, Refusal};
@@ -15,13 +17,7 @@ pub fn write_answer<W: Write>(answer: &Answer, out: &mut W) -> io::Result<()> {
         Answer::Absolved(amount) => write_numbered(b"absolved ", u64::from(*amount), out),
         Answer::NothingToAbsolve => out.write_all(b"nothing to absolve\n"),
         Answer::Arrived => out.write_all(b"arrived\n"),
-        Answer::Delivered { bytes, frames } => {
-            out.write_all(b"delivered ")?;
-            write_decimal(*bytes, out)?;
-            out.write_all(b" bytes ")?;
-            write_decimal(*frames, out)?;
-            out.write_all(b" frames\n")
-        }
+        Answer::Delivered { bytes, frames } => { write_delivered(*bytes, *frames, out) }
         Answer::NothingInFlight => out.write_all(b"nothing in flight\n"),
         Answer::Violated(violation) => {
             write_numbered(b"violation V", u64::from(violation.number()), out)
@@ -36,7 +32,20 @@ pub fn write_answer<W: Write>(answer: &Answer, out: &mut W) -> io::Result<()> {
     }
 }
 
-fn write_refusal<W: Write>(refusal: Refusal, out: &mut W) -> io::Result<()> {
+fn write_delivered<W: Write>(bytes: u64, frames: u64, out: &mut W) -> io::Result<()>
+    ensures { OnOk result (Appends (W.contents out.old) (W.contents out.new) (delivered_line bytes frames)) }
+{
+    out.write_all(b"delivered ")?;
+    write_decimal(bytes, out)?;
+    out.write_all(b" bytes ")?;
+    write_decimal(frames, out)?;
+    out.write_all(b" frames\n")
+}
+
+fn write_refusal<W: Write>(refusal: Refusal, out: &mut W) -> io::Result<()>
+    ensures { OnOk result (Appends (W.contents out.old) (W.contents out.new)
+        (refused_line (refusal_number refusal) (detail_of refusal))) }
+{
     let number = u64::from(refusal.number());
     match refusal.detail() {
         Some(Detail { name, value }) => {

@@ -1,7 +1,8 @@
 //! `lcmux frames`: the frames of a stream, one a line.
-ghost use Rattle.std.specs.Prelude.{◌≡◌, ◌<◌, ◌≤◌, ◌+◌, ◌∷◌, ◌++◌, OnOk, IfOk, length};
+ghost use Rattle.std.specs.Prelude.{◌≡◌, ◌<◌, ◌≤◌, ◌+◌, [], ◌∷◌, ◌++◌, OnOk, IfOk, codes, length};
 ghost use Rattle.std.specs.Io.KnownBytes.{Appends};
 ghost use Rattle.std.specs.Fmt.{decimal};
+ghost use Rattle.hex.specs.Hex.{encode_lower};
 ghost use Rattle.lc_frame.specs.Channel.{number_of};
 ghost use Rattle.lc_frame.specs.Held.{IsUndecided};
 
@@ -46,21 +47,39 @@ fn print_frames<R: Read, W: Write>(alloc: Global, input: &mut R, out: &mut W) ->
 fn write_frame<W: Write>(frame: &FrameRef<'_>, out: &mut W) -> io::Result<()> {
     let channel = frame.channel();
     let (word, value) = match frame {
-        FrameRef::Send { body, .. } => {
-            write_head(SEND, channel, out)?;
-            out.write_all(b" ")?;
-            return write_hex_line(body, out);
-        }
+        FrameRef::Send { body, .. } => return write_sent(channel, body, out),
         FrameRef::Issue { amount, .. } => (ISSUE, u64::from(*amount)),
         FrameRef::Absolve { amount, .. } => (ABSOLVE, u64::from(*amount)),
         FrameRef::Plead { target, .. } => (PLEAD, u64::from(*target)),
         FrameRef::LimitSending { bound, .. } => (LIMIT_SENDING, *bound),
         FrameRef::LimitReceiving { bound, .. } => (LIMIT_RECEIVING, *bound),
-        FrameRef::Finish { .. } => {
-            write_head(FINISH, channel, out)?;
-            return out.write_all(b"\n");
-        }
+        FrameRef::Finish { .. } => return write_finished(channel, out),
     };
+    write_valued(word, channel, value, out)
+}
+
+fn write_sent<W: Write>(channel: Channel, body: &[u8], out: &mut W) -> io::Result<()>
+    ensures { OnOk result (Appends (W.contents out.old) (W.contents out.new)
+        (codes "send " ++ (decimal (number_of channel) ++ (32 ∷ (encode_lower body.now ++ (10 ∷ [])))))) }
+{
+    write_head(SEND, channel, out)?;
+    out.write_all(b" ")?;
+    write_hex_line(body, out)
+}
+
+fn write_finished<W: Write>(channel: Channel, out: &mut W) -> io::Result<()>
+    ensures { OnOk result (Appends (W.contents out.old) (W.contents out.new)
+        (codes "finish " ++ (decimal (number_of channel) ++ (10 ∷ [])))) }
+{
+    write_head(FINISH, channel, out)?;
+    out.write_all(b"\n")
+}
+
+// Writes the line of a frame with a number.
+fn write_valued<W: Write>(word: &[u8], channel: Channel, value: u64, out: &mut W) -> io::Result<()>
+    ensures { OnOk result (Appends (W.contents out.old) (W.contents out.new)
+        (word.now ++ (32 ∷ (decimal (number_of channel) ++ (32 ∷ (decimal value ++ (10 ∷ []))))))) }
+{
     write_head(word, channel, out)?;
     out.write_all(b" ")?;
     write_decimal(value, out)?;

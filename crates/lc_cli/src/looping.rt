@@ -5,6 +5,7 @@ ghost use Rattle.lc_cli.specs.Fault.{code_of};
 
 use crate::fault::{Fault, Status};
 use crate::output::buffered;
+use lc_frame::CHANNELS;
 use lc_loopback_report::{LoopFault, LoopReport};
 use std::alloc::Global;
 use std::io;
@@ -50,11 +51,11 @@ fn write_report<W: Write>(report: &LoopReport, out: &mut W) -> io::Result<()> {
 // The lines of a side as client: what the other side took.
 fn write_side<W: Write>(
     side: char,
-    messages: &[u64; 7],
-    bytes: &[u64; 7],
+    messages: &[u64; CHANNELS],
+    bytes: &[u64; CHANNELS],
     out: &mut W,
 ) -> io::Result<()> {
-    for channel in 0..7 {
+    for channel in 0..CHANNELS {
         let (messages, bytes) = (messages[channel], bytes[channel]);
         writeln!(out, "{side} {channel} messages {messages} bytes {bytes}")?;
     }

@@ -1,5 +1,5 @@
 //! Writing bytes as text.
-ghost use Rattle.std.specs.Prelude.{◌≡◌, ◌<◌, ◌≤◌, ◌*◌, IfErr, OnOk, length, drop, slice_index};
+ghost use Rattle.std.specs.Prelude.{◌≡◌, ◌<◌, ◌≤◌, ◌*◌, [], ◌∷◌, ◌++◌, IfErr, OnOk, length, drop, slice_index};
 ghost use Rattle.std.specs.Io.KnownBytes.{Appends};
 ghost use Rattle.std.specs.Fmt.{decimal};
 ghost use Rattle.hex.specs.Hex.{encode_lower, lower_digits};
@@ -63,7 +63,10 @@ fn write_hex<W: Write>(bytes: &[u8], out: &mut W) -> io::Result<()>
 }
 
 /// Writes the bytes in lower case hexadecimal, and a line feed. Takes no memory.
-pub fn write_hex_line<W: Write>(bytes: &[u8], out: &mut W) -> io::Result<()> {
+pub fn write_hex_line<W: Write>(bytes: &[u8], out: &mut W) -> io::Result<()>
+    ensures { OnOk result (Appends (W.contents out.old) (W.contents out.new)
+        (encode_lower bytes.now ++ (10 ∷ []))) }
+{
     write_hex(bytes, out)?;
     out.write_all(b"\n")
 }

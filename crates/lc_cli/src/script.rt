@@ -1,5 +1,5 @@
 //! Scripts: one event a line.
-ghost use Rattle.std.specs.Prelude.{◌≡◌, ◌<◌, ◌+◌, Err, IfOk, IfSome, MatchOption, length, take, drop};
+ghost use Rattle.std.specs.Prelude.{◌≡◌, ◌<◌, ◌≤◌, ◌+◌, Err, IfOk, IfSome, MatchOption, length, take, drop};
 ghost use Rattle.std.specs.Option.{option_map};
 
 use crate::decoding::{decode, digit_count};
@@ -50,7 +50,24 @@ pub fn parse_script(alloc: Global, script: &[u8]) -> Result<Vec<Event>, Fault>
 fn end_of_line(bytes: &[u8]) -> Option<usize>
     ensures { IfSome result (λ k. k < length bytes.now) }
 {
-    bytes.iter().position(|byte| *byte == b'\n')
+    'bytes: for place in 0..bytes.len() {
+        if bytes[place] == b'\n' {
+            return Some(place);
+        }
+    }
+    None
+}
+
+// Where a field ends whose bytes up to a place are known, unless the script does.
+fn end_of_field(bytes: &[u8], known: usize) -> Option<usize>
+    ensures { IfSome result (λ k. (known ≤ k) × (k < length bytes.now)) }
+{
+    'bytes: for place in known..bytes.len() {
+        if bytes[place] == b' ' || bytes[place] == b'\n' {
+            return Some(place);
+        }
+    }
+    None
 }
 
 // What stands before a place, and what stands behind it. With no place all stands before it.
@@ -70,6 +87,12 @@ fn cut(bytes: &[u8], place: Option<usize>) -> (&[u8], Option<&[u8]>)
 fn body_of(alloc: Global, digits: &[u8]) -> Result<Body, LineFault> {
     let bytes = decode(alloc, digits).map_err(|_| LineFault::OutOfMemory)?;
     bytes.map(Body::from_vec).ok_or(LineFault::Bad)
+}
+
+// A part of a line that is no text makes the line a bad one.
+fn check_text(part: &[u8]) -> Result<(), LineFault> {
+    str::from_utf8(part).map_err(|_| LineFault::Bad)?;
+    Ok(())
 }
 
 // What stands behind a place, of which with no place there is nothing.
@@ -222,7 +245,7 @@ impl<'a> Fields<'a> {
         let rest = self.ahead()?;
         let count = digit_count(rest);
         if count < rest.len() && rest[count] != b'\n' {
-            return self.other_body(alloc);
+            return self.other_body(alloc, count);
         }
         match self.field_to((count < rest.len()).then_some(count)) {
             [] => Err(LineFault::Bad),
@@ -230,11 +253,20 @@ impl<'a> Fields<'a> {
         }
     }
 
-    // A body that is `-`, or a bad one. No memory is asked for where the line is no text.
-    fn other_body(&mut self, alloc: Global) -> Result<Body, LineFault> {
-        let (line, _) = cut(self.rest, end_of_line(self.rest));
-        str::from_utf8(line).map_err(|_| LineFault::Bad)?;
-        match self.field()? {
+    // A body that is `-`, or a bad one, behind so many digits, which are text and are not looked at again.
+    // No memory is asked for where the line is no text.
+    fn other_body(&mut self, alloc: Global, digits: usize) -> Result<Body, LineFault>
+        requires { digits ≤ length self.old.rest.now }
+    {
+        let end = end_of_field(self.rest, digits);
+        let (field, _) = cut(self.rest, end);
+        check_text(&field[digits..])?;
+        self.field_to(end);
+        if self.has_more {
+            let (others, _) = cut(self.rest, end_of_line(self.rest));
+            check_text(others)?;
+        }
+        match field {
             [b'-'] => body_of(alloc, &[]),
             [] => Err(LineFault::Bad),
             digits => body_of(alloc, digits),

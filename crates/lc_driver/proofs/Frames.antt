@@ -1,5 +1,5 @@
 -- The bytes of frames that wait: how many there are, and those of the first.
-use Rattle.std.proofs.Common.{◌≡◌, ℕ, zero, suc, ◌+◌, ◌*◌, ◌<◌, ◌≤◌, List, [], ◌∷◌, ◌++◌, length, take, drop, None, Some, refl, sym, ap, ◌∙◌, arith, length-append}
+use Rattle.std.proofs.Common.{◌≡◌, ℕ, zero, suc, ◌+◌, ◌*◌, ◌<◌, ◌≤◌, List, [], ◌∷◌, ◌++◌, length, take, drop, Some, refl, sym, ap, ◌∙◌, arith, length-append}
 use Rattle.std.specs.List.{flat_map, slice_get, AllByRecursion}
 use Rattle.std.proofs.lemmas.List.{length-drop, take-append-drop, take_at, drop_at, drop-drop, flat_map_more, take_more, take_all, nil_from_length}
 use Rattle.std.proofs.lemmas.Option.{slice_get_within, get_or_from_slice_get}
@@ -33,10 +33,6 @@ longest version (Finish c) v = omega (arith, least_room version)
 -- one frame more is joined
 take_one_more : (ws : List Frame) (i : ℕ) (f : Frame) → Some f ≡ slice_get ws i → take (i + 1) ws ≡ take i ws ++ f ∷ []
 take_one_more ws i f e = take_more ws i f (slice_get_within ws i f (sym e)) ∙ ap (λ (x : Frame). take i ws ++ x ∷ []) (get_or_from_slice_get ws i f f (sym e))
-
-pub none_first : (ws : List Frame) → None ≡ slice_get ws 0 → length ws ≡ 0
-none_first [] e = refl
-none_first (w ∷ ws) e = cc
 
 pub first_of : (ws : List Frame) (f : Frame) → Some f ≡ slice_get ws 0 → ws ≡ f ∷ drop 1 ws
 first_of [] f e = cc

@@ -2,5 +2,4 @@ pub mod Counting
 pub mod Tries
 pub mod Frames
 pub mod Written
-pub mod Lent
 pub mod Arrived

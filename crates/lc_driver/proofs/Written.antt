@@ -2,9 +2,9 @@
 use Rattle.std.proofs.Common.{◌≡◌, ℕ, ◌+◌, ◌-◌, ◌<◌, ◌≤◌, List, [], ◌∷◌, ◌++◌, length, take, drop, Option, Some, None, refl, sym, ap, subst, ◌∙◌, append_assoc, arith, inl, inr, length-append}
 use Rattle.std.specs.List.{flat_map}
 use Rattle.std.proofs.lemmas.Bool.{cases_lt}
-use Rattle.std.proofs.lemmas.List.{append-nil, length-take, drop-drop, take_all}
+use Rattle.std.proofs.lemmas.List.{append-nil, length-take, drop-drop}
 use Rattle.std.proofs.lemmas.List.Concat.{flat_map-cons}
-use Rattle.std.proofs.Math.Seq.{take-add, take-append-add}
+use Rattle.std.proofs.Math.Seq.{take-add}
 use Rattle.std.specs.Io.KnownBytes.{Appends}
 use Rattle.lc_frame.specs.declared.version.Version.{Version}
 use Rattle.lc_frame.specs.declared.frame.Frame.{Frame}
@@ -26,21 +26,15 @@ pub writes_on : (a b c : Option (List ℕ)) (bytes given : List ℕ) (done taken
 writes_on a b c bytes given done taken is p q =
     subst (λ (xs : List ℕ). Appends a c xs) (sym (take-add done taken bytes)) (appends_then a b c (take done bytes) (take taken (drop done bytes)) p (subst (λ (xs : List ℕ). Appends b c (take taken xs)) is q))
 
--- some bytes were written whole, and then so many of others
-pub both_written : (a b c : Option (List ℕ)) (first more : List ℕ) (n k total : ℕ) → n ≡ length first → total ≡ n + k → Appends a b (take n first) → Appends b c (take k more) → Appends a c (take total (first ++ more))
-both_written a b c first more n k total e sum p q =
-    subst (λ (xs : List ℕ). Appends a c xs) (sym (ap (λ (i : ℕ). take i (first ++ more)) (sum ∙ ap (λ (i : ℕ). i + k) e) ∙ take-append-add first more k))
-    (appends_then a b c first (take k more) (subst (λ (xs : List ℕ). Appends a b xs) (take_all n first (omega (arith, e))) p) q)
-
 appends_nothing : (a : Option (List ℕ)) → Appends a a []
 appends_nothing None = tt
 appends_nothing (Some a) = sym (append-nil a)
 
 -- frames left, and then others
-pub gone_then : (n m : ℕ) (p q r : PeerState) → q ≡ without n p → r ≡ without m q → r ≡ without (n + m) p
+gone_then : (n m : ℕ) (p q r : PeerState) → q ≡ without n p → r ≡ without m q → r ≡ without (n + m) p
 gone_then n m p q r e f = f ∙ ap (λ (s : PeerState). without m s) e ∙ ap (λ (ws : List Frame). record p { waiting = ws }) (drop-drop m n p.waiting)
 
-pub waiting_after : (n : ℕ) (p q : PeerState) → q ≡ without n p → q.waiting ≡ drop n p.waiting
+waiting_after : (n : ℕ) (p q : PeerState) → q ≡ without n p → q.waiting ≡ drop n p.waiting
 waiting_after n p q e = ap (λ (s : PeerState). s.waiting) e
 
 pub written_after : (fault : WriteFault) (before : ℕ) → fault_written (fault_after fault before) ≡ before + fault_written fault

@@ -1,17 +1,11 @@
 -- What writing does: which bytes the writer takes, and which frames leave the peer. One relation says it for all outcomes, so that two calls one after the other compose: whatever the cuts and the faults, the text goes out once, in order. These rules are this project's own.
-use Rattle.std.specs.Prelude.{◌≡◌, ℕ, ◌+◌, ◌<◌, ◌≤◌, List, ◌++◌, length, take, drop, Option, Some, Result, Ok, Err, IsSome}
-use Rattle.std.specs.List.{flat_map, slice_get}
+use Rattle.std.specs.Prelude.{◌≡◌, ℕ, ◌+◌, ◌<◌, ◌≤◌, List, ◌++◌, length, take, drop, Option, Result, Ok, Err, IsSome}
+use Rattle.std.specs.List.{flat_map}
 use Rattle.std.specs.Io.KnownBytes.{Appends}
 use Rattle.lc_frame.specs.declared.version.Version.{Version}
-use Rattle.lc_frame.specs.declared.channel.Channel.{Channel}
 use Rattle.lc_frame.specs.declared.frame.Frame.{Frame}
-use Rattle.lc_frame.specs.declared.frame.Frame.TheVariants.{Send}
-use Rattle.lc_frame.specs.declared.version.Version.TheVariants.{One}
-use Rattle.lc_frame.specs.Kind.{max_body}
 use Rattle.lc_frame.specs.Encoding.{encoding}
-use Rattle.lc_frame.specs.StreamEncoder.{begun}
 use Rattle.lc_peer.specs.Peer.{PeerState}
-use Rattle.lc_driver.specs.declared.writing.Lent.{Lent}
 use Rattle.lc_driver.specs.declared.writing.WriteFault.{WriteFault}
 use Rattle.lc_driver.specs.declared.writing.WriteFault.TheVariants.{Failed, Zero}
 use Rattle.lc_driver.specs.declared.counts.Counts.{Counts}
@@ -63,28 +57,6 @@ pub record IsAhead (version : Version) (begun : ℕ) (bytes : List ℕ) (waiting
   pub within : begun ≤ length bytes
   pub joined : ℕ
   pub is : drop begun bytes ≡ flat_map (encoding version) (take joined waiting)
-
--- the longest message that is copied on its way out, which is the longest of version One
-abbrev pub max_copied : ℕ
-max_copied = max_body One
-
--- so much is copied of one that is longer
-abbrev pub lent_from : ℕ
-lent_from = 4096
-
--- after the first so many bytes stand those of all frames before a place, which are whole, and behind them the message at that place is begun
-pub record IsLent (version : Version) (before : ℕ) (bytes : List ℕ) (waiting : List Frame) (lent : Lent) : Type 0 where
-  pub within : before ≤ length bytes
-  pub channel : Channel
-  pub body : List ℕ
-  pub message : Some (Send channel body) ≡ slice_get waiting lent.place
-  pub long : max_copied < length body
-  pub is : drop before bytes ≡ flat_map (encoding version) (take lent.place waiting) ++ begun version channel body lent_from
-  pub whole : lent.whole ≡ before + length (flat_map (encoding version) (take lent.place waiting))
-
--- whatever writer took the first so many of these bytes: the rest of the text is what is pending and what waits now
-abbrev pub WroteBy : Version → List ℕ → List ℕ → PeerState → List ℕ → PeerState → ℕ → Type 0
-WroteBy version bytes old_pending old new_pending new taken = (before after : Option (List ℕ)) → Appends before after (take taken bytes) → Writes version before after old_pending old new_pending new taken
 
 -- the writer took some of these bytes: the frames whose first byte is among them left the peer, the last of which ends where it is said
 pub record LetsGo (version : Version) (bytes : List ℕ) (begun taken end : ℕ) (old new : PeerState) : Type 0 where

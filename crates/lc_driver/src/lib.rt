@@ -4,11 +4,9 @@
 //!
 //! `Outgo` has one buffer of the longest frame's length, and the version of its stream. At first
 //! it holds the greeting. In a call of `write_out` it holds what is left of that or of the frame
-//! that was begun, and after it copies of the first frames that wait; those leave the peer whose
-//! first byte a write took, and a fault cuts the copies off again. A message that is longer than any
-//! of version One is only begun there, and is the last: the rest of it is lent to the writer from
-//! where it lies in the peer, and what a fault leaves of it is copied then (`note_lent` in
-//! `writing.rt`). Between calls `Outgo` holds the rest of the greeting or of one frame at most.
+//! that was begun, and after it copies of the first frames that wait; `note_taken` (in
+//! `writing.rt`) lets those leave the peer whose first byte a write took, and a fault cuts the
+//! copies off again. Between calls it holds the rest of the greeting or of one frame at most.
 //! `Intake` is a `StreamDecoder` and why the stream was given up, if it was. `read_in` reads into
 //! 512 bytes of its own and hands them to `deliver_to`; inside a frame that lacks more it reads to
 //! where the decoder holds that.

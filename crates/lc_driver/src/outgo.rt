@@ -4,12 +4,9 @@ ghost use Rattle.lc_frame.specs.Kind.{max_frame};
 ghost use Rattle.lc_frame.specs.Frame.{IsValid};
 ghost use Rattle.lc_frame.specs.FrameRef.{frame_of};
 ghost use Rattle.lc_frame.specs.Encoding.{encoding};
-ghost use Rattle.lc_frame.specs.declared.frame.Frame.TheVariants.{Send};
-ghost use Rattle.lc_frame.specs.StreamEncoder.{begun};
 ghost use Rattle.lc_driver.specs.Outgo.{new_outgo};
-ghost use Rattle.lc_driver.specs.Writing.{lent_from};
 
-use lc_frame::{Channel, FrameRef, StreamEncoder, Version};
+use lc_frame::{FrameRef, StreamEncoder, Version};
 use std::alloc::{AllocError, Global};
 use std::marker::Model;
 
@@ -80,19 +77,6 @@ impl Outgo {
         ensures version { self.new.version ≡ self.old.version }
     {
         self.encoder.truncate(count);
-    }
-
-    /// Puts the header of a message last and the first so many bytes of its body, where there is room for
-    /// them. There is where nothing is pending.
-    pub(crate) fn begin(&mut self, channel: Channel, body: &[u8], count: usize) -> bool
-        requires valid { IsValid self.old.version (Send channel body.now) }
-        requires within { count ≤ length body.now }
-        requires few { count ≤ lent_from }
-        ensures after { self.new.pending ≡ (if result then self.old.pending ++ begun self.old.version channel body.now count else self.old.pending) }
-        ensures version { self.new.version ≡ self.old.version }
-        ensures room { self.old.pending ≡ [] → IsTrue result }
-    {
-        self.encoder.begin(self.version, channel, body, count)
     }
 
     /// Puts the bytes of a frame last, where there is room for all of them. There is where nothing is pending.

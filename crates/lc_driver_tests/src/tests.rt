@@ -1,9 +1,13 @@
 //! One side of a session over devices that follow a plan.
+mod before;
+mod buffered;
 mod counted;
 mod failing;
 mod hostile;
 mod interrupted;
 mod long_messages;
+mod lying;
+mod rounds;
 mod same_reading;
 mod script;
 mod side;

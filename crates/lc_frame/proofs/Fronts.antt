@@ -2,7 +2,7 @@
 use Rattle.std.proofs.Common.{◌≡◌, ℕ, zero, suc, ◌+◌, ◌^◌, ◌/◌, ◌%◌, ◌<◌, ◌≤◌, Bool, true, false, cond, ltb, List, [], ◌∷◌, ◌++◌, length, take, drop, Option, Some, None, refl, sym, ap, ap₂, subst, ◌∙◌, append_assoc, arith, inl, inr, All}
 use Rattle.std.proofs.lemmas.Bool.{cases_lt, ltb-false, ltb-true, le-ltb, lt-ltb, false_from_ne_true, true≢false}
 use Rattle.std.proofs.lemmas.Bool.Decides.{nat_tests}
-use Rattle.std.proofs.lemmas.List.{take_at, drop_at, take-append-drop, length-append, length-take, length-take-le, append-nil, nil_from_length, get_or_past}
+use Rattle.std.proofs.lemmas.List.{take_at, drop_at, take-append-drop, take-append-le, length-append, length-take, length-take-le, append-nil, nil_from_length, get_or_past}
 use Rattle.std.proofs.Math.Seq.{take-append-add}
 use Rattle.lc_frame.specs.declared.version.Version.{Version}
 use Rattle.lc_frame.specs.declared.version.Version.TheVariants.{One, Two}
@@ -132,6 +132,21 @@ stands_whole v f bytes s =
     let count : header_len v k + body_len k n ≡ length (encoding v f) = omega (arith, length-encoding v f, body_len_of f) in
     ap (scan_of v) parted ∙ ranged v k c n (body_of f ++ s.rest) s.valid.0 s.valid.1 ∙ long_body v k c n (body_of f ++ s.rest) (omega (arith, body_len_of f, length-append (body_of f) s.rest)) ∙ ap (λ (m : ℕ). Whole (head_of f) m) count
 
+-- bytes that have the header of a frame and not all of the frame need as many as it has
+pub headed_again : (v : Version) (f : Frame) (bytes missing : List ℕ) → IsValid v f → encoding v f ≡ bytes ++ missing → header_len v (kind_of f) ≤ length bytes → 0 < length missing
+    → scan_of v bytes ≡ Needs (length bytes + length missing)
+headed_again v f bytes missing valid is headed some =
+    let k = kind_of f in
+    let c = channel_of f in
+    let n = field_of f in
+    let w = header_len v k in
+    let rest = drop w bytes in
+    let front : take w bytes ≡ header v k c n = sym (take-append-le w bytes missing headed) ∙ ap (λ (x : List ℕ). take w x) (sym is) ∙ take_at (header v k c n) (body_of f) w (length-header v k c n) in
+    let parted : bytes ≡ header v k c n ++ rest = sym (take-append-drop w bytes) ∙ ap (λ (x : List ℕ). x ++ rest) front in
+    let count : w + body_len k n ≡ length bytes + length missing = omega (arith, length-encoding v f, body_len_of f, ap length is, length-append bytes missing) in
+    let few : length rest < body_len k n = omega (arith, count, some, ap length parted, length-append (header v k c n) rest, length-header v k c n) in
+    ap (scan_of v) parted ∙ ranged v k c n rest valid.0 valid.1 ∙ short_body v k c n rest few ∙ ap Needs count
+
 -- a frame is what its head and its bytes say
 with_again : (f : Frame) → frame_with (kind_of f) (channel_of f) (field_of f) (body_of f) ≡ f
 with_again (Send c body) = refl
@@ -168,7 +183,7 @@ no_tag_again v bytes s = ap (scan_of v) s.is ∙ bad_tag v s.first s.rest _ _ re
 number_again : (v : Version) (e : FrameFault) (bytes : List ℕ) → NumberStands v e bytes → scan_of v bytes ≡ Fault e
 number_again v e bytes s = ap (scan_of v) s.is ∙ scan_header v s.kind s.channel s.number s.rest s.known s.fits ∙ rw (out_test v s.kind s.number s.out) (ap Fault s.names)
 
-stands_fault : (v : Version) (e : FrameFault) (bytes : List ℕ) → FaultStands v e bytes → scan_of v bytes ≡ Fault e
+pub stands_fault : (v : Version) (e : FrameFault) (bytes : List ℕ) → FaultStands v e bytes → scan_of v bytes ≡ Fault e
 stands_fault v BadTag bytes s = no_tag_again v bytes s
 stands_fault v ZeroLength bytes s = number_again v ZeroLength bytes s
 stands_fault v BadNumber bytes s = number_again v BadNumber bytes s
@@ -216,6 +231,7 @@ needs_more v bytes n short small more = record {
   short = short;
   small = small;
   more = λ ys lt. needs_open v (bytes ++ ys) n (more ys lt);
+  again = more;
   now_open = subst (IsOpen v) (append-nil bytes) (needs_open v (bytes ++ []) n (more [] (omega (arith, length-append bytes []))));
 }
 

@@ -12,7 +12,7 @@ use Rattle.lc_frame.specs.declared.progress.Progress.TheVariants.{Wants, Whole}
 use Rattle.lc_frame.specs.Frame.{IsValid}
 use Rattle.lc_frame.specs.Encoding.{encoding, FrameStands, FaultStands}
 use Rattle.lc_frame.specs.Decoded.{IsOpen, IsKnown, OnlyFrame, OnlyFault}
-use Rattle.lc_frame.specs.Scan.{frame_in, FindsFrame, NeedsMore}
+use Rattle.lc_frame.specs.Scan.{frame_in, scan_of, FindsFrame, NeedsMore}
 use Rattle.lc_frame.specs.Progress.{HoldsFrame, Holds, Takes, Advances}
 use Rattle.lc_frame.proofs.Fronts.{only_frame, frame_goes_on, fault_goes_on}
 
@@ -66,6 +66,9 @@ module _ (v : Version) (old piece : List ℕ) (need : ℕ) (wanted : NeedsMore v
     more = λ ys lt.
         let parted : new ++ ys ≡ old ++ (take count piece ++ ys) = ap (λ (x : List ℕ). x ++ ys) e ∙ append_assoc old (take count piece) ys in
         subst (IsOpen v) (sym parted) (wanted.more (take count piece ++ ys) (omega (arith, ap length parted)));
+    again = λ ys lt.
+        let parted : new ++ ys ≡ old ++ (take count piece ++ ys) = ap (λ (x : List ℕ). x ++ ys) e ∙ append_assoc old (take count piece) ys in
+        ap (scan_of v) parted ∙ wanted.again (take count piece ++ ys) (omega (arith, ap length parted));
     now_open = subst (IsOpen v) (sym e) (wanted.more (take count piece) (omega (arith, ap length e)));
   }
 

@@ -1,12 +1,28 @@
 -- What comes of it where memory of a decoder is filled: the bytes that were given are held behind those that were. These rules are this project's own.
 use Rattle.std.specs.Prelude.{◌≡◌, ℕ, ◌<◌, ◌≤◌, List, ◌++◌, length, take, All, Option, Some, None}
+use Rattle.lc_frame.specs.declared.version.Version.{Version}
+use Rattle.lc_frame.specs.declared.frame.Frame.{Frame}
 use Rattle.lc_frame.specs.declared.fill.Filled.{Filled}
 use Rattle.lc_frame.specs.declared.fill.Filled.TheVariants.{Few, Failed, Took}
+use Rattle.lc_frame.specs.Kind.{header_len}
+use Rattle.lc_frame.specs.Frame.{kind_of, IsValid}
+use Rattle.lc_frame.specs.Encoding.{encoding}
 use Rattle.lc_frame.specs.Held.{Held, fed, IsUndecided}
 
 -- how many bytes of a body are asked for at once
 abbrev pub fill_len : ℕ
 fill_len = 512
+
+-- the bytes are the front of a frame, with its tag and its number, and more than so many of its bytes are missing
+pub record LacksMore (h : Held) : Type 0 where
+  pub version : Version
+  pub known : h.version ≡ Some version
+  pub frame : Frame
+  pub valid : IsValid version frame
+  pub missing : List ℕ
+  pub is : encoding version frame ≡ h.bytes ++ missing
+  pub headed : header_len version (kind_of frame) ≤ length h.bytes
+  pub more : fill_len < length missing
 
 -- bytes that are held, after so many were put behind them, or none where that failed
 abbrev pub Grows : Option ℕ → List ℕ → List ℕ → List ℕ → Type 0

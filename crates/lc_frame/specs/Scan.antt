@@ -71,11 +71,12 @@ pub record FindsFrame (v : Version) (head : Head) (used : ℕ) (bytes : List ℕ
   pub small : used ≤ max_frame v
   pub begins : header_len v head.kind ≤ used
 
--- nothing stands at the front, nor does before there are so many bytes
+-- nothing stands at the front, nor does before there are so many bytes, and until then a scan finds the same
 pub record NeedsMore (v : Version) (bytes : List ℕ) (need : ℕ) : Type 0 where
   pub short : length bytes < need
   pub small : need ≤ max_frame v
   pub more : (ys : List ℕ) → length (bytes ++ ys) < need → IsOpen v (bytes ++ ys)
+  pub again : (ys : List ℕ) → length (bytes ++ ys) < need → scan_of v (bytes ++ ys) ≡ Needs need
   pub now_open : IsOpen v bytes
 
 -- what a scan found of the bytes

@@ -1,12 +1,9 @@
 -- What is on its way out. That a stream of version Two begins with a greeting, and all else here, is this project's own.
-use Rattle.std.specs.Prelude.{◌≡◌, ℕ, ◌+◌, ◌-◌, ◌≤◌, Bool, true, false, List, ◌++◌, length, take, drop}
+use Rattle.std.specs.Prelude.{◌≡◌, ℕ, ◌-◌, ◌≤◌, Bool, true, false, List, ◌++◌, length, take, drop}
 use Rattle.lc_frame.specs.declared.version.Version.{Version}
-use Rattle.lc_frame.specs.declared.channel.Channel.{Channel}
-use Rattle.lc_frame.specs.declared.kind.Kind.TheVariants.{Send}
 use Rattle.lc_frame.specs.declared.frame.Frame.{Frame}
 use Rattle.lc_frame.specs.Version.{greeting}
-use Rattle.lc_frame.specs.Kind.{header_len}
-use Rattle.lc_frame.specs.Encoding.{header, encoding}
+use Rattle.lc_frame.specs.Encoding.{encoding}
 
 -- how many bytes it has room for, those that are to go out, and how many more have room behind them
 pub record EncoderState : Type 0 where
@@ -39,12 +36,3 @@ pub record IsCutTo (count : ℕ) (old new : EncoderState) : Type 0 where
 abbrev pub IsAppended : Version → Frame → Bool → EncoderState → EncoderState → Type 0
 IsAppended version frame true old new = new ≡ record old { pending = old.pending ++ encoding version frame; room = old.room - length (encoding version frame) }
 IsAppended version frame false old new = new ≡ old
-
--- a message that is begun: its header, and the first so many bytes of it
-abbrev pub begun : Version → Channel → List ℕ → ℕ → List ℕ
-begun version channel body count = header version Send channel (length body) ++ take count body
-
--- a message was begun behind the others where that had room, else nothing changed
-abbrev pub IsBegun : Version → Channel → List ℕ → ℕ → Bool → EncoderState → EncoderState → Type 0
-IsBegun version channel body count true old new = new ≡ record old { pending = old.pending ++ begun version channel body count; room = old.room - (header_len version Send + count) }
-IsBegun version channel body count false old new = new ≡ old

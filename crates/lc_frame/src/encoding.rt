@@ -5,9 +5,7 @@ ghost use Rattle.lc_frame.specs.declared.kind.Kind.TheVariants.{Send};
 ghost use Rattle.lc_frame.specs.Kind.{max_body, length_width, header_len, max_frame};
 ghost use Rattle.lc_frame.specs.Frame.{IsValid};
 ghost use Rattle.lc_frame.specs.FrameRef.{frame_of};
-ghost use Rattle.lc_frame.specs.declared.frame.Frame.TheVariants as frames;
 ghost use Rattle.lc_frame.specs.Encoding.{tag_of, encoding};
-ghost use Rattle.lc_frame.specs.StreamEncoder.{begun};
 
 use crate::buffer_too_small::BufferTooSmall;
 use crate::channel::Channel;
@@ -85,47 +83,24 @@ fn append_header(version: Version, tag: u8, len: usize, out: &mut Vec<u8>) -> Re
     }
 }
 
-// Appends the header of a message of this length, and bytes of it. A function of its own, so that what
-// appends the short frames is small enough to stand where it is called.
+// Appends the bytes of a message. A function of its own, so that what appends the short frames is
+// small enough to stand where it is called.
 #[inline(never)]
 fn append_message(
     version: Version,
     tag: u8,
-    len: usize,
-    bytes: &[u8],
-    out: &mut Vec<u8>,
-) -> Result<(), AllocError>
-    requires small { len ≤ max_body version }
-    requires within { length bytes.now ≤ len }
-    ensures ok { OnOk result (out.new.items ≡ out.old.items ++ (tag ∷ to_be_bytes (length_width version) len) ++ bytes.now) }
-    ensures err { OnErr result (out.new.items ≡ out.old.items) }
-    ensures room { vec_len out.old + (header_len version Send + length bytes.now) ≤ vec_capacity out.old → IsOk result }
-    ensures capacity { vec_capacity out.old ≤ vec_capacity out.new }
-{
-    out.reserve(Kind::Send.header_len(version) + bytes.len())?;
-    append_header(version, tag, len, out)?;
-    out.extend_from_slice(bytes)
-}
-
-/// Appends the header of a message, and the first so many bytes of it. On an error, which is want of memory,
-/// the vector holds what it held.
-#[inline]
-pub(crate) fn append_begun(
-    version: Version,
-    channel: Channel,
     body: &[u8],
-    count: usize,
     out: &mut Vec<u8>,
 ) -> Result<(), AllocError>
-    requires valid { IsValid version (frames.Send channel body.now) }
-    requires within { count ≤ length body.now }
-    ensures ok { OnOk result (out.new.items ≡ out.old.items ++ begun version channel body.now count) }
+    requires { length body.now ≤ max_body version }
+    ensures ok { OnOk result (out.new.items ≡ out.old.items ++ (tag ∷ to_be_bytes (length_width version) (length body.now)) ++ body.now) }
     ensures err { OnErr result (out.new.items ≡ out.old.items) }
-    ensures room { vec_len out.old + (header_len version Send + count) ≤ vec_capacity out.old → IsOk result }
+    ensures room { vec_len out.old + (header_len version Send + length body.now) ≤ vec_capacity out.old → IsOk result }
     ensures capacity { vec_capacity out.old ≤ vec_capacity out.new }
 {
-    let shown = body.split_at(count).0;
-    append_message(version, tag(Kind::Send, channel), body.len(), shown, out)
+    out.reserve(Kind::Send.header_len(version) + body.len())?;
+    append_header(version, tag, body.len(), out)?;
+    out.extend_from_slice(body)
 }
 
 // Writes the header of a message of this length at the front of a slice that is as long.
@@ -178,7 +153,7 @@ impl FrameRef<'_> {
         let channel = self.channel();
         let tag = tag(self.kind(), channel);
         match *self {
-            FrameRef::Send { body, .. } => append_message(version, tag, body.len(), body, out),
+            FrameRef::Send { body, .. } => append_message(version, tag, body, out),
             FrameRef::Issue { amount, .. } | FrameRef::Absolve { amount, .. } => {
                 out.extend_from_slice(&word(tag, amount))
             }

@@ -1,5 +1,5 @@
 //! The bytes that a stream decoder holds, in memory that was taken beforehand.
-ghost use Rattle.std.specs.Prelude.{◌≡◌, ◌+◌, ◌≤◌, ◌==◌, [], ◌++◌, length, take, vec_len, vec_capacity, IfOk};
+ghost use Rattle.std.specs.Prelude.{◌≡◌, ◌+◌, ◌≤◌, ◌==◌, [], ◌++◌, length, take, replicate, vec_len, vec_capacity, IfOk};
 ghost use Rattle.lc_frame.specs.declared.version.Version.TheVariants.{Two};
 ghost use Rattle.lc_frame.specs.Kind.{max_frame};
 ghost use Rattle.lc_frame.specs.Fill.{fill_len, FillsFrom};
@@ -15,25 +15,21 @@ use std::marker::Model;
 pub(crate) const FILL_LEN: usize = 512;
 
 /// Up to as many bytes as a frame has. Contracts see the bytes.
-///
-/// Behind them in memory lie bytes that were held before. That part never shrinks, so that no byte of
-/// the memory is made ready twice, and none where no frame reached.
 #[derive(Drop)]
 pub(crate) struct Hold {
     bytes: Vec<u8>,
-    len: usize,
 }
 
 impl Model for Hold {
-    ghost use Rattle.std.specs.Prelude.{◌≤◌, ℕ, List, length, take, vec_capacity};
+    ghost use Rattle.std.specs.Prelude.{◌≤◌, ℕ, List, vec_capacity};
     ghost use Rattle.lc_frame.specs.declared.version.Version.TheVariants.{Two};
     ghost use Rattle.lc_frame.specs.Kind.{max_frame};
 
     ghost Value = { List ℕ };
 
-    ghost view = { λ hold. take hold.len hold.bytes.items };
+    ghost view = { λ hold. hold.bytes.items };
 
-    ghost invariant = { λ hold. (hold.len ≤ length hold.bytes.items) × (max_frame Two ≤ vec_capacity hold.bytes) };
+    ghost invariant = { λ hold. max_frame Two ≤ vec_capacity hold.bytes };
 }
 
 impl Debug for Hold {
@@ -42,19 +38,15 @@ impl Debug for Hold {
     }
 }
 
-// Has so many bytes in memory, of which the first are kept.
+// Puts as many zeros last as bytes are asked for at once.
 #[inline(always)]
-fn make_ready(bytes: &mut Vec<u8>, kept: usize, end: usize)
-    requires kept { kept ≤ length bytes.old.items }
-    requires room { end ≤ vec_capacity bytes.old }
-    ensures same { take kept bytes.new.items ≡ take kept bytes.old.items }
-    ensures still { kept ≤ length bytes.new.items }
-    ensures ready { end ≤ vec_len bytes.new }
+fn put_zeros(bytes: &mut Vec<u8>)
+    requires { vec_len bytes.old + fill_len ≤ vec_capacity bytes.old }
+    ensures zeros { bytes.new.items ≡ bytes.old.items ++ replicate fill_len 0 }
     ensures capacity { vec_capacity bytes.old ≤ vec_capacity bytes.new }
 {
-    if bytes.len() < end {
-        let _ = bytes.resize(end, 0);
-    }
+    let end = bytes.len() + FILL_LEN;
+    let _ = bytes.resize(end, 0);
 }
 
 impl Hold {
@@ -64,7 +56,6 @@ impl Hold {
     {
         Ok(Hold {
             bytes: Vec::with_capacity(alloc, MAX_FRAME)?,
-            len: 0,
         })
     }
 
@@ -72,21 +63,21 @@ impl Hold {
     pub(crate) fn len(&self) -> usize
         ensures { result ≡ length self.now }
     {
-        self.len
+        self.bytes.len()
     }
 
     #[inline(always)]
     pub(crate) fn is_empty(&self) -> bool
         ensures { result ≡ (length self.now == 0) }
     {
-        self.len == 0
+        self.bytes.is_empty()
     }
 
     #[inline(always)]
     pub(crate) fn as_slice(&self) -> &[u8]
         ensures { result.now ≡ self.now }
     {
-        self.bytes.split_at(self.len).0
+        &self.bytes
     }
 
     #[inline(always)]
@@ -94,14 +85,7 @@ impl Hold {
         requires { length self.old + length more.now ≤ max_frame Two }
         ensures { self.new ≡ self.old ++ more.now }
     {
-        let end = self.len + more.len();
-        if end <= self.bytes.len() {
-            self.bytes.slice_mut(self.len..end).copy_from_slice(more);
-        } else {
-            self.bytes.truncate(self.len);
-            let _ = self.bytes.extend_from_slice(more);
-        }
-        self.len = end;
+        let _ = self.bytes.extend_from_slice(more);
     }
 
     #[inline(always)]
@@ -109,28 +93,29 @@ impl Hold {
         requires { len ≤ length self.old }
         ensures { self.new ≡ take len self.old }
     {
-        self.len = len;
+        self.bytes.truncate(len);
     }
 
     #[inline(always)]
     pub(crate) fn clear(&mut self)
         ensures { self.new ≡ [] }
     {
-        self.len = 0;
+        self.bytes.clear();
     }
 
-    /// Has the memory behind what is held filled from a source, and holds what that gave.
+    /// Has the memory behind what is held filled from a source, and holds what that gave. The source
+    /// finds zeros there: one that says it gave more than it did gives no byte of an earlier frame.
     #[inline(always)]
     pub(crate) fn fill<R, F: Fill<R>>(&mut self, filler: &F, source: &mut R) -> Option<usize>
         requires { length self.old + fill_len ≤ max_frame Two }
         ensures { FillsFrom F.fills result source.old source.new self.old self.new }
     {
-        let end = self.len + FILL_LEN;
-        make_ready(&mut self.bytes, self.len, end);
-        let answer = filler.fill(source, self.bytes.slice_mut(self.len..end));
+        let held = self.bytes.len();
+        put_zeros(&mut self.bytes);
+        let answer = filler.fill(source, self.bytes.split_at_mut(held).1);
         match answer {
-            Some(count) => self.len += count,
-            None => {}
+            Some(count) => self.bytes.truncate(held + count),
+            None => self.bytes.truncate(held),
         }
         answer
     }

@@ -5,7 +5,8 @@ ghost use Rattle.lc_frame.specs.declared.frame_fault.FrameFault.{FrameFault};
 ghost use Rattle.lc_frame.specs.FrameRef.{frame_of};
 ghost use Rattle.lc_frame.specs.Decoded.{Decodes};
 ghost use Rattle.lc_frame.specs.Held.{nothing_held, held_in, IsSettled, fed, IsValidIn, encoding_in, HasFrame, HasFault, IsUndecided, IsDecided};
-ghost use Rattle.lc_frame.specs.Fill.{FilledAs};
+ghost use Rattle.lc_frame.specs.declared.fill.Filled.TheVariants.{Few};
+ghost use Rattle.lc_frame.specs.Fill.{FilledAs, LacksMore};
 ghost use Rattle.lc_frame.specs.StreamDecoder.{EndsAs, TakesMore};
 
 use crate::decoded::Decoded;
@@ -142,11 +143,13 @@ impl StreamDecoder {
     #[inline]
     #[tactic(auto, using(crate::proofs::Fronts::frame_fits))]
     pub fn fill<R, F: Fill<R>>(&mut self, filler: &F, source: &mut R) -> Filled
-        ensures { FilledAs F.fills result source.old source.new self.old self.new }
+        ensures filled { FilledAs F.fills result source.old source.new self.old self.new }
+        ensures few { result ≡ Few → ¬ LacksMore self.old }
     {
         match self.progress {
             Progress::Wants(need) => {
-                if need - self.buffer.len() <= FILL_LEN {
+                let lacks = need - self.buffer.len();
+                if lacks <= FILL_LEN {
                     return Filled::Few;
                 }
                 match self.buffer.fill(filler, source) {

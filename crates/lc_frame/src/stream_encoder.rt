@@ -1,17 +1,12 @@
 //! The bytes of a stream on their way out.
-ghost use Rattle.std.specs.Prelude.{◌≡◌, ◌+◌, ◌≤◌, [], length, take, drop, max, IsTrue, IfOk, vec_len, vec_capacity};
-ghost use Rattle.lc_frame.specs.declared.kind.Kind.TheVariants as kinds;
-ghost use Rattle.lc_frame.specs.declared.frame.Frame.TheVariants.{Send};
-ghost use Rattle.lc_frame.specs.Kind.{header_len, max_frame};
+ghost use Rattle.std.specs.Prelude.{◌≡◌, ◌≤◌, [], length, take, drop, max, IsTrue, IfOk, vec_len, vec_capacity};
+ghost use Rattle.lc_frame.specs.Kind.{max_frame};
 ghost use Rattle.lc_frame.specs.Frame.{IsValid};
 ghost use Rattle.lc_frame.specs.FrameRef.{frame_of};
 ghost use Rattle.lc_frame.specs.Encoding.{encoding};
-ghost use Rattle.lc_frame.specs.StreamEncoder.{new_encoder, IsCutTo, IsAdvanced, IsAppended, IsBegun};
+ghost use Rattle.lc_frame.specs.StreamEncoder.{new_encoder, IsCutTo, IsAdvanced, IsAppended};
 
-use crate::channel::Channel;
-use crate::encoding::append_begun;
 use crate::frame_ref::FrameRef;
-use crate::kind::Kind;
 use crate::version::Version;
 use std::alloc::{AllocError, Global};
 use std::marker::Model;
@@ -124,25 +119,6 @@ impl StreamEncoder {
             return false;
         }
         if frame.encode_into(version, &mut self.buffer).is_err() {
-            unreachable!();
-        }
-        true
-    }
-
-    /// Puts the header of a message last and the first so many bytes of its body, where they have room,
-    /// for a caller that writes the rest from where it lies. Whether they had.
-    #[inline]
-    pub fn begin(&mut self, version: Version, channel: Channel, body: &[u8], count: usize) -> bool
-        requires valid { IsValid version (Send channel body.now) }
-        requires within { count ≤ length body.now }
-        ensures value { IsBegun version channel body.now count result self.old self.new }
-        ensures room { header_len version kinds.Send + count ≤ self.old.room → IsTrue result }
-        ensures all { self.old.pending ≡ [] → self.old.room ≡ self.old.capacity }
-    {
-        if self.room() < Kind::Send.header_len(version) + count {
-            return false;
-        }
-        if append_begun(version, channel, body, count, &mut self.buffer).is_err() {
             unreachable!();
         }
         true

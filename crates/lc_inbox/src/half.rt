@@ -148,8 +148,9 @@ impl Half {
         }
     }
 
-    /// Gives the inbox back, as it is after what this half did with it, and then the turn.
-    pub(crate) fn give<N: Told, G>(&mut self, turn: Turn<'_>, _told: &G)
+    /// Gives the inbox back, as it is after what this half did with it. The turn ends with this call, so after
+    /// that.
+    pub(crate) fn give<N: Told, G>(&mut self, _turn: Turn<'_>, _told: &G)
         requires own { filter (is_of (other self.old.side)) N.entries ≡ [] }
         requires fits { (loan : Loan) × (self.old.lent ≡ Some loan) × IsLeftBy self.old.key loan.held (loan.history ++ N.entries) }
         ensures { IfSome self.old.lent (λ loan. self.new ≡ record self.old { seen = loan.history ++ N.entries; lent = None }) }
@@ -157,7 +158,6 @@ impl Half {
         self.table
             .shared
             .store::<Return<N>>(&mut self.seat, WORD, 0);
-        drop(turn);
     }
 
     /// Gives the inbox back as it was.

@@ -3,6 +3,7 @@ use Rattle.std.proofs.Common.{◌≡◌, ℕ, List, [], ◌∷◌, drop, take, m
 use Rattle.std.proofs.lemmas.List.Elements.{All-from_recursion}
 use Rattle.std.specs.List.{AllZip, AllByRecursion}
 use Rattle.lc_frame.specs.declared.version.Version.{Version}
+use Rattle.lc_frame.specs.Channel.{channel_count}
 use Rattle.lc_queue.specs.Parts.{new_ends}
 use Rattle.lc_inbox.specs.Sides.{IsSameSide}
 use Rattle.lc_outbox.specs.Outbox.{OutboxState, IsSameOutbox}
@@ -28,6 +29,30 @@ use Rattle.lc_loopback.proofs.Takes.{TookOut, took_out}
 use Rattle.lc_loopback.proofs.Puts.{new_put_none, each_put}
 
 -- ---- ends that went with their jobs, and came back
+
+-- a part that came back, and what its work came to
+abbrev pub CameBack : {W : Type 0} → (W → W → Type 0) → (W → Taken → W → Type 0) → W → W × Result Taken LoopFault → Type 0
+CameBack Same Gives old back = Same old back.0 × IfOk back.1 (λ n. Gives old n back.0)
+
+-- all of them, place by place
+pub each_same : {W : Type 0} (Same : W → W → Type 0) (Gives : W → Taken → W → Type 0) (olds : List W) (backs : List (W × Result Taken LoopFault)) → AllZip (CameBack Same Gives) olds backs → AllZip Same olds (map (λ b. b.0) backs)
+each_same Same Gives [] [] all = tt
+each_same Same Gives [] (b ∷ backs) all = absurd all
+each_same Same Gives (w ∷ olds) [] all = absurd all
+each_same Same Gives (w ∷ olds) (b ∷ backs) all = (all.0.0, each_same Same Gives olds backs all.1)
+
+pub each_gave : {W : Type 0} (Same : W → W → Type 0) (Gives : W → Taken → W → Type 0) (olds : List W) (backs : List (W × Result Taken LoopFault)) → AllZip (CameBack Same Gives) olds backs → EachGave Gives olds (map (λ b. b.1) backs) (map (λ b. b.0) backs)
+each_gave Same Gives [] [] all = tt
+each_gave Same Gives [] (b ∷ backs) all = absurd all
+each_gave Same Gives (w ∷ olds) [] all = absurd all
+each_gave Same Gives (w ∷ olds) (b ∷ backs) all = (all.0.1, each_gave Same Gives olds backs all.1)
+
+-- what is made of an element tells the element
+pub all_told : {X Y : Type 0} (f : Y → X) (R : X → Y → Type 0) → ((x : X) (y : Y) → R x y → x ≡ f y) → (xs : List X) (ys : List Y) → AllZip R xs ys → xs ≡ map f ys
+all_told f R tells [] [] all = refl
+all_told f R tells [] (y ∷ ys) all = absurd all
+all_told f R tells (x ∷ xs) [] all = absurd all
+all_told f R tells (x ∷ xs) (y ∷ ys) all = (λ i. tells x y all.0 i ∷ all_told f R tells xs ys all.1 i)
 
 zip_mapped : {E W : Type 0} (R : E → E → Type 0) (S : W → W → Type 0) (going : E → W) (back : W → E) → ((e : E) (w : W) → S (going e) w → R e (back w)) → (ends : List E) (ws : List W) → AllZip S (map going ends) ws → AllZip R ends (map back ws)
 zip_mapped R S going back each [] [] all = tt
@@ -79,17 +104,17 @@ exchanged x old s sent took sent' took' going_senders senders going_takers taker
 
 record CameOut (p : Plan) (s : SessionState) (took : List Taken) : Type 0 where
   puts : AllByRecursion (HasPut p) s.sending
-  takes : TookOut p 7 took s.receiving
+  takes : TookOut p channel_count took s.receiving
 
 came_out : (p : Plan) (version : Version) (s : SessionState) (sent_outcomes took_outcomes : List (Result Taken LoopFault)) (sent took : List Taken) → BeganNew p version s sent_outcomes took_outcomes → sent_outcomes ≡ map Ok sent → took_outcomes ≡ map Ok took → CameOut p s took
 came_out p version s sent_outcomes took_outcomes sent took b sent_are took_are =
     let began = b.began in
     let same = b.exchanged.played.same in
     let ends = new_ends began.writing.drain.queue version in
-    let none = subst (λ (os : List OutboxState). AllByRecursion (λ (o : OutboxState). o.lane.put ≡ []) os) (sym b.new.sending_new) (new_put_none channels (take 7 ends) (outgoing_of began) (refl, (refl, (refl, (refl, (refl, (refl, (refl, tt)))))))) in
+    let none = subst (λ (os : List OutboxState). AllByRecursion (λ (o : OutboxState). o.lane.put ≡ []) os) (sym b.new.sending_new) (new_put_none channels (take channel_count ends) (outgoing_of began) (refl, (refl, (refl, (refl, (refl, (refl, (refl, tt)))))))) in
     record {
       puts = each_put p began.sending sent s.sending none same.sending (subst (λ (os : List (Result Taken LoopFault)). EachGave (Puts p) began.sending os s.sending) sent_are b.exchanged.sent_all);
-      takes = took_out p (config_of p version).capacities (drop 7 ends) began.reading.side.inboxes began.receiving took s.receiving b.new.inboxes_new same.receiving (subst (λ (os : List (Result Taken LoopFault)). EachGave (TakesAll p) began.receiving os s.receiving) took_are b.exchanged.took_all);
+      takes = took_out p (config_of p version).capacities (drop channel_count ends) began.reading.side.inboxes began.receiving took s.receiving b.new.inboxes_new same.receiving (subst (λ (os : List (Result Taken LoopFault)). EachGave (TakesAll p) began.receiving os s.receiving) took_are b.exchanged.took_all);
     }
 
 abbrev pub was_played : (p : Plan) (version : Version) (s : SessionState) (sent took : List (Result Taken LoopFault)) → BeganNew p version s sent took → WasPlayed (config_of p version) s

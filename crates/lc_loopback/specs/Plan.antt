@@ -5,7 +5,7 @@ use Rattle.lc_frame.specs.declared.channel.Channel.{Channel}
 use Rattle.lc_frame.specs.declared.version.Version.{Version}
 use Rattle.lc_frame.specs.declared.version.Version.TheVariants.{One}
 use Rattle.lc_frame.specs.Bounds.{IsCapacity, IsSlots}
-use Rattle.lc_frame.specs.Channel.{number_of}
+use Rattle.lc_frame.specs.Channel.{channel_count, number_of}
 use Rattle.lc_frame.specs.Kind.{max_body}
 use Rattle.lc_peer.specs.declared.config.Config.{Config}
 use Rattle.lc_loopback.specs.declared.plan.Plan.{Plan}
@@ -34,7 +34,7 @@ due p c = due_first p c p.messages
 
 -- how a session of this version is made
 abbrev pub config_of : Plan → Version → Config
-config_of p version = record { version = version; capacities = replicate 7 p.capacity; slots = p.slots }
+config_of p version = record { version = version; capacities = replicate channel_count p.capacity; slots = p.slots }
 
 -- so many messages of 4 to 16 bytes through rings of 32, with four slots, so that ends wait for both
 abbrev pub small_plan : ℕ → Plan

@@ -2,6 +2,7 @@
 use Rattle.std.specs.Prelude.{All, ◌≡◌, ℕ, ◌+◌, List, [], ◌∷◌, ◌++◌, length, map, Option, Some, None, sum_by, replicate, take, Result, IfOk, true}
 use Rattle.std.specs.List.{AllZip}
 use Rattle.lc_frame.specs.declared.version.Version.{Version}
+use Rattle.lc_frame.specs.Channel.{channel_count}
 use Rattle.lc_frame.specs.Stream.{messages}
 use Rattle.lc_credit.specs.declared.balance.Balance.{Balance}
 use Rattle.lc_inbox.specs.History.{took}
@@ -107,7 +108,7 @@ pub record CameTo (p : Plan) (a_version b_version : Version) (s t : SessionState
   -- the report is of these two, by the side that sent
   pub messages_are : report.messages ≡ map messages_taken t.receiving ∷ map messages_taken s.receiving ∷ []
   pub bytes_are : report.bytes ≡ map bytes_taken t.receiving ∷ map bytes_taken s.receiving ∷ []
-  pub all_came : report.messages ≡ replicate 2 (replicate 7 p.messages)
+  pub all_came : report.messages ≡ replicate 2 (replicate channel_count p.messages)
   pub balanced_is : report.balanced ≡ true
   pub a_balances : AllZip AgreesWith a_report.clients (map bytes_taken t.receiving)
   pub b_balances : AllZip AgreesWith b_report.clients (map bytes_taken s.receiving)

@@ -4,6 +4,7 @@ ghost use Rattle.std.specs.List.{AllZip};
 ghost use Rattle.lc_loopback.specs.Played.{AgreesWith};
 
 use lc_credit::Balance;
+use lc_frame::CHANNELS;
 
 // The balance of a channel agrees with the bytes that the other side took on it.
 fn agrees(balance: Balance, bytes: u64) -> bool
@@ -15,11 +16,11 @@ fn agrees(balance: Balance, bytes: u64) -> bool
 }
 
 /// Whether each balance agrees with the bytes.
-pub(crate) fn agree(balances: [Balance; 7], bytes: [u64; 7]) -> bool
+pub(crate) fn agree(balances: [Balance; CHANNELS], bytes: [u64; CHANNELS]) -> bool
     ensures { IsTrue result → AllZip AgreesWith balances bytes }
 {
     let mut all = true;
-    for channel in 0..7 {
+    for channel in 0..CHANNELS {
         all &= agrees(balances[channel], bytes[channel]);
     }
     all

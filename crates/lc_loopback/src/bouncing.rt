@@ -1,6 +1,4 @@
 //! The exchange by turns on one channel.
-ghost use Rattle.std.specs.Prelude.{◌≡◌, length};
-
 use crate::connection::{Wires, connect_both};
 use crate::fault::fault_among;
 use crate::hold::Hold;
@@ -12,8 +10,7 @@ use crate::sending::send;
 use crate::taken::Taken;
 use crate::taking::{issue, take};
 use crate::worker::{Outcome, Part, Worker, join_outcome, start};
-use lc_frame::Version;
-use lc_inbox::apart;
+use lc_frame::{CHANNELS, Version};
 use lc_loopback_report::LoopFault;
 use lc_session::{Parts, ReadPump, RecvEnd, SendEnd, WritePump};
 use std::alloc::Global;
@@ -58,18 +55,17 @@ impl Worker<Game> for Player {
     }
 }
 
-// The first of seven ends. The others are let go.
-fn first<E: Drop>(ends: [E; 7]) -> E
-    requires { length ends ≡ 7 }
-{
-    apart(ends).0
+// The first of these ends. The others are let go.
+fn first<E: Drop>(ends: [E; CHANNELS]) -> E {
+    let [first, ..] = ends;
+    first
 }
 
 // What a side needs here: its player, and its pumps.
-type Side = (Player, (ReadPump, WritePump));
+type Team = (Player, (ReadPump, WritePump));
 
 // The parts that are not needed are let go.
-fn side_of(parts: Parts) -> Side {
+fn team_of(parts: Parts) -> Team {
     let Parts {
         session: _,
         send_ends,
@@ -100,8 +96,8 @@ where
 fn play_all<R, S>(
     rt: R,
     hold: &Hold,
-    a: Side,
-    b: Side,
+    a: Team,
+    b: Team,
     wires: Wires<S>,
     game: Game,
 ) -> Result<u32, LoopFault>
@@ -129,7 +125,7 @@ where
     S: Read + Write + Send + Drop + 'static,
 {
     match open(alloc, game.plan, Version::One, Version::One) {
-        Ok(Opened { a, b, hold }) => play_all(rt, &hold, side_of(a), side_of(b), wires, game),
+        Ok(Opened { a, b, hold }) => play_all(rt, &hold, team_of(a), team_of(b), wires, game),
         Err(fault) => Err(fault),
     }
 }

@@ -19,7 +19,7 @@ pub(crate) struct Opened {
     pub(crate) hold: Hold,
 }
 
-fn held(alloc: Global, a: Parts, b: Parts) -> Result<Opened, LoopFault>
+fn hold_both(alloc: Global, a: Parts, b: Parts) -> Result<Opened, LoopFault>
     ensures a { IfOk result (λ opened. opened.a ≡ a) }
     ensures b { IfOk result (λ opened. opened.b ≡ b) }
 {
@@ -34,7 +34,7 @@ fn open_second(alloc: Global, a: Parts, plan: Plan, version: Version) -> Result<
     ensures b { IfOk result (λ opened. IsNewSession (config_of plan version) (state_of opened.b)) }
 {
     match Session::new(alloc, plan.config(version)) {
-        Ok(b) => held(alloc, a, b),
+        Ok(b) => hold_both(alloc, a, b),
         Err(_) => Err(LoopFault::OutOfMemory),
     }
 }

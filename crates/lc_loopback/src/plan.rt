@@ -2,7 +2,7 @@
 ghost use Rattle.std.specs.Prelude.{◌≡◌, ◌↔◌, IsTrue};
 ghost use Rattle.lc_loopback.specs.Plan.{IsPlan, config_of, small_plan};
 
-use lc_frame::{Version, is_capacity, is_slots};
+use lc_frame::{CHANNELS, Version, is_capacity, is_slots};
 use lc_peer::Config;
 
 /// What both sides exchange: so many messages on each channel and each way.
@@ -58,7 +58,7 @@ impl Plan {
     {
         Config {
             version,
-            capacities: [self.capacity; 7],
+            capacities: [self.capacity; CHANNELS],
             slots: self.slots,
         }
     }

@@ -21,8 +21,7 @@ use crate::taken::Taken;
 use crate::taking::Taker;
 use crate::worker::{Done, Outcome};
 use lc_credit::Balance;
-use lc_frame::Version;
-use lc_inbox::apart;
+use lc_frame::{CHANNELS, Version};
 use lc_interleaving::finish_both;
 use lc_loopback_report::{LoopFault, LoopReport};
 use lc_session::{Parts, ReadPump, Session, WritePump};
@@ -36,8 +35,8 @@ use std::thread::Threads;
 #[derive(Drop)]
 struct Played {
     parts: Parts,
-    sent: [Outcome; 7],
-    took: [Outcome; 7],
+    sent: [Outcome; CHANNELS],
+    took: [Outcome; CHANNELS],
     pumped: [Outcome; 2],
 }
 
@@ -92,30 +91,23 @@ impl Played {
     }
 }
 
-// What each of seven came to, where all came to something.
-fn all_of(outcomes: [Outcome; 7]) -> Result<[Taken; 7], LoopFault>
+// What each came to, where all came to something.
+fn all_of(outcomes: [Outcome; CHANNELS]) -> Result<[Taken; CHANNELS], LoopFault>
     ensures { IfOk result (λ all. outcomes ≡ map Ok all) }
 {
-    let (a, b, c, d, e, f, g) = apart(outcomes);
-    Ok([a?, b?, c?, d?, e?, f?, g?])
+    outcomes.try_map(|outcome| outcome)
 }
 
-fn messages_of(all: [Taken; 7]) -> [u64; 7]
+fn messages_of(all: [Taken; CHANNELS]) -> [u64; CHANNELS]
     ensures { result ≡ map messages_of all }
 {
-    let (a, b, c, d, e, f, g) = apart(all);
-    [
-        a.messages, b.messages, c.messages, d.messages, e.messages, f.messages, g.messages,
-    ]
+    all.map(|taken| taken.messages)
 }
 
-fn bytes_of(all: [Taken; 7]) -> [u64; 7]
+fn bytes_of(all: [Taken; CHANNELS]) -> [u64; CHANNELS]
     ensures { result ≡ map bytes_of all }
 {
-    let (a, b, c, d, e, f, g) = apart(all);
-    [
-        a.bytes, b.bytes, c.bytes, d.bytes, e.bytes, f.bytes, g.bytes,
-    ]
+    all.map(|taken| taken.bytes)
 }
 
 // Both sides exchange this on each channel, until all threads are joined.
@@ -150,10 +142,10 @@ where
 
 // The report, where the guarantees that each side spent are what the other took.
 fn judge(
-    a_clients: [Balance; 7],
-    b_clients: [Balance; 7],
-    a_took: [Taken; 7],
-    b_took: [Taken; 7],
+    a_clients: [Balance; CHANNELS],
+    b_clients: [Balance; CHANNELS],
+    a_took: [Taken; CHANNELS],
+    b_took: [Taken; CHANNELS],
 ) -> Result<LoopReport, LoopFault>
     ensures { IfOk result (λ report. IsReportOf a_clients b_clients a_took b_took report) }
 {

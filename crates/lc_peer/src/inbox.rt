@@ -193,8 +193,8 @@ impl Inbox {
         }
     }
 
-    /// The first message, without a copy. It is the two slices, one after the other; the second is
-    /// empty unless the message goes round the end of the ring's memory. `None` where none waits.
+    /// The first message, without a copy. It is the two slices, one after the other, cut where
+    /// `RecvRing::front` cuts it. `None` where none waits.
     #[inline]
     pub fn front(&self) -> Option<(&[u8], &[u8])>
         ensures { option_map (λ parts. parts.0.now ++ parts.1.now) result ≡ front self.now.ring }

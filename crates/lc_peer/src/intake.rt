@@ -1,7 +1,8 @@
 //! The bytes of a stream on their way in.
 ghost use Rattle.std.specs.Prelude.{◌≡◌, ◌<◌, None, All, IfOk, IfSome};
 ghost use Rattle.lc_frame.specs.Held.{nothing_held, IsUndecided, IsSettled};
-ghost use Rattle.lc_frame.specs.Fill.{FilledAs};
+ghost use Rattle.lc_frame.specs.declared.fill.Filled.TheVariants.{Few};
+ghost use Rattle.lc_frame.specs.Fill.{FilledAs, LacksMore};
 ghost use Rattle.lc_peer.specs.Deliveries.{DeliversTo};
 ghost use Rattle.lc_peer.specs.Intake.{IntakeEnds, GivesUp};
 
@@ -95,6 +96,7 @@ impl Intake {
     #[inline]
     pub fn fill<R, F: Fill<R>>(&mut self, filler: &F, source: &mut R) -> Filled
         ensures held { FilledAs F.fills result source.old source.new self.old.held self.new.held }
+        ensures few { result ≡ Few → ¬ LacksMore self.old.held }
         ensures bytes { All (λ b. b < 256) self.new.held.bytes }
         ensures stop { self.new.stop ≡ self.old.stop }
     {

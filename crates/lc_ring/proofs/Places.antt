@@ -1,7 +1,7 @@
 -- Where bytes in laps lie in their block.
 use Rattle.std.proofs.Common.{◌≡◌, ℕ, ◌+◌, ◌-◌, ◌≤◌, inr, List, ◌++◌, length, take, drop, refl, sym, ap, ◌∙◌, subst, arith}
-use Rattle.std.proofs.lemmas.List.{length-append, length-take-le, length-drop, drop-drop, drop-take}
-use Rattle.std.proofs.Math.Seq.{drop-append-add, take-append_seam}
+use Rattle.std.proofs.lemmas.List.{take-append-drop, length-append, length-take-le, length-drop, drop-drop, drop-take}
+use Rattle.std.proofs.Math.Seq.{drop-append-add, take-append-add, take-append_seam}
 use Rattle.lc_ring.specs.Laps.{Laps, IsPushed, AreLaps}
 
 abbrev laps_in : List ℕ → ℕ → ℕ → ℕ → ℕ → ℕ → Laps
@@ -66,3 +66,18 @@ module _ (items bytes block : List ℕ) (gone end next turn cut capacity : ℕ)
       let busy : 1 ≤ length (drop gone (take end items)) = omega (arith, near-length, keeps.idle, keeps.is_turn.at_least, over) in
       subst (λ (l : Laps). IsPushed l bytes (laps_in block gone end (next + length bytes) turn cut)) shows
       (inr (busy, rw (near-stays, ap (take (next + length bytes)) e ∙ written-front items bytes next next_held) refl))
+
+-- a run of bytes that is written piece by piece: one more piece of them stands behind those so far
+pub piece_on : (bytes front next back left piece : List ℕ) (done len : ℕ) → done ≤ length bytes → length front ≡ done → front ≡ take done bytes → next ≡ piece → left ≡ drop done bytes → piece ≡ take len left → length piece ≡ len
+    → take (done + length piece) (front ++ (next ++ back)) ≡ take (done + length piece) bytes
+piece_on bytes front next back left piece done len within whole same is left_is piece_is piece_len =
+    let n = length piece in
+    let new_piece : take n (next ++ back) ≡ piece = ap (λ (xs : List ℕ). take n (xs ++ back)) is ∙ take-append_seam piece back in
+    let old_piece : take n (drop done bytes) ≡ piece = ap (λ (xs : List ℕ). take n xs) (sym left_is) ∙ ap (λ (k : ℕ). take k left) piece_len ∙ sym piece_is in
+    let before : take (done + n) (front ++ (next ++ back)) ≡ front ++ piece = ap (λ (k : ℕ). take (k + n) (front ++ (next ++ back))) (sym whole) ∙ take-append-add front (next ++ back) n ∙ ap (λ (xs : List ℕ). front ++ xs) new_piece in
+    let after : take (done + n) bytes ≡ take done bytes ++ piece =
+    ap (λ (xs : List ℕ). take (done + n) xs) (sym (take-append-drop done bytes))
+    ∙ ap (λ (k : ℕ). take (k + n) (take done bytes ++ drop done bytes)) (sym (length-take-le done bytes within))
+    ∙ take-append-add (take done bytes) (drop done bytes) n
+    ∙ ap (λ (xs : List ℕ). take done bytes ++ xs) old_piece in
+    before ∙ ap (λ (xs : List ℕ). xs ++ piece) same ∙ sym after

@@ -12,6 +12,7 @@ ghost use Rattle.lc_frame.specs.declared.version.Version.TheVariants.{Two};
 ghost use Rattle.lc_frame.specs.Kind.{max_body};
 ghost use Rattle.lc_ring.specs.Laps.{new_laps, IsPushed, IsTaken};
 
+use crate::pieces::{append, copy};
 use lc_frame::MAX_BODY;
 use std::alloc::{AllocError, Global};
 use std::fmt::{self, Debug, Formatter};
@@ -61,7 +62,7 @@ fn write(block: &mut [u8], at: usize, bytes: &[u8])
 {
     let (_, rest) = block.split_at_mut(at);
     let (place, _) = rest.split_at_mut(bytes.len());
-    place.copy_from_slice(bytes);
+    copy(place, bytes);
 }
 
 // Writes the bytes from a place on, where they go beyond all that was written before. There is room,
@@ -73,7 +74,7 @@ fn extend(block: &mut Vec<u8>, at: usize, bytes: &[u8])
     ensures capacity { vec_capacity block.old ≤ vec_capacity block.new }
 {
     block.truncate(at);
-    let _ = block.extend_from_slice(bytes);
+    append(block, bytes);
 }
 
 // Writes the bytes into the block from a place on.

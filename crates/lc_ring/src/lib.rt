@@ -3,6 +3,7 @@
 #![tactic(auto)]
 
 mod laps;
+mod pieces;
 mod ring;
 
 pub use lc_frame::BufferTooSmall;

@@ -16,6 +16,7 @@ ghost use Rattle.lc_frame.specs.Kind.{max_body};
 ghost use Rattle.lc_ring.specs.Ring.{new_ring, IsLength, IsRing, bytes, free, push_refusal, push, front, pop, take_answer, with_front};
 
 use crate::laps::LapBytes;
+use crate::pieces::copy;
 use circular_buffer::HeapCircularBuffer;
 use lc_frame::{BufferTooSmall, is_capacity};
 use std::alloc::{AllocError, Global};
@@ -206,7 +207,7 @@ impl RecvRing {
             return Err(BufferTooSmall { need });
         }
         let (front, _) = buffer.split_at_mut(need);
-        front.copy_from_slice(message);
+        copy(front, message);
         Ok(self.pop())
     }
 }

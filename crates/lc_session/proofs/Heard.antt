@@ -10,7 +10,7 @@ use Rattle.lc_history.proofs.Histories.{learned_same, made_one}
 use Rattle.lc_frame.specs.declared.channel.Channel.{Channel}
 use Rattle.lc_frame.specs.declared.frame.Frame.{Frame}
 use Rattle.lc_frame.specs.declared.frame.Frame.TheVariants.{Send, Issue, Absolve, Plead, LimitSending, LimitReceiving, Finish}
-use Rattle.lc_frame.specs.Channel.{number_of, is_same}
+use Rattle.lc_frame.specs.Channel.{channel_count, number_of, is_same}
 use Rattle.lc_frame.specs.Frame.{channel_of, lane_of}
 use Rattle.lc_frame.specs.Stream.{of_lane, target_of, issue_of, issued, pleads, receive_left}
 use Rattle.lc_frame.specs.Splits.{frames_of}
@@ -72,7 +72,7 @@ on_lane lane frames f same =
 apart_of_client : (c d : Channel) → is_same d c ≡ false → (number_of c == number_of d) ≡ false
 apart_of_client c d apart = grind (arith, nat_tests)
 
-apart_of_server : (c d : Channel) → (7 + number_of c == number_of d) ≡ false
+apart_of_server : (c d : Channel) → (channel_count + number_of c == number_of d) ≡ false
 apart_of_server c d = let below = number_below d in grind (arith, nat_tests)
 
 apart_lane : (d : Channel) (f : Frame) → is_same d (channel_of f) ≡ false → (lane_of f == number_of d) ≡ false

@@ -1,17 +1,29 @@
 -- Sessions that were played, once and again.
 use Rattle.std.specs.List.{AllZip}
-use Rattle.std.proofs.Common.{List, [], ◌∷◌}
-use Rattle.lc_inbox.specs.Sides.{IsSameSide}
-use Rattle.lc_outbox.specs.Outbox.{IsSameOutbox}
+use Rattle.std.proofs.Common.{ℕ, zero, suc, List, [], ◌∷◌, get_or, set}
+use Rattle.lc_inbox.specs.Sides.{Side, IsSameSide}
+use Rattle.lc_outbox.specs.Outbox.{OutboxState, IsSameOutbox}
 use Rattle.lc_session.specs.Report.{SessionState}
 use Rattle.lc_session.specs.Same.{IsSameSession}
 use Rattle.lc_session.specs.Played.{HasPlayed, NewSessionsWerePlayed, SessionsArePlayedOn}
 use Rattle.lc_session.proofs.Same.{outbox_itself, outbox_then, side_itself, side_then, reading_itself, reading_then, pump_itself, pump_then}
 use Rattle.lc_session.proofs.Runs.{hears_nothing, hears_then}
 
-zip_itself : {A : Type 0} (R : A → A → Type 0) → ((x : A) → R x x) → (xs : List A) → AllZip R xs xs
+pub zip_itself : {A : Type 0} (R : A → A → Type 0) → ((x : A) → R x x) → (xs : List A) → AllZip R xs xs
 zip_itself R each [] = tt
 zip_itself R each (x ∷ xs) = (each x, zip_itself R each xs)
+
+-- where one place changed
+zip_set : {A : Type 0} (R : A → A → Type 0) → ((x : A) → R x x) → (xs : List A) (at : ℕ) (other now : A) → R (get_or xs at other) now → AllZip R xs (set xs at now)
+zip_set R same [] at other now one = tt
+zip_set R same (x ∷ xs) zero other now one = (one, zip_itself R same xs)
+zip_set R same (x ∷ xs) (suc at) other now one = (same x, zip_set R same xs at other now one)
+
+pub outboxes_set : (ends : List OutboxState) (at : ℕ) (other now : OutboxState) → IsSameOutbox (get_or ends at other) now → AllZip IsSameOutbox ends (set ends at now)
+outboxes_set = zip_set IsSameOutbox outbox_itself
+
+pub sides_set : (sides : List Side) (at : ℕ) (other now : Side) → IsSameSide (get_or sides at other) now → AllZip IsSameSide sides (set sides at now)
+sides_set = zip_set IsSameSide side_itself
 
 zip_then : {A : Type 0} (R : A → A → Type 0) → ((x y z : A) → R x y → R y z → R x z) → (xs ys zs : List A) → AllZip R xs ys → AllZip R ys zs → AllZip R xs zs
 zip_then R each [] [] [] p q = tt

@@ -8,7 +8,7 @@ use Rattle.lc_history.specs.Places.{ChangesAt}
 use Rattle.lc_frame.specs.declared.channel.Channel.{Channel}
 use Rattle.lc_frame.specs.declared.frame.Frame.{Frame}
 use Rattle.lc_frame.specs.declared.frame.Frame.TheVariants.{Send, Issue, Absolve, Plead, LimitSending, LimitReceiving, Finish}
-use Rattle.lc_frame.specs.Channel.{number_of}
+use Rattle.lc_frame.specs.Channel.{channel_count, number_of}
 use Rattle.lc_book.specs.declared.fault.Violation.{Violation}
 use Rattle.lc_book.specs.declared.fault.Violation.TheVariants.{NotGuaranteed, SentPastLimit, AbsolvedTooMuch, SendLimitRaised, IssuedPastLimit, TooManyGuarantees, ReceiveLimitRaised, TotalPassed, AfterFinish}
 use Rattle.lc_peer.specs.declared.delivery.Stop.{Stop}
@@ -173,7 +173,7 @@ still_serves : (p q : Pumping) → IsSamePump p q → (s t : Side) → IsSameSid
 still_serves p q same s t one serves = record {
   queue_is = same.0 ∙ serves.queue_is ∙ ap (λ (k : Key). k.lane.value.queue) (sym one.key);
   version_is = ap (λ (k : Key). k.lane.value.version) one.key ∙ serves.version_is ∙ sym same.1;
-  lane_is = ap (λ (k : Key). k.lane.value.lane) one.key ∙ serves.lane_is ∙ ap (λ (k : Key). 7 + number_of k.channel) (sym one.key);
+  lane_is = ap (λ (k : Key). k.lane.value.lane) one.key ∙ serves.lane_is ∙ ap (λ (k : Key). channel_count + number_of k.channel) (sym one.key);
 }
 
 pub session_stays : SessionsStay

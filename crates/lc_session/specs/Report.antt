@@ -4,7 +4,7 @@ use Rattle.std.specs.List.{All}
 use Rattle.lc_frame.specs.declared.version.Version.{Version}
 use Rattle.lc_frame.specs.declared.channel.Channel.{Channel}
 use Rattle.lc_frame.specs.declared.frame.Frame.{Frame}
-use Rattle.lc_frame.specs.Channel.{number_of}
+use Rattle.lc_frame.specs.Channel.{channel_count, number_of}
 use Rattle.lc_frame.specs.Stream.{of_lane}
 use Rattle.lc_book.specs.Server.{Server}
 use Rattle.lc_queue.specs.Parts.{QueueId, End, IsSame}
@@ -46,7 +46,7 @@ pub record PutsOn (queue : QueueId) (version : Version) (o : OutboxState) : Type
 pub record ServesOn (queue : QueueId) (version : Version) (side : Side) : Type 0 where
   pub queue_is : IsSame queue side.key.lane.value.queue
   pub version_is : side.key.lane.value.version ≡ version
-  pub lane_is : side.key.lane.value.lane ≡ 7 + number_of side.key.channel
+  pub lane_is : side.key.lane.value.lane ≡ channel_count + number_of side.key.channel
 
 -- all parts are of one session: both kinds of ends are there for each channel, in order; they put on the queue that the writing pump drains, in its version, and share their credits and inboxes with the reading pump
 pub record AreOfOneSession (s : SessionState) : Type 0 where

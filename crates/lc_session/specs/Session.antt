@@ -2,6 +2,7 @@
 use Rattle.std.specs.Prelude.{◌≡◌, List, [], ◌∷◌, take, drop, None}
 use Rattle.lc_frame.specs.Held.{nothing_held}
 use Rattle.lc_frame.specs.declared.channel.Channel.{Channel}
+use Rattle.lc_frame.specs.Channel.{channel_count}
 use Rattle.lc_peer.specs.declared.config.Config.{Config}
 use Rattle.lc_peer.specs.Config.{config_fault}
 use Rattle.lc_queue.specs.Parts.{End, slots_of, new_ends, new_outlet}
@@ -13,10 +14,6 @@ use Rattle.lc_session.specs.Channels.{channels}
 use Rattle.lc_session.specs.Pumping.{new_pumping}
 use Rattle.lc_session.specs.Report.{SessionState, outgoing_of, AreOfOneSession}
 
--- seven of a kind, as a list
-abbrev pub listed : {A : Type 0} → A × A × A × A × A × A × A → List A
-listed t = t.0 ∷ t.1 ∷ t.2 ∷ t.3 ∷ t.4 ∷ t.5 ∷ t.6 ∷ []
-
 -- of each channel the new outbox that puts on this lane and has this credit
 abbrev pub new_outboxes : List Channel → List End → List Outgoing → List OutboxState
 new_outboxes (c ∷ cs) (lane ∷ lanes) (credit ∷ credits) = new_outbox c lane credit ∷ new_outboxes cs lanes credits
@@ -26,9 +23,9 @@ new_outboxes cs lanes credits = []
 pub record IsNewSession (config : Config) (s : SessionState) : Type 0 where
   pub lawful : config_fault config ≡ None
   pub one : AreOfOneSession s
-  pub sending_new : s.sending ≡ new_outboxes channels (take 7 (new_ends s.writing.drain.queue config.version)) (outgoing_of s)
+  pub sending_new : s.sending ≡ new_outboxes channels (take channel_count (new_ends s.writing.drain.queue config.version)) (outgoing_of s)
   pub credits_new : credits.AreNew s.reading.side.credits (outgoing_of s)
-  pub inboxes_new : inboxes.AreNew config.capacities (drop 7 (new_ends s.writing.drain.queue config.version)) s.reading.side.inboxes s.receiving
+  pub inboxes_new : inboxes.AreNew config.capacities (drop channel_count (new_ends s.writing.drain.queue config.version)) s.reading.side.inboxes s.receiving
   pub reading_new : s.reading.intake ≡ record { held = nothing_held; stop = None }
   pub writing_new : s.writing ≡ new_pumping (new_outlet s.writing.drain.queue config.version)
   pub slots_are : slots_of s.writing.drain.queue ≡ config.slots

@@ -123,7 +123,8 @@ impl Batch {
         ensures begun { self.new.begun ≡ [] }
         ensures waiting { self.new.waiting ≡ [] }
     {
-        let count = self.encoder.pending().len();
+        let bytes = self.encoder.pending();
+        let count = bytes.len();
         self.encoder.advance(count);
         self.begun = 0;
     }

@@ -1,5 +1,5 @@
 //! How a session is made and stopped.
-ghost use Rattle.std.specs.Prelude.{◌≡◌, ◌<◌, ◌∷◌, [], take, map, None, IfOk};
+ghost use Rattle.std.specs.Prelude.{◌≡◌, ◌<◌, [], take, map, None, IfOk};
 ghost use Rattle.std.specs.Result.{result_err};
 ghost use Rattle.lc_frame.specs.declared.version.Version.{Version};
 ghost use Rattle.lc_frame.specs.Channel.{channel_count, number_of};
@@ -12,7 +12,7 @@ ghost use Rattle.lc_session.specs.Channels.{channels};
 ghost use Rattle.lc_session.specs.Reading.{channel_of_side};
 ghost use Rattle.lc_session.specs.Batch.{new_batch};
 ghost use Rattle.lc_session.specs.Pumping.{new_pumping};
-ghost use Rattle.lc_session.specs.Session.{listed, new_outboxes, IsNewSession};
+ghost use Rattle.lc_session.specs.Session.{new_outboxes, IsNewSession};
 ghost use Rattle.lc_session.specs.Parts.{state_of};
 
 use crate::batch::Batch;
@@ -24,8 +24,8 @@ use crate::send_end::SendEnd;
 use crate::write_pump::WritePump;
 use lc_credit::{CreditOut, CreditParts, credits};
 use lc_driver::Intake;
-use lc_frame::{CHANNELS, Channel};
-use lc_inbox::{InboxOut, Inboxes, Seven, apart, share_all, zipped};
+use lc_frame::CHANNELS;
+use lc_inbox::{InboxOut, Inboxes, share_all, zipped};
 use lc_outbox::Outbox;
 use lc_peer::{Config, PeerFault};
 use lc_queue::{Drain, LaneEnd, lanes};
@@ -40,18 +40,13 @@ pub struct Session {
     wakers: Arc<Wakers, Global>,
 }
 
-// A new sending end of a channel.
-fn send_end(
-    alloc: Global,
-    channel: Channel,
-    lane: LaneEnd,
-    credit: CreditOut,
-    waiter: Waiter,
-) -> SendEnd
-    requires lane { lane.lane ≡ number_of channel }
+// A new sending end of the lane's channel.
+fn send_end(alloc: Global, lane: LaneEnd, credit: CreditOut, waiter: Waiter) -> SendEnd
+    requires client { lane.lane < channel_count }
     requires put { lane.put ≡ [] }
     requires credit { credit ≡ new_outgoing credit.credit }
-    ensures { result ≡ new_outbox channel lane credit }
+    ensures channel { number_of result.channel ≡ lane.lane }
+    ensures new { result ≡ new_outbox result.channel lane credit }
 {
     SendEnd::new(Outbox::new(alloc, lane, credit), waiter)
 }
@@ -59,24 +54,16 @@ fn send_end(
 // The new sending ends of all channels.
 fn send_ends(
     alloc: Global,
-    lanes: Seven<LaneEnd>,
-    credits: Seven<CreditOut>,
-    waiters: Seven<Waiter>,
+    lanes: [LaneEnd; CHANNELS],
+    credits: [CreditOut; CHANNELS],
+    waiters: [Waiter; CHANNELS],
 ) -> [SendEnd; CHANNELS]
-    requires lanes { (queue : QueueId) × (version : Version) × (listed lanes ≡ take 7 (new_ends queue version)) }
-    requires credits { listed credits ≡ map new_outgoing (map credit_out (listed credits)) }
-    ensures { result ≡ new_outboxes channels (listed lanes) (listed credits) }
+    requires lanes { (queue : QueueId) × (version : Version) × (lanes ≡ take channel_count (new_ends queue version)) }
+    requires credits { credits ≡ map new_outgoing (map credit_out credits) }
+    ensures { result ≡ new_outboxes channels lanes credits }
 {
-    let [a, b, c, d, e, f, g] = Channel::ALL;
-    [
-        send_end(alloc, a, lanes.0, credits.0, waiters.0),
-        send_end(alloc, b, lanes.1, credits.1, waiters.1),
-        send_end(alloc, c, lanes.2, credits.2, waiters.2),
-        send_end(alloc, d, lanes.3, credits.3, waiters.3),
-        send_end(alloc, e, lanes.4, credits.4, waiters.4),
-        send_end(alloc, f, lanes.5, credits.5, waiters.5),
-        send_end(alloc, g, lanes.6, credits.6, waiters.6),
-    ]
+    let parts = zipped(zipped(lanes, credits), waiters);
+    parts.map(|((lane, credit), waiter)| send_end(alloc, lane, credit, waiter))
 }
 
 // The new receiving ends of all channels.
@@ -126,12 +113,7 @@ fn put_together(alloc: Global, session: Session, shared: Shared, streams: Stream
     };
     Parts {
         session,
-        send_ends: send_ends(
-            alloc,
-            apart(inboxes.clients),
-            apart(credits.outgoing),
-            apart(waking.sending),
-        ),
+        send_ends: send_ends(alloc, inboxes.clients, credits.outgoing, waking.sending),
         recv_ends: recv_ends(inboxes.outgoing, waking.receiving),
         read_pump: ReadPump::new(side, streams.intake),
         write_pump: WritePump::new(streams.drain, streams.batch, waking.pump),

@@ -7,7 +7,7 @@ ghost use Rattle.lc_session.specs.Pumping.{IsSamePump, Pops, Pumps, IsPumping, I
 use crate::batch::Batch;
 use lc_driver::{CountedWrite, WriteFault, write_all};
 use lc_queue::Drain;
-use lc_wake::PumpWaiter;
+use lc_wake::{Found, Look, PumpWaiter};
 use std::marker::Model;
 use std::sync::Wait;
 
@@ -43,8 +43,8 @@ impl Model for WritePump {
     ghost invariant = { λ p. IsPumping (pumping_of p.drain p.batch) × (p.batch.version ≡ p.drain.version) };
 }
 
-// Pops frames as long as any other one has room, and says how many.
-fn join_popped<R: Wait>(rt: &R, drain: &mut Drain, batch: &mut Batch) -> usize
+// Pops frames as long as any other one has room.
+fn join_popped<R: Wait>(rt: &R, drain: &mut Drain, batch: &mut Batch, look: Look) -> Found
     requires { batch.old.version ≡ drain.old.version }
     ensures version { batch.new.version ≡ drain.new.version }
     ensures pops { Pops (pumping_of drain.old batch.old) (pumping_of drain.new batch.new) }
@@ -56,11 +56,11 @@ fn join_popped<R: Wait>(rt: &R, drain: &mut Drain, batch: &mut Batch) -> usize
     'frames: while batch.has_room() {
         match drain.pop(rt) {
             Some(frame) => batch.append(frame),
-            None => return popped,
+            None => return look.found(popped),
         }
         popped += 1;
     }
-    popped
+    look.found(popped)
 }
 
 // Writes what is pending. Why the run ends, if it does.
@@ -98,16 +98,17 @@ impl WritePump {
         }
     }
 
-    // Pops what has room, and tells those that wait for a slot. How many frames were popped.
-    fn join_popped<R: Wait>(&mut self, rt: &R) -> usize
+    // Looks at the queue: pops what has room, and tells those that wait for a slot.
+    fn join_popped<R: Wait>(&mut self, rt: &R) -> Found
         ensures pops { Pops self.old self.new }
         ensures none { self.new.begun ≡ [] → self.new.waiting ≡ [] → AllPopped self.new.drain }
     {
-        let popped = join_popped(rt, &mut self.drain, &mut self.batch);
-        if popped > 0 {
+        let look = self.waiter.look();
+        let found = join_popped(rt, &mut self.drain, &mut self.batch, look);
+        if let Found::Frames(popped) = found {
             self.waiter.slots_freed(popped);
         }
-        popped
+        found
     }
 
     // There is nothing to write: flushes, looks once more and sleeps until a frame is put or the pump
@@ -124,11 +125,9 @@ impl WritePump {
             self.waiter.stay();
             return Some(WriteEnd::Failed);
         }
-        let popped = self.join_popped(rt);
-        if popped > 0 || self.waiter.is_stopped() {
-            self.waiter.stay();
-        } else {
-            self.waiter.sleep(rt);
+        match self.join_popped(rt) {
+            Found::Nothing => self.waiter.sleep(rt),
+            Found::Frames(_) | Found::Stop => self.waiter.stay(),
         }
         None
     }
@@ -139,12 +138,11 @@ impl WritePump {
         ensures end { IfSome result (λ end. IsEnd end self.new) }
         ensures counts { CountsEnd result (W.counts writer.old) (W.counts writer.new) }
     {
-        let stopping = self.waiter.is_stopped();
-        self.join_popped(rt);
+        let found = self.join_popped(rt);
         if !self.batch.is_empty() {
             return write_pending(writer, &mut self.batch);
         }
-        if !stopping {
+        if found != Found::Stop {
             return self.rest(rt, writer);
         }
         match writer.flush_counted() {

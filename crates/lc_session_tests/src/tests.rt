@@ -1,14 +1,15 @@
 //! Sessions over devices in memory and over sockets.
-mod calls;
 mod desk;
 mod ends;
 mod exchange;
 mod faults;
+mod held;
 mod hostile;
 mod memory;
 mod slots;
 mod staged;
 mod ticks;
+mod told;
 mod waking;
 mod worked;
 

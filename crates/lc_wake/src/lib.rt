@@ -6,13 +6,12 @@
 //! the look wakes it once too often at most.
 #![tactic(auto)]
 
-mod calls;
 mod pump_waiter;
 mod waiter;
 mod wakers;
 mod waking;
 
-pub use pump_waiter::PumpWaiter;
+pub use pump_waiter::{Found, Look, PumpWaiter};
 pub use waiter::{Waiter, Wake};
 pub use wakers::{Pump, Wakers};
 pub use waking::Waking;

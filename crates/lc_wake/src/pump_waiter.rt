@@ -10,6 +10,39 @@ use std::thread;
 /// What a wait takes with that is in `docs/performance.md`.
 const YIELDS: u32 = 1;
 
+/// A look at the queue, begun: it knows whether the pump was asked to stop before. Who pops hands it in and
+/// learns that afterwards, so `Stop` comes only where the queue was found empty after the stop.
+#[must_use]
+#[derive(Drop)]
+pub struct Look {
+    stopped: bool,
+}
+
+/// What a look at the queue found.
+#[must_use]
+#[derive(Clone, Copy, Debug, PartialEq, Eq)]
+pub enum Found {
+    /// So many frames.
+    Frames(usize),
+    /// Nothing.
+    Nothing,
+    /// Nothing, and the pump was asked to stop before.
+    Stop,
+}
+
+impl Look {
+    /// The look has popped so many frames.
+    pub fn found(self, popped: usize) -> Found {
+        if popped > 0 {
+            Found::Frames(popped)
+        } else if self.stopped {
+            Found::Stop
+        } else {
+            Found::Nothing
+        }
+    }
+}
+
 /// What the writing pump waits by.
 #[derive(Drop)]
 pub struct PumpWaiter {
@@ -39,9 +72,11 @@ impl PumpWaiter {
         self.shared.end_run(Pump::Writing);
     }
 
-    /// Whether the pump was asked to stop.
-    pub fn is_stopped(&self) -> bool {
-        self.shared.is_stopped()
+    /// Begins a look at the queue.
+    pub fn look(&self) -> Look {
+        Look {
+            stopped: self.shared.is_stopped(),
+        }
     }
 
     /// So many slots of the queue were freed: as many ends are woken of those that wait for one.

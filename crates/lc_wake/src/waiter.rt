@@ -81,27 +81,15 @@ impl Waiter {
         self.news()
     }
 
-    // Parks until there are news. Who comes out of a park without any says so before it looks again.
-    fn park<R: Wait>(&self, rt: &R) -> Wake {
+    // Sleeps until there are news.
+    fn sleep<R: Wait>(&self, rt: &R) -> Wake {
         for _ in rt.forever() {
             match self.news() {
                 Some(wake) => return wake,
                 None => self.parker.park(rt),
             }
-            match self.news() {
-                Some(wake) => return wake,
-                None => self.shared.sleeps_on(self.lane),
-            }
         }
         unreachable!()
-    }
-
-    // Sleeps until there are news.
-    fn sleep<R: Wait>(&self, rt: &R) -> Wake {
-        self.shared.begin_sleep(self.lane);
-        let wake = self.park(rt);
-        self.shared.end_sleep(self.lane);
-        wake
     }
 
     // Says that it wants a slot, if it does. Who frees one after this finds it, and one that was

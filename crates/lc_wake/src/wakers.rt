@@ -3,15 +3,14 @@
 //! # Why no wake-up is lost
 //!
 //! No clause says that who waits is woken, so this is the argument for it. Ends and pumps share
-//! seven kinds of words, each read and changed by single, sequentially
+//! six kinds of words, each read and changed by single, sequentially
 //! consistent steps: so there is one order of all steps, and "before" means in it. `unpark`
 //! leaves a token that ends the next `park`, or the one that goes on; a park may also end without
 //! one, so whoever sleeps looks again after each.
 //!
 //! | word | what it says |
 //! |---|---|
-//! | `told`, of each end | how often the end was told of something: the count rises, then the end is woken |
-//! | `calls` | of each end whether it sleeps, whether it is due to be woken, and whether it is called |
+//! | `told`, of each end | how often the end was told of something: the count rises, then the end is unparked |
 //! | `freed` | how often slots of the queue were freed |
 //! | `wanting` | a bit for each end that waits for a slot |
 //! | `over` | a bit for each pump whose run has ended |
@@ -22,39 +21,17 @@
 //! the end met a full queue since its last wait, where `freed` is not as noted; else it parks,
 //! and looks again.
 //!
-//! To *wake* an end is to unpark it, or to leave that to another end: waking is what costs most, so
-//! who tells many ends, as a pump does, unparks few of them. An end that waits without a timeout says
-//! in `calls` that it *sleeps*, before the look that precedes its first park, and until its wait
-//! ends. Ends that are told and do not sleep there are unparked at once. Those that sleep become
-//! *due*, and of the due one is *called* where none is: who changed the word so unparks it next. An
-//! end whose sleep ends takes itself out of all three, and by the same step calls others that are
-//! due, in turn from its own lane on, until two are called; one that came out of its park and found
-//! no news does so too, but sleeps on, and looks for news once more before it parks.
-//!
-//! - **Who is due comes out of its park.** After each step on `calls` some end is called, or no one
-//!   is due. Who is called is unparked after the step that called it, and so comes out of
-//!   its park, and then calls the next; between these two it runs nothing but the lines here, holds
-//!   no lock, and calls nothing of a caller's, such as the clock of a wait with a timeout. Since
-//!   each goes on in turn from its own lane, each chain of calls passes an end that is due by twelve
-//!   others at most. Where a step fails, since another thread changed the word meanwhile, all who are
-//!   due or called are unparked, and are neither any more: then no one is due.
-//! - **Who is woken finds why.** Take an end that is told, and look at `calls` in the step behind
-//!   that. If the end does not sleep there, it is unparked, or begins to sleep later and then looks
-//!   at `told`. If it sleeps there, it is due or called from this step on, until it is unparked with
-//!   all others or takes itself out. Once it has done that it looks at `told` before it parks again:
-//!   the count rose before the step, so it finds it risen.
-//!
 //! - **An end waits, the reading pump wakes it.** A frame first arrives at the inbox or credit,
-//!   then `told` rises, then the end is woken. Take any look of the end that did not find the
+//!   then `told` rises, then the end is unparked. Take any look of the end that did not find the
 //!   frame: the frame arrived after it, so `told` rises after it, and so after the noting. The
-//!   next wait finds the count risen; or it looks before the rise, and then it is woken
-//!   after that look, which ends the park. However many things the end looks at, one after the
+//!   next wait finds the count risen; or it looks before the rise, and then the unpark comes
+//!   after that look and ends the park. However many things the end looks at, one after the
 //!   other, this holds of each look by itself. A frame that came after the noting and was found
 //!   ends the next wait once too often. What was told before the noting had arrived before it, so
 //!   every look after the wait finds it.
 //! - **An end wants a slot, the writing pump frees one.** The pump pops, then `freed` rises, then
-//!   it reads `wanting`, and for each slot that was freed takes away the bit of one end, tells and
-//!   wakes it. An end that was refused sets its bit when it waits, and then looks at `freed`. Take a
+//!   it reads `wanting`, and for each slot that was freed takes away the bit of one end and tells
+//!   it. An end that was refused sets its bit when it waits, and then looks at `freed`. Take a
 //!   slot that is freed after the refusal: `freed` rises after the refusal, so after the noting.
 //!   If the end looks at `freed` after the rise, its wait ends. If it looks before, its bit was
 //!   set before the pump reads `wanting`: it is told then, or more ends want a slot than were
@@ -72,10 +49,10 @@
 //!   park at once.
 //! - **Stop.** `stopped` is set, and then the pump is unparked, always. Its last look at
 //!   `stopped` before it parks finds that; or the unpark comes after the look and ends the park.
-//!   In each turn it reads `stopped` before it pops, so that `Stopped` is the answer only where
-//!   the queue was found empty after the stop.
-//! - **A pump's run ends.** Its bit of `over` is set, and then every end is told and unparked. An end
-//!   that waits finds the bit; or it looked before the bit was set, so the unpark comes after that
+//!   Each look at the queue reads `stopped` before it pops, as its type asks, so that `Stopped`
+//!   is the answer only where the queue was found empty after the stop.
+//! - **A pump's run ends.** Its bit of `over` is set, and then every end is told. An end that
+//!   waits finds the bit; or it looked before the bit was set, so the telling comes after that
 //!   and ends its park, and then it finds it.
 //! - **A further run begins.** Its bit is taken away, for which nobody waits. An end that slept
 //!   when the last run ended was told of that, and its wait ends: by `Over`, or by `Again` where
@@ -87,11 +64,15 @@
 ghost use Rattle.std.specs.Prelude.{◌<◌};
 ghost use Rattle.lc_frame.specs.Lane.{lane_count};
 
-use crate::calls::{Calls, Change, Ends};
 use crossbeam_utils::sync::{Parker, Unparker};
 use lc_frame::{CHANNELS, LANES, Lane};
 use std::alloc::AllocError;
 use std::sync::atomic::{AtomicBool, AtomicU64, Ordering};
+
+// The bit of the end that puts on a lane.
+fn bit(lane: Lane) -> u64 {
+    1 << lane.index()
+}
 
 /// One of the two pumps.
 #[derive(Clone, Copy, Debug, PartialEq, Eq)]
@@ -125,14 +106,9 @@ impl Waker {
         })
     }
 
-    // It is told of something. Once the count has risen, it is to be woken.
-    fn note(&self) {
-        self.told.fetch_add(1, Ordering::SeqCst);
-    }
-
-    // The same at once.
+    // It is told of something. The count rises first, so that who is woken finds it.
     fn tell(&self) {
-        self.note();
+        self.told.fetch_add(1, Ordering::SeqCst);
         self.unparker.unpark();
     }
 }
@@ -147,9 +123,8 @@ pub struct Wakers {
     pump_sleeps: AtomicBool,
     // How often slots of the queue were freed.
     freed: AtomicU64,
-    // The ends that wait for a slot.
+    // A bit for each end that waits for a slot.
     wanting: AtomicU64,
-    calls: Calls,
     // A bit for each pump whose run has ended.
     over: AtomicU64,
     stopped: AtomicBool,
@@ -168,7 +143,6 @@ impl Wakers {
             pump_sleeps: AtomicBool::new(false),
             freed: AtomicU64::new(0),
             wanting: AtomicU64::new(0),
-            calls: Calls::new(),
             over: AtomicU64::new(0),
             stopped: AtomicBool::new(false),
         }
@@ -185,37 +159,9 @@ impl Wakers {
         }
     }
 
-    // Wakes these ends.
-    fn unpark(&self, ends: Ends) {
-        if ends == Ends::NONE {
-            return;
-        }
-        for lane in 0..LANES {
-            if ends.has(lane) {
-                self.waker(lane).unparker.unpark();
-            }
-        }
-    }
-
     /// A frame came that concerns this end.
     pub fn frame_came(&self, lane: Lane) {
-        self.waker(lane.index()).note();
-        self.unpark(self.calls.note(Change::Told(Ends::of(lane))));
-    }
-
-    /// The end is about to sleep: it looks for news once more after this.
-    pub(crate) fn begin_sleep(&self, lane: Lane) {
-        self.calls.note_sleep(lane);
-    }
-
-    /// It came out of its park and found no news: it looks once more after this, and parks again.
-    pub(crate) fn sleeps_on(&self, lane: Lane) {
-        self.unpark(self.calls.note(Change::SleepsOn(lane)));
-    }
-
-    /// It sleeps no longer.
-    pub(crate) fn end_sleep(&self, lane: Lane) {
-        self.unpark(self.calls.note(Change::Leaves(lane)));
+        self.waker(lane.index()).tell();
     }
 
     /// How often the end was told of something.
@@ -247,43 +193,31 @@ impl Wakers {
 
     /// An end waits for a slot, or no longer does.
     pub(crate) fn want_slot(&self, lane: Lane) {
-        self.wanting
-            .fetch_or(Ends::of(lane).word(), Ordering::SeqCst);
+        self.wanting.fetch_or(bit(lane), Ordering::SeqCst);
     }
 
     pub(crate) fn want_no_slot(&self, lane: Lane) {
-        self.wanting
-            .fetch_and(!Ends::of(lane).word(), Ordering::SeqCst);
-    }
-
-    // These ends wait for a slot no longer, and are told of one.
-    fn tell_wanting(&self, ends: Ends) {
-        self.wanting.fetch_and(!ends.word(), Ordering::SeqCst);
-        for lane in 0..LANES {
-            if ends.has(lane) {
-                self.waker(lane).note();
-            }
-        }
-        self.unpark(self.calls.note(Change::Told(ends)));
+        self.wanting.fetch_and(!bit(lane), Ordering::SeqCst);
     }
 
     /// Wakes up to so many of the ends that wait for a slot, from a lane on in turn, and says from
     /// which lane on to go next.
     pub(crate) fn wake_wanting(&self, from: usize, count: usize) -> usize {
-        let wanting = Ends::in_word(self.wanting.load(Ordering::SeqCst));
-        if wanting == Ends::NONE {
+        let wanting = self.wanting.load(Ordering::SeqCst);
+        if wanting == 0 {
             return from;
         }
-        let (mut chosen, mut left, mut next) = (Ends::NONE, count, from);
+        let mut left = count;
+        let mut next = from;
         for step in 0..LANES {
             let lane = (from % LANES + step) % LANES;
-            if left > 0 && wanting.has(lane) {
-                chosen = chosen.with(Ends::at(lane));
+            if left > 0 && wanting & (1 << lane) != 0 {
+                self.wanting.fetch_and(!(1 << lane), Ordering::SeqCst);
+                self.waker(lane).tell();
                 left -= 1;
                 next = lane + 1;
             }
         }
-        self.tell_wanting(chosen);
         next
     }
 

@@ -18,7 +18,7 @@
 mod waking;
 
 use crate::waking::{Load, wakes_all, wakes_at_ends};
-use lc_frame::Version;
+use lc_frame::{CHANNELS, Version};
 use lc_inbox::{finish_all, share_all};
 use lc_loopback::loopback_as;
 use lc_queue::{LanesFault, lanes};
@@ -113,7 +113,7 @@ fn make_inboxes(alloc: Global, slots: u32) -> &'static str {
         return "out of memory";
     };
     let ends = parts.ends;
-    match share_all(alloc, [CAPACITY; 7], ends) {
+    match share_all(alloc, [CAPACITY; CHANNELS], ends) {
         Ok(inboxes) => {
             let incoming = inboxes.incoming;
             let outgoing = inboxes.outgoing;

@@ -11,7 +11,7 @@ ghost use Rattle.lc_session.specs.Report.{AreOfOneSession};
 
 use lc_book::Refusal;
 use lc_driver::{Counted, ReadEnd};
-use lc_frame::{Channel, FrameRef, Version};
+use lc_frame::{CHANNELS, Channel, FrameRef, Version};
 use lc_peer::{Config, Take};
 use lc_session::{Parts, ReadPump, RecvEnd, Report, SendEnd, Session, WritePump, finish};
 use lc_wake::Wake;
@@ -158,7 +158,7 @@ fn take_all<R: Wait + Clock>(rt: &R, end: &mut RecvEnd, capacity: u32, job: Job)
 }
 
 // Each sending end in a thread of its own.
-fn send_each<R: Threads + Wait + Clock + Sync>(rt: &R, ends: &mut [SendEnd; 7], load: Load)
+fn send_each<R: Threads + Wait + Clock + Sync>(rt: &R, ends: &mut [SendEnd; CHANNELS], load: Load)
     ensures len { length ends.new ≡ length ends.old }
     ensures same { (k : ℕ) (d : OutboxState) → k < length ends.old → IsSameOutbox (slice_index_or ends.old k d) (slice_index_or ends.new k d) }
 {
@@ -166,7 +166,7 @@ fn send_each<R: Threads + Wait + Clock + Sync>(rt: &R, ends: &mut [SendEnd; 7], 
 }
 
 // And each receiving end.
-fn take_each<R: Threads + Wait + Clock + Sync>(rt: &R, ends: &mut [RecvEnd; 7], load: Load)
+fn take_each<R: Threads + Wait + Clock + Sync>(rt: &R, ends: &mut [RecvEnd; CHANNELS], load: Load)
     ensures len { length ends.new ≡ length ends.old }
     ensures same { (k : ℕ) (d : Side) → k < length ends.old → IsSameSide (slice_index_or ends.old k d) (slice_index_or ends.new k d) }
 {
@@ -178,7 +178,7 @@ fn take_each<R: Threads + Wait + Clock + Sync>(rt: &R, ends: &mut [RecvEnd; 7], 
     );
 }
 
-fn send_meanwhile<R>(rt: &R, mut ends: [SendEnd; 7], load: Load) -> [SendEnd; 7]
+fn send_meanwhile<R>(rt: &R, mut ends: [SendEnd; CHANNELS], load: Load) -> [SendEnd; CHANNELS]
 where
     R: Threads + Wait + Clock + Sync,
     ensures { AllZip IsSameOutbox ends result }
@@ -187,7 +187,7 @@ where
     ends
 }
 
-fn take_meanwhile<R>(rt: &R, mut ends: [RecvEnd; 7], load: Load) -> [RecvEnd; 7]
+fn take_meanwhile<R>(rt: &R, mut ends: [RecvEnd; CHANNELS], load: Load) -> [RecvEnd; CHANNELS]
 where
     R: Threads + Wait + Clock + Sync,
     ensures { AllZip IsSameSide ends result }
@@ -200,19 +200,19 @@ where
 fn use_ends<R: Threads + Wait + Clock + Sync>(
     rt: &R,
     session: &Session,
-    sending: [SendEnd; 7],
-    receiving: [RecvEnd; 7],
+    sending: [SendEnd; CHANNELS],
+    receiving: [RecvEnd; CHANNELS],
     load: Load,
-) -> ([SendEnd; 7], [RecvEnd; 7])
+) -> ([SendEnd; CHANNELS], [RecvEnd; CHANNELS])
     ensures sending { AllZip IsSameOutbox sending result.0 }
     ensures receiving { AllZip IsSameSide receiving result.1 }
 {
     let ends = join(
         rt,
-        || -> [SendEnd; 7]
+        || -> [SendEnd; CHANNELS]
             ensures { AllZip IsSameOutbox sending result }
         { send_meanwhile(rt, sending, load) },
-        || -> [RecvEnd; 7]
+        || -> [RecvEnd; CHANNELS]
             ensures { AllZip IsSameSide receiving result }
         { take_meanwhile(rt, receiving, load) },
     );
@@ -281,7 +281,7 @@ fn use_all<R: Threads + Wait + Clock + Sync>(
         || -> (ReadPump, WritePump)
             ensures { HearsMore read_pump result.0 × IsSamePump write_pump result.1 }
         { use_pumps(rt, read_pump, reader, write_pump, writer) },
-        || -> ([SendEnd; 7], [RecvEnd; 7])
+        || -> ([SendEnd; CHANNELS], [RecvEnd; CHANNELS])
             ensures { AllZip IsSameOutbox send_ends result.0 × AllZip IsSameSide recv_ends result.1 }
         { use_ends(rt, &session, send_ends, recv_ends, load) },
     );
@@ -319,7 +319,7 @@ pub fn wakes_all<R: Threads + Wait + Clock + Sync>(
     } = load;
     let config = Config {
         version: Version::One,
-        capacities: [capacity; 7],
+        capacities: [capacity; CHANNELS],
         slots,
     };
     let parts = Session::new(alloc, config).ok()?;
@@ -368,7 +368,7 @@ pub fn wakes_at_ends<R: Threads + Wait + Clock + Sync>(
 ) -> Option<bool> {
     let config = Config {
         version: Version::One,
-        capacities: [1; 7],
+        capacities: [1; CHANNELS],
         slots: 1,
     };
     let parts = Session::new(alloc, config).ok()?;

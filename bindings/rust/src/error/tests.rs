@@ -1,5 +1,7 @@
 //! Each code by its name, its number and its whole sentence.
 use super::*;
+use std::fs;
+use std::path::Path;
 
 // A code, what it becomes where 6 is the number that goes with it, and what that says.
 const REFUSALS: &str = "\
@@ -60,9 +62,9 @@ fn each_refusal() {
         let refusal = Refusal::of(code, 6);
         assert_eq!(shown(refusal), row);
         assert_eq!(u32::from(refusal.number()), code);
+        let most = Refusal::of(code, 1 << 62).detail();
+        assert_eq!(most, refusal.detail().map(|(name, _)| (name, 1 << 62)));
     }
-    let most = Refusal::LimitRaised { left: 1 << 62 };
-    assert_eq!(Refusal::of(8, 1 << 62), most);
 }
 
 #[test]
@@ -148,6 +150,31 @@ fn a_read_error_becomes_an_error_of_a_device() {
     assert!(error.get_ref().is_some_and(|inner| inner.is::<Fault>()));
 }
 
+#[derive(Debug)]
+struct Cut(Fault);
+
+impl Display for Cut {
+    fn fmt(&self, f: &mut Formatter<'_>) -> fmt::Result {
+        f.write_str("the cable is cut")
+    }
+}
+
+impl Error for Cut {
+    fn source(&self) -> Option<&(dyn Error + 'static)> {
+        Some(&self.0)
+    }
+}
+
+#[test]
+fn a_read_error_has_the_source_of_what_failed() {
+    let failed = ReadError::from(io::Error::other(Cut(Fault::BadTag)));
+    assert_eq!(failed.to_string(), "the cable is cut");
+    let source = failed.source().map(ToString::to_string);
+    assert_eq!(source, Some(Fault::BadTag.to_string()));
+    let stop = Stop::Fault(Fault::BadTag);
+    assert!(ReadError::Stopped { stop, frames: 0 }.source().is_none());
+}
+
 // `LCMUX_NO_ROOM = 10, ..` of the C header as `10 NoRoom`, `LCMUX_V1_NOT_GUARANTEED` as `NotGuaranteed`.
 fn named(line: &str) -> Option<String> {
     let (name, rest) = line.trim().strip_prefix("LCMUX_")?.split_once(" = ")?;
@@ -159,12 +186,18 @@ fn named(line: &str) -> Option<String> {
     Some(format!("{code} {}", name.collect::<String>()))
 }
 
+/// The header for C, which a package of this crate has among its tests.
+fn header() -> String {
+    let read = |path| fs::read_to_string(Path::new(env!("CARGO_MANIFEST_DIR")).join(path));
+    read("tests/lcmux.h")
+        .or_else(|_| read("../c/lcmux.h"))
+        .expect("lcmux.h is here")
+}
+
 #[test]
 fn names_and_numbers_are_those_of_the_c_header() {
-    let header: Vec<_> = include_str!("../../../c/lcmux.h")
-        .lines()
-        .filter_map(named)
-        .collect();
+    let header = header();
+    let header: Vec<_> = header.lines().filter_map(named).collect();
     for table in [REFUSALS, VIOLATIONS, FAULTS, PEER_FAULTS] {
         for (code, row) in rows(table) {
             let name = row.split(' ').next().unwrap();

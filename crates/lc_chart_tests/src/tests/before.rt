@@ -2,7 +2,7 @@
 mod page;
 mod picture;
 mod session;
-mod shapes;
+pub mod shapes;
 mod words;
 
 use lc_chart::ChartFault;

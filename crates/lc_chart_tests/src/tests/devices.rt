@@ -44,12 +44,32 @@ fn flush_fails(rt: &impl Abort, alloc: Global, picture: (&str, &str)) {
     assert!(rt; is_whole, "{}: the flush", picture.0);
 }
 
+// What may come before each of them, any number of times.
+const FRONTS: [&str; 2] = ["A arrive\n", "\x21\0\0\0\x05"];
+
+// The first write comes once some thousand bytes are gathered: the more comes before, the earlier in the
+// picture, so that each part of it meets the failure in turn.
+fn first_write_fails(
+    rt: &impl Abort,
+    alloc: Global,
+    (command, input): (&str, &str),
+    front: &str,
+) -> Option<()> {
+    for count in 0..250 {
+        let fronts = front.repeat(alloc, count).ok()?;
+        let longer = format!(in alloc; "{fronts}{input}").ok()?;
+        write_fails(rt, alloc, (command, longer.as_str()), 1)?;
+    }
+    Some(())
+}
+
 #[test]
 fn a_failed_write_ends_the_picture(rt: HostRuntime) -> Result<(), Fail> {
-    for &picture in &PICTURES {
+    for (&picture, front) in PICTURES.iter().zip(&FRONTS) {
         for call in 1..6 {
             write_fails(&rt, rt.alloc(), picture, call).ok_or("no run")?;
         }
+        first_write_fails(&rt, rt.alloc(), picture, front).ok_or("no run")?;
         flush_fails(&rt, rt.alloc(), picture);
     }
     Ok(())

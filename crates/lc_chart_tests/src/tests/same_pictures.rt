@@ -1,5 +1,5 @@
 //! Pictures of made sessions are those of before, and are written by the same calls.
-use super::{before, same};
+use super::before;
 use lc_chart::{Command, chart};
 use lc_frame::Version;
 use std::alloc::Global;
@@ -75,13 +75,14 @@ fn write_event(state: &mut u64, script: &mut Vec<u8>) -> io::Result<()> {
     }
 }
 
+// Whether the session's picture is that of before, which it answers.
 fn is_same(
     rt: &impl Abort,
     alloc: Global,
     capacity: u32,
     version: Version,
     script: &[u8],
-) -> Result<(), Fail> {
+) -> Result<String, Fail> {
     let (mut found, mut wanted, mut err) = (no_calls(alloc), no_calls(alloc), Vec::new(alloc));
     let command = Command::Session { capacity, version };
     let mut input = script;
@@ -89,9 +90,30 @@ fn is_same(
     before::draw(alloc, capacity, version, script, &mut wanted).map_err(|_| "no picture")?;
     assert_eq!(rt; status, 0);
     let wanted = String::from_utf8(wanted.bytes).map_err(|_| "no text")?;
-    let found = String::from_utf8(found.bytes).ok();
-    same(rt, "a picture", found, wanted.as_str());
-    Ok(())
+    let found = String::from_utf8(found.bytes).map_err(|_| "no text")?;
+    is_same_text(rt, found.as_str(), wanted.as_str());
+    Ok(wanted)
+}
+
+// The first line of a picture that another has not in its place.
+fn first_difference<'a>(found: &'a str, wanted: &str) -> &'a str {
+    let mut lines = wanted.split('\n');
+    for line in found.split('\n') {
+        if lines.next() != Some(line) {
+            return line;
+        }
+    }
+    "none, before its end"
+}
+
+// Names one line, since a picture may be longer than what a test can print.
+fn is_same_text(rt: &impl Abort, found: &str, wanted: &str) {
+    let is_same = found == wanted;
+    let line = match is_same {
+        true => "none",
+        false => first_difference(found, wanted),
+    };
+    assert!(rt; is_same, "a picture differs at the line {line}");
 }
 
 // Rings that are soon full and such as never are, in both versions, and sessions of few and many events.
@@ -111,6 +133,68 @@ fn pictures_are_those_of_before(rt: HostRuntime) -> Result<(), Fail> {
             Version::Two
         };
         is_same(&rt, rt.alloc(), capacity, version, script.as_slice())?;
+    }
+    Ok(())
+}
+
+// Twelve events, of which an honour absolves where the side that sends holds more than the target.
+fn write_round(state: &mut u64, script: &mut Vec<u8>) -> io::Result<()> {
+    let (client, server) = match below(state, 2) {
+        0 => ('A', 'B'),
+        _ => ('B', 'A'),
+    };
+    let channel = below(state, 7);
+    let (amount, target) = (below(state, 400).saturating_add(9), below(state, 9));
+    writeln!(script, "{server} issue {channel} {amount}")?;
+    writeln!(script, "{client} deliver 4294967295")?;
+    writeln!(script, "{client} send {channel} 6a6b")?;
+    writeln!(script, "{server} arrive")?;
+    writeln!(script, "{server} take {channel}")?;
+    writeln!(script, "{server} plead {channel} {target}")?;
+    writeln!(script, "{client} deliver 4294967295")?;
+    writeln!(script, "{client} honour {channel}")?;
+    for _ in 0..4 {
+        write_event(state, script)?;
+    }
+    Ok(())
+}
+
+// The events of the picture's description that are honours which absolve, with the last one's number.
+fn absolving_honours(picture: &str) -> (u32, u32) {
+    let (mut count, mut last) = (0u32, 0);
+    for line in picture.split('\n') {
+        if line.contains(": honour on channel ") && line.contains(": absolve ") {
+            count = count.saturating_add(1);
+            let number = line
+                .split('.')
+                .next()
+                .and_then(|number| number.parse().ok());
+            last = number.unwrap_or(last);
+        }
+    }
+    (count, last)
+}
+
+// As many events as a picture has at most, with frames and bars from each part of the session.
+#[test]
+fn the_longest_pictures_are_those_of_before(rt: HostRuntime) -> Result<(), Fail> {
+    for (capacity, version) in [(1_000, Version::One), (16_777_216, Version::Two)] {
+        let mut state = u64::from(capacity);
+        let mut script = Vec::new(rt.alloc());
+        for _ in 0..166 {
+            write_round(&mut state, &mut script)?;
+        }
+        for _ in 0..8 {
+            write_event(&mut state, &mut script)?;
+        }
+        let picture = is_same(&rt, rt.alloc(), capacity, version, script.as_slice())?;
+        let events = script.iter().filter(|byte| **byte == b'\n').count();
+        assert_eq!(rt; events, 2_000);
+        let (count, last) = absolving_honours(picture.as_str());
+        assert!(&rt;
+            count > 50 && last > 1_900,
+            "{count} honours absolve, up to {last}"
+        );
     }
     Ok(())
 }

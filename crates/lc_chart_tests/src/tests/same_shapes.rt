@@ -1,4 +1,5 @@
 //! Shapes are those of formatting, and are written by the same calls.
+use super::before::shapes as before;
 use super::same;
 use lc_chart::shapes;
 use lc_chart::shapes::{Paint, Point};
@@ -9,92 +10,11 @@ use std::io::Write;
 use std::process::Abort;
 use std::test::Fail;
 
-// The shapes as they were first written, with the classes as text.
-mod before {
-    use lc_chart::shapes::Point;
-    use std::fmt::Display;
-    use std::io;
-    use std::io::Write;
-
-    pub fn rect<W: Write>(
-        out: &mut W,
-        paint: &super::Classes,
-        at: Point,
-        width: u64,
-        height: u64,
-    ) -> io::Result<()> {
-        let Point { x, y } = at;
-        writeln!(
-            out,
-            "<rect class=\"{paint}\" x=\"{x}\" y=\"{y}\" width=\"{width}\" height=\"{height}\"/>"
-        )
-    }
-
-    pub fn line<W: Write>(
-        out: &mut W,
-        paint: &super::Classes,
-        from: Point,
-        to: Point,
-    ) -> io::Result<()> {
-        let Point { x, y } = from;
-        write!(out, "<line class=\"{paint}\" x1=\"{x}\" y1=\"{y}\"")?;
-        let Point { x, y } = to;
-        writeln!(out, " x2=\"{x}\" y2=\"{y}\"/>")
-    }
-
-    pub fn disc<W: Write>(
-        out: &mut W,
-        paint: &super::Classes,
-        at: Point,
-        radius: u64,
-    ) -> io::Result<()> {
-        let Point { x, y } = at;
-        writeln!(
-            out,
-            "<circle class=\"{paint}\" cx=\"{x}\" cy=\"{y}\" r=\"{radius}\"/>"
-        )
-    }
-
-    pub fn diamond<W: Write>(out: &mut W, paint: &super::Classes, at: Point) -> io::Result<()> {
-        let Point { x, y } = at;
-        writeln!(
-            out,
-            "<path class=\"{paint}\" d=\"M{x} {y}m-13 0l13 -13l13 13l-13 13z\"/>"
-        )
-    }
-
-    pub fn text<W: Write, T: Display>(
-        out: &mut W,
-        paint: &super::Classes,
-        at: Point,
-        content: &T,
-    ) -> io::Result<()> {
-        let Point { x, y } = at;
-        writeln!(
-            out,
-            "<text class=\"{paint}\" x=\"{x}\" y=\"{y}\">{content}</text>"
-        )
-    }
-}
-
-// A name of the style sheet and a channel, which the paint of a shape keeps to itself.
+// A name of the style sheet and a channel, which the paints of today and of before keep to themselves.
 #[derive(Clone, Copy)]
 struct Classes {
     name: &'static str,
     channel: Option<Channel>,
-}
-
-impl std::fmt::Display for Classes {
-    fn fmt<W: std::fmt::Write>(&self, f: &mut std::fmt::Formatter<W>) -> std::fmt::Result {
-        let name = self.name;
-        match self.channel {
-            Some(channel) => {
-                let number = channel.number();
-                write!(f, "{name} c{number}")
-            }
-            None => write!(f, "{name}"),
-        }
-    }
 }
 
 impl Classes {
@@ -104,15 +24,38 @@ impl Classes {
             None => Paint::plain(self.name),
         }
     }
+
+    fn paint_before(self) -> before::Paint {
+        match self.channel {
+            Some(channel) => before::Paint::of(self.name, channel),
+            None => before::Paint::plain(self.name),
+        }
+    }
 }
 
-// What is written, and behind each call's bytes a mark. The call of this number fails, and leaves a mark
-// of its own.
+fn before_at(place: Point) -> before::Point {
+    before::Point::new(place.x, place.y)
+}
+
+// What is written, and behind each call's bytes a mark. A call takes so many bytes at most. The call of
+// this number fails, and leaves a mark of its own.
 #[derive(Drop)]
 struct Calls {
+    most: usize,
     bytes: Vec<u8>,
     calls: u64,
     failing: u64,
+}
+
+impl Calls {
+    fn new(alloc: Global, most: usize, failing: u64) -> Calls {
+        Calls {
+            most,
+            bytes: Vec::new(alloc),
+            calls: 0,
+            failing,
+        }
+    }
 }
 
 impl Write for Calls {
@@ -122,9 +65,10 @@ impl Write for Calls {
             self.bytes.push(b'!')?;
             return Err(io::Error::other("a call that fails"));
         }
-        self.bytes.extend_from_slice(buf)?;
+        let count = buf.len().min(self.most);
+        self.bytes.extend_from_slice(&buf[..count])?;
         self.bytes.push(b'~')?;
-        Ok(buf.len())
+        Ok(count)
     }
 
     fn flush(&mut self) -> io::Result<()> {
@@ -132,11 +76,39 @@ impl Write for Calls {
     }
 }
 
-fn no_calls(alloc: Global, failing: u64) -> Calls {
-    Calls {
-        bytes: Vec::new(alloc),
-        calls: 0,
-        failing,
+// A device whose own `write_all` sees each piece as it is handed on, an empty one too.
+#[derive(Drop)]
+struct Pieces<'a>(&'a mut Calls);
+
+impl Write for Pieces<'_> {
+    fn write(&mut self, buf: &[u8]) -> io::Result<usize> {
+        self.0.write(buf)
+    }
+
+    fn flush(&mut self) -> io::Result<()> {
+        Ok(())
+    }
+
+    fn write_all(&mut self, buf: &[u8]) -> io::Result<()> {
+        self.0.write(buf)?;
+        Ok(())
+    }
+}
+
+// How a device takes what it is handed.
+#[derive(Clone, Copy)]
+enum Taking {
+    Whole,
+    OneByte,
+    Pieces,
+}
+
+impl Taking {
+    fn most(self) -> usize {
+        match self {
+            Taking::OneByte => 1,
+            Taking::Whole | Taking::Pieces => usize::MAX,
+        }
     }
 }
 
@@ -151,73 +123,119 @@ impl std::fmt::Display for Careless {
     }
 }
 
-fn are_drawn(classes: Classes, at: Point, to: Point, out: &mut Calls) -> io::Result<()> {
-    let paint = classes.paint();
-    shapes::rect(out, paint, at, to.x, to.y)?;
-    shapes::line(out, paint, at, to)?;
-    shapes::disc(out, paint, at, to.x)?;
-    shapes::diamond(out, paint, at)?;
-    shapes::text(out, paint, at, &"some words")?;
-    shapes::text(out, paint, to, &to.y)
-}
-
-fn were_drawn(classes: Classes, at: Point, to: Point, out: &mut Calls) -> io::Result<()> {
-    before::rect(out, &classes, at, to.x, to.y)?;
-    before::line(out, &classes, at, to)?;
-    before::disc(out, &classes, at, to.x)?;
-    before::diamond(out, &classes, at)?;
-    before::text(out, &classes, at, &"some words")?;
-    before::text(out, &classes, to, &to.y)
-}
-
-fn is_same(
-    rt: &impl Abort,
-    alloc: Global,
+// What is drawn: the classes, and the numbers of two places.
+#[derive(Clone, Copy)]
+struct Drawing {
     classes: Classes,
     at: Point,
     to: Point,
-) -> Result<(), Fail> {
-    let (mut found, mut wanted) = (no_calls(alloc, 0), no_calls(alloc, 0));
-    are_drawn(classes, at, to, &mut found)?;
-    were_drawn(classes, at, to, &mut wanted)?;
-    let wanted = String::from_utf8(wanted.bytes).map_err(|_| "no text")?;
-    let found = String::from_utf8(found.bytes).ok();
-    same(rt, "the shapes", found, wanted.as_str());
-    Ok(())
 }
 
-// Whether the first fault is met at the same call, with the same bytes before and behind it.
-fn fails_alike(rt: &impl Abort, alloc: Global, failing: u64) -> Result<(), Fail> {
-    let classes = Classes {
-        name: "mark",
-        channel: Some(Channel::DataChannel),
-    };
-    let (at, to) = (Point::new(1, 20), Point::new(300, 4_000));
-    let (mut found, mut wanted) = (no_calls(alloc, failing), no_calls(alloc, failing));
-    let is_drawn = are_drawn(classes, at, to, &mut found).is_ok();
-    let was_drawn = were_drawn(classes, at, to, &mut wanted).is_ok();
-    assert_eq!(rt; is_drawn, was_drawn);
-    let is_told = shapes::text(&mut found, classes.paint(), at, &Careless).is_ok();
-    let was_told = before::text(&mut wanted, &classes, at, &Careless).is_ok();
-    assert_eq!(rt; is_told, was_told);
+impl Drawing {
+    fn draw<W: Write>(self, out: &mut W) -> io::Result<()> {
+        let Drawing { classes, at, to } = self;
+        let paint = classes.paint();
+        shapes::rect(out, paint, at, to.x, to.y)?;
+        shapes::line(out, paint, at, to)?;
+        shapes::disc(out, paint, at, to.x)?;
+        shapes::diamond(out, paint, at)?;
+        shapes::text(out, paint, at, &"some words")?;
+        shapes::text(out, paint, at, &"")?;
+        shapes::text(out, paint, to, &to.y)
+    }
+
+    fn draw_before<W: Write>(self, out: &mut W) -> io::Result<()> {
+        let (at, to) = (before_at(self.at), before_at(self.to));
+        let paint = self.classes.paint_before();
+        before::rect(out, paint, at, to.x, to.y)?;
+        before::line(out, paint, at, to)?;
+        before::disc(out, paint, at, to.x)?;
+        before::diamond(out, paint, at)?;
+        before::text(out, paint, at, &"some words")?;
+        before::text(out, paint, at, &"")?;
+        before::text(out, paint, to, &to.y)
+    }
+
+    // The calls of today, and whether all were drawn. Behind them, also where one failed, stands a text whose
+    // content goes on behind a failed write.
+    fn calls(self, alloc: Global, taking: Taking, failing: u64) -> (Calls, [bool; 2]) {
+        let mut calls = Calls::new(alloc, taking.most(), failing);
+        let is_drawn = match taking {
+            Taking::Pieces => self.draw(&mut Pieces(&mut calls)),
+            Taking::Whole | Taking::OneByte => self.draw(&mut calls),
+        };
+        let is_told = shapes::text(&mut calls, self.classes.paint(), self.at, &Careless);
+        (calls, [is_drawn.is_ok(), is_told.is_ok()])
+    }
+
+    // Those of before.
+    fn calls_before(self, alloc: Global, taking: Taking, failing: u64) -> (Calls, [bool; 2]) {
+        let mut calls = Calls::new(alloc, taking.most(), failing);
+        let is_drawn = match taking {
+            Taking::Pieces => self.draw_before(&mut Pieces(&mut calls)),
+            Taking::Whole | Taking::OneByte => self.draw_before(&mut calls),
+        };
+        let paint = self.classes.paint_before();
+        let is_told = before::text(&mut calls, paint, before_at(self.at), &Careless);
+        (calls, [is_drawn.is_ok(), is_told.is_ok()])
+    }
+}
+
+// Whether the first fault is met at the same call, with the same bytes before and behind it. Answers whether
+// the call that fails was made.
+fn is_same(
+    rt: &impl Abort,
+    alloc: Global,
+    drawing: Drawing,
+    taking: Taking,
+    failing: u64,
+) -> Result<bool, Fail> {
+    let (found, is_drawn) = drawing.calls(alloc, taking, failing);
+    let (wanted, was_drawn) = drawing.calls_before(alloc, taking, failing);
+    assert!(rt; is_drawn == was_drawn, "a drawing fails in another way");
+    let is_met = wanted.calls >= failing;
     let wanted = String::from_utf8(wanted.bytes).map_err(|_| "no text")?;
     let found = String::from_utf8(found.bytes).ok();
     same(rt, "the calls", found, wanted.as_str());
+    Ok(is_met)
+}
+
+// More calls than the drawing below has bytes.
+const CALLS: u64 = 1_000;
+
+// Each call fails in turn, and in the last turn none.
+fn fails_as_before(rt: &impl Abort, alloc: Global, taking: Taking) -> Result<(), Fail> {
+    let drawing = Drawing {
+        classes: Classes {
+            name: "mark",
+            channel: Some(Channel::DataChannel),
+        },
+        at: Point::new(1, 20),
+        to: Point::new(300, 4_000),
+    };
+    let mut met = 0;
+    for failing in 1..=CALLS {
+        if !is_same(rt, alloc, drawing, taking, failing)? {
+            break;
+        }
+        met = failing;
+    }
+    assert!(rt; met > 80 && met < CALLS, "{met} calls fail");
     Ok(())
 }
 
 #[test]
 fn a_failed_write_is_met_as_before(rt: HostRuntime) -> Result<(), Fail> {
-    for failing in 1..=90 {
-        fails_alike(&rt, rt.alloc(), failing)?;
+    for taking in [Taking::Whole, Taking::OneByte, Taking::Pieces] {
+        fails_as_before(&rt, rt.alloc(), taking)?;
     }
     Ok(())
 }
 
-// Numbers of each length, and those about their ends.
+// Numbers of each length, and those about their ends, 2^64 - 1 among them.
 fn number_at(place: u32) -> u64 {
     let power = 10u64.saturating_pow(place / 3);
-    power.saturating_add(u64::from(place % 3)).saturating_sub(1)
+    power.saturating_sub(1).saturating_add(u64::from(place % 3))
 }
 
 #[test]
@@ -227,17 +245,27 @@ fn a_paint_is_written_as_its_classes(rt: HostRuntime) {
     same(&rt, "two paints", text, "room, mark c3");
 }
 
+fn is_same_in_each_way(rt: &impl Abort, alloc: Global, drawing: Drawing) -> Result<(), Fail> {
+    for taking in [Taking::Whole, Taking::OneByte, Taking::Pieces] {
+        is_same(rt, alloc, drawing, taking, 0)?;
+    }
+    Ok(())
+}
+
+// A public paint may have an empty name, of which formatting writes no piece.
 #[test]
 fn shapes_are_those_of_before(rt: HostRuntime) -> Result<(), Fail> {
     for place in 0..66 {
         let at = Point::new(number_at(place), number_at(65 - place));
         let to = Point::new(number_at((place + 7) % 66), number_at((place + 22) % 66));
-        for name in ["room", "soft end", "a"] {
+        for name in ["room", "soft end", "a", ""] {
             let channel = None;
-            is_same(&rt, rt.alloc(), Classes { name, channel }, at, to)?;
+            let classes = Classes { name, channel };
+            is_same_in_each_way(&rt, rt.alloc(), Drawing { classes, at, to })?;
             for channel in Channel::ALL {
                 let channel = Some(channel);
-                is_same(&rt, rt.alloc(), Classes { name, channel }, at, to)?;
+                let classes = Classes { name, channel };
+                is_same_in_each_way(&rt, rt.alloc(), Drawing { classes, at, to })?;
             }
         }
     }

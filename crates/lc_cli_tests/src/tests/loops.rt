@@ -274,7 +274,7 @@ fn a_connection_that_fails_or_is_a_strangers_is_refused(rt: HostRuntime) {
     }
 }
 
-const SOCKETS: [Case; 7] = [
+const SOCKETS: [Case; 10] = [
     (Trouble::FailsToRead, 1, 4, ONES, FAILED),
     (Trouble::FailsToRead, 20, 20, ONES, FAILED),
     (Trouble::FailsToRead, 100, 100, ONES, FAILED),
@@ -282,6 +282,10 @@ const SOCKETS: [Case; 7] = [
     (Trouble::FailsToWrite, 20, 20, ONES, FAILED),
     (Trouble::FailsToWrite, 100, 100, ONES, FAILED),
     (Trouble::Ends, 1, 2, ONES, ANY),
+    (Trouble::TakesNothing, 1, 4, ONES, FAILED),
+    // A signal says nothing of the socket.
+    (Trouble::InterruptsRead, 1, 4, ONES, WHOLE),
+    (Trouble::InterruptsWrite, 1, 4, ONES, WHOLE),
 ];
 
 #[test]
@@ -379,6 +383,13 @@ fn rounds_end_with_the_last_or_with_the_turns(rt: HostRuntime) {
         &rt,
         "no connection",
         bounced(rt, rt.alloc(), Trouble::Refuses, 1, turns),
+        "Err(Device)",
+    );
+    // Who looks in vain ends with the pump that fails, long before its turns are spent.
+    same(
+        &rt,
+        "a failed read",
+        bounced(rt, rt.alloc(), Trouble::FailsToRead, 50, u32::MAX),
         "Err(Device)",
     );
 }

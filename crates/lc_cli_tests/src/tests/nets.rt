@@ -21,6 +21,12 @@ pub enum Trouble {
     FailsToRead,
     /// A write fails.
     FailsToWrite,
+    /// A signal interrupts a read.
+    InterruptsRead,
+    /// A signal interrupts a write.
+    InterruptsWrite,
+    /// A write takes nothing.
+    TakesNothing,
     /// A read says that the stream has ended.
     Ends,
     /// A write that begins with a message of more bytes changes this one of them, counted from 0.
@@ -46,11 +52,16 @@ impl Calls {
             && self.made.fetch_add(1, Ordering::SeqCst) == self.at.wrapping_sub(1)
     }
 
-    fn set_up(&self) -> io::Result<()> {
-        if self.meets(Trouble::Refuses) {
-            return Err(io::Error::from(ErrorKind::Other));
+    // Fails a call that may be in this trouble, if it is the one.
+    fn fail(&self, trouble: Trouble, kind: ErrorKind) -> io::Result<()> {
+        if self.meets(trouble) {
+            return Err(io::Error::from(kind));
         }
         Ok(())
+    }
+
+    fn set_up(&self) -> io::Result<()> {
+        self.fail(Trouble::Refuses, ErrorKind::Other)
     }
 
     // The place of the byte that a write of these frames changes, if it is the one.
@@ -205,9 +216,9 @@ impl AsRawFd for Stream {
 
 impl Read for Stream {
     fn read(&mut self, buf: &mut [u8]) -> io::Result<usize> {
-        if self.calls.meets(Trouble::FailsToRead) {
-            return Err(io::Error::from(ErrorKind::Other));
-        }
+        self.calls.fail(Trouble::FailsToRead, ErrorKind::Other)?;
+        self.calls
+            .fail(Trouble::InterruptsRead, ErrorKind::Interrupted)?;
         if self.calls.meets(Trouble::Ends) {
             return Ok(0);
         }
@@ -223,8 +234,11 @@ fn is_finish(byte: u8) -> bool {
 impl Write for Stream {
     // A Finish is written by itself.
     fn write(&mut self, buf: &[u8]) -> io::Result<usize> {
-        if self.calls.meets(Trouble::FailsToWrite) {
-            return Err(io::Error::from(ErrorKind::Other));
+        self.calls.fail(Trouble::FailsToWrite, ErrorKind::Other)?;
+        self.calls
+            .fail(Trouble::InterruptsWrite, ErrorKind::Interrupted)?;
+        if self.calls.meets(Trouble::TakesNothing) {
+            return Ok(0);
         }
         match buf.iter().position(|byte| is_finish(*byte)) {
             Some(0) => self.write_finish(buf[0]),

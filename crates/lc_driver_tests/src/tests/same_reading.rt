@@ -2,7 +2,8 @@
 //! ends, what is counted, how many bytes each read asks for, and what arrived.
 ghost use Rattle.std.specs.Prelude.{◌≤◌, IfOk};
 
-use lc_driver::{Counted, CountedRead, Failures, ReadEnd, read_in};
+use crate::tests::before::Before;
+use lc_driver::{Counted, Failures, ReadEnd, read_in};
 use lc_frame::{CHANNELS, Channel, FrameRef, Version};
 use lc_peer::{Config, Intake, Peer, Take};
 use std::alloc::{AllocError, Global};
@@ -76,16 +77,23 @@ impl Read for Stream<'_> {
     }
 }
 
+// What reads a stream for a peer: today's code, or that of before.
+#[derive(Drop)]
+enum Reading {
+    Now(Intake),
+    Before(Before),
+}
+
 // A side that reads a stream.
 #[derive(Drop)]
 struct Side<'a> {
     peer: Peer,
-    intake: Intake,
+    reading: Reading,
     reader: Counted<Stream<'a>>,
 }
 
 impl<'a> Side<'a> {
-    fn new(alloc: Global, stream: Stream<'a>) -> Result<Side<'a>, Fail> {
+    fn new(alloc: Global, reading: Reading, stream: Stream<'a>) -> Result<Side<'a>, Fail> {
         let config = Config {
             version: Version::One,
             capacities: [CAPACITY; CHANNELS],
@@ -93,54 +101,21 @@ impl<'a> Side<'a> {
         };
         let mut peer = Peer::new(alloc, config)?;
         let _issued = peer.issue(LAWFUL, CAPACITY);
-        let intake = Intake::new(alloc)?;
         let reader = Counted::new(stream);
         Ok(Side {
             peer,
-            intake,
+            reading,
             reader,
         })
     }
 
     fn read(&mut self, max_reads: u64) -> ReadEnd {
-        read_in(
-            &mut self.peer,
-            &mut self.reader,
-            &mut self.intake,
-            max_reads,
-        )
-    }
-
-    // How it was read before.
-    fn read_before(&mut self, max_reads: u64) -> ReadEnd {
-        match self.intake.stop() {
-            Some(stop) => return ReadEnd::from(stop),
-            None => {}
-        }
-        let mut buffer = [0; 512];
-        for _ in 0..max_reads {
-            match self.reader.read_counted(&mut buffer) {
-                Ok(0) => return self.input_end(),
-                Ok(n) => match self.deliver(buffer.get(..n).unwrap_or(&[])) {
-                    Some(end) => return end,
-                    None => {}
-                },
-                Err(_) => return ReadEnd::ReadFailed,
+        match &mut self.reading {
+            Reading::Now(intake) => read_in(&mut self.peer, &mut self.reader, intake, max_reads),
+            Reading::Before(before) => {
+                before.read_in(&mut self.peer, &mut self.reader, max_reads)
             }
         }
-        ReadEnd::TurnsSpent
-    }
-
-    fn input_end(&self) -> ReadEnd {
-        match self.intake.end() {
-            None => ReadEnd::Clean,
-            Some(_) => ReadEnd::Truncated,
-        }
-    }
-
-    fn deliver(&mut self, piece: &[u8]) -> Option<ReadEnd> {
-        let stop = self.intake.deliver(&mut self.peer, &(), piece).stop?;
-        Some(ReadEnd::from(stop))
     }
 
     // The first message, if there is one.
@@ -207,7 +182,7 @@ fn counts(side: &Side<'_>) -> [u64; 3] {
 fn compare_calls(rt: &impl Abort, now: &mut Side<'_>, before: &mut Side<'_>, made: &mut Made) {
     for _ in 0..400 {
         let max_reads = made.below(6) as u64;
-        let (end, wanted) = (now.read(max_reads), before.read_before(max_reads));
+        let (end, wanted) = (now.read(max_reads), before.read(max_reads));
         assert!(rt; end == wanted, "a call ends by {end:?}, not {wanted:?}");
         let (found, wanted) = (counts(now), counts(before));
         assert!(rt;
@@ -241,8 +216,8 @@ fn compare(rt: &impl Abort, alloc: Global, bytes: &[u8], made: &mut Made) -> Res
         most,
         asked,
     };
-    let mut now = Side::new(alloc, stream())?;
-    let mut before = Side::new(alloc, stream())?;
+    let mut now = Side::new(alloc, Reading::Now(Intake::new(alloc)?), stream())?;
+    let mut before = Side::new(alloc, Reading::Before(Before::new(alloc)?), stream())?;
     compare_calls(rt, &mut now, &mut before, made);
     let taken = compare_messages(rt, &mut now, &mut before);
     let (now, before) = (now.reader.into_inner(), before.reader.into_inner());

@@ -147,7 +147,8 @@ fn a_short_buffer_changes_nothing(rt: HostRuntime) -> Result<(), Fail> {
     Ok(())
 }
 
-// Behind each seventh byte the ring's memory ends.
+// The ring counts the bytes that are pushed, and shows in two slices a message that goes on behind a
+// seventh one, wherever its bytes lie.
 const TURNS: &str = "turn 61 => Some(1) 61| Ok(Some(1)) [61eeeeeeeeeeeeee]
 turn 6263 => Some(2) 6263| Ok(Some(2)) [6263eeeeeeeeeeee]
 turn 636465 => Some(3) 636465| Ok(Some(3)) [636465eeeeeeeeee]
@@ -197,7 +198,7 @@ fn messages_go_round_the_end(rt: HostRuntime) -> Result<(), Fail> {
     Ok(())
 }
 
-// The third message goes round the end of the ring's memory.
+// The fifth byte that is pushed is the first of the third message, which is shown in two slices.
 const SHOWN: &str = "show => RecvRing { bytes: [], lengths: [] }
 push 010203 => Ok(())
 push 04 => Ok(())

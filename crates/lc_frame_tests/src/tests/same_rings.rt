@@ -2,7 +2,7 @@
 //! call, where each first message is cut, and what a ring is written as.
 use super::text;
 use circular_buffer::HeapCircularBuffer;
-use lc_ring::{Full, RecvRing};
+use lc_ring::{BufferTooSmall, Full, RecvRing};
 use std::alloc::{AllocError, Global};
 use std::process::Abort;
 use std::test::Fail;
@@ -49,13 +49,21 @@ impl Before {
         Some(len)
     }
 
-    fn take_into(&mut self, buffer: &mut [u8]) -> Option<usize> {
-        let (near, far) = self.front()?;
-        let (first, rest) = buffer.split_at_mut_checked(near.len())?;
+    fn take_into(&mut self, buffer: &mut [u8]) -> Result<Option<usize>, BufferTooSmall> {
+        let Some((near, far)) = self.front() else {
+            return Ok(None);
+        };
+        let need = near.len() + far.len();
+        if buffer.len() < need {
+            return Err(BufferTooSmall { need });
+        }
+        let (first, rest) = buffer.split_at_mut(near.len());
         first.copy_from_slice(near);
-        let (second, _) = rest.split_at_mut_checked(far.len())?;
-        second.copy_from_slice(far);
-        self.pop()
+        if !far.is_empty() {
+            let (second, _) = rest.split_at_mut(far.len());
+            second.copy_from_slice(far);
+        }
+        Ok(self.pop())
     }
 }
 
@@ -68,6 +76,8 @@ struct Rings {
     state: u64,
     // How many messages went round the end of the memory of the ring before.
     cut: u64,
+    // How many were longer than the buffer that they were to be taken into.
+    refused: u64,
 }
 
 impl Rings {
@@ -92,18 +102,30 @@ impl Rings {
         assert!(rt; now == before, "a push: {now:?}, not {before:?}");
     }
 
-    // Takes a message, or drops it.
+    // Drops a message, or takes it, now and then into a buffer that may be too short.
     fn take(&mut self, rt: &impl Abort) {
-        if self.below(4) == 0 {
-            let (now, before) = (self.now.pop(), self.before.pop());
-            assert!(rt; now == before, "a pop: {now:?}, not {before:?}");
-            return;
+        match self.below(8) {
+            0 | 1 => {
+                let (now, before) = (self.now.pop(), self.before.pop());
+                assert!(rt; now == before, "a pop: {now:?}, not {before:?}");
+            }
+            2 | 3 => {
+                let room = self.below(self.longest);
+                self.take_into(rt, room);
+            }
+            _ => self.take_into(rt, 256),
         }
+    }
+
+    // Takes a message into a buffer of so many bytes.
+    fn take_into(&mut self, rt: &impl Abort, room: usize) {
         let (mut taken, mut wanted) = ([7; 256], [7; 256]);
-        let now = self.now.take_into(&mut taken).ok().flatten();
-        let before = self.before.take_into(&mut wanted);
+        let room = room.min(256);
+        let now = self.now.take_into(taken.split_at_mut(room).0);
+        let before = self.before.take_into(wanted.split_at_mut(room).0);
         assert!(rt; now == before, "a take: {now:?}, not {before:?}");
         assert!(rt; taken == wanted, "other bytes are taken");
+        self.refused = self.refused.wrapping_add(u64::from(before.is_err()));
     }
 
     // Both show the same, cut at the same place.
@@ -166,10 +188,12 @@ fn made_calls_are_answered_as_before(rt: HostRuntime) -> Result<(), Fail> {
             longest: capacity.min(200) as usize,
             state: u64::from(capacity),
             cut: 0,
+            refused: 0,
         };
         made_calls(&rt, rt.alloc(), &mut rings);
-        let cut = rings.cut;
+        let (cut, refused) = (rings.cut, rings.refused);
         assert!(&rt; capacity < 3 || cut > 20, "{cut} of {capacity} are cut");
+        assert!(&rt; refused > 10, "{refused} of {capacity} are refused");
     }
     Ok(())
 }

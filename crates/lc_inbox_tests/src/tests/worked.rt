@@ -85,7 +85,7 @@ const WORKED: [(u8, u32, &str, &str); 16] = [
         take 2 => (Ok(Empty), [238, 238])",
         "(0, 0, 8)",
     ),
-    // A message that is lent, also where it goes round the end of the ring.
+    // A message that is lent, also where it is shown in two slices.
     (
         1,
         4,

@@ -9,7 +9,7 @@ ghost use Rattle.lc_credit.specs.Channels.{AreMatched, SameCredit, SameCredits};
 
 use crate::tests::same;
 use lc_credit::{CreditIn, CreditOut, CreditParts, credits, settle};
-use lc_frame::{Body, Channel, Frame, MAX_AMOUNT, Version};
+use lc_frame::{Body, CHANNELS, Channel, Frame, MAX_AMOUNT, Version};
 use lc_outbox::Outbox;
 use lc_queue::{Drain, LaneEnd, Lanes, lanes};
 use std::alloc::Global;
@@ -57,7 +57,11 @@ fn spare_end(alloc: Global) -> Option<CreditOut>
 
 /// A new desk over a queue of so many slots, and the ends of all credits, with another at the place
 /// of the outbox's.
-pub fn new_desk(alloc: Global, version: Version, slots: u32) -> Option<(Desk, [CreditOut; 7])>
+pub fn new_desk(
+    alloc: Global,
+    version: Version,
+    slots: u32,
+) -> Option<(Desk, [CreditOut; CHANNELS])>
     ensures { IfSome result (λ new. AreMatched new.0.incoming (slice_set new.1 1 new.0.outbox.credit)) }
 {
     let (lane, other_lane, drain) = two_ends(alloc, lanes(alloc, slots, version).ok()?)?;
@@ -167,7 +171,7 @@ fn answer<R: Wait>(rt: &R, alloc: Global, desk: &mut Desk, call: &str) -> Option
 }
 
 // What became of the channel's guarantees: those received, held, spent, absolved and waived.
-fn settled(alloc: Global, desk: Desk, rest: [CreditOut; 7]) -> Option<String>
+fn settled(alloc: Global, desk: Desk, rest: [CreditOut; CHANNELS]) -> Option<String>
     requires { AreMatched desk.incoming (slice_set rest 1 desk.outbox.credit) }
 {
     let (_lane, credit) = desk.outbox.into_parts();

@@ -3,7 +3,7 @@
 use crate::tests::staged::in_time;
 use crate::tests::ticks::Ticks;
 use lc_frame::{Channel, Lane};
-use lc_wake::{Pump, PumpWaiter, Waiter, Wakers, Waking};
+use lc_wake::{Found, Pump, PumpWaiter, Waiter, Wakers, Waking};
 use std::io;
 use std::process::Abort;
 use std::sync::{Mutex, Wait};
@@ -15,6 +15,8 @@ use std::time::{Clock, Duration};
 enum News {
     /// So many slots are freed.
     Freed(usize),
+    /// One is freed, and once the second end no longer waits another one.
+    InTurn,
     /// The pump is about to sleep.
     Rests,
     /// A frame that concerns an end.
@@ -57,6 +59,7 @@ impl<'a, R: Wait> Busy<'a, R> {
         let mut pump = self.pump.lock(self.rt);
         match self.news {
             News::Freed(count) => pump.slots_freed(count),
+            News::InTurn => pump.slots_freed(1),
             News::Rests => rest(&mut pump),
             News::Came(end) => self.wakers.frame_came(end),
             News::Ended(pump) => self.wakers.end_run(pump),
@@ -87,11 +90,11 @@ struct Beside<'a, R> {
     clock: Busy<'a, R>,
 }
 
-// The receiving end of channel 2 waits.
+// The receiving end of channel 0 waits.
 fn wait_second<R: Wait>(rt: &R, others: &Mutex<[Waiter; 7]>, clock: &Busy<'_, R>) {
     let mut others = others.lock(rt);
-    others[2].met_full_queue();
-    others[2].wait_timeout(clock, Duration::from_micros(1));
+    others[0].met_full_queue();
+    others[0].wait_timeout(clock, Duration::from_micros(1));
 }
 
 impl<R: Wait> Wait for Beside<'_, R> {}
@@ -100,6 +103,9 @@ impl<R: Wait> Clock for Beside<'_, R> {
     fn monotonic(&self) -> io::Result<Duration> {
         if self.ticks.readings() == 0 {
             wait_second(self.clock.rt, self.others, &self.clock);
+            if matches!(self.clock.news, News::InTurn) {
+                self.clock.come();
+            }
         }
         self.ticks.monotonic()
     }
@@ -109,28 +115,36 @@ impl<R: Wait> Clock for Beside<'_, R> {
     }
 }
 
-const FIRST: Lane = Lane::Client(Channel::DataChannel);
+// Neighbours, so that a turn which leaves one out is seen.
+const FIRST: Lane = Lane::Client(Channel::StaticTokenChannel);
 
-const SECOND: Lane = Lane::Server(Channel::OverlapChannel);
+const SECOND: Lane = Lane::Server(Channel::ReconciliationChannel);
 
 /// Whether the first of two ends met a full queue, as the second did, what comes while both wait, and how
-/// often each reads its clock: once where it was woken, and else twice.
-const ROUNDS: [(bool, News, (u64, u64)); 11] = [
+/// often each reads its clock: once where it was woken, twice where it was not, and never where it did not sleep.
+const ROUNDS: [(bool, News, (u64, u64)); 13] = [
     // One slot wakes an end that wants one, and another each time.
     (false, News::Freed(1), (2, 1)),
     (true, News::Freed(1), (1, 2)),
     (true, News::Freed(1), (2, 1)),
     (true, News::Freed(1), (1, 2)),
+    // Who still waits is woken by the next slot, which ends the other's next wait at once.
+    (true, News::InTurn, (1, 1)),
+    (true, News::Freed(1), (2, 0)),
     (true, News::Freed(2), (1, 1)),
     (true, News::Rests, (1, 1)),
     (true, News::Came(FIRST), (1, 2)),
     (true, News::Came(SECOND), (2, 1)),
     (
         true,
-        News::Came(Lane::Client(Channel::OverlapChannel)),
+        News::Came(Lane::Client(Channel::ReconciliationChannel)),
         (2, 2),
     ),
-    (true, News::Came(Lane::Server(Channel::DataChannel)), (2, 2)),
+    (
+        true,
+        News::Came(Lane::Server(Channel::StaticTokenChannel)),
+        (2, 2),
+    ),
     (true, News::Ended(Pump::Reading), (1, 1)),
 ];
 
@@ -143,7 +157,7 @@ fn wait_in_rounds<R: Wait + Abort>(rt: &R, waking: Waking) {
         wakers,
     } = waking;
     let (others, pump) = (Mutex::new(receiving), Mutex::new(pump));
-    let first = &mut sending[1];
+    let first = &mut sending[6];
     // An end that no longer waits for a slot is not woken for it in place of another.
     first.met_full_queue();
     first.wait_timeout(&Ticks::new(rt), Duration::from_micros(1));
@@ -166,8 +180,8 @@ fn wait_in_rounds<R: Wait + Abort>(rt: &R, waking: Waking) {
     }
 }
 
-// A pump is about to sleep twice: a frame is put, and then it is asked to stop.
-fn sleep_twice<R: Wait>(rt: &R, waking: Waking) {
+// A pump is about to sleep twice: a frame is put, and then it is asked to stop, after a look began.
+fn sleep_twice<R: Wait + Abort>(rt: &R, waking: Waking) {
     let Waking {
         sending,
         receiving: _,
@@ -178,8 +192,11 @@ fn sleep_twice<R: Wait>(rt: &R, waking: Waking) {
     sending[1].frame_put();
     pump.sleep(rt);
     rest(&mut pump);
+    let early = pump.look();
     wakers.stop();
     pump.sleep(rt);
+    let found = (early.found(0), pump.look().found(0), pump.look().found(2));
+    assert_eq!(rt; found, (Found::Nothing, Found::Stop, Found::Frames(2)));
 }
 
 #[test]

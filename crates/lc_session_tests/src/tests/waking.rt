@@ -17,6 +17,7 @@ use std::test::Fail;
 use std::thread::{Threads, join};
 use std::time::{Clock, Duration};
 use std::{io, thread};
+use test_devices::{Pipe, PipeWriter, Plan};
 
 /// What two sessions do in turns.
 #[derive(Clone, Copy)]
@@ -141,14 +142,22 @@ fn give_way() {
     }
 }
 
+/// A pump flushes before it sleeps, which here is twice at most, once more where a wake-up came early, and
+/// before it stops. One that does not sleep flushes on and on.
+const FLUSHES: u64 = 4;
+
 // Writes all until the session is stopped.
 fn write<R: Wait + Abort>(rt: &R, alloc: Global, mut pump: WritePump, wanted: &[u8]) {
-    let mut writer = Counted::new(Vec::new(alloc));
+    let pipe = Pipe::of(Vec::new(alloc));
+    let mut writer = Counted::new(PipeWriter::new(Plan::whole(), pipe));
     let end = pump.run(rt, &mut writer);
+    let writer = writer.into_inner();
     assert_eq!(rt;
-        (end, writer.into_inner().as_slice()),
+        (end, writer.pipe.bytes.as_slice()),
         (WriteEnd::Stopped, wanted)
     );
+    let flushes = writer.flushes.calls;
+    assert!(rt; flushes <= FLUSHES, "{flushes} flushes");
 }
 
 // A stop comes once the pump sleeps.
@@ -347,26 +356,28 @@ fn a_further_run_is_not_over(rt: HostRuntime) -> Result<(), Fail> {
 /// How many frames a paced reader gives.
 const PACED: u64 = 10;
 
-/// A reader that gives a frame again and again. Before each it lets the others get on, and finds that
-/// as many waits have ended as frames were given.
+/// A reader that gives a frame again and again, once its run has begun. Before each it lets the others get
+/// on, and finds that as many waits have ended as frames were given, and one for the end of an earlier run.
 #[derive(Drop)]
 struct Paced<'a, R> {
     rt: &'a R,
     frame: &'a [u8],
     given: u64,
+    begun: &'a AtomicU64,
     waits: &'a AtomicU64,
 }
 
 impl<R: Wait + Abort> Read for Paced<'_, R> {
     fn read(&mut self, buf: &mut [u8]) -> io::Result<usize> {
-        await_count(self.rt, self.waits, self.given);
+        self.begun.store(1, Ordering::SeqCst);
+        await_count(self.rt, self.waits, self.given.saturating_add(1));
         for _ in 0..10 {
             thread::yield_now();
         }
         let waits = self.waits.load(Ordering::SeqCst);
         assert!(self.rt;
-            waits == self.given,
-            "{waits} waits ended of {}",
+            waits == self.given.saturating_add(1),
+            "{waits} waits ended of 1 and {}",
             self.given
         );
         if self.given == PACED {
@@ -378,7 +389,8 @@ impl<R: Wait + Abort> Read for Paced<'_, R> {
     }
 }
 
-// An end of channel 1 waits for frames that come one by one.
+// An end of channel 1 waits for frames that come one by one. A run ended before it waits, so its first wait
+// leaves the token of that, which is no reason to end the next one.
 fn wait_for_each<R>(rt: &R, alloc: Global, frame: &[u8], sends: bool) -> Option<()>
 where
     R: Threads + Wait + Abort + Sync,
@@ -388,16 +400,19 @@ where
         mut sending,
         mut receiving,
     } = ends;
-    let waits = AtomicU64::new(0);
+    let (begun, waits) = (AtomicU64::new(0), AtomicU64::new(0));
+    read(rt, &mut pumps.reading, b"".as_slice());
     let reader = Paced {
         rt,
         frame,
         given: 0,
+        begun: &begun,
         waits: &waits,
     };
     join(
         rt,
         || {
+            await_count(rt, &begun, 1);
             if sends {
                 sleep_sending(rt, &mut sending[1], &waits);
             } else {

@@ -4,6 +4,20 @@ use lc_world::{Answer, Detail, Refusal};
 use std::io;
 use std::io::Write;
 
+const ABSOLVE: &str = "absolve";
+
+const FINISH: &str = "finish";
+
+const ISSUE: &str = "issue";
+
+const LIMIT_RECEIVING: &str = "limit-receiving";
+
+const LIMIT_SENDING: &str = "limit-sending";
+
+const PLEAD: &str = "plead";
+
+const SEND: &str = "send";
+
 /// Writes the answer's line, with its line feed.
 pub fn write_answer<W: Write>(answer: &Answer, out: &mut W) -> io::Result<()> {
     match answer {
@@ -42,15 +56,15 @@ pub fn write_frame<W: Write>(frame: &FrameRef<'_>, out: &mut W) -> io::Result<()
     let number = frame.channel().number();
     let (word, value) = match frame {
         FrameRef::Send { body, .. } => {
-            write!(out, "send {number} ")?;
+            write!(out, "{SEND} {number} ")?;
             return write_hex_line(body, out);
         }
-        FrameRef::Issue { amount, .. } => ("issue", u64::from(*amount)),
-        FrameRef::Absolve { amount, .. } => ("absolve", u64::from(*amount)),
-        FrameRef::Plead { target, .. } => ("plead", u64::from(*target)),
-        FrameRef::LimitSending { bound, .. } => ("limit-sending", *bound),
-        FrameRef::LimitReceiving { bound, .. } => ("limit-receiving", *bound),
-        FrameRef::Finish { .. } => return writeln!(out, "finish {number}"),
+        FrameRef::Issue { amount, .. } => (ISSUE, u64::from(*amount)),
+        FrameRef::Absolve { amount, .. } => (ABSOLVE, u64::from(*amount)),
+        FrameRef::Plead { target, .. } => (PLEAD, u64::from(*target)),
+        FrameRef::LimitSending { bound, .. } => (LIMIT_SENDING, *bound),
+        FrameRef::LimitReceiving { bound, .. } => (LIMIT_RECEIVING, *bound),
+        FrameRef::Finish { .. } => return writeln!(out, "{FINISH} {number}"),
     };
     writeln!(out, "{word} {number} {value}")
 }

@@ -1,4 +1,4 @@
-use Rattle.std.proofs.Common.{◌∙◌, sym, refl, ap, subst, arith, take, ℕ}
+use Rattle.std.proofs.Common.{◌≡◌, ◌∙◌, sym, refl, ap, subst, arith, take, ℕ}
 use Rattle.std.specs.Io.KnownBytes.{Consumes}
 use Rattle.lc_driver.specs.declared.reading.ReadEnd.{ReadEnd}
 use Rattle.lc_driver.specs.Reading.{ReadsInto}

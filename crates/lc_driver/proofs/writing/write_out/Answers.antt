@@ -1,15 +1,13 @@
-use Rattle.std.proofs.Common.{◌≡◌, ◌∙◌, arith, ap, sym, subst, refl, List, ℕ, length, length-append}
-use Rattle.std.proofs.lemmas.List.{nil_from_length}
-use Rattle.lc_frame.specs.declared.frame.Frame.{Frame}
+use Rattle.std.proofs.Common.{◌≡◌, ◌∙◌, arith, ap, sym, subst, refl, take, List, ℕ, length-append}
 use Rattle.std.specs.List.{flat_map, AllByRecursion}
 use Rattle.lc_frame.specs.declared.version.Version.{Version}
 use Rattle.lc_frame.specs.Encoding.{encoding}
 use Rattle.lc_frame.specs.Frame.{IsValid}
 use Rattle.lc_frame.proofs.Fronts.{frame_fits}
 use Rattle.lc_peer.specs.Peer.{PeerState}
-use Rattle.lc_driver.specs.Writing.{Writes, fault_written, text}
+use Rattle.lc_driver.specs.Writing.{Writes, fault_written}
 use Rattle.lc_driver.proofs.Counting.{none_told_then}
-use Rattle.lc_driver.proofs.Frames.{all_fit, no_bytes_no_frames}
+use Rattle.lc_driver.proofs.Frames.{all_fit}
 use Rattle.lc_driver.proofs.Written.{writes_nothing, writes_then, written_after, text_left}
 use Rattle.lc_driver.proofs.writing.write_out.Goals as goal
 
@@ -29,37 +27,32 @@ batches-init g c =
 
 pub batches-smaller : goal.batches-smaller
 batches-smaller g c =
-    let wrote = subst (λ (v : Version). Writes v (g.W.Write.contents c.batches.writer) (g.W.Write.contents c.write_batch.new.writer) c.batches.outgo.pending c.batches.peer c.write_batch.new.outgo.pending c.write_batch.new.peer c.in-Ok.n) c.batches.invariant.version c.in-Ok.ensures.writes in
-    omega (arith, text_left _ wrote, c.in-Ok.n-test.1)
+    let start : take c.pending-rest.result c.join_waiting.new.outgo.pending ≡ c.batches.outgo.pending = ap (λ (n : ℕ). take n c.join_waiting.new.outgo.pending) c.pending-rest.ensures.value ∙ c.join_waiting.ensures.begun in
+    let same : c.join_waiting.new.outgo.version ≡ c.args.outgo.now.version = c.join_waiting.ensures.version ∙ c.batches.invariant.version in
+    let wrote = subst (λ (x : List ℕ). Writes c.args.outgo.now.version (g.W.Write.contents c.batches.writer) (g.W.Write.contents c.write_joined.new.writer) x c.batches.peer c.write_joined.new.outgo.pending c.write_joined.new.peer c.in-Ok.n) start
+    (subst (λ (v : Version). Writes v (g.W.Write.contents c.batches.writer) (g.W.Write.contents c.write_joined.new.writer) (take c.pending-rest.result c.join_waiting.new.outgo.pending) c.batches.peer c.write_joined.new.outgo.pending c.write_joined.new.peer c.in-Ok.n) same c.in-Ok.ensures.writes) in
+    omega (arith, text_left _ wrote, c.in-Ok.ensures.all.1, c.if-pending-eq0.false, c.pending.ensures.value)
 
 pub batches-preserved : goal.batches-preserved
 batches-preserved g c =
     let at = c.batches.invariant in
-    let wrote = subst (λ (v : Version). Writes v (g.W.Write.contents c.batches.writer) (g.W.Write.contents c.write_batch.new.writer) c.batches.outgo.pending c.batches.peer c.write_batch.new.outgo.pending c.write_batch.new.peer c.in-Ok.n) at.version c.in-Ok.ensures.writes in
+    let start : take c.pending-rest.result c.join_waiting.new.outgo.pending ≡ c.batches.outgo.pending = ap (λ (n : ℕ). take n c.join_waiting.new.outgo.pending) c.pending-rest.ensures.value ∙ c.join_waiting.ensures.begun in
+    let same : c.join_waiting.new.outgo.version ≡ c.args.outgo.now.version = c.join_waiting.ensures.version ∙ c.batches.invariant.version in
+    let wrote = subst (λ (x : List ℕ). Writes c.args.outgo.now.version (g.W.Write.contents c.batches.writer) (g.W.Write.contents c.write_joined.new.writer) x c.batches.peer c.write_joined.new.outgo.pending c.write_joined.new.peer c.in-Ok.n) start
+    (subst (λ (v : Version). Writes v (g.W.Write.contents c.batches.writer) (g.W.Write.contents c.write_joined.new.writer) (take c.pending-rest.result c.join_waiting.new.outgo.pending) c.batches.peer c.write_joined.new.outgo.pending c.write_joined.new.peer c.in-Ok.n) same c.in-Ok.ensures.writes) in
     record {
       small = omega (arith, at.small, text_left _ wrote);
-      version = c.in-Ok.ensures.version ∙ at.version;
+      version = c.write_joined.ensures.version ∙ same;
       peer_version = ap (λ (p : PeerState). p.version) wrote.peer ∙ at.peer_version;
       writes = writes_then _ _ at.writes wrote refl;
-      counts = none_told_then (g.W.Failures.counts c.args.writer.now) (g.W.Failures.counts c.batches.writer) (g.W.Failures.counts c.write_batch.new.writer) at.counts c.in-Ok.ensures.counts;
-      untouched = λ nothing. absurd (c.in-Ok.n-test.1 (omega (arith, nothing, text_left _ at.writes, text_left _ wrote)));
+      counts = none_told_then (g.W.Failures.counts c.args.writer.now) (g.W.Failures.counts c.batches.writer) (g.W.Failures.counts c.write_joined.new.writer) at.counts c.in-Ok.ensures.counts;
+      untouched = λ nothing. absurd (omega (arith, nothing, text_left _ at.writes, text_left _ wrote, c.in-Ok.ensures.all.1, c.if-pending-eq0.false, c.pending.ensures.value));
     }
-
-pub returns-in-Ok-eq0-clause-writes : goal.returns-in-Ok-eq0-clause-writes
-returns-in-Ok-eq0-clause-writes g c =
-    let wrote = subst (λ (v : Version). Writes v (g.W.Write.contents c.batches.writer) (g.W.Write.contents c.write_batch.new.writer) c.batches.outgo.pending c.batches.peer c.write_batch.new.outgo.pending c.write_batch.new.peer c.in-Ok-eq0.field-0) c.batches.invariant.version c.in-Ok-eq0.ensures.writes in
-    writes_then _ _ c.batches.invariant.writes wrote (omega (arith, c.in-Ok-eq0.field-0-test))
 
 pub returns-in-Err-clause-writes : goal.returns-in-Err-clause-writes
 returns-in-Err-clause-writes g c =
-    let wrote = subst (λ (v : Version). Writes v (g.W.Write.contents c.batches.writer) (g.W.Write.contents c.write_batch.new.writer) c.batches.outgo.pending c.batches.peer c.write_batch.new.outgo.pending c.write_batch.new.peer (fault_written c.in-Err.fault)) c.batches.invariant.version c.in-Err.ensures.writes in
+    let start : take c.pending-rest.result c.join_waiting.new.outgo.pending ≡ c.batches.outgo.pending = ap (λ (n : ℕ). take n c.join_waiting.new.outgo.pending) c.pending-rest.ensures.value ∙ c.join_waiting.ensures.begun in
+    let same : c.join_waiting.new.outgo.version ≡ c.args.outgo.now.version = c.join_waiting.ensures.version ∙ c.batches.invariant.version in
+    let wrote = subst (λ (x : List ℕ). Writes c.args.outgo.now.version (g.W.Write.contents c.batches.writer) (g.W.Write.contents c.write_joined.new.writer) x c.batches.peer c.write_joined.new.outgo.pending c.write_joined.new.peer (fault_written c.in-Err.fault)) start
+    (subst (λ (v : Version). Writes v (g.W.Write.contents c.batches.writer) (g.W.Write.contents c.write_joined.new.writer) (take c.pending-rest.result c.join_waiting.new.outgo.pending) c.batches.peer c.write_joined.new.outgo.pending c.write_joined.new.peer (fault_written c.in-Err.fault)) same c.in-Err.ensures.writes) in
     writes_then _ _ c.batches.invariant.writes wrote (ap fault_written c.after.ensures ∙ written_after c.in-Err.fault c.batches.written)
-
-pub returns-in-Err-clause-none : goal.returns-in-Err-clause-none
-returns-in-Err-clause-none g c = λ pending waiting.
-    let at = c.batches.invariant in
-    let v = c.args.outgo.now.version in
-    let nothing : length (text v c.args.outgo.now.pending c.args.peer.now.waiting) ≡ 0 = ap (λ (x : List ℕ × List Frame). length (text v x.0 x.1)) (λ i. (pending i, waiting i)) in
-    let left = text_left v at.writes in
-    let bytes = length-append c.batches.outgo.pending (flat_map (encoding v) c.batches.peer.waiting) in
-    c.in-Err.ensures.none (nil_from_length c.batches.outgo.pending (omega (arith, nothing, left, bytes))) (no_bytes_no_frames v c.batches.peer.waiting (nil_from_length (flat_map (encoding v) c.batches.peer.waiting) (omega (arith, nothing, left, bytes)))) ∙ at.untouched nothing

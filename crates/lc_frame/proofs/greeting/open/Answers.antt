@@ -1,7 +1,15 @@
+use Rattle.std.proofs.Common.{List, ℕ, subst, sym}
 use Rattle.lc_frame.specs.declared.version.Version.TheVariants.{One}
+use Rattle.lc_frame.specs.Scan.{NeedsMore}
 use Rattle.lc_frame.proofs.Fronts.{nothing_yet}
 use Rattle.lc_frame.proofs.Openings.{opens_one, opens_part, opens_whole, opens_broken, from_cleared}
 use Rattle.lc_frame.proofs.greeting.open.Goals as goal
+
+pub resume-requires : goal.resume-requires
+resume-requires c = subst (λ (x : List ℕ). NeedsMore _ x 1) (sym c.in-One.ensures.1) (nothing_yet _)
+
+pub resume-more-requires : goal.resume-more-requires
+resume-more-requires c = subst (λ (x : List ℕ). NeedsMore _ x 1) (sym c.clear.ensures) (nothing_yet _)
 
 pub returns-in-One : goal.returns-in-One
 returns-in-One c = opens_one _ _ _ _ _ _ (nothing_yet One) c.in-One.ensures c.resume.ensures

@@ -1,8 +1,10 @@
-use Rattle.std.proofs.Common.{◌∙◌, ap}
-use Rattle.lc_frame.specs.declared.channel.Channel.{Channel}
-use Rattle.lc_frame.proofs.Channels.{same_from_number}
-use Rattle.lc_outbox.specs.Outbox.{new_outbox}
+use Rattle.std.proofs.Common.{◌∙◌, ap, sym}
+use Rattle.lc_frame.specs.Channel.{number_of}
+use Rattle.lc_outbox.specs.Outbox.{OutboxState, new_outbox}
 use Rattle.lc_session.proofs.session.send_end.Goals as goal
 
-pub returns : goal.returns
-returns c = c.new-2.ensures ∙ c.new.ensures.new ∙ ap (λ (ch : Channel). new_outbox ch c.args.lane c.args.credit) (same_from_number _ _ (c.new.ensures.channel ∙ c.requires.lane))
+pub returns-clause-channel : goal.returns-clause-channel
+returns-clause-channel c = ap (λ (o : OutboxState). number_of o.channel) c.new-2.ensures ∙ c.new.ensures.channel
+
+pub returns-clause-new : goal.returns-clause-new
+returns-clause-new c = c.new-2.ensures ∙ (c.new.ensures.new ∙ ap (λ (o : OutboxState). new_outbox o.channel c.args.lane c.args.credit) (sym c.new-2.ensures))

@@ -1,22 +1,27 @@
-use Rattle.std.proofs.Common.{◌≡◌, ◌++◌, ◌≤◌, ℕ, List, length, take, drop, ap, ◌∙◌, arith}
+use Rattle.std.proofs.Common.{◌≡◌, ◌+◌, ◌++◌, ◌≤◌, ℕ, List, length, take, drop, replicate, ap, sym, ◌∙◌, arith}
+use Rattle.std.proofs.lemmas.List.{take_at, length-append, length-replicate}
 use Rattle.lc_frame.proofs.Holds.{filled_front}
 use Rattle.lc_frame.proofs.hold.Hold.fill.Goals as goal
 
 pub returns-in-Some : goal.returns-in-Some
 returns-in-Some g c =
     let memory = c.fill-answer.new.memory in
-    let len = c.self.inside.len in
     let count = c.in-Some.count in
-    let items = c.make_ready.new.bytes.items in
-    let rest : List ℕ = drop (length memory) (drop len items) in
-    let tail : List ℕ = drop (length (take len items ++ (memory ++ rest))) items in
-    let size : length memory ≡ 512 = omega arith in
+    let len = c.len-held.result in
+    let items = c.self.inside.bytes.items in
+    let zeros : List ℕ = replicate 512 0 in
+    let there : length items ≡ len = omega arith in
+    let all : c.put_zeros.new.bytes.len ≡ len + 512 = omega (arith, there, ap length c.put_zeros.ensures.zeros, length-append items zeros, length-replicate {A = ℕ} 512 0) in
+    let before = c.split_at_mut.result.0.now in
+    let held : before ≡ c.args.self.now = c.split_at_mut.ensures.front ∙ ap (λ (xs : List ℕ). take len xs) (c.deref_mut.ensures.value ∙ c.put_zeros.ensures.zeros) ∙ take_at items zeros len there ∙ c.self.view_is in
+    let tail : List ℕ = drop (length (before ++ memory)) c.put_zeros.new.bytes.items in
+    let size : length memory ≡ 512 = omega (arith, all) in
     let within : count ≤ 512 = omega (arith, size, c.in-Some.ensures.bound) in
-    let front = filled_front len count c.make_ready.new.bytes.len items memory rest tail c.make_ready.ensures.still c.in-Some.ensures.bound (omega (arith, within, c.make_ready.ensures.ready)) in
+    let front = filled_front len count c.put_zeros.new.bytes.len before memory tail (sym c.split_at_mut.ensures.front_len) c.in-Some.ensures.bound (omega (arith, within, all)) in
     record {
       memory = memory;
       size = size;
       filled = c.in-Some.ensures.fills;
       bytes = c.in-Some.ensures.bytes;
-      grows = (within, front ∙ ap (λ (xs : List ℕ). xs ++ take count memory) (c.make_ready.ensures.same ∙ c.self.view_is));
+      grows = (within, c.truncate.ensures.items ∙ front ∙ ap (λ (xs : List ℕ). xs ++ take count memory) held);
     }

@@ -8,4 +8,4 @@ pub returns-then-is_err-clause-pumps : goal.returns-then-is_err-clause-pumps
 returns-then-is_err-clause-pumps g c = pumps_same _ _ _ _ c.self.view_is c.flush_counted.ensures.bytes
 
 pub returns-clause-pumps : goal.returns-clause-pumps
-returns-clause-pumps g c = pumps_popped _ _ _ _ _ c.self.view_is c.flush_counted.ensures.bytes c.join_popped-popped.ensures.pops
+returns-clause-pumps g c = pumps_popped _ _ _ _ _ c.self.view_is c.flush_counted.ensures.bytes c.join_popped.ensures.pops

@@ -1,0 +1,70 @@
+//! A chat of two channels over TCP: what is typed goes on one, and on the other how much of it was read.
+//!
+//! `chat listen ADDRESS` in one terminal, and `chat connect ADDRESS` in another. Each line of standard input
+//! is a message, and its end is the end of what this side says.
+use lcmux_tokio::connect;
+use lcmux_tokio::lcmux::Channel::{Data, StaticToken};
+use lcmux_tokio::lcmux::{Config, Receiver, Sender};
+use std::{env, error::Error};
+use tokio::io::{stdin, AsyncBufReadExt, BufReader};
+use tokio::net::{TcpListener, TcpStream};
+
+type Done = Result<(), Box<dyn Error>>;
+
+async fn open() -> Result<TcpStream, Box<dyn Error>> {
+    let words: Vec<_> = env::args().skip(1).collect();
+    match words.iter().map(String::as_str).collect::<Vec<_>>()[..] {
+        ["connect", address] => Ok(TcpStream::connect(address).await?),
+        ["listen", address] => {
+            let listener = TcpListener::bind(address).await?;
+            eprintln!("listening on {}", listener.local_addr()?);
+            Ok(listener.accept().await?.0)
+        }
+        _ => Err("usage: chat listen|connect ADDRESS".into()),
+    }
+}
+
+// The sender is dropped at the end of the input, which ends the channel.
+async fn say(lines: Sender) -> Done {
+    let mut input = BufReader::new(stdin()).lines();
+    while let Some(line) = input.next_line().await? {
+        if !line.is_empty() {
+            lines.send(line.as_bytes()).await?;
+        }
+    }
+    Ok(())
+}
+
+async fn hear(mut lines: Receiver, receipts: Sender) -> Done {
+    let mut count = 0u32;
+    while let Some(line) = lines.recv().await? {
+        println!("> {}", String::from_utf8_lossy(&line));
+        count += 1;
+        receipts.send(&count.to_be_bytes()).await?;
+    }
+    Ok(())
+}
+
+async fn note(mut receipts: Receiver) -> Done {
+    let mut read = 0;
+    while let Some(receipt) = receipts.recv().await? {
+        read = u32::from_be_bytes(receipt.as_slice().try_into()?);
+    }
+    println!("the other side read {read} of it");
+    Ok(())
+}
+
+#[tokio::main(flavor = "current_thread")]
+async fn main() -> Done {
+    let stream = open().await?;
+    stream.set_nodelay(true)?;
+    let (mut mux, run) = connect(stream, Config::new([65_536; 7], 64))?;
+    let (lines, receipts) = (mux.sender(Data).unwrap(), mux.sender(StaticToken).unwrap());
+    tokio::try_join!(
+        say(lines),
+        hear(mux.receiver(Data).unwrap(), receipts),
+        note(mux.receiver(StaticToken).unwrap()),
+    )?;
+    mux.close();
+    Ok(run.await??)
+}

@@ -1,0 +1,292 @@
+//! How a session ends, and what of it is told to whom.
+use crate::*;
+use lcmux_tokio::lcmux::Channel::{Data, Overlap};
+use lcmux_tokio::lcmux::{MuxFault, SendError, Violation};
+use lcmux_tokio::run;
+use std::io;
+use std::marker::PhantomPinned;
+use std::pin::Pin;
+use std::sync::{Arc, Mutex};
+use std::task::{Context, Poll};
+use tokio::io::{AsyncReadExt, AsyncWriteExt, ReadBuf};
+
+/// What was done to a stream, a letter each, but for what had to wait: `w` and `f` for a write and a flush, `s`
+/// for a shutdown, `r` for a read and `e` for its end.
+type Log = Arc<Mutex<String>>;
+
+/// A stream that tells what is done to it, and may not be moved.
+struct Told {
+    stream: DuplexStream,
+    log: Log,
+    _pinned: PhantomPinned,
+}
+
+impl Told {
+    fn new(stream: DuplexStream) -> (Told, Log) {
+        let log = Log::default();
+        let told = Told {
+            stream,
+            log: Arc::clone(&log),
+            _pinned: PhantomPinned,
+        };
+        (told, log)
+    }
+
+    // The stream is not pinned with what holds it: it may be moved.
+    fn call<T>(
+        self: Pin<&mut Self>,
+        name: char,
+        call: impl FnOnce(Pin<&mut DuplexStream>) -> Poll<T>,
+    ) -> Poll<T> {
+        let told = unsafe { self.get_unchecked_mut() };
+        let answer = call(Pin::new(&mut told.stream));
+        if answer.is_ready() {
+            told.log.lock().unwrap().push(name);
+        }
+        answer
+    }
+}
+
+impl AsyncRead for Told {
+    fn poll_read(
+        self: Pin<&mut Self>,
+        cx: &mut Context<'_>,
+        buffer: &mut ReadBuf<'_>,
+    ) -> Poll<io::Result<()>> {
+        let log = Arc::clone(&self.log);
+        let read = self.call('r', |stream| stream.poll_read(cx, buffer));
+        if read.is_ready() && buffer.filled().is_empty() {
+            log.lock().unwrap().push('e');
+        }
+        read
+    }
+}
+
+impl AsyncWrite for Told {
+    fn poll_write(
+        self: Pin<&mut Self>,
+        cx: &mut Context<'_>,
+        bytes: &[u8],
+    ) -> Poll<io::Result<usize>> {
+        self.call('w', |stream| stream.poll_write(cx, bytes))
+    }
+
+    fn poll_flush(self: Pin<&mut Self>, cx: &mut Context<'_>) -> Poll<io::Result<()>> {
+        self.call('f', |stream| stream.poll_flush(cx))
+    }
+
+    // As a socket tells it whose other side is done with it, too.
+    fn poll_shutdown(self: Pin<&mut Self>, cx: &mut Context<'_>) -> Poll<io::Result<()>> {
+        self.call('s', |stream| match stream.poll_shutdown(cx) {
+            Poll::Ready(Ok(())) => Poll::Ready(Err(io::ErrorKind::NotConnected.into())),
+            answer => answer,
+        })
+    }
+}
+
+/// All is written and flushed, the stream is shut down, and then it is read until the other side ends.
+#[test]
+fn the_end_comes_in_its_order() {
+    on_each("an end in order", || async {
+        let (here, mut there) = tokio::io::duplex(16);
+        let (told, log) = Told::new(here);
+        let (mut mux, run) = connect(told, rings(64)).unwrap();
+        there
+            .write_all(&[&GREETING[..], &issue(5)].concat())
+            .await
+            .unwrap();
+        mux.sender(Data).unwrap().send(b"hello").await.unwrap();
+        let mut receiver = mux.receiver(Data).unwrap();
+        mux.close();
+        let mut bytes = Vec::new();
+        there.read_to_end(&mut bytes).await.unwrap();
+        assert_eq!(
+            bytes,
+            [first_bytes(), b"\x11\0\0\0\x05hello\x71".to_vec()].concat()
+        );
+        there.write_all(b"\x11\0\0\0\x02hi").await.unwrap();
+        assert_eq!(receiver.recv().await, Ok(Some(b"hi".to_vec())));
+        drop(there);
+        assert_eq!(receiver.recv().await, Err(Closed::Clean));
+        assert_eq!(run.await.unwrap(), Ok(()));
+        let log = log.lock().unwrap();
+        let (before, after) = log.split_once('s').unwrap();
+        assert!(before.trim_end_matches('r').ends_with("wf"), "{log}");
+        assert!(
+            after.starts_with('r') && after.chars().all(|it| "re".contains(it)),
+            "{log}"
+        );
+        assert_eq!(after.matches('e').count(), 1, "{log}");
+    });
+}
+
+/// Messages that were accepted arrive when the session and all its ends are dropped.
+#[test]
+fn what_was_accepted_arrives_when_all_is_dropped() {
+    on_each("a drop", || async {
+        let [(mut mux, one), (mut other_mux, other)] = both(tcp_pair().await, rings(1 << 20));
+        let sender = mux.sender(Data).unwrap();
+        let mut receiver = other_mux.receiver(Data).unwrap();
+        drop((mux, other_mux));
+        for number in 0..100 {
+            sender.send(&vec![number; 10_000]).await.unwrap();
+        }
+        drop(sender);
+        for number in 0..100 {
+            assert_eq!(receiver.recv().await, Ok(Some(vec![number; 10_000])));
+        }
+        assert_eq!(receiver.recv().await, Ok(None));
+        drop(receiver);
+        assert_eq!(one.await.unwrap(), Ok(()));
+        assert_eq!(other.await.unwrap(), Ok(()));
+    });
+}
+
+/// Calls that wait, of a session whose other side says nothing.
+fn that_wait(mux: &mut Mux) -> JoinHandle<(SendError, Closed)> {
+    let (sender, mut receiver) = (mux.sender(Data).unwrap(), mux.receiver(Data).unwrap());
+    tokio::spawn(async move {
+        let (sent, received) = tokio::join!(sender.send(b"hello"), receiver.recv());
+        (sent.unwrap_err(), received.unwrap_err())
+    })
+}
+
+async fn all_answer(waiting: JoinHandle<(SendError, Closed)>, mux: &Mux, why: Closed) {
+    let answers = waiting.await.unwrap();
+    assert_eq!(answers, (SendError::Closed(why.clone()), why.clone()));
+    assert_eq!(mux.closed().await, Err(why));
+}
+
+#[test]
+fn a_task_that_is_aborted_ends_the_session() {
+    on_each("an aborted task", || async {
+        let (mut mux, run, mut there) = by_hand(rings(64), 4096);
+        let waiting = that_wait(&mut mux);
+        tokio::task::yield_now().await;
+        run.abort();
+        all_answer(waiting, &mux, Closed::Aborted).await;
+        assert!(run.await.unwrap_err().is_cancelled());
+        there.read_to_end(&mut Vec::new()).await.unwrap();
+    });
+}
+
+#[test]
+fn an_abort_ends_the_task() {
+    on_each("an abort", || async {
+        let (mut mux, run, mut there) = by_hand(rings(64), 4096);
+        let waiting = that_wait(&mut mux);
+        tokio::task::yield_now().await;
+        mux.abort();
+        all_answer(waiting, &mux, Closed::Aborted).await;
+        assert_eq!(run.await.unwrap(), Err(Closed::Aborted));
+        there.read_to_end(&mut Vec::new()).await.unwrap();
+    });
+}
+
+#[test]
+fn a_join_handle_that_is_dropped_ends_nothing() {
+    on_each("a dropped handle", || async {
+        let [(mut alice, one), (mut bob, other)] = in_memory(rings(64));
+        drop((one, other));
+        alice.sender(Data).unwrap().send(b"hello").await.unwrap();
+        let mut receiver = bob.receiver(Data).unwrap();
+        assert_eq!(receiver.recv().await, Ok(Some(b"hello".to_vec())));
+        assert_eq!(receiver.recv().await, Ok(None));
+        alice.close();
+        bob.close();
+        assert_eq!(alice.closed().await, Ok(()));
+        assert_eq!(bob.closed().await, Ok(()));
+    });
+}
+
+/// A thread that waits on a session whose runtime is dropped meanwhile.
+#[test]
+fn a_runtime_that_is_dropped_ends_its_sessions() {
+    for runtime in [current_thread(), multi_thread()] {
+        let _watchdog = Watchdog::new("a dropped runtime");
+        let (mut mux, run, there) = runtime.block_on(async { by_hand(rings(64), 4096) });
+        let (sender, mut receiver) = (mux.sender(Data).unwrap(), mux.receiver(Data).unwrap());
+        let waits = std::thread::spawn(move || receiver.recv_blocking());
+        drop(runtime);
+        assert_eq!(waits.join().unwrap(), Err(Closed::Aborted));
+        assert_eq!(
+            sender.send_blocking(b"hello"),
+            Err(SendError::Closed(Closed::Aborted))
+        );
+        assert_eq!(mux.closed_blocking(), Err(Closed::Aborted));
+        let joined = current_thread().block_on(run).unwrap_err();
+        assert!(joined.is_cancelled());
+        drop(there);
+    }
+}
+
+#[test]
+fn a_hook_that_panics_ends_the_session() {
+    on_each("a hook that panics", || async {
+        let (here, mut there) = tokio::io::duplex(4096);
+        let (mut mux, mut driver) = Mux::new(rings(64).mux).unwrap();
+        driver.on_frame(|_| std::panic::resume_unwind(Box::new("a hook panics")));
+        let mut receiver = mux.receiver(Data).unwrap();
+        let run = tokio::spawn(run(driver, here, Default::default()));
+        assert_eq!(receiver.recv().await, Err(Closed::Aborted));
+        assert!(run.await.unwrap_err().is_panic());
+        there.read_to_end(&mut Vec::new()).await.unwrap();
+    });
+}
+
+/// A message without a guarantee, and one that is cut.
+#[test]
+fn a_peer_that_breaks_off_is_told() {
+    on_each("a peer that breaks the rules", || async {
+        let mut by_caller = rings(64);
+        by_caller.mux.issue = [lcmux_tokio::lcmux::IssuePolicy::ByCaller; 7];
+        let (mut mux, run, mut there) = by_hand(by_caller, 4096);
+        let waiting = that_wait(&mut mux);
+        there.write_all(b"\x11\0\x02hi").await.unwrap();
+        let broken = Closed::Violated(Violation::NotGuaranteed);
+        all_answer(waiting, &mux, broken.clone()).await;
+        assert_eq!(run.await.unwrap(), Err(broken));
+        let mut bytes = Vec::new();
+        there.read_to_end(&mut bytes).await.unwrap();
+        assert_eq!(bytes, GREETING);
+
+        let (mux, run, mut there) = by_hand(rings(64), 4096);
+        there.write_all(b"\x11\0\x02h").await.unwrap();
+        drop(there);
+        let cut = run.await.unwrap();
+        let broken = [
+            Err(Closed::Fault(lcmux_tokio::lcmux::Fault::Truncated)),
+            Err(io::Error::from(io::ErrorKind::BrokenPipe).into()),
+        ];
+        assert!(broken.contains(&cut), "{cut:?}");
+        assert_eq!(mux.closed().await, cut);
+    });
+}
+
+/// The other side ends its direction, and this one goes on to send.
+#[test]
+fn each_direction_ends_by_itself() {
+    on_each("half an end", || async {
+        let [(mut alice, one), (mut bob, other)] = both(tcp_pair().await, rings(64));
+        let (sender, mut receiver) = (alice.sender(Data).unwrap(), bob.receiver(Data).unwrap());
+        sender.send(b"first").await.unwrap();
+        assert_eq!(receiver.recv().await, Ok(Some(b"first".to_vec())));
+        bob.close();
+        let mut overlap = alice.receiver(Overlap).unwrap();
+        assert_eq!(overlap.recv().await, Err(Closed::Clean));
+        sender.send(b"second").await.unwrap();
+        assert_eq!(receiver.recv().await, Ok(Some(b"second".to_vec())));
+        alice.close();
+        assert_eq!(one.await.unwrap(), Ok(()));
+        assert_eq!(other.await.unwrap(), Ok(()));
+    });
+}
+
+#[test]
+fn a_configuration_is_judged_at_once() {
+    let runtime = current_thread();
+    let _inside = runtime.enter();
+    let (here, _there) = tokio::io::duplex(64);
+    let refused = connect(here, Config::new([64; 7], 7)).err();
+    assert_eq!(refused, Some(MuxFault::TooFewSlots));
+}

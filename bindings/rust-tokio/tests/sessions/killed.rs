@@ -1,0 +1,96 @@
+//! A session whose other side is a process that is killed, or stopped.
+use crate::*;
+use lcmux_tokio::lcmux::Channel::Data;
+use std::env;
+use std::process::{Child, Command, Stdio};
+use std::time::Duration;
+
+const ADDRESS: &str = "LCMUX_TEST_ADDRESS";
+
+/// The other process, and no test: it sends until it is killed.
+#[test]
+#[ignore]
+fn other_side() {
+    let address = env::var(ADDRESS).unwrap();
+    current_thread().block_on(async {
+        let stream = TcpStream::connect(address).await.unwrap();
+        let (mut mux, _run) = connect(stream, rings(1 << 16)).unwrap();
+        let sender = mux.sender(Data).unwrap();
+        while sender.send(&[7; 10_000]).await.is_ok() {}
+    });
+}
+
+/// A process that is ended with the test.
+struct Other(Child);
+
+impl Other {
+    fn new(address: String) -> Other {
+        let mut command = Command::new(env::current_exe().unwrap());
+        command.args(["--ignored", "--exact", "killed::other_side"]);
+        // It keeps no pipe of this one open.
+        command.stdout(Stdio::null()).stderr(Stdio::null());
+        Other(command.env(ADDRESS, address).spawn().unwrap())
+    }
+
+    fn signal(&self, name: &str) {
+        let kill = format!("kill {name} {}", self.0.id());
+        let sent = Command::new("sh").args(["-c", &kill]).status();
+        assert!(sent.unwrap().success());
+    }
+}
+
+impl Drop for Other {
+    fn drop(&mut self) {
+        let _ = self.0.kill();
+        let _ = self.0.wait();
+    }
+}
+
+/// A session with such a process, of which some messages came.
+async fn with_other(config: SessionConfig) -> (Mux, Run, Other) {
+    let listener = TcpListener::bind("127.0.0.1:0").await.unwrap();
+    let other = Other::new(listener.local_addr().unwrap().to_string());
+    let (mux, run) = connect(listener.accept().await.unwrap().0, config).unwrap();
+    (mux, run, other)
+}
+
+/// What came is taken, and then there is an error and no end of the channel.
+#[test]
+fn a_side_that_is_killed_is_no_end_of_its_channels() {
+    on_each("a side that is killed", || async {
+        let (mut mux, run, other) = with_other(rings(1 << 16)).await;
+        let mut receiver = mux.receiver(Data).unwrap();
+        for _ in 0..20 {
+            assert_eq!(receiver.recv().await, Ok(Some(vec![7; 10_000])));
+        }
+        other.signal("-KILL");
+        let why = loop {
+            match receiver.recv().await {
+                Ok(message) => assert_eq!(message, Some(vec![7; 10_000])),
+                Err(why) => break why,
+            }
+        };
+        mux.close();
+        match (why, run.await.unwrap()) {
+            (Closed::Clean, _) => {} // the stream ended after a whole frame
+            (why, ran) => assert_eq!(ran, Err(why)),
+        }
+    });
+}
+
+/// The system takes bytes for it, so nothing fails; but it is silent.
+#[test]
+fn a_side_that_is_stopped_is_given_up() {
+    on_each("a side that is stopped", || async {
+        let mut config = rings(1 << 16);
+        config.timeouts.idle = Some(Duration::from_secs(2));
+        let (mut mux, run, other) = with_other(config).await;
+        let mut receiver = mux.receiver(Data).unwrap();
+        assert_eq!(receiver.recv().await, Ok(Some(vec![7; 10_000])));
+        other.signal("-STOP");
+        while receiver.recv().await.is_ok() {}
+        let silent = Err(timed_out("the other side is silent"));
+        assert_eq!(run.await.unwrap(), silent);
+        assert_eq!(mux.closed().await, silent);
+    });
+}

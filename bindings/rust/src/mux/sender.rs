@@ -1,0 +1,294 @@
+use super::block::{block_on, block_until};
+use super::shared::Shared;
+use super::state::Ask;
+use crate::TrySendError;
+use crate::{CallError, Channel, ClientBook, Closed, SendError, SendTimeoutError, Stats};
+use std::fmt::{self, Formatter};
+use std::future::Future;
+use std::mem;
+use std::pin::Pin;
+use std::sync::Arc;
+use std::task::{Context, Poll};
+use std::thread;
+use std::time::{Duration, Instant};
+
+/// The end of a channel that sends.
+///
+/// [`Sender::send`] waits for guarantees, for a slot and for its turn: as a future, as
+/// [`Sender::send_blocking`] for a thread, or up to a [`Sender::send_timeout`]. Several tasks may share one
+/// sender by reference; their calls go in the order in which they began to wait.
+///
+/// A sender that is dropped finishes its channel: the other side's receiver gets what was sent, and then
+/// the end. In version One, which has no frame for that, a limit of 0 says so. A sender that a panic drops
+/// aborts the session: what was sent so far is not to be taken for all. One that an early return drops does
+/// not ([what to do](crate::Mux#how-it-ends)).
+///
+/// ```
+/// use lcmux::{Channel::Data, Config, Mux, Needs, TrySendError};
+///
+/// let (mut mux, _driver) = Mux::new(Config::new([64; 7], 16))?;
+/// let sender = mux.sender(Data).unwrap();
+/// let needs = Needs::Guarantees(5); // since the other side issued none yet
+/// assert_eq!(sender.try_send(b"hello"), Err(TrySendError::Full(needs)));
+/// # Ok::<(), lcmux::MuxFault>(())
+/// ```
+pub struct Sender {
+    shared: Arc<Shared>,
+    channel: Channel,
+}
+
+/// A call that waits, from its first poll until it is ready or dropped.
+struct Sending<'a> {
+    shared: &'a Shared,
+    channel: Channel,
+    ask: Ask<'a>,
+    ticket: Option<u64>,
+}
+
+impl Future for Sending<'_> {
+    type Output = Result<(), SendError>;
+
+    fn poll(mut self: Pin<&mut Self>, cx: &mut Context<'_>) -> Poll<Self::Output> {
+        let call = &mut *self;
+        call.shared
+            .with(|state| state.poll_send(call.channel, call.ask, &mut call.ticket, cx.waker()))
+    }
+}
+
+impl Drop for Sending<'_> {
+    fn drop(&mut self) {
+        if let Some(ticket) = self.ticket {
+            self.shared
+                .with(|state| state.forget_send(self.channel, ticket));
+        }
+    }
+}
+
+fn deadline(timeout: Duration) -> Option<Instant> {
+    Instant::now().checked_add(timeout)
+}
+
+impl Sender {
+    pub(super) fn new(shared: &Arc<Shared>, channel: Channel) -> Sender {
+        Sender {
+            shared: Arc::clone(shared),
+            channel,
+        }
+    }
+
+    fn sending<'a>(&'a self, ask: Ask<'a>) -> Sending<'a> {
+        Sending {
+            shared: &self.shared,
+            channel: self.channel,
+            ask,
+            ticket: None,
+        }
+    }
+
+    /// The channel that it sends on.
+    pub fn channel(&self) -> Channel {
+        self.channel
+    }
+
+    /// Sends a copy of 1 to 65,535 bytes as one message, in version Two of 1 to 1,048,576. It waits until
+    /// there are guarantees and a slot and it is this sender's turn. What can never go is an error at once;
+    /// but this side does not know the other's ring, so a message longer than that waits until the end.
+    ///
+    /// The message is sent once the future is ready, in whole. *Cancel-safe*: a future that is dropped
+    /// before sent nothing, spent no guarantee, and left its place in the line to the next.
+    ///
+    /// # Errors
+    ///
+    /// - [`SendError::Refused`] by 15, 1, 2 and 3, as [`Refusal`](crate::Refusal) numbers them, and by 14,
+    ///   where memory was refused and the same call may be made again.
+    /// - [`SendError::Unwanted`] where the other side will not issue as much.
+    /// - [`SendError::Closed`] once the session is closed or over, or where guarantees are missing and the
+    ///   other side ended its direction.
+    pub async fn send(&self, body: &[u8]) -> Result<(), SendError> {
+        self.sending(Ask::Message(body)).await
+    }
+
+    /// [`Sender::send`] for a thread, which sleeps meanwhile. It is not for a task of an executor.
+    pub fn send_blocking(&self, body: &[u8]) -> Result<(), SendError> {
+        block_on(self.send(body))
+    }
+
+    /// [`Sender::send_blocking`] that waits so long at most, and then has sent nothing. What could go at
+    /// once goes also where the time is none.
+    pub fn send_timeout(&self, body: &[u8], timeout: Duration) -> Result<(), SendTimeoutError> {
+        match block_until(self.send(body), deadline(timeout)) {
+            Some(sent) => Ok(sent?),
+            None => Err(SendTimeoutError::Timeout),
+        }
+    }
+
+    /// Sends a message if that needs no wait, and no call of this sender waits. It has no place in the line:
+    /// made again and again it finds others before it each time that these wait.
+    pub fn try_send(&self, body: &[u8]) -> Result<(), TrySendError> {
+        self.shared
+            .with(|state| state.try_send(self.channel, Ask::Message(body)))
+    }
+
+    /// Waits, as [`Sender::send`] does, until a message of so many bytes could go, and answers a permit to
+    /// send it: so it need not be made before.
+    ///
+    /// *Cancel-safe*: a future that is dropped before it is ready reserved nothing, and left its place in
+    /// the line to the next. Its errors are those of [`Sender::send`], but for 14.
+    pub async fn reserve(&self, len: usize) -> Result<Permit<'_>, SendError> {
+        self.sending(Ask::Permit(len)).await?;
+        Ok(Permit { sender: self, len })
+    }
+
+    /// [`Sender::reserve`] for a thread, which sleeps meanwhile.
+    pub fn reserve_blocking(&self, len: usize) -> Result<Permit<'_>, SendError> {
+        block_on(self.reserve(len))
+    }
+
+    /// [`Sender::reserve_blocking`] that waits so long at most, and then has reserved nothing.
+    pub fn reserve_timeout(
+        &self,
+        len: usize,
+        timeout: Duration,
+    ) -> Result<Permit<'_>, SendTimeoutError> {
+        match block_until(self.reserve(len), deadline(timeout)) {
+            Some(permit) => Ok(permit?),
+            None => Err(SendTimeoutError::Timeout),
+        }
+    }
+
+    /// Answers a permit if that needs no wait.
+    pub fn try_reserve(&self, len: usize) -> Result<Permit<'_>, TrySendError> {
+        self.shared
+            .with(|state| state.try_send(self.channel, Ask::Permit(len)))?;
+        Ok(Permit { sender: self, len })
+    }
+
+    /// Ends the channel: nothing more is sent, all guarantees are given up, and the other side's receiver
+    /// gets what was sent, and then the end. It does not wait: calls that do already go before it, and later
+    /// ones are refused; so are permits. In version One a limit of 0 does so. A second one is refused by 15.
+    pub fn finish(&self) -> Result<(), CallError> {
+        self.shared.with(|state| state.finish(self.channel))
+    }
+
+    /// At most so many bytes are sent from here on; 0 ends the channel. It does not wait: calls that do
+    /// already go before it, and a later one that is longer is refused; so is such a permit. Refused by 15, 7
+    /// and 8, in this order.
+    pub fn limit(&self, bound: u64) -> Result<(), CallError> {
+        self.shared
+            .with(|state| state.limit_sending(self.channel, bound))
+    }
+
+    /// Gives up guarantees that no permit owns, also such as a call waits for. It does not wait. Refused by
+    /// 15, 5 and 6, in this order.
+    pub fn absolve(&self, amount: u32) -> Result<(), CallError> {
+        self.shared
+            .with(|state| state.absolve(self.channel, amount))
+    }
+
+    /// The target of the other side's last plead, to hold at most so much; `None` once it was honoured, also
+    /// where this side holds more by what was issued meanwhile. That one came is told by
+    /// [`Driver::on_frame`](crate::Driver::on_frame).
+    pub fn pleaded(&self) -> Option<u32> {
+        self.shared.with(|state| state.pleaded(self.channel))
+    }
+
+    /// Honours the other side's last plead, where [`PleadPolicy::ByCaller`](crate::PleadPolicy::ByCaller)
+    /// leaves that to the caller: what is held above its target is given up, which is the answer. What
+    /// permits own is kept, and then the plead is, too. It does not wait. Refused by 15.
+    pub fn honour(&self) -> Result<u32, CallError> {
+        self.shared.with(|state| state.honour(self.channel))
+    }
+
+    /// The guarantees that calls may use: those that are held and that no permit owns.
+    pub fn held(&self) -> u64 {
+        self.shared.with(|state| state.held(self.channel))
+    }
+
+    /// The channel's balances on this side, those of permits among what is held.
+    pub fn book(&self) -> ClientBook {
+        self.shared.with(|state| state.client(self.channel))
+    }
+
+    /// What the channel did so far.
+    pub fn stats(&self) -> Stats {
+        self.shared.with(|state| state.stats(self.channel))
+    }
+}
+
+impl Drop for Sender {
+    fn drop(&mut self) {
+        self.shared.with(|state| match thread::panicking() {
+            true => state.fail(Closed::Aborted),
+            false => state.drop_sender(self.channel),
+        });
+    }
+}
+
+impl fmt::Debug for Sender {
+    fn fmt(&self, f: &mut Formatter<'_>) -> fmt::Result {
+        f.debug_struct("Sender")
+            .field("channel", &self.channel)
+            .finish_non_exhaustive()
+    }
+}
+
+/// The right to send one message: it owns guarantees and a slot until it is used or dropped.
+///
+/// No other call of the sender spends its guarantees, and no policy gives them up. A permit that is dropped
+/// gives both back, and wakes who waits for them. One that is kept for long keeps its slot from all senders;
+/// so who waits for a second one meanwhile needs a session with slots for both.
+///
+/// ```
+/// use lcmux::{Channel::Data, Config, Mux};
+/// # use std::{os::unix::net::UnixStream, thread};
+/// # let (here, there) = UnixStream::pair()?;
+/// # let (mut alice, driver) = Mux::new(Config::new([64; 7], 16))?;
+/// # thread::spawn(move || driver.run_blocking(here.try_clone()?, here));
+/// # let (_bob, driver) = Mux::new(Config::new([64; 7], 16))?;
+/// # thread::spawn(move || driver.run_blocking(there.try_clone()?, there));
+/// let sender = alice.sender(Data).unwrap();
+/// let permit = sender.reserve_blocking(60)?;
+/// assert_eq!(sender.held(), 4);
+/// permit.send(b"short")?; // and the rest is given back
+/// assert_eq!(sender.held(), 59);
+/// # Ok::<(), Box<dyn std::error::Error>>(())
+/// ```
+#[must_use = "a permit that is dropped is given back"]
+pub struct Permit<'a> {
+    sender: &'a Sender,
+    len: usize,
+}
+
+impl Permit<'_> {
+    /// How long a message it is for, at most.
+    #[allow(clippy::len_without_is_empty)]
+    pub fn len(&self) -> usize {
+        self.len
+    }
+
+    /// Sends the message at once, and gives back the guarantees that it does not need. The permit is used up,
+    /// whatever the answer is. It is refused only
+    /// where the message is empty or longer than the permit, where memory was, or where the channel was
+    /// finished or limited or the session ended meanwhile.
+    pub fn send(self, body: &[u8]) -> Result<(), SendError> {
+        let Permit { sender, len } = self;
+        mem::forget(self);
+        sender
+            .shared
+            .with(|state| state.send_reserved(sender.channel, len, body))
+    }
+}
+
+impl Drop for Permit<'_> {
+    fn drop(&mut self) {
+        self.sender
+            .shared
+            .with(|state| state.give_back(self.sender.channel, self.len));
+    }
+}
+
+impl fmt::Debug for Permit<'_> {
+    fn fmt(&self, f: &mut Formatter<'_>) -> fmt::Result {
+        f.debug_struct("Permit").field("len", &self.len).finish()
+    }
+}

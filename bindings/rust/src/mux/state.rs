@@ -1,0 +1,388 @@
+//! What a session knows and who waits in it: no threads, no lock and no transport.
+//!
+//! Nothing is handed over to whom is woken. Each change ends with `settle`, which puts what is owed into the
+//! queue and wakes the one call that may go now; that call looks again when it is polled, and one that is
+//! dropped instead settles, too. So no wake-up is lost with a call that was given up.
+mod control;
+mod line;
+mod receiving;
+mod sending;
+
+pub(crate) use sending::Ask;
+
+use super::config::MuxConfig;
+use super::io::Breaker;
+use super::shared::Wakes;
+use super::stats::Stats;
+use crate::{
+    Channel, ClientBook, Closed, IssuePolicy, MuxFault, Peer, PleadPolicy, ServerBook, Version,
+};
+use control::{ClientOwed, Pleaded, ServerOwed};
+use line::Line;
+use std::iter;
+use std::mem;
+use std::task::Waker;
+use std::time::Instant;
+
+/// How many slots messages leave free: one for a frame of control on each channel.
+pub(crate) const KEPT: usize = 7;
+
+/// The ends that a session has, and its `Mux`.
+const USERS: usize = 15;
+
+const ALL: u8 = 0x7f;
+
+/// A channel in the direction in which this side sends.
+#[derive(Default)]
+struct Outgoing {
+    line: Line,
+    /// The guarantees that permits own.
+    reserved: u64,
+    /// When the sender went last, counted in turns; 0 before.
+    went: u64,
+    policy: PleadPolicy,
+    pleaded: Option<Pleaded>,
+    owed: ClientOwed,
+}
+
+/// Channels by the call at the front of their line, as bits.
+#[derive(Default)]
+struct Fronts {
+    /// Of these it may have changed, so nothing is known.
+    stale: u8,
+    /// Of these it waits for a slot and its turn, and nothing else.
+    able: u8,
+    /// Of these it will never go.
+    hopeless: u8,
+}
+
+/// A channel in the direction in which this side receives.
+#[derive(Default)]
+struct Incoming {
+    waker: Option<Waker>,
+    /// The bytes of a message that is lent: they are no room yet.
+    lent: u64,
+    policy: IssuePolicy,
+    /// The target of the last plead, above which no policy issues.
+    most: Option<u32>,
+    owed: ServerOwed,
+}
+
+/// What the writing half does next.
+pub(crate) enum Pulled {
+    /// So many bytes were put into its buffer.
+    Bytes(usize),
+    /// Nothing is to go out; it is woken.
+    Idle,
+    /// Nothing more will go out.
+    End,
+    /// The session is over.
+    Over(Closed),
+}
+
+pub(crate) struct State {
+    peer: Peer,
+    version: Version,
+    out: [Outgoing; 7],
+    inc: [Incoming; 7],
+    stats: [Stats; 7],
+    /// Slots that permits own.
+    permits: usize,
+    /// The turns of all senders so far.
+    turns: u64,
+    /// Channels on which a receiver or a sender may owe something, as bits, and the one that is looked at first.
+    owing_in: u8,
+    owing_out: u8,
+    first: usize,
+    fronts: Fronts,
+    users: usize,
+    closing: bool,
+    out_ended: bool,
+    in_ended: bool,
+    closed: Option<Closed>,
+    reader: Option<Waker>,
+    /// The writing half, that waits until something is to go out.
+    writer: Option<Waker>,
+    /// The writing half, whatever it waits for: that, or its transport.
+    stuck: Option<Waker>,
+    /// Calls that wait for the end.
+    over: Vec<(u64, Waker)>,
+    tickets: u64,
+    breaker: Option<Breaker>,
+    pub(crate) wakes: Wakes,
+}
+
+fn at(channel: Channel) -> usize {
+    usize::from(channel.number())
+}
+
+// The channels of these bits.
+fn channels(mut bits: u8) -> impl Iterator<Item = Channel> {
+    iter::from_fn(move || {
+        let lowest = Channel::ALL.get(bits.trailing_zeros() as usize)?;
+        bits &= bits - 1;
+        Some(*lowest)
+    })
+}
+
+// The waker of a task in the place of the one before.
+fn keep(place: &mut Option<Waker>, waker: &Waker, wakes: &mut Wakes) {
+    if !place.as_ref().is_some_and(|kept| kept.will_wake(waker)) {
+        wakes.discard(place.replace(waker.clone()));
+    }
+}
+
+impl State {
+    pub fn new(config: &MuxConfig) -> Result<State, MuxFault> {
+        let peer = Peer::new(&config.peer)?;
+        config.judge()?;
+        let mut state = State {
+            peer,
+            version: config.peer.version,
+            out: Default::default(),
+            inc: Default::default(),
+            stats: Default::default(),
+            permits: 0,
+            turns: 0,
+            owing_in: ALL,
+            owing_out: ALL,
+            first: 0,
+            fronts: Fronts::default(),
+            users: USERS,
+            closing: false,
+            out_ended: false,
+            in_ended: false,
+            closed: None,
+            reader: None,
+            writer: None,
+            stuck: None,
+            over: Vec::new(),
+            tickets: 0,
+            breaker: None,
+            wakes: Wakes::default(),
+        };
+        for channel in Channel::ALL.map(at) {
+            state.inc[channel].policy = config.issue[channel];
+            state.out[channel].policy = config.plead[channel];
+        }
+        state.settle();
+        Ok(state)
+    }
+
+    pub fn stats(&self, channel: Channel) -> Stats {
+        let mut stats = self.stats[at(channel)];
+        let lacking = &self.out[at(channel)].line.lacking;
+        lacking.count(Instant::now(), &mut stats);
+        stats
+    }
+
+    pub fn client(&self, channel: Channel) -> ClientBook {
+        self.peer.client(channel)
+    }
+
+    pub fn server(&mut self, channel: Channel) -> ServerBook {
+        self.flush();
+        self.peer.server(channel)
+    }
+
+    pub fn closed(&self) -> Option<&Closed> {
+        self.closed.as_ref()
+    }
+
+    pub fn is_closing(&self) -> bool {
+        self.closing || self.closed.is_some()
+    }
+
+    // Why a call that puts something on the stream is refused.
+    fn is_open(&self) -> Result<(), Closed> {
+        match &self.closed {
+            Some(closed) => Err(closed.clone()),
+            None if self.closing => Err(Closed::Clean),
+            None => Ok(()),
+        }
+    }
+
+    // What follows from a change: what is owed goes into the queue, and whoever may go on is woken.
+    fn settle(&mut self) {
+        self.flush();
+        self.wake_senders();
+        if self.writer.is_some() && self.peer.wants_write() {
+            self.wakes.wake(self.writer.take());
+        }
+    }
+
+    // Anything may have changed.
+    fn look_everywhere(&mut self) {
+        (self.owing_in, self.owing_out, self.fronts.stale) = (ALL, ALL, ALL);
+    }
+
+    /// The next bytes that go out, to the front of an empty buffer. Where there are none the waker is kept.
+    pub fn pull(&mut self, buffer: &mut [u8], waker: &Waker) -> Pulled {
+        if let Some(closed) = &self.closed {
+            return Pulled::Over(closed.clone());
+        }
+        self.flush();
+        let count = self.peer.write(buffer);
+        if count > 0 {
+            self.settle();
+            return Pulled::Bytes(count);
+        }
+        if self.closing {
+            return Pulled::End;
+        }
+        keep(&mut self.writer, waker, &mut self.wakes);
+        Pulled::Idle
+    }
+
+    /// Bytes that came. The answer is how many were taken, and how many frames they made whole.
+    pub fn deliver(&mut self, piece: &[u8]) -> Result<(usize, u64), Closed> {
+        if let Some(closed) = &self.closed {
+            return Err(closed.clone());
+        }
+        let delivery = self.peer.deliver(piece);
+        self.arrived();
+        if let Some(stop) = delivery.stop {
+            self.fail(stop.into());
+        }
+        Ok((delivery.taken, delivery.frames))
+    }
+
+    // What frames that came let go on.
+    fn arrived(&mut self) {
+        for (channel, ready) in Channel::ALL.into_iter().zip(self.peer.ready()) {
+            if ready.message {
+                let most = &mut self.stats[at(channel)].most_buffered;
+                *most = self.peer.server(channel).buffered.max(*most);
+            }
+            if ready.message || ready.ended {
+                let waker = self.inc[at(channel)].waker.take();
+                self.wakes.wake(waker);
+            }
+        }
+        self.look_everywhere();
+        self.settle();
+    }
+
+    /// Keeps the waker of a reading half that waits for bytes, unless the session is over.
+    pub fn wait_to_read(&mut self, waker: &Waker) -> Result<(), Closed> {
+        keep(&mut self.reader, waker, &mut self.wakes);
+        self.closed.clone().map_or(Ok(()), Err)
+    }
+
+    /// Keeps the waker of a writing half that waits for its transport, unless the session is over.
+    pub fn wait_to_write(&mut self, waker: &Waker) -> Result<(), Closed> {
+        keep(&mut self.stuck, waker, &mut self.wakes);
+        self.closed.clone().map_or(Ok(()), Err)
+    }
+
+    /// The other side ended its stream.
+    pub fn input_ended(&mut self) -> Result<(), Closed> {
+        if let Some(closed) = &self.closed {
+            return closed.clone().result();
+        }
+        if let Err(stop) = self.peer.end() {
+            self.fail(stop.into());
+            return Err(stop.into());
+        }
+        self.in_ended = true;
+        for inc in &mut self.inc {
+            self.wakes.wake(inc.waker.take());
+        }
+        self.fronts.stale = ALL;
+        self.settle();
+        self.end_if_done();
+        Ok(())
+    }
+
+    /// This side's stream is written and ended.
+    pub fn output_ended(&mut self) {
+        self.out_ended = true;
+        self.end_if_done();
+    }
+
+    fn end_if_done(&mut self) {
+        if self.in_ended && self.out_ended {
+            self.fail(Closed::Clean);
+        }
+    }
+
+    /// What waits is written out, and then this side's direction ends.
+    pub fn close(&mut self) {
+        if self.closing || self.closed.is_some() {
+            return;
+        }
+        self.flush(); // from here on nothing is issued
+        self.closing = true;
+        self.look_everywhere(); // also at what is owed behind calls that wait, none of which will go
+        self.wake_waiting();
+        // Also where it waits for its transport: who drives the session may bound how long the end takes.
+        self.wakes.wake(self.stuck.take());
+        self.settle();
+    }
+
+    /// The session is over, for this reason unless it had one.
+    pub fn fail(&mut self, reason: Closed) {
+        if self.closed.is_some() {
+            return;
+        }
+        if reason != Closed::Clean {
+            self.wakes.break_by(self.breaker.take());
+        }
+        self.closed = Some(reason);
+        for inc in &mut self.inc {
+            self.wakes.wake(inc.waker.take());
+        }
+        self.wake_waiting();
+        self.wakes.wake(self.reader.take());
+        self.wakes.wake(self.writer.take());
+        self.wakes.wake(self.stuck.take());
+        for (_, waker) in mem::take(&mut self.over) {
+            self.wakes.wake(Some(waker));
+        }
+    }
+
+    /// What ends the transport's calls where the session fails: at once, where it has.
+    pub fn set_breaker(&mut self, breaker: Option<Breaker>) {
+        match &self.closed {
+            Some(reason) if *reason != Closed::Clean => self.wakes.break_by(breaker),
+            _ => self.breaker = breaker,
+        }
+    }
+
+    /// The breaker of a transport that is no longer used, to be dropped without the lock.
+    pub fn take_breaker(&mut self) -> Option<Breaker> {
+        self.breaker.take()
+    }
+
+    /// One of the ends, or the `Mux`, is dropped. The last one closes the session.
+    pub fn leave(&mut self) {
+        self.users -= 1;
+        if self.users == 0 {
+            self.close();
+        }
+    }
+
+    /// The reason why the session is over. The waker is kept until then, at the place of the ticket.
+    pub fn poll_over(&mut self, ticket: &mut Option<u64>, waker: &Waker) -> Option<Closed> {
+        if let Some(closed) = &self.closed {
+            *ticket = None;
+            return Some(closed.clone());
+        }
+        let ticket = *ticket.get_or_insert_with(|| self.next_ticket());
+        self.forget_over(ticket);
+        self.over.push((ticket, waker.clone()));
+        None
+    }
+
+    pub fn forget_over(&mut self, ticket: u64) {
+        if let Some(place) = self.over.iter().position(|(other, _)| *other == ticket) {
+            let (_, stale) = self.over.swap_remove(place);
+            self.wakes.discard(Some(stale));
+        }
+    }
+
+    fn next_ticket(&mut self) -> u64 {
+        self.tickets += 1;
+        self.tickets
+    }
+}

@@ -1,0 +1,164 @@
+//! A session whose bytes the test moves by hand, and wakers that count.
+use crate::watchdog::Watchdog;
+use lcmux::{Closed, Driver, Mux, MuxConfig, PollRead, PollWrite};
+use std::future::Future;
+use std::io;
+use std::pin::Pin;
+use std::sync::atomic::{AtomicUsize, Ordering};
+use std::sync::Arc;
+use std::task::{Context, Poll, Wake, Waker};
+use std::thread;
+
+#[derive(Default)]
+pub struct Count(AtomicUsize);
+
+impl Wake for Count {
+    fn wake(self: Arc<Count>) {
+        self.0.fetch_add(1, Ordering::Relaxed);
+    }
+}
+
+impl Count {
+    pub fn count(&self) -> usize {
+        self.0.load(Ordering::Relaxed)
+    }
+}
+
+/// A call that is polled by hand: how often it was woken is counted.
+pub struct Call<'a, T> {
+    future: Pin<Box<dyn Future<Output = T> + 'a>>,
+    count: Arc<Count>,
+}
+
+impl<'a, T> Call<'a, T> {
+    pub fn new(future: impl Future<Output = T> + 'a) -> Call<'a, T> {
+        Call {
+            future: Box::pin(future),
+            count: Arc::default(),
+        }
+    }
+
+    /// A call that was polled and has to wait.
+    pub fn waiting(future: impl Future<Output = T> + 'a) -> Call<'a, T> {
+        let mut call = Call::new(future);
+        assert!(call.poll().is_none());
+        call
+    }
+
+    pub fn poll(&mut self) -> Option<T> {
+        let waker = Waker::from(Arc::clone(&self.count));
+        match self.future.as_mut().poll(&mut Context::from_waker(&waker)) {
+            Poll::Ready(output) => Some(output),
+            Poll::Pending => None,
+        }
+    }
+
+    pub fn wakes(&self) -> usize {
+        self.count.count()
+    }
+
+    /// Polls a call that was woken once, and is then ready.
+    pub fn woken(mut self) -> T {
+        assert_eq!(self.wakes(), 1);
+        self.poll().expect("it was woken")
+    }
+}
+
+/// Bytes, behind which none come yet.
+pub struct Feed<'a>(pub &'a [u8]);
+
+impl PollRead for Feed<'_> {
+    fn poll_read(&mut self, cx: &mut Context<'_>, buffer: &mut [u8]) -> Poll<io::Result<usize>> {
+        match self.0.is_empty() {
+            true => Poll::Pending,
+            false => self.0.poll_read(cx, buffer),
+        }
+    }
+}
+
+/// Takes so many bytes, and then none.
+struct Narrow<'a>(&'a mut Vec<u8>, usize);
+
+impl PollWrite for Narrow<'_> {
+    fn poll_write(&mut self, _: &mut Context<'_>, bytes: &[u8]) -> Poll<io::Result<usize>> {
+        let count = self.1.min(bytes.len());
+        if count == 0 {
+            return Poll::Pending;
+        }
+        self.1 -= count;
+        self.0.extend(&bytes[..count]);
+        Poll::Ready(Ok(count))
+    }
+
+    fn poll_flush(&mut self, _: &mut Context<'_>) -> Poll<io::Result<()>> {
+        Poll::Ready(Ok(()))
+    }
+
+    fn poll_close(&mut self, _: &mut Context<'_>) -> Poll<io::Result<()>> {
+        Poll::Ready(Ok(()))
+    }
+}
+
+pub struct Hand {
+    pub mux: Mux,
+    pub driver: Driver,
+    pub written: Arc<Count>,
+    // No thread moves the bytes, so a call that waits where it should not would do so for ever.
+    _watchdog: Watchdog,
+}
+
+impl Hand {
+    pub fn new(config: impl Into<MuxConfig>) -> Hand {
+        let (mux, driver) = Mux::new(config).unwrap();
+        let test = thread::current().name().unwrap_or("a test").to_string();
+        Hand {
+            mux,
+            driver,
+            written: Arc::default(),
+            _watchdog: Watchdog::new(test),
+        }
+    }
+
+    /// A session of which the first issues are written.
+    pub fn started(config: impl Into<MuxConfig>) -> Hand {
+        let mut hand = Hand::new(config);
+        hand.written();
+        hand
+    }
+
+    pub fn read(&mut self, reader: &mut impl PollRead) -> Poll<Result<(), Closed>> {
+        let waker = Waker::from(Arc::new(Count::default()));
+        self.driver
+            .poll_read(&mut Context::from_waker(&waker), reader)
+    }
+
+    pub fn write(&mut self, writer: &mut impl PollWrite) -> Poll<Result<(), Closed>> {
+        let waker = Waker::from(Arc::clone(&self.written));
+        self.driver
+            .poll_write(&mut Context::from_waker(&waker), writer)
+    }
+
+    /// Bytes come.
+    pub fn feed(&mut self, bytes: &[u8]) {
+        assert_eq!(self.read(&mut Feed(bytes)), Poll::Pending);
+    }
+
+    /// All that waits to be written.
+    pub fn written(&mut self) -> Vec<u8> {
+        let mut bytes = Vec::new();
+        assert_eq!(self.write(&mut bytes), Poll::Pending);
+        bytes
+    }
+
+    /// The next bytes that are written, of which the transport takes no more.
+    pub fn written_at_most(&mut self, most: usize) -> Vec<u8> {
+        let mut bytes = Vec::new();
+        assert_eq!(self.write(&mut Narrow(&mut bytes, most)), Poll::Pending);
+        bytes
+    }
+
+    /// How often the writing half was woken.
+    pub fn write_wakes(&self) -> usize {
+        self.written.count()
+    }
+}

@@ -1,0 +1,35 @@
+use std::io::{self, Write};
+use std::sync::mpsc::{self, RecvTimeoutError, Sender};
+use std::time::Duration;
+use std::{process, thread};
+
+/// Ends the whole program, with a word, where it is neither fed nor dropped within a minute: a call that
+/// hangs does not hang the gate.
+pub struct Watchdog {
+    alive: Sender<()>,
+}
+
+impl Watchdog {
+    pub fn new(what: impl Into<String>) -> Watchdog {
+        let (alive, watched) = mpsc::channel::<()>();
+        let what = what.into();
+        thread::spawn(move || loop {
+            match watched.recv_timeout(Duration::from_secs(60)) {
+                Ok(()) => {}
+                Err(RecvTimeoutError::Disconnected) => return,
+                Err(RecvTimeoutError::Timeout) => {
+                    // Past what a test's output is caught by, which ends with the program.
+                    let _ = writeln!(io::stderr(), "{what} hangs");
+                    process::abort();
+                }
+            }
+        });
+        Watchdog { alive }
+    }
+
+    /// Something got on: it begins to wait anew. For tests that a machine with other work may slow down.
+    #[allow(dead_code)]
+    pub fn feed(&self) {
+        let _ = self.alive.send(());
+    }
+}

@@ -1,0 +1,198 @@
+//! A stream of one direction in memory, whose calls are cut, put off and failed by choice.
+use crate::choices::Choices;
+use lcmux::{PollRead, PollWrite};
+use std::cell::RefCell;
+use std::collections::VecDeque;
+use std::io::{self, ErrorKind};
+use std::rc::Rc;
+use std::task::{Context, Poll, Waker};
+
+/// What goes wrong on a stream, and behind how many calls.
+#[derive(Clone, Copy, Debug, PartialEq)]
+pub enum Fault {
+    Read(u32),
+    Write(u32),
+    Flush(u32),
+    Cut(u32),
+    Garbage(u32),
+}
+
+#[derive(Default)]
+struct Stream {
+    /// What was written and not flushed.
+    held: Vec<u8>,
+    bytes: VecDeque<u8>,
+    ended: bool,
+    gone: bool,
+    reader: Option<Waker>,
+    writer: Option<Waker>,
+    calls: u32,
+}
+
+const CAPACITY: usize = 200;
+
+pub struct Reader(Half);
+pub struct Writer(Half);
+
+struct Half {
+    choices: Rc<RefCell<Choices>>,
+    stream: Rc<RefCell<Stream>>,
+    fault: Option<Fault>,
+}
+
+/// The two ends of a stream.
+pub fn wire(choices: &Rc<RefCell<Choices>>, fault: Option<Fault>) -> (Writer, Reader) {
+    let stream = Rc::default();
+    let half = || Half {
+        choices: Rc::clone(choices),
+        stream: Rc::clone(&stream),
+        fault,
+    };
+    (Writer(half()), Reader(half()))
+}
+
+impl Half {
+    // A call that is put off, though it could go on.
+    fn is_put_off(&self, cx: &Context<'_>) -> bool {
+        let is_put_off = self.choices.borrow_mut().one_in(8);
+        if is_put_off {
+            cx.waker().wake_by_ref();
+        }
+        is_put_off
+    }
+
+    fn at_most(&self, most: usize) -> usize {
+        let mut choices = self.choices.borrow_mut();
+        match choices.below(4) {
+            0 => most,
+            1 => 1,
+            _ => 1 + choices.below(most as u32) as usize,
+        }
+    }
+}
+
+fn failed() -> io::Error {
+    io::Error::new(ErrorKind::ConnectionReset, "the cable is cut")
+}
+
+impl Stream {
+    fn flush(&mut self) {
+        let held = std::mem::take(&mut self.held);
+        self.bytes.extend(held);
+        if let Some(reader) = self.reader.take() {
+            reader.wake();
+        }
+    }
+
+    fn end(&mut self) {
+        self.ended = true;
+        self.flush();
+    }
+}
+
+impl PollRead for Reader {
+    fn poll_read(&mut self, cx: &mut Context<'_>, buffer: &mut [u8]) -> Poll<io::Result<usize>> {
+        if self.0.is_put_off(cx) {
+            return Poll::Pending;
+        }
+        let mut stream = self.0.stream.borrow_mut();
+        stream.calls += 1;
+        match self.0.fault {
+            Some(Fault::Read(after)) if stream.calls > after => {
+                return Poll::Ready(Err(failed()));
+            }
+            Some(Fault::Cut(after)) if stream.calls > after => {
+                stream.bytes.clear();
+                return Poll::Ready(Ok(0));
+            }
+            Some(Fault::Garbage(after)) if stream.calls > after => {
+                buffer[0] = 0xff;
+                return Poll::Ready(Ok(1));
+            }
+            _ if stream.calls % 16 == 0 => return Poll::Ready(Err(ErrorKind::Interrupted.into())),
+            _ => {}
+        }
+        if stream.bytes.is_empty() {
+            if stream.ended {
+                return Poll::Ready(Ok(0));
+            }
+            stream.reader = Some(cx.waker().clone());
+            return Poll::Pending;
+        }
+        let count = self.0.at_most(stream.bytes.len().min(buffer.len()));
+        for (place, byte) in buffer.iter_mut().zip(stream.bytes.drain(..count)) {
+            *place = byte;
+        }
+        if let Some(writer) = stream.writer.take() {
+            writer.wake();
+        }
+        Poll::Ready(Ok(count))
+    }
+}
+
+impl PollWrite for Writer {
+    fn poll_write(&mut self, cx: &mut Context<'_>, bytes: &[u8]) -> Poll<io::Result<usize>> {
+        if self.0.is_put_off(cx) {
+            return Poll::Pending;
+        }
+        let mut stream = self.0.stream.borrow_mut();
+        stream.calls += 1;
+        match self.0.fault {
+            Some(Fault::Write(after)) if stream.calls > after => {
+                return Poll::Ready(Err(failed()));
+            }
+            _ if stream.gone => return Poll::Ready(Err(ErrorKind::BrokenPipe.into())),
+            _ => {}
+        }
+        let room = CAPACITY.saturating_sub(stream.bytes.len() + stream.held.len());
+        if room == 0 {
+            stream.flush();
+            stream.writer = Some(cx.waker().clone());
+            return Poll::Pending;
+        }
+        let count = self.0.at_most(bytes.len().min(room));
+        stream.held.extend(&bytes[..count]);
+        Poll::Ready(Ok(count))
+    }
+
+    fn poll_flush(&mut self, cx: &mut Context<'_>) -> Poll<io::Result<()>> {
+        if self.0.is_put_off(cx) {
+            return Poll::Pending;
+        }
+        let mut stream = self.0.stream.borrow_mut();
+        stream.calls += 1;
+        if matches!(self.0.fault, Some(Fault::Flush(after)) if stream.calls > after) {
+            return Poll::Ready(Err(failed()));
+        }
+        stream.flush();
+        Poll::Ready(Ok(()))
+    }
+
+    fn poll_close(&mut self, cx: &mut Context<'_>) -> Poll<io::Result<()>> {
+        if self.0.is_put_off(cx) {
+            return Poll::Pending;
+        }
+        // What was not flushed never comes.
+        let mut stream = self.0.stream.borrow_mut();
+        stream.held.clear();
+        stream.end();
+        Poll::Ready(Ok(()))
+    }
+}
+
+// The transport of a driver that is done, or given up, is closed.
+impl Drop for Writer {
+    fn drop(&mut self) {
+        self.0.stream.borrow_mut().end();
+    }
+}
+
+impl Drop for Reader {
+    fn drop(&mut self) {
+        let mut stream = self.0.stream.borrow_mut();
+        stream.gone = true;
+        if let Some(writer) = stream.writer.take() {
+            writer.wake();
+        }
+    }
+}

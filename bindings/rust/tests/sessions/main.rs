@@ -1,0 +1,108 @@
+//! Sessions whose bytes are moved by hand, so that each step is seen, and by drivers over sockets.
+#[path = "../common/mod.rs"]
+mod common;
+#[path = "../common/hand.rs"]
+mod hand;
+#[path = "../common/watchdog.rs"]
+mod watchdog;
+
+mod control;
+mod endings;
+mod errors;
+mod frames;
+mod keeping;
+mod receiving;
+mod sending;
+mod sockets;
+mod turns;
+
+use lcmux::{Channel, Config, IssuePolicy, MuxConfig, Version};
+
+/// Version Two, with rings of 64 bytes and the fewest slots: one for messages.
+fn narrow() -> MuxConfig {
+    with_slots(8)
+}
+
+fn with_slots(slots: u32) -> MuxConfig {
+    let mut config = Config::new([64; 7], slots);
+    config.version = Version::Two;
+    config.into()
+}
+
+/// The same, where only the caller issues.
+fn by_caller(slots: u32) -> MuxConfig {
+    let mut config = with_slots(slots);
+    config.issue = [IssuePolicy::ByCaller; 7];
+    config
+}
+
+/// The bytes of frames, without a greeting: `send 1 6869`, `issue 1 5`, `finish 1` and so on.
+fn frames(text: &str) -> Vec<u8> {
+    text.split(", ").flat_map(frame).collect()
+}
+
+fn frame(text: &str) -> Vec<u8> {
+    let words: Vec<_> = text.split(' ').collect();
+    let kinds = [
+        "send",
+        "issue",
+        "absolve",
+        "plead",
+        "limit-sending",
+        "limit-receiving",
+        "finish",
+    ];
+    let kind = kinds.iter().position(|kind| *kind == words[0]).unwrap() as u8 + 1;
+    let mut bytes = vec![16 * kind + words[1].parse::<u8>().unwrap()];
+    match kind {
+        1 => {
+            let body = common::hex(words[2]);
+            bytes.extend((body.len() as u32).to_be_bytes());
+            bytes.extend(body);
+        }
+        2..=4 => bytes.extend(words[2].parse::<u32>().unwrap().to_be_bytes()),
+        5 | 6 => bytes.extend(words[2].parse::<u64>().unwrap().to_be_bytes()),
+        _ => {}
+    }
+    bytes
+}
+
+const GREETING: &[u8] = b"\x4c\x43\x4d\x02";
+
+/// What the other side's stream of version Two begins with, and these frames.
+fn greeted(text: &str) -> Vec<u8> {
+    [GREETING, &frames(text)].concat()
+}
+
+/// Room for 64 bytes on each channel.
+fn room_on_all() -> Vec<u8> {
+    let rooms: Vec<_> = (0..7)
+        .map(|channel| format!("issue {channel} 64"))
+        .collect();
+    greeted(&rooms.join(", "))
+}
+
+const ALL: [Channel; 7] = Channel::ALL;
+
+/// What goes to another thread, and what is shared between some.
+#[test]
+fn ends_go_to_threads_and_so_do_their_calls() {
+    fn goes<T: Send + 'static>() {}
+    fn is_shared<T: Sync>() {}
+    fn call_goes<T: Send>(_: &T) {}
+    goes::<lcmux::Sender>();
+    goes::<lcmux::Receiver>();
+    goes::<lcmux::Driver>();
+    goes::<lcmux::Mux>();
+    is_shared::<lcmux::Sender>();
+    is_shared::<lcmux::Mux>();
+    let (mut mux, driver) = lcmux::Mux::new(narrow()).unwrap();
+    let sender = mux.sender(Channel::Data).unwrap();
+    let mut receiver = mux.receiver(Channel::Data).unwrap();
+    call_goes(&sender.send(b"hello"));
+    call_goes(&sender.reserve(5));
+    call_goes(&receiver.recv());
+    call_goes(&receiver.recv_ref());
+    call_goes(&mux.closed());
+    call_goes(&driver.run(&[][..], Vec::new()));
+}

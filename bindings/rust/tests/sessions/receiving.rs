@@ -1,0 +1,237 @@
+//! Receivers.
+use crate::hand::{Call, Count, Hand};
+use crate::*;
+use lcmux::Channel::{Data, Overlap};
+use lcmux::{Receiver, RecvTimeoutError, TryRecvError};
+use std::future::Future;
+use std::sync::Arc;
+use std::task::{Context, Wake, Waker};
+use std::thread;
+use std::time::{Duration, Instant};
+
+#[test]
+fn a_message_wakes_the_receiver_of_its_channel_alone() {
+    let mut hand = Hand::started(narrow());
+    let mut receiver = hand.mux.receiver(Data).unwrap();
+    let mut other = hand.mux.receiver(Overlap).unwrap();
+    let (call, other) = (Call::waiting(receiver.recv()), Call::waiting(other.recv()));
+    hand.feed(&greeted("send 1 6869")[..10]);
+    assert_eq!(call.wakes(), 0);
+    hand.feed(&frames("send 1 6869")[6..]);
+    assert_eq!((call.wakes(), other.wakes()), (1, 0));
+    assert_eq!(call.woken(), Ok(Some(b"hi".to_vec())));
+    assert_eq!(receiver.try_recv(), Err(TryRecvError::Empty));
+    let stats = receiver.stats();
+    assert_eq!((stats.messages_received, stats.bytes_received), (1, 2));
+}
+
+#[test]
+fn a_message_that_a_dropped_call_was_woken_for_is_there() {
+    let mut hand = Hand::started(narrow());
+    let mut receiver = hand.mux.receiver(Data).unwrap();
+    for lent in [false, true] {
+        match lent {
+            true => drop(Call::waiting(receiver.recv_ref())),
+            false => {
+                let call = Call::waiting(receiver.recv());
+                hand.feed(&greeted("send 1 6869, send 1 77"));
+                assert_eq!(call.wakes(), 1);
+                drop(call);
+                assert_eq!(hand.written(), []);
+                let taken = Call::new(receiver.recv()).poll().unwrap();
+                assert_eq!(taken, Ok(Some(b"hi".to_vec())));
+                assert_eq!(hand.written(), frames("issue 1 2"));
+                let lent = Call::new(receiver.recv_ref()).poll().unwrap();
+                assert_eq!(lent.unwrap().as_deref(), Some(&b"w"[..]));
+                assert_eq!(hand.written(), frames("issue 1 1"));
+            }
+        }
+    }
+}
+
+#[test]
+fn a_channel_ends_behind_its_messages() {
+    for end in ["finish 1", "limit-sending 1 0"] {
+        let mut hand = Hand::started(narrow());
+        let mut receiver = hand.mux.receiver(Data).unwrap();
+        let call = Call::waiting(receiver.recv());
+        hand.feed(&greeted(&format!("send 1 6869, {end}")));
+        assert_eq!(call.woken(), Ok(Some(b"hi".to_vec())));
+        assert_eq!(receiver.try_recv(), Ok(None));
+        assert_eq!(receiver.recv_blocking(), Ok(None));
+        assert!(receiver.recv_ref_blocking().unwrap().is_none());
+        assert_eq!(receiver.recv_timeout(Duration::ZERO), Ok(None));
+
+        let mut receiver = hand.mux.receiver(Overlap).unwrap();
+        let call = Call::waiting(receiver.recv());
+        hand.feed(&frames(&end.replace(" 1", " 2")));
+        assert_eq!(call.woken(), Ok(None));
+    }
+}
+
+#[test]
+fn a_wait_for_a_message_times_out() {
+    let mut hand = Hand::started(narrow());
+    let mut receiver = hand.mux.receiver(Data).unwrap();
+    let (start, timeout) = (Instant::now(), Duration::from_millis(20));
+    let timed_out = Err(RecvTimeoutError::Timeout);
+    assert_eq!(receiver.recv_timeout(timeout), timed_out);
+    assert!(start.elapsed() >= timeout);
+    hand.feed(&greeted("send 1 6869"));
+    let taken = receiver.recv_timeout(Duration::MAX);
+    assert_eq!(taken, Ok(Some(b"hi".to_vec())));
+}
+
+/// A receiver that took three messages, of which the first woke the writing half, and that has not come yet.
+fn took_three(hand: &mut Hand) -> Receiver {
+    let mut receiver = hand.mux.receiver(Data).unwrap();
+    hand.feed(&greeted("send 1 61, send 1 6262, send 1 636363"));
+    assert_eq!((hand.written(), hand.written.count()), (vec![], 0));
+    for len in 1..=3 {
+        let message = receiver.try_recv().unwrap().unwrap();
+        assert_eq!((message.len(), hand.written.count()), (len, 1));
+    }
+    receiver
+}
+
+#[test]
+fn room_that_is_freed_meanwhile_is_issued_as_one() {
+    let mut hand = Hand::started(narrow());
+    let _receiver = took_three(&mut hand);
+    assert_eq!(hand.written(), frames("issue 1 1, issue 1 5"));
+    let mut hand = Hand::started(narrow());
+    let _receiver = took_three(&mut hand);
+    hand.mux.close();
+    let mut bytes = Vec::new();
+    assert!(hand.write(&mut bytes).is_ready());
+    assert_eq!(bytes, frames("issue 1 1, issue 1 5"));
+}
+
+/// To who asks, and before what the caller has go out, it is issued.
+#[test]
+fn room_that_is_freed_is_issued_before_all_else() {
+    type Case = (fn(&Receiver), &'static str);
+    let calls: [Case; 6] = [
+        (|it| assert_eq!(it.room(), 0), ""),
+        (|it| assert_eq!(it.book().outstanding, 64), ""),
+        (|it| assert!(it.issue(1).is_err()), ""),
+        (|it| it.limit(2).unwrap(), ", limit-receiving 1 2"),
+        (|it| it.plead(9).unwrap(), ", plead 1 9"),
+        (|it| it.set_issue_policy(IssuePolicy::ByCaller).unwrap(), ""),
+    ];
+    for (call, then) in calls {
+        let mut hand = Hand::started(narrow());
+        let receiver = took_three(&mut hand);
+        call(&receiver);
+        assert_eq!(
+            hand.written(),
+            frames(&format!("issue 1 1, issue 1 5{then}"))
+        );
+    }
+}
+
+#[test]
+fn the_most_that_was_buffered_is_kept() {
+    let mut hand = Hand::started(narrow());
+    let mut receiver = hand.mux.receiver(Data).unwrap();
+    hand.feed(&greeted("send 1 616263"));
+    hand.feed(&frames("send 1 6465"));
+    while receiver.try_recv().is_ok() {}
+    hand.feed(&frames("send 1 66"));
+    assert_eq!(
+        (receiver.stats().most_buffered, receiver.book().buffered),
+        (5, 1)
+    );
+}
+
+#[test]
+fn a_long_message_is_lent_behind_a_short_one() {
+    let mut hand = Hand::started(narrow());
+    let mut receiver = hand.mux.receiver(Data).unwrap();
+    let long = "61".repeat(50);
+    hand.feed(&greeted(&format!("send 1 6869, send 1 {long}, send 1 77")));
+    for want in [&b"hi"[..], &[0x61; 50], b"w"] {
+        let message = receiver.recv_ref_blocking().unwrap().unwrap();
+        assert_eq!(message.as_ref(), want);
+    }
+}
+
+/// A call that another task polls wakes that one.
+#[test]
+fn the_last_task_that_polled_is_woken() {
+    let mut hand = Hand::started(narrow());
+    let sender = hand.mux.sender(Data).unwrap();
+    let mut receiver = hand.mux.receiver(Data).unwrap();
+    let counts = [(); 2].map(|()| Arc::new(Count::default()));
+    let count = |at: usize| counts[at].count();
+    let mut send = Box::pin(sender.send(b"hello"));
+    for count in &counts {
+        let waker = Waker::from(Arc::clone(count));
+        let mut context = Context::from_waker(&waker);
+        assert!(receiver.poll_recv(&mut context).is_pending());
+        assert!(send.as_mut().poll(&mut context).is_pending());
+    }
+    hand.feed(&greeted("send 1 6869"));
+    assert_eq!([0, 1].map(count), [0, 1]);
+    hand.feed(&frames("issue 1 5"));
+    assert_eq!([0, 1].map(count), [0, 2]);
+}
+
+/// Sends when it is dropped, and waits for that.
+struct Sends(lcmux::Sender);
+
+impl Wake for Sends {
+    fn wake(self: Arc<Sends>) {}
+}
+
+impl Drop for Sends {
+    fn drop(&mut self) {
+        self.0.send_blocking(b"hello").unwrap();
+    }
+}
+
+/// A call that waits within another, on the same thread, takes no wake-up of that.
+#[test]
+fn a_call_within_a_call_leaves_its_wake_ups_to_it() {
+    let mut hand = Hand::started(narrow());
+    let mut receiver = hand.mux.receiver(Data).unwrap();
+    let waker = Waker::from(Arc::new(Sends(hand.mux.sender(Data).unwrap())));
+    let polled = receiver.poll_recv(&mut Context::from_waker(&waker));
+    assert!(polled.is_pending());
+    drop(waker); // but for the one that the receiver keeps, until it has another
+    let recv = thread::spawn(move || receiver.recv_blocking());
+    while hand.mux.stats(Data).waited_for_guarantees.is_zero() {
+        thread::yield_now();
+    }
+    hand.feed(&greeted("send 1 6869"));
+    hand.feed(&frames("issue 1 5"));
+    assert_eq!(recv.join().unwrap(), Ok(Some(b"hi".to_vec())));
+}
+
+// The time for which this thread ran, in hundredths of a second: words 14 and 15 of its line.
+fn ran() -> u64 {
+    let line = std::fs::read_to_string("/proc/thread-self/stat").unwrap();
+    let words = line.rsplit(')').next().unwrap().split(' ').skip(12).take(2);
+    words.map(|word| word.parse::<u64>().unwrap()).sum()
+}
+
+#[test]
+fn a_thread_that_waits_sleeps() {
+    let mut hand = Hand::started(narrow());
+    let mut receiver = hand.mux.receiver(Data).unwrap();
+    let before = ran();
+    // A word that comes early, as a wake-up of a call before it, does not keep it awake.
+    for _ in 0..2 {
+        let timed_out = receiver.recv_timeout(Duration::from_millis(300));
+        assert_eq!(timed_out, Err(RecvTimeoutError::Timeout));
+        hand.feed(&greeted("send 1 6869"));
+        assert_eq!(receiver.try_recv(), Ok(Some(b"hi".to_vec())));
+        hand = Hand::started(narrow());
+        receiver = hand.mux.receiver(Data).unwrap();
+    }
+    assert!(
+        ran() - before < 20,
+        "{} hundredths of a second",
+        ran() - before
+    );
+}

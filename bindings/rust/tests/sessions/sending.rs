@@ -1,0 +1,492 @@
+//! Senders and permits.
+use crate::hand::{Call, Hand};
+use crate::*;
+use lcmux::Channel::{Data, Overlap};
+use lcmux::{Needs, Refusal, SendError, SendTimeoutError, TrySendError};
+use std::thread;
+use std::time::{Duration, Instant};
+
+fn refused(refusal: Refusal) -> SendError {
+    SendError::Refused(refusal)
+}
+
+#[test]
+fn a_send_waits_for_guarantees_and_is_woken_once() {
+    let mut hand = Hand::started(narrow());
+    let sender = hand.mux.sender(Data).unwrap();
+    let mut call = Call::waiting(sender.send(b"hello"));
+    hand.feed(&greeted("issue 1 4"));
+    assert_eq!((call.wakes(), call.poll()), (0, None));
+    hand.feed(&frames("issue 2 9, issue 1 1"));
+    assert_eq!(call.woken(), Ok(()));
+    assert_eq!(hand.written(), frames("send 1 68656c6c6f"));
+    let stats = sender.stats();
+    assert_eq!((stats.messages_sent, stats.bytes_sent), (1, 5));
+}
+
+#[test]
+fn a_send_waits_for_a_slot_and_is_woken_once() {
+    let mut hand = Hand::started(narrow());
+    hand.feed(&room_on_all());
+    let sender = hand.mux.sender(Data).unwrap();
+    let other = hand.mux.sender(Overlap).unwrap();
+    other.try_send(b"a").unwrap();
+    let call = Call::waiting(sender.send(b"b"));
+    let full = Err(TrySendError::Full(Needs::Slot));
+    assert_eq!(other.try_send(b"c"), full);
+    assert_eq!(call.wakes(), 0);
+    assert_eq!(hand.written(), frames("send 2 61"));
+    assert_eq!(call.woken(), Ok(()));
+    assert_eq!(hand.written(), frames("send 1 62"));
+}
+
+#[test]
+fn calls_of_one_sender_go_in_their_order_whatever_their_lengths() {
+    let mut hand = Hand::started(with_slots(32));
+    let sender = hand.mux.sender(Data).unwrap();
+    let long = Call::waiting(sender.send(b"long"));
+    let mut short = Call::waiting(sender.send(b"s"));
+    hand.feed(&greeted("issue 1 3"));
+    assert_eq!((long.wakes(), short.wakes(), short.poll()), (0, 0, None));
+    assert_eq!(sender.try_send(b"t"), Err(TrySendError::Full(Needs::Slot)));
+    hand.feed(&frames("issue 1 2"));
+    assert_eq!(short.poll(), None);
+    assert_eq!(long.woken(), Ok(()));
+    assert_eq!(short.woken(), Ok(()));
+    assert_eq!(hand.written(), frames("send 1 6c6f6e67, send 1 73"));
+}
+
+#[test]
+fn a_call_that_is_dropped_leaves_its_place_to_the_next() {
+    let mut hand = Hand::started(narrow());
+    let sender = hand.mux.sender(Data).unwrap();
+    let long = Call::waiting(sender.send(b"long"));
+    let short = Call::waiting(sender.send(b"s"));
+    hand.feed(&greeted("issue 1 2"));
+    assert_eq!((long.wakes(), short.wakes()), (0, 0));
+    drop(long);
+    assert_eq!(short.woken(), Ok(()));
+
+    // One that was woken, and not polled again.
+    hand.written();
+    let woken = Call::waiting(sender.reserve(2));
+    let next = Call::waiting(sender.send(b"n"));
+    hand.feed(&frames("issue 1 2"));
+    assert_eq!((woken.wakes(), next.wakes()), (1, 0));
+    drop(woken);
+    assert_eq!(next.woken(), Ok(()));
+    assert_eq!(hand.written(), frames("send 1 6e"));
+    assert_eq!(sender.held(), 2);
+}
+
+// What the other side sends first, what this side does, and why a message of so many bytes never goes.
+#[test]
+fn what_never_goes_is_an_error_at_once() {
+    let mut hand = Hand::started(narrow());
+    let sender = hand.mux.sender(Data).unwrap();
+    let answers = |len: usize, error: SendError| {
+        let body = vec![0; len];
+        let call = Call::new(sender.send(&body)).poll();
+        assert_eq!(call, Some(Err(error.clone())));
+        let permit = Call::new(sender.reserve(len)).poll().unwrap();
+        assert_eq!(permit.err(), Some(error.clone()));
+        let failed = Err(TrySendError::Failed(error.clone()));
+        assert_eq!(sender.try_send(&body), failed);
+        assert_eq!(sender.send_blocking(&body), Err(error.clone()));
+        let timeout = sender.send_timeout(&body, Duration::from_secs(9));
+        assert_eq!(timeout, Err(SendTimeoutError::Failed(error)));
+    };
+    answers(0, refused(Refusal::EmptyBody));
+    answers((1 << 20) + 1, refused(Refusal::BodyTooLong));
+    hand.feed(&greeted("issue 1 5, limit-receiving 1 4"));
+    answers(10, SendError::Unwanted { held: 5, left: 4 });
+    sender.limit(8).unwrap();
+    answers(9, refused(Refusal::PastSendLimit { left: 8 }));
+    sender.finish().unwrap();
+    answers(1, refused(Refusal::ChannelFinished));
+}
+
+// A call that waits learns that it never goes: by what comes, or by what this side does meanwhile.
+#[test]
+fn a_call_that_waits_learns_that_it_never_goes() {
+    let mut hand = Hand::started(narrow());
+    let sender = hand.mux.sender(Data).unwrap();
+    let call = Call::waiting(sender.send(b"hello"));
+    hand.feed(&greeted("issue 1 1, limit-receiving 1 3"));
+    assert_eq!(call.woken(), Err(SendError::Unwanted { held: 1, left: 3 }));
+    // The limit is that of the other side: what came before it is not more than it allows.
+    let call = Call::waiting(sender.send(b"way"));
+    hand.feed(&frames("limit-receiving 1 0"));
+    assert_eq!(call.woken(), Err(SendError::Unwanted { held: 1, left: 0 }));
+}
+
+/// So it does where no slot is left, and a channel before owes a frame.
+#[test]
+fn a_call_that_waits_learns_that_it_never_goes_where_no_slot_is_left() {
+    let mut hand = Hand::started(by_caller(8));
+    hand.feed(&greeted("issue 1 1, issue 2 5"));
+    let (sender, other) = (
+        hand.mux.sender(Data).unwrap(),
+        hand.mux.sender(Overlap).unwrap(),
+    );
+    sender.try_send(b"x").unwrap();
+    let receivers = ALL.map(|channel| hand.mux.receiver(channel).unwrap());
+    for receiver in receivers.iter().chain(&receivers[..1]) {
+        receiver.issue(1).unwrap();
+    }
+    let call = Call::waiting(other.send(b"longer"));
+    hand.feed(&frames("limit-receiving 2 0"));
+    assert_eq!(call.woken(), Err(SendError::Unwanted { held: 5, left: 0 }));
+    let next = Call::waiting(other.send(b"short"));
+    hand.feed(&frames("issue 3 1"));
+    assert_eq!(next.wakes(), 0, "it still waits for a slot");
+}
+
+/// Where no slot is left, a limit waits for one, and the call behind it for the limit.
+#[test]
+fn a_call_behind_a_limit_goes_once_that_has_a_slot() {
+    let mut hand = Hand::started(by_caller(8));
+    hand.feed(&greeted("issue 1 5"));
+    let sender = hand.mux.sender(Data).unwrap();
+    sender.try_send(b"x").unwrap();
+    let receivers = ALL.map(|channel| hand.mux.receiver(channel).unwrap());
+    receivers.iter().for_each(|it| it.issue(1).unwrap());
+    sender.limit(3).unwrap();
+    let call = Call::waiting(sender.send(b"y"));
+    let mut written = hand.written();
+    assert_eq!(call.woken(), Ok(()));
+    written.extend(hand.written());
+    assert!(written.ends_with(&frames("limit-sending 1 3, send 1 79")));
+}
+
+/// A limit and a finish go behind the calls that wait when they are made, and before later ones.
+#[test]
+fn a_limit_and_a_finish_keep_their_place_behind_calls_that_wait() {
+    let mut hand = Hand::started(with_slots(32));
+    let sender = hand.mux.sender(Data).unwrap();
+    let first = Call::waiting(sender.send(b"word"));
+    let second = Call::waiting(sender.send(b"way"));
+    sender.limit(3).unwrap();
+    let raised = lcmux::CallError::Refused(Refusal::LimitRaised { left: 3 });
+    assert_eq!(sender.limit(4), Err(raised));
+    let past = Err(TrySendError::Failed(refused(Refusal::PastSendLimit {
+        left: 3,
+    })));
+    assert_eq!(sender.try_send(b"four"), past);
+    let third = Call::waiting(sender.send(b"abc"));
+    sender.finish().unwrap();
+    let finished = Err(TrySendError::Failed(refused(Refusal::ChannelFinished)));
+    assert_eq!(sender.try_send(b"x"), finished);
+    assert_eq!(hand.written(), []);
+    hand.feed(&greeted("issue 1 5"));
+    assert_eq!((first.wakes(), second.wakes(), third.wakes()), (1, 0, 0));
+    assert_eq!(first.woken(), Ok(()));
+    hand.feed(&frames("issue 1 5"));
+    drop(second); // which is before them no more
+    assert_eq!(third.woken(), Ok(()));
+    let written = "send 1 776f7264, limit-sending 1 3, send 1 616263, finish 1";
+    assert_eq!(hand.written(), frames(written));
+}
+
+/// What goes between two limits counts for the first, and what it leaves is not raised by the second.
+#[test]
+fn each_limit_keeps_its_place_between_calls_that_wait() {
+    let mut hand = Hand::started(with_slots(32));
+    let sender = hand.mux.sender(Data).unwrap();
+    let call = |body: &'static [u8]| Call::waiting(sender.send(body));
+    let first = call(b"first");
+    sender.limit(9).unwrap();
+    sender.limit(8).unwrap(); // in the place of the other
+    let between = [call(b"four"), call(b"five5"), call(b"two")];
+    sender.limit(3).unwrap();
+    let raised = Refusal::LimitRaised { left: 3 };
+    assert_eq!(sender.limit(4), Err(lcmux::CallError::Refused(raised)));
+    let past = |left| Err(refused(Refusal::PastSendLimit { left }));
+    assert_eq!(Call::new(sender.send(b"more")).poll(), Some(past(3)));
+    let last = call(b"one");
+    hand.feed(&greeted("issue 1 64"));
+    assert_eq!(first.woken(), Ok(()));
+    let [four, five, two] = between;
+    assert_eq!(four.woken(), Ok(()));
+    assert_eq!(five.woken(), past(4));
+    assert_eq!(two.woken(), Ok(()));
+    assert_eq!(last.woken(), past(1));
+    let written = "send 1 6669727374, limit-sending 1 8, send 1 666f7572, send 1 74776f";
+    assert_eq!(hand.written(), frames(written));
+}
+
+#[test]
+fn a_close_sends_a_finish_that_waits_behind_calls() {
+    let mut hand = Hand::started(with_slots(32));
+    let sender = hand.mux.sender(Data).unwrap();
+    let mut waits = Call::waiting(sender.send(b"word"));
+    sender.finish().unwrap();
+    assert_eq!(hand.written(), []);
+    hand.mux.close();
+    let mut bytes = Vec::new();
+    assert!(hand.write(&mut bytes).is_ready());
+    assert_eq!(bytes, frames("finish 1"));
+    assert_eq!(
+        waits.poll(),
+        Some(Err(SendError::Closed(lcmux::Closed::Clean)))
+    );
+}
+
+/// A message by a permit goes before a limit that finds no slot, and counts for it.
+#[test]
+fn a_permit_counts_for_a_limit_that_is_owed() {
+    let mut hand = Hand::started(with_slots(9));
+    hand.feed(&room_on_all());
+    let sender = hand.mux.sender(Data).unwrap();
+    let receivers: Vec<_> = ALL
+        .map(|channel| hand.mux.receiver(channel).unwrap())
+        .into();
+    let [permit, other] = [4, 4].map(|len| sender.try_reserve(len).unwrap());
+    receivers
+        .iter()
+        .for_each(|receiver| receiver.limit(9).unwrap());
+    sender.limit(6).unwrap();
+    permit.send(b"four").unwrap();
+    let past = Refusal::PastSendLimit { left: 2 };
+    assert_eq!(other.send(b"two"), Err(refused(past)));
+    let limits = (0..7).map(|channel| format!("limit-receiving {channel} 9"));
+    let limits = limits.collect::<Vec<_>>().join(", ");
+    let written = format!("{limits}, send 1 666f7572, limit-sending 1 2");
+    assert_eq!(hand.written(), frames(&written));
+}
+
+/// What a limit leaves is a permit's, too.
+#[test]
+fn a_call_leaves_to_a_permit_what_a_limit_leaves() {
+    let mut hand = Hand::started(with_slots(16));
+    hand.feed(&room_on_all());
+    let sender = hand.mux.sender(Data).unwrap();
+    sender.limit(10).unwrap();
+    let permit = sender.try_reserve(6).unwrap();
+    let full = Err(TrySendError::Full(Needs::Guarantees(1)));
+    assert_eq!(sender.try_send(b"five5"), full);
+    permit.send(b"six666").unwrap();
+    sender.try_send(b"four").unwrap();
+}
+
+#[test]
+fn a_permit_owns_guarantees_and_a_slot() {
+    let mut hand = Hand::started(narrow());
+    hand.feed(&room_on_all());
+    let sender = hand.mux.sender(Data).unwrap();
+    let other = hand.mux.sender(Overlap).unwrap();
+    let permit = sender.try_reserve(60).unwrap();
+    assert_eq!(
+        (permit.len(), sender.held(), sender.book().held),
+        (60, 4, 64)
+    );
+    let full = |needs| Err(TrySendError::Full(needs));
+    assert_eq!(sender.try_send(b"five5"), full(Needs::Guarantees(1)));
+    assert_eq!(sender.try_send(&[0; 70]), full(Needs::Guarantees(66)));
+    assert_eq!(sender.try_send(b"four"), full(Needs::Slot));
+    assert_eq!(other.try_send(b"four"), full(Needs::Slot));
+    let not_held = lcmux::CallError::Refused(Refusal::NotHeld { held: 4 });
+    assert_eq!(sender.absolve(5), Err(not_held));
+    let (five, four) = (
+        Call::waiting(sender.send(b"five5")),
+        Call::waiting(other.send(b"four")),
+    );
+
+    permit.send(b"the message").unwrap();
+    assert_eq!(sender.held(), 53);
+    assert_eq!((five.wakes(), four.wakes()), (0, 0));
+    assert_eq!(hand.written(), frames("send 1 746865206d657373616765"));
+    assert_eq!(
+        (five.wakes(), four.wakes()),
+        (0, 1),
+        "its turn is that of the other"
+    );
+    assert_eq!(four.woken(), Ok(()));
+    hand.written();
+    assert_eq!(five.woken(), Ok(()));
+}
+
+#[test]
+fn a_permit_that_is_dropped_gives_both_back() {
+    let mut hand = Hand::started(narrow());
+    hand.feed(&room_on_all());
+    let sender = hand.mux.sender(Data).unwrap();
+    let other = hand.mux.sender(Overlap).unwrap();
+    let permit = sender.try_reserve(60).unwrap();
+    let slot = Call::waiting(other.send(b"four"));
+    drop(permit);
+    assert_eq!(slot.woken(), Ok(()));
+    hand.written();
+    let permit = sender.try_reserve(60).unwrap();
+    let guarantees = Call::waiting(sender.send(b"five5"));
+    hand.written();
+    assert_eq!(guarantees.wakes(), 0);
+    drop(permit);
+    assert_eq!(guarantees.woken(), Ok(()));
+    assert_eq!(sender.held(), 59);
+}
+
+#[test]
+fn a_permit_is_not_absolved_by_a_plead_before_it_is_given_back() {
+    let mut hand = Hand::started(with_slots(16));
+    let sender = hand.mux.sender(Data).unwrap();
+    hand.feed(&greeted("issue 1 20"));
+    let permits = [8, 6].map(|len| sender.try_reserve(len).unwrap());
+    hand.feed(&frames("plead 1 2"));
+    assert_eq!(hand.written(), frames("absolve 1 6"));
+    assert_eq!(sender.held(), 0);
+    // What is issued meanwhile was not pleaded for.
+    hand.feed(&frames("issue 1 5"));
+    assert_eq!((hand.written(), sender.held()), (vec![], 5));
+    let [first, second] = permits;
+    first.send(b"abc").unwrap();
+    assert_eq!(hand.written(), frames("send 1 616263, absolve 1 5"));
+    drop(second);
+    assert_eq!(hand.written(), frames("absolve 1 6"));
+    assert_eq!(sender.held(), 5);
+}
+
+/// Where only what was issued later keeps this side above its target, a plead was honoured, and another one is
+/// new: for another target, or once no more than the target is held.
+#[test]
+fn a_plead_is_honoured_once_whatever_is_issued_later() {
+    for (sent, came, written) in [
+        (&b""[..], "plead 1 1", "absolve 1 6"),
+        (b"hello", "issue 1 5, plead 1 2", "absolve 1 5"),
+    ] {
+        let mut hand = Hand::started(with_slots(16));
+        let sender = hand.mux.sender(Data).unwrap();
+        hand.feed(&greeted("issue 1 10"));
+        let permit = sender.try_reserve(10).unwrap();
+        hand.feed(&frames("plead 1 2"));
+        hand.feed(&frames("issue 1 5"));
+        assert_eq!((sender.pleaded(), sender.honour()), (Some(2), Ok(0)));
+        assert_eq!(hand.written(), []);
+        drop(permit);
+        assert_eq!(hand.written(), frames("absolve 1 8"));
+        assert_eq!((sender.pleaded(), sender.honour()), (None, Ok(0)));
+        assert_eq!((hand.written(), sender.held()), (vec![], 7));
+        if !sent.is_empty() {
+            sender.try_send(sent).unwrap();
+            hand.written();
+        }
+        hand.feed(&frames(came));
+        assert_eq!(hand.written(), frames(written));
+        assert_eq!(sender.pleaded(), None);
+    }
+}
+
+#[test]
+fn permits_give_back_no_more_than_was_pleaded_for() {
+    let mut hand = Hand::started(with_slots(16));
+    let sender = hand.mux.sender(Data).unwrap();
+    hand.feed(&greeted("issue 1 20"));
+    let [first, second] = [8, 6].map(|len| sender.try_reserve(len).unwrap());
+    hand.feed(&frames("plead 1 8"));
+    assert_eq!(hand.written(), frames("absolve 1 6"));
+    hand.feed(&frames("issue 1 5"));
+    drop(first);
+    assert_eq!(hand.written(), frames("absolve 1 6"));
+    drop(second);
+    assert_eq!(hand.written(), []);
+    assert_eq!(sender.held(), 13);
+}
+
+#[test]
+fn a_permit_is_refused_only_for_its_own_message_or_an_end() {
+    let mut hand = Hand::started(with_slots(16));
+    hand.feed(&room_on_all());
+    let sender = hand.mux.sender(Data).unwrap();
+    let permit = || sender.try_reserve(4).unwrap();
+    let no_guarantee = Refusal::NoGuarantee { held: 4 };
+    assert_eq!(permit().send(b"five5"), Err(refused(no_guarantee)));
+    assert_eq!(permit().send(b""), Err(refused(Refusal::EmptyBody)));
+    assert_eq!((sender.held(), hand.written()), (64, vec![]));
+    let held = permit();
+    sender.limit(3).unwrap();
+    let past = Refusal::PastSendLimit { left: 3 };
+    assert_eq!(held.send(b"four"), Err(refused(past)));
+    let held = sender.try_reserve(3).unwrap();
+    sender.finish().unwrap();
+    assert_eq!(held.send(b"two"), Err(refused(Refusal::ChannelFinished)));
+    let sender = hand.mux.sender(Overlap).unwrap();
+    let held = sender.try_reserve(3).unwrap();
+    hand.mux.close();
+    assert_eq!(
+        held.send(b"two"),
+        Err(SendError::Closed(lcmux::Closed::Clean))
+    );
+}
+
+#[test]
+fn timeouts_leave_no_call_behind() {
+    let mut hand = Hand::started(with_slots(16));
+    let sender = hand.mux.sender(Data).unwrap();
+    for timeout in [0, 20].map(Duration::from_millis) {
+        let start = Instant::now();
+        let sent = sender.send_timeout(b"hello", timeout);
+        assert_eq!(sent, Err(SendTimeoutError::Timeout));
+        let reserved = sender.reserve_timeout(5, timeout).err();
+        assert_eq!(reserved, Some(SendTimeoutError::Timeout));
+        assert!(start.elapsed() >= 2 * timeout);
+    }
+    let waited = sender.stats();
+    assert!(waited.waited_for_guarantees >= Duration::from_millis(40));
+    assert_eq!(waited.waited_for_slots, Duration::ZERO);
+    hand.feed(&greeted("issue 1 64"));
+    assert_eq!(hand.written(), []);
+    assert_eq!(sender.send_timeout(b"hello", Duration::ZERO), Ok(()));
+    let permit = sender.reserve_timeout(5, Duration::ZERO).unwrap();
+    permit.send(b"there").unwrap();
+    assert_eq!(
+        sender.stats().waited_for_guarantees,
+        waited.waited_for_guarantees
+    );
+}
+
+#[test]
+fn the_time_of_a_wait_is_that_of_what_lacks() {
+    let mut hand = Hand::started(narrow());
+    hand.feed(&room_on_all());
+    let sender = hand.mux.sender(Data).unwrap();
+    let other = hand.mux.sender(Overlap).unwrap();
+    other.try_send(b"a").unwrap();
+    let wait = Duration::from_millis(20);
+    let call = Call::waiting(sender.send(b"b"));
+    thread::sleep(wait);
+    hand.written();
+    assert_eq!(call.woken(), Ok(()));
+    let stats = hand.mux.stats(Data);
+    assert_eq!(stats, sender.stats());
+    assert!(stats.waited_for_slots >= wait);
+    assert_eq!(stats.waited_for_guarantees, Duration::ZERO);
+    assert_eq!(hand.mux.stats(Overlap).waited_for_slots, Duration::ZERO);
+
+    // Of a call that waits still, too.
+    hand.written();
+    let long = Call::waiting(other.send(&[0; 64]));
+    thread::sleep(wait);
+    let stats = other.stats();
+    assert!(stats.waited_for_guarantees >= wait);
+    assert_eq!(stats.waited_for_slots, Duration::ZERO);
+    thread::sleep(wait);
+    assert!(other.stats().waited_for_guarantees >= 2 * wait);
+    drop(long);
+}
+
+/// A thread that sleeps in a call of the library keeps its own token of `thread::park`.
+#[test]
+fn a_thread_that_waits_keeps_its_own_token() {
+    let _watchdog = watchdog::Watchdog::new("park");
+    let mut hand = Hand::started(narrow());
+    let sender = hand.mux.sender(Data).unwrap();
+    let waiting = thread::spawn(move || {
+        sender.send_blocking(b"hello").unwrap();
+        thread::park();
+    });
+    thread::sleep(Duration::from_millis(20));
+    waiting.thread().unpark();
+    thread::sleep(Duration::from_millis(20));
+    hand.feed(&greeted("issue 1 5"));
+    waiting.join().unwrap();
+}

@@ -1,0 +1,10 @@
+use Rattle.std.proofs.Common.{ap, sym, ◌∙◌}
+use Rattle.lc_c.specs.declared.answer.LcmuxAnswer.{LcmuxAnswer}
+use Rattle.lc_c.specs.Takes.{front_answer}
+use Rattle.lc_c.proofs.Barred.{barred_number}
+use Rattle.lc_c.proofs.lend.lcmux_peer_front.Goals as goal
+
+pub returns-in-Barred-clause-message : goal.returns-in-Barred-clause-message
+returns-in-Barred-clause-message c =
+    let barred = c.in-Barred.ensures in
+    c.of.ensures ∙ sym (sym (ap (λ (a : LcmuxAnswer). a.number) (barred.answers (λ side c'. front_answer side.peer c'))) ∙ barred_number _ _ _ barred.barred)

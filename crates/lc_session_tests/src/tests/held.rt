@@ -1,0 +1,342 @@
+//! One end whose thread is held in its wait while all ends are told of something: each other one wakes
+//! before that is let go.
+//!
+//! Its thread is held by a clock, where it waits with a timeout. In a park without one nothing of a
+//! caller's is called: there `scripts/threads` holds the thread, by `scripts/hold.c`, which lets it go
+//! when a further thread is made.
+use crate::parted::{Ends, Pumps};
+use crate::tests::exchange::{session, taken_apart};
+use crate::tests::staged::{await_count, in_time};
+use crate::tests::ticks::Ticks;
+use lc_book::Refusal;
+use lc_driver::{Counted, ReadEnd};
+use lc_frame::{Channel, LANES, Lane};
+use lc_session::{ReadPump, RecvEnd, SendEnd, Session, WriteEnd, WritePump};
+use std::alloc::{AllocError, Global};
+use std::io::{Read, Write};
+use std::process::Abort;
+use std::sync::Wait;
+use std::sync::atomic::{AtomicU64, Ordering};
+use std::thread::{Threads, join};
+use std::time::{Clock, Duration};
+use std::{io, thread};
+
+/// All ends but one.
+const OTHERS: u64 = 13;
+
+/// How many ends wait, how many are awake again, and whether one that is held by its clock may go on.
+#[derive(Drop)]
+struct Watch {
+    begun: AtomicU64,
+    woken: AtomicU64,
+    opened: AtomicU64,
+}
+
+impl Watch {
+    fn new() -> Watch {
+        Watch {
+            begun: AtomicU64::new(0),
+            woken: AtomicU64::new(0),
+            opened: AtomicU64::new(0),
+        }
+    }
+
+    // All ends wait, and have had time to fall asleep.
+    fn await_sleep<R: Wait>(&self, rt: &R) {
+        await_count(rt, &self.begun, OTHERS + 1);
+        for _ in 0..1000 {
+            thread::yield_now();
+        }
+    }
+
+    // All have been told, and all others wake. Only then the one that is held may go on: threads are
+    // made until it has woken too.
+    fn open<R: Threads + Wait>(&self, rt: &R) {
+        await_count(rt, &self.woken, OTHERS);
+        self.opened.store(1, Ordering::SeqCst);
+        for _ in rt.forever() {
+            join(rt, || (), || ());
+            if self.woken.load(Ordering::SeqCst) > OTHERS {
+                return;
+            }
+        }
+    }
+}
+
+/// A clock whose first reading lasts until all other ends are awake.
+#[derive(Drop)]
+struct Gate<'a, R> {
+    rt: &'a R,
+    ticks: Ticks<&'a R>,
+    watch: &'a Watch,
+}
+
+impl<'a, R: Wait> Gate<'a, R> {
+    fn new(rt: &'a R, watch: &'a Watch) -> Gate<'a, R> {
+        Gate {
+            rt,
+            ticks: Ticks::new(rt),
+            watch,
+        }
+    }
+}
+
+impl<R: Wait> Wait for Gate<'_, R> {}
+
+impl<R: Wait> Clock for Gate<'_, R> {
+    fn monotonic(&self) -> io::Result<Duration> {
+        if self.ticks.readings() == 0 {
+            self.watch.begun.fetch_add(1, Ordering::SeqCst);
+            await_count(self.rt, &self.watch.opened, 1);
+        }
+        self.ticks.monotonic()
+    }
+
+    fn since_1970(&self) -> io::Result<Duration> {
+        self.monotonic()
+    }
+}
+
+/// Where one end is held.
+#[derive(Clone, Copy, Debug, PartialEq, Eq)]
+enum Hold {
+    /// That of this lane, in its clock.
+    Clock(usize),
+    /// The first that comes out of its park, where `hold.c` is preloaded.
+    Park,
+}
+
+impl Hold {
+    fn is_by_clock(self, lane: Lane) -> bool {
+        self == Hold::Clock(lane.index())
+    }
+}
+
+// An end waits, and then puts a frame if it can. The one that is told of the first slot puts none, so that the
+// pump finds none before it tells the others.
+fn wait_to_send<R: Wait>(rt: &R, end: &mut SendEnd, hold: Hold, watch: &Watch) {
+    if hold.is_by_clock(Lane::Client(end.channel())) {
+        end.wait_timeout(&Gate::new(rt, watch), Duration::from_micros(1));
+    } else {
+        watch.begun.fetch_add(1, Ordering::SeqCst);
+        end.wait(rt);
+    }
+    if end.channel() != Channel::ReconciliationChannel {
+        let _put = end.limit(rt, 9);
+    }
+    watch.woken.fetch_add(1, Ordering::SeqCst);
+}
+
+fn wait_to_take<R: Wait>(rt: &R, end: &mut RecvEnd, hold: Hold, watch: &Watch) {
+    if hold.is_by_clock(Lane::Server(end.channel())) {
+        end.wait_timeout(&Gate::new(rt, watch), Duration::from_micros(1));
+    } else {
+        watch.begun.fetch_add(1, Ordering::SeqCst);
+        end.wait(rt);
+    }
+    let _put = end.limit(rt, 9);
+    watch.woken.fetch_add(1, Ordering::SeqCst);
+}
+
+fn wait_each_to_send<R>(rt: &R, ends: &mut [SendEnd; 7], hold: Hold, watch: &Watch)
+where
+    R: Threads + Wait + Sync,
+{
+    thread::for_each_mut(rt, ends, 7, &|_, end| wait_to_send(rt, end, hold, watch));
+}
+
+fn wait_each_to_take<R>(rt: &R, ends: &mut [RecvEnd; 7], hold: Hold, watch: &Watch)
+where
+    R: Threads + Wait + Sync,
+{
+    thread::for_each_mut(rt, ends, 7, &|_, end| wait_to_take(rt, end, hold, watch));
+}
+
+// Each end waits once, in a thread of its own.
+fn wait_each<R: Threads + Wait + Sync>(rt: &R, ends: Ends, hold: Hold, watch: &Watch) {
+    let Ends {
+        mut sending,
+        mut receiving,
+    } = ends;
+    join(
+        rt,
+        || wait_each_to_send(rt, &mut sending, hold, watch),
+        || wait_each_to_take(rt, &mut receiving, hold, watch),
+    );
+}
+
+// A frame for each end, first for that of this lane: an Issue for one that sends, a limit for one that
+// receives.
+fn frames(alloc: Global, first: usize) -> Result<Vec<u8>, AllocError> {
+    let mut bytes = Vec::new(alloc);
+    for step in 0..LANES {
+        let lane = (first % LANES + step) % LANES;
+        let channel = (lane % 7) as u8;
+        if lane < 7 {
+            bytes.extend_from_slice(&[0x20 | channel, 0, 0, 0, 1])?;
+        } else {
+            bytes.extend_from_slice(&[0x50 | channel, 0, 0, 0, 0, 0, 0, 0, 9])?;
+        }
+    }
+    Ok(bytes)
+}
+
+/// A reader that gives its frames once all ends wait, and ends once all have woken.
+#[derive(Drop)]
+struct Telling<'a, R> {
+    rt: &'a R,
+    frames: &'a [u8],
+    watch: &'a Watch,
+}
+
+impl<R: Threads + Wait> Read for Telling<'_, R> {
+    fn read(&mut self, buf: &mut [u8]) -> io::Result<usize> {
+        if self.frames.is_empty() {
+            self.watch.open(self.rt);
+        } else {
+            self.watch.await_sleep(self.rt);
+        }
+        self.frames.read(buf)
+    }
+}
+
+// The reading pump tells all ends of a frame.
+fn read<R>(rt: &R, mut pump: ReadPump, frames: &[u8], watch: &Watch)
+where
+    R: Threads + Wait + Abort,
+{
+    let mut reader = Counted::new(Telling { rt, frames, watch });
+    let end = pump.run(rt, &mut reader, u64::MAX);
+    assert_eq!(rt; end, ReadEnd::Clean);
+}
+
+/// A writer that is flushed once all ends that want a slot were told of one, and is written to once as many
+/// were as slots were freed. The session is stopped when what they put is written.
+#[derive(Drop)]
+struct Resting<'a, R> {
+    rt: &'a R,
+    session: Session,
+    watch: &'a Watch,
+    slots: u32,
+    writes: u64,
+}
+
+impl<R: Threads + Wait> Write for Resting<'_, R> {
+    fn write(&mut self, buf: &[u8]) -> io::Result<usize> {
+        self.writes = self.writes.saturating_add(1);
+        if self.slots as usize == LANES {
+            self.watch.open(self.rt);
+        }
+        Ok(buf.len())
+    }
+
+    fn flush(&mut self) -> io::Result<()> {
+        self.watch.open(self.rt);
+        if self.writes > 1 {
+            self.session.stop();
+        }
+        Ok(())
+    }
+}
+
+// The writing pump tells all ends of a slot.
+fn write<R>(rt: &R, mut pump: WritePump, session: Session, slots: u32, watch: &Watch)
+where
+    R: Threads + Wait + Abort,
+{
+    watch.await_sleep(rt);
+    let mut writer = Counted::new(Resting {
+        rt,
+        session,
+        watch,
+        slots,
+        writes: 0,
+    });
+    let end = pump.run(rt, &mut writer);
+    assert_eq!(rt; end, WriteEnd::Stopped);
+}
+
+// All slots are taken, and each end has met that.
+fn fill<R: Wait + Abort>(rt: &R, ends: &mut Ends, slots: u32) {
+    let Ends { sending, receiving } = ends;
+    for _ in 0..slots {
+        assert_eq!(rt; receiving[0].issue(rt, 1), Ok(()));
+    }
+    for end in sending {
+        assert_eq!(rt; end.limit(rt, 9), Err(Refusal::QueueFull));
+    }
+    for end in receiving {
+        assert_eq!(rt; end.limit(rt, 9), Err(Refusal::QueueFull));
+    }
+}
+
+/// What ends are told of.
+#[derive(Clone, Copy, Debug)]
+enum Told {
+    /// A frame for each, first for the end of this lane.
+    Frames(usize),
+    /// So many slots, and then that the pump is about to sleep.
+    Slots(u32),
+}
+
+// Whether all others wake where one end is held.
+fn hold_one<R>(rt: &R, alloc: Global, told: Told, hold: Hold) -> Option<()>
+where
+    R: Threads + Wait + Abort + Sync,
+{
+    let slots = match told {
+        Told::Frames(_) => 1,
+        Told::Slots(slots) => slots,
+    };
+    let (mut ends, pumps, session) = taken_apart(session(alloc, 16, slots).ok()?);
+    let Pumps { reading, writing } = pumps;
+    let watch = Watch::new();
+    match told {
+        Told::Frames(first) => {
+            let frames = frames(alloc, first).ok()?;
+            join(
+                rt,
+                || wait_each(rt, ends, hold, &watch),
+                || read(rt, reading, &frames, &watch),
+            );
+        }
+        Told::Slots(slots) => {
+            fill(rt, &mut ends, slots);
+            join(
+                rt,
+                || wait_each(rt, ends, hold, &watch),
+                || write(rt, writing, session, slots, &watch),
+            );
+        }
+    }
+    Some(())
+}
+
+// The same in each way of telling, of which this end is told first where one can be.
+fn hold_in_turn<R>(rt: &R, alloc: Global, lane: usize, hold: Hold)
+where
+    R: Threads + Wait + Abort + Sync,
+{
+    for told in [Told::Frames(lane), Told::Slots(1), Told::Slots(14)] {
+        let held = hold_one(rt, alloc, told, hold);
+        assert!(rt; held.is_some(), "{told:?} {hold:?}");
+    }
+}
+
+#[test]
+fn an_end_held_by_its_clock_holds_up_no_other(rt: HostRuntime) {
+    in_time(&rt, || {
+        for lane in 0..LANES {
+            hold_in_turn(&rt, rt.alloc(), lane, Hold::Clock(lane));
+        }
+    });
+}
+
+#[test]
+fn an_end_held_in_its_park_holds_up_no_other(rt: HostRuntime) {
+    in_time(&rt, || {
+        for lane in 0..LANES {
+            hold_in_turn(&rt, rt.alloc(), lane, Hold::Park);
+        }
+    });
+}
