@@ -19,6 +19,7 @@ mod plan;
 mod queue;
 mod receiver;
 mod ring;
+mod session;
 
 use credit::measure_credits;
 use inbox::measure_inboxes;
@@ -29,6 +30,7 @@ use ping::measure_ping;
 use plan::Plan;
 use queue::measure_queues;
 use ring::measure_rings;
+use session::measure_sessions;
 use std::io;
 
 /// The frames that are measured: a name, and the length of the body in bytes; an Issue has none.
@@ -81,5 +83,6 @@ fn main(rt: HostRuntime) -> io::Result<()> {
     measure_queues(rt, &rt, &plan)?;
     measure_credits(&rt, &plan)?;
     measure_inboxes(rt, &rt, &plan)?;
-    measure_ping(rt, &rt, &plan)
+    measure_ping(rt, &rt, &plan)?;
+    measure_sessions(rt, &rt, &plan)
 }

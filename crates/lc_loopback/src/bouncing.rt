@@ -93,17 +93,18 @@ where
 }
 
 // Both sides play, until all threads are joined. It answers the rounds.
-fn play_all<R, S>(
+fn play_all<R, O, I>(
     rt: R,
     hold: &Hold,
     a: Team,
     b: Team,
-    wires: Wires<S>,
+    wires: Wires<O, I>,
     game: Game,
 ) -> Result<u32, LoopFault>
 where
     R: Threads + Wait + Copy + Send + 'static,
-    S: Read + Write + Send + Drop + 'static,
+    O: Write + Send + Drop + 'static,
+    I: Read + Send + Drop + 'static,
 {
     let (a_player, a_pumps) = a;
     let (b_player, b_pumps) = b;
@@ -119,10 +120,11 @@ where
 }
 
 // Both sessions are new, and play over these connections.
-fn bounce<R, S>(rt: R, alloc: Global, wires: Wires<S>, game: Game) -> Result<u32, LoopFault>
+fn bounce<R, O, I>(rt: R, alloc: Global, wires: Wires<O, I>, game: Game) -> Result<u32, LoopFault>
 where
     R: Threads + Wait + Copy + Send + 'static,
-    S: Read + Write + Send + Drop + 'static,
+    O: Write + Send + Drop + 'static,
+    I: Read + Send + Drop + 'static,
 {
     match open(alloc, game.plan, Version::One, Version::One) {
         Ok(Opened { a, b, hold }) => play_all(rt, &hold, team_of(a), team_of(b), wires, game),
@@ -145,7 +147,7 @@ where
     N::Stream: Send + 'static,
     R: Threads + Wait + Copy + Send + 'static,
 {
-    let wires = connect_both(net)?;
+    let wires = connect_both(net, alloc)?;
     let plan = Plan::small(rounds);
     let game = Game {
         plan,

@@ -59,16 +59,17 @@ pub(crate) struct Pumping {
 
 /// Starts the pumps of both sides. The writing pumps come first: where a reading pump gets no
 /// thread, it reads here until the other side's stream ends.
-pub(crate) fn start_pumps<R, S>(
+pub(crate) fn start_pumps<R, O, I>(
     rt: R,
     hold: &Hold,
     a: (ReadPump, WritePump),
     b: (ReadPump, WritePump),
-    wires: Wires<S>,
+    wires: Wires<O, I>,
 ) -> (Pumping, Pumping)
 where
     R: Threads + Wait + Copy + Send + 'static,
-    S: Read + Write + Send + Drop + 'static,
+    O: Write + Send + Drop + 'static,
+    I: Read + Send + Drop + 'static,
     ensures a { result.0 ≡ record { reading = a.0; writing = a.1 } }
     ensures b { result.1 ≡ record { reading = b.0; writing = b.1 } }
 {

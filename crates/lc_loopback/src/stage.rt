@@ -111,17 +111,18 @@ fn bytes_of(all: [Taken; CHANNELS]) -> [u64; CHANNELS]
 }
 
 // Both sides exchange this on each channel, until all threads are joined.
-fn play<R, S>(
+fn play<R, O, I>(
     rt: R,
     hold: &Hold,
     a: Parts,
     b: Parts,
-    wires: Wires<S>,
+    wires: Wires<O, I>,
     exchange: Exchange,
 ) -> (Played, Played)
 where
     R: Threads + Wait + Copy + Send + 'static,
-    S: Read + Write + Send + Drop + 'static,
+    O: Write + Send + Drop + 'static,
+    I: Read + Send + Drop + 'static,
     ensures a { Exchanged exchange.plan (state_of a) (state_of result.0.parts) result.0.sent result.0.took }
     ensures b { Exchanged exchange.plan (state_of b) (state_of result.1.parts) result.1.sent result.1.took }
 {
@@ -237,7 +238,7 @@ where
     ensures { IfOk result (λ report. TwoRan plan versions report) }
 {
     let versions = both(versions);
-    let wires = connect_both(net)?;
+    let wires = connect_both(net, alloc)?;
     match open(alloc, plan, versions.0, versions.1) {
         Ok(opened) => {
             let Opened { a, b, hold } = opened;
