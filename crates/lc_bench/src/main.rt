@@ -14,7 +14,6 @@ mod frames;
 mod inbox;
 mod operation;
 mod peer;
-mod ping;
 mod plan;
 mod queue;
 mod receiver;
@@ -26,7 +25,6 @@ use inbox::measure_inboxes;
 use lc_frame::{Body, Channel, Frame, Version};
 use operation::{Operation, measure};
 use peer::measure_peers;
-use ping::measure_ping;
 use plan::Plan;
 use queue::measure_queues;
 use ring::measure_rings;
@@ -83,6 +81,5 @@ fn main(rt: HostRuntime) -> io::Result<()> {
     measure_queues(rt, &rt, &plan)?;
     measure_credits(&rt, &plan)?;
     measure_inboxes(rt, &rt, &plan)?;
-    measure_ping(rt, &rt, &plan)?;
     measure_sessions(rt, &rt, &plan)
 }

@@ -2,39 +2,68 @@
 use std::cell::Cell;
 use std::future::Future;
 use std::pin::pin;
+use std::sync::atomic::{AtomicU8, Ordering::SeqCst};
 use std::sync::{Arc, Condvar, Mutex, MutexGuard, PoisonError};
 use std::task::{Context, Poll, Wake, Waker};
+use std::thread;
 use std::time::Instant;
 
 /// What a thread sleeps on. It is no `thread::park`: whose token it took could be the caller's.
 #[derive(Default)]
 struct Parker {
-    woken: Mutex<bool>,
+    state: AtomicU8,
+    asleep: Mutex<()>,
     bell: Condvar,
 }
 
+// The states of a parker.
+const AWAKE: u8 = 0;
+const ASLEEP: u8 = 1;
+const WOKEN: u8 = 2;
+
 impl Parker {
-    fn lock(&self) -> MutexGuard<'_, bool> {
-        self.woken.lock().unwrap_or_else(PoisonError::into_inner)
+    fn lock(&self) -> MutexGuard<'_, ()> {
+        self.asleep.lock().unwrap_or_else(PoisonError::into_inner)
     }
 
-    // Sleeps until it is woken, or the deadline passed, which is `false`.
+    // Whether it was woken since it was asked last.
+    fn take_wake(&self) -> bool {
+        self.change(WOKEN, AWAKE)
+    }
+
+    fn change(&self, from: u8, to: u8) -> bool {
+        let changed = self.state.compare_exchange(from, to, SeqCst, SeqCst);
+        changed.is_ok()
+    }
+
+    // Waits until it is woken, or the deadline passed, which is `false`. Who wakes it needs the processor
+    // often only for a moment, and no call of the system where this has not gone to sleep by then.
     fn park(&self, deadline: Option<Instant>) -> bool {
-        let mut woken = self.lock();
-        while !*woken {
-            woken = match deadline.map(|deadline| deadline.checked_duration_since(Instant::now())) {
+        if self.take_wake() {
+            return true;
+        }
+        thread::yield_now();
+        self.take_wake() || self.sleep(deadline)
+    }
+
+    fn sleep(&self, deadline: Option<Instant>) -> bool {
+        let mut guard = self.lock();
+        if !self.change(AWAKE, ASLEEP) {
+            return self.take_wake();
+        }
+        while !self.take_wake() {
+            guard = match deadline.map(|deadline| deadline.checked_duration_since(Instant::now())) {
                 None => self
                     .bell
-                    .wait(woken)
+                    .wait(guard)
                     .unwrap_or_else(PoisonError::into_inner),
-                Some(None) => return false,
+                Some(None) => return self.state.swap(AWAKE, SeqCst) == WOKEN,
                 Some(Some(left)) => {
-                    let waited = self.bell.wait_timeout(woken, left);
+                    let waited = self.bell.wait_timeout(guard, left);
                     waited.unwrap_or_else(PoisonError::into_inner).0
                 }
             };
         }
-        *woken = false;
         true
     }
 }
@@ -45,8 +74,11 @@ impl Wake for Parker {
     }
 
     fn wake_by_ref(self: &Arc<Parker>) {
-        *self.lock() = true;
-        self.bell.notify_one();
+        if self.state.swap(WOKEN, SeqCst) == ASLEEP {
+            // It sleeps, or is about to: with the lock in between, not before the bell is heard.
+            drop(self.lock());
+            self.bell.notify_one();
+        }
     }
 }
 

@@ -1,0 +1,122 @@
+//! What a ring carries over a distance: one busy channel and seven, one way, over a relay that holds each byte back.
+//! `cargo bench --bench distance` prints a line for each delay, ring and number of channels, with what the rings
+//! allow: in a round trip each as many bytes as it holds, and all together as many as the line takes.
+//!
+//! `cargo bench --bench distance -- relay DELAY` only relays, with so many milliseconds each way, and says where:
+//! it joins the first connection to the second, and so on.
+#[path = "common/relay.rs"]
+mod relay;
+
+use lcmux::{Channel, Config, Mux, Receiver, Sender};
+use lcmux_tokio::connect;
+use relay::Distance;
+use std::env;
+use std::error::Error;
+use std::future::pending;
+use std::sync::atomic::{AtomicU64, Ordering};
+use std::sync::Arc;
+use std::time::Duration;
+use tokio::net::TcpStream;
+use tokio::time::{sleep, Instant};
+
+/// The bytes that the line takes in a second: a gigabit.
+const RATE: f64 = 125e6;
+
+const SLOTS: u32 = 64;
+
+/// The bytes of a message.
+const MESSAGE: usize = 16_384;
+
+/// How many round trips go before it is measured, and how many then are.
+const WARM: u32 = 10;
+const MEASURED: u32 = 20;
+
+const DELAYS: [u64; 3] = [10, 50, 100];
+const RINGS: [(&str, u32); 3] = [("64k", 65_536), ("1m", 1 << 20), ("16m", 1 << 24)];
+const BUSY: [usize; 2] = [1, 7];
+
+fn distance(delay: u64) -> Distance {
+    Distance {
+        delay: Duration::from_millis(delay),
+        rate: RATE,
+    }
+}
+
+async fn send(sender: Sender) {
+    let message = vec![sender.channel().number(); MESSAGE];
+    while sender.send(&message).await.is_ok() {}
+}
+
+async fn take(mut receiver: Receiver, taken: Arc<AtomicU64>) {
+    let due = vec![receiver.channel().number(); MESSAGE];
+    while let Ok(Some(message)) = receiver.recv_ref().await {
+        assert_eq!(*message, *due);
+        taken.fetch_add(MESSAGE as u64, Ordering::Relaxed);
+    }
+}
+
+/// Lets so many channels send from one side to the other, and counts what is taken.
+fn start(from: &mut Mux, to: &mut Mux, busy: usize) -> Arc<AtomicU64> {
+    let taken = Arc::new(AtomicU64::new(0));
+    for channel in Channel::ALL.into_iter().take(busy) {
+        tokio::spawn(send(from.sender(channel).unwrap()));
+        tokio::spawn(take(to.receiver(channel).unwrap(), Arc::clone(&taken)));
+    }
+    taken
+}
+
+/// The bytes of a second that arrive.
+async fn measure(over: Distance, ring: u32, busy: usize) -> Result<f64, Box<dyn Error>> {
+    let address = over.relay().await?;
+    let mut sides = Vec::new();
+    for _ in 0..2 {
+        let stream = TcpStream::connect(address).await?;
+        stream.set_nodelay(true)?;
+        sides.push(connect(stream, Config::new([ring; 7], SLOTS))?.0);
+    }
+    let [from, to] = &mut sides[..] else {
+        unreachable!()
+    };
+    let taken = start(from, to, busy);
+    let round = 2 * over.delay;
+    sleep(WARM * round).await;
+    let (before, begin) = (taken.load(Ordering::Relaxed), Instant::now());
+    sleep(MEASURED * round).await;
+    let bytes = taken.load(Ordering::Relaxed) - before;
+    let seconds = begin.elapsed().as_secs_f64();
+    sides.iter().for_each(Mux::abort);
+    Ok(bytes as f64 / seconds)
+}
+
+async fn print_figures() -> Result<(), Box<dyn Error>> {
+    for delay in DELAYS {
+        for (name, ring) in RINGS {
+            for busy in BUSY {
+                let over = distance(delay);
+                let rate = measure(over, ring, busy).await?;
+                let round = 2.0 * over.delay.as_secs_f64();
+                let allowed = (busy as f64 * f64::from(ring) / round).min(RATE);
+                println!(
+                    "distance.{delay}ms.{name}.{busy} {:.1} of {:.1} MB/s",
+                    rate / 1e6,
+                    allowed / 1e6
+                );
+            }
+        }
+    }
+    Ok(())
+}
+
+#[tokio::main]
+async fn main() -> Result<(), Box<dyn Error>> {
+    // Cargo itself adds `--bench`.
+    let words: Vec<String> = env::args().skip(1).filter(|w| w != "--bench").collect();
+    match &words[..] {
+        [] => print_figures().await,
+        [word, delay] if word == "relay" => {
+            println!("{}", distance(delay.parse()?).relay().await?);
+            pending().await
+        }
+        _ => Err("usage: distance [relay DELAY]".into()),
+    }
+}
