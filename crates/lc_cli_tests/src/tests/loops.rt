@@ -5,7 +5,7 @@ use super::same;
 use super::transcript::shown_of;
 use lc_cli::print_loopback;
 use lc_frame::Version;
-use lc_loopback::{LoopFault, LoopReport, loopback, loopback_as, ping_pong};
+use lc_loopback::{LoopFault, LoopReport, Plan, loopback, loopback_as, ping_pong};
 use std::alloc::Global;
 use std::net::{Net, TcpListener, TcpStream};
 use std::process::Abort;
@@ -102,6 +102,13 @@ fn two_sessions_exchange_messages(rt: HostRuntime) {
     }
 }
 
+#[test]
+fn a_small_plan_has_its_rings_and_slots(rt: HostRuntime) {
+    let found = format!(in rt.alloc(); "{:?}", Plan::small(7)).ok();
+    let wanted = "Plan { capacity: 32, slots: 4, messages: 7, shortest: 4, lengths: 13 }";
+    same(&rt, "a small plan", found, wanted);
+}
+
 // What they exchange is the same, whatever version either writes in.
 #[test]
 fn sessions_of_either_version_exchange_messages(rt: HostRuntime) {
@@ -170,15 +177,19 @@ fn each_number_has_its_place(rt: HostRuntime) {
     );
 }
 
+const FAULTS: [(LoopFault, &str); 5] = [
+    (LoopFault::OutOfMemory, "out of memory"),
+    (LoopFault::Device, "a socket failed"),
+    (LoopFault::BadMessage, "another message than the one due"),
+    (LoopFault::TurnsSpent, "the turns are spent"),
+    (LoopFault::Over, "a pump ended too early"),
+];
+
 #[test]
-fn every_fault_prints_its_line_alone(rt: HostRuntime) {
-    for fault in [
-        LoopFault::OutOfMemory,
-        LoopFault::Device,
-        LoopFault::BadMessage,
-        LoopFault::Over,
-        LoopFault::TurnsSpent,
-    ] {
+fn every_fault_has_its_sentence_and_prints_its_line_alone(rt: HostRuntime) {
+    for (fault, sentence) in FAULTS {
+        let said = format!(in rt.alloc(); "{fault}").ok();
+        same(&rt, "a sentence", said, sentence);
         let found = printed(rt.alloc(), Err(fault), 1);
         same(&rt, "a fault", found, "lcmux: loopback failed\n= 1\n");
     }
@@ -392,4 +403,11 @@ fn rounds_end_with_the_last_or_with_the_turns(rt: HostRuntime) {
         bounced(rt, rt.alloc(), Trouble::FailsToRead, 50, u32::MAX),
         "Err(Device)",
     );
+}
+
+// `scripts/threads` counts how often the end whose turns are spent has yielded.
+#[test]
+fn turns_are_spent_in_rounds_and_in_silence(rt: HostRuntime) {
+    let found = bounced(rt, rt.alloc(), Trouble::Silences, 50, 1000);
+    same(&rt, "silence", found, "Err(TurnsSpent)");
 }

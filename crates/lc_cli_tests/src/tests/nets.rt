@@ -27,6 +27,8 @@ pub enum Trouble {
     InterruptsWrite,
     /// A write takes nothing.
     TakesNothing,
+    /// This write and all later ones pass nothing on.
+    Silences,
     /// A read says that the stream has ended.
     Ends,
     /// A write that begins with a message of more bytes changes this one of them, counted from 0.
@@ -50,6 +52,12 @@ impl Calls {
     fn meets(&self, trouble: Trouble) -> bool {
         self.trouble == trouble
             && self.made.fetch_add(1, Ordering::SeqCst) == self.at.wrapping_sub(1)
+    }
+
+    // Counts a write. Whether no more of them is passed on.
+    fn silence(&self) -> bool {
+        self.trouble == Trouble::Silences
+            && self.made.fetch_add(1, Ordering::SeqCst) >= self.at.wrapping_sub(1)
     }
 
     // Fails a call that may be in this trouble, if it is the one.
@@ -239,6 +247,9 @@ impl Write for Stream {
             .fail(Trouble::InterruptsWrite, ErrorKind::Interrupted)?;
         if self.calls.meets(Trouble::TakesNothing) {
             return Ok(0);
+        }
+        if self.calls.silence() {
+            return Ok(buf.len());
         }
         match buf.iter().position(|byte| is_finish(*byte)) {
             Some(0) => self.write_finish(buf[0]),
