@@ -1,11 +1,13 @@
 // Preloaded into a program, refuses it the request for memory whose number, from 1 on, is in REFUSED, and
 // the thread whose number is in REFUSED_THREAD. Where the program ends, it says on standard error how
-// many pieces of memory were not given back, of how many requests, and how many threads were asked for.
+// many pieces of memory were not given back, of how many requests, how many threads were asked for, and
+// how often one of them yielded at most.
 // A program that starts threads gets some memory from the C library that this does not count.
 #define _GNU_SOURCE
 #include <dlfcn.h>
 #include <errno.h>
 #include <pthread.h>
+#include <stdatomic.h>
 #include <stdio.h>
 #include <stdlib.h>
 #include <sys/syscall.h>
@@ -18,7 +20,8 @@ void __libc_free(void *piece);
 static int (*create)(pthread_t *, const pthread_attr_t *, void *(*)(void *), void *);
 static int ready;
 static long refused, refused_thread;
-static _Atomic long requests, kept, threads;
+static _Atomic long requests, kept, threads, most;
+static _Thread_local long yields;
 
 static int is_refused(void) {
     return ready && ++requests == refused;
@@ -45,6 +48,13 @@ int pthread_create(pthread_t *thread, const pthread_attr_t *how, void *(*run)(vo
     return ++threads == refused_thread ? EAGAIN : create(thread, how, run, with);
 }
 
+int sched_yield(void) {
+    long before = most;
+    yields++;
+    while (before < yields && !atomic_compare_exchange_weak(&most, &before, yields)) {}
+    return syscall(SYS_sched_yield);
+}
+
 static long number_in(const char *name) {
     const char *number = getenv(name);
     return number ? atol(number) : 0;
@@ -59,7 +69,7 @@ __attribute__((constructor)) static void begin(void) {
 
 __attribute__((destructor)) static void end(void) {
     ready = 0;
-    dprintf(2, "kept %ld of %ld, %ld threads\n", kept, requests, threads);
+    dprintf(2, "kept %ld of %ld, %ld threads, %ld yields\n", kept, requests, threads, most);
 }
 
 void _exit(int status) {

@@ -20,7 +20,7 @@ mod waking;
 use crate::waking::{Load, wakes_all, wakes_at_ends};
 use lc_frame::{CHANNELS, Version};
 use lc_inbox::{finish_all, share_all};
-use lc_loopback::loopback_as;
+use lc_loopback::{LoopFault, loopback_as};
 use lc_queue::{LanesFault, lanes};
 use std::alloc::{AllocError, Global};
 use std::fs::Files;
@@ -104,6 +104,7 @@ where
 {
     match loopback_as(net, rt, alloc, messages, [Version::Two; 2]) {
         Ok(_) => "each channel ended",
+        Err(LoopFault::OutOfMemory) => "out of memory",
         Err(_) => "a channel did not end",
     }
 }

@@ -177,6 +177,7 @@ fn each_number_has_its_place(rt: HostRuntime) {
     );
 }
 
+// Of several faults the first of these is answered.
 const FAULTS: [(LoopFault, &str); 5] = [
     (LoopFault::OutOfMemory, "out of memory"),
     (LoopFault::Device, "a socket failed"),
@@ -187,9 +188,10 @@ const FAULTS: [(LoopFault, &str); 5] = [
 
 #[test]
 fn every_fault_has_its_sentence_and_prints_its_line_alone(rt: HostRuntime) {
-    for (fault, sentence) in FAULTS {
+    for (place, &(fault, sentence)) in FAULTS.iter().enumerate() {
         let said = format!(in rt.alloc(); "{fault}").ok();
         same(&rt, "a sentence", said, sentence);
+        assert!(rt; fault as usize == place, "{fault:?}");
         let found = printed(rt.alloc(), Err(fault), 1);
         same(&rt, "a fault", found, "lcmux: loopback failed\n= 1\n");
     }
