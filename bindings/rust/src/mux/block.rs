@@ -114,3 +114,17 @@ pub(crate) fn block_until<F: Future>(future: F, deadline: Option<Instant>) -> Op
     let _ = PARKER.try_with(|kept| kept.set(Some(parker)));
     output
 }
+
+#[cfg(test)]
+mod tests {
+    use super::*;
+
+    // No test of sessions brings a wake about right between the last look and the sleep.
+    #[test]
+    fn a_wake_before_the_sleep_ends_it() {
+        let (parker, now) = (Arc::new(Parker::default()), Some(Instant::now()));
+        parker.wake_by_ref();
+        assert!(parker.sleep(now));
+        assert!(!parker.sleep(now));
+    }
+}
