@@ -51,9 +51,12 @@ use std::time::{Duration, Instant};
 ///   when it was given.
 /// - Calls of one end keep their order: those that wait go in the order in which they began to, and a
 ///   finish or a limit goes behind those that wait then.
+/// - A thread that waits to send or to reserve sleeps on: when its turn comes, whoever moves the session on
+///   makes the call for it, and wakes it once that is done. For this a message of up to 4,096 bytes is
+///   copied; for a longer one the thread is woken.
 ///
-/// A call that is woken and not polled keeps its turn. So a future that was polled is to be polled on, or
-/// dropped.
+/// A future goes when it is polled. One that is woken and not polled keeps its turn. So a future that was
+/// polled is to be polled on, or dropped.
 ///
 /// # How it ends
 ///

@@ -311,8 +311,8 @@ impl Reading {
         reader: &mut impl PollRead,
     ) -> Poll<Result<(), Closed>> {
         grow(&mut self.piece, 0);
+        self.shared.with(|state| state.wait_to_read(cx.waker()))?;
         for _ in 0..PIECES {
-            self.shared.with(|state| state.wait_to_read(cx.waker()))?;
             let count = ready!(poll_uninterrupted(|| reader.poll_read(cx, &mut self.piece)))?;
             if count == 0 {
                 let ended = self.shared.with(|state| state.input_ended());

@@ -242,10 +242,7 @@ impl AsRef<[u8]> for Message<'_> {
 
 impl Drop for Message<'_> {
     fn drop(&mut self) {
-        let channel = self.receiver.channel;
-        self.receiver
-            .shared
-            .with(|state| state.give_back_lent(channel));
+        self.receiver.shared.give_back(self.receiver.channel);
     }
 }
 

@@ -1,6 +1,6 @@
-use super::block::{block_on, block_until};
+use super::block::block_until;
 use super::shared::Shared;
-use super::state::Ask;
+use super::state::{Ask, Call};
 use crate::TrySendError;
 use crate::{CallError, Channel, ClientBook, Closed, SendError, SendTimeoutError, Stats};
 use std::fmt::{self, Formatter};
@@ -41,26 +41,37 @@ pub struct Sender {
 struct Sending<'a> {
     shared: &'a Shared,
     channel: Channel,
-    ask: Ask<'a>,
-    ticket: Option<u64>,
+    call: Call<'a>,
+}
+
+impl Sending<'_> {
+    // Whether it was given up: one that was done meanwhile is not.
+    fn give_up(&mut self) -> bool {
+        match self.call.ticket.take() {
+            Some(ticket) => self
+                .shared
+                .with(|state| state.forget_send(self.channel, ticket)),
+            None => true,
+        }
+    }
 }
 
 impl Future for Sending<'_> {
     type Output = Result<(), SendError>;
 
     fn poll(mut self: Pin<&mut Self>, cx: &mut Context<'_>) -> Poll<Self::Output> {
-        let call = &mut *self;
-        call.shared
-            .with(|state| state.poll_send(call.channel, call.ask, &mut call.ticket, cx.waker()))
+        let Sending {
+            shared,
+            channel,
+            call,
+        } = &mut *self;
+        shared.with(|state| state.poll_send(*channel, call, cx.waker()))
     }
 }
 
 impl Drop for Sending<'_> {
     fn drop(&mut self) {
-        if let Some(ticket) = self.ticket {
-            self.shared
-                .with(|state| state.forget_send(self.channel, ticket));
-        }
+        self.give_up();
     }
 }
 
@@ -76,13 +87,34 @@ impl Sender {
         }
     }
 
-    fn sending<'a>(&'a self, ask: Ask<'a>) -> Sending<'a> {
+    fn sending<'a>(&'a self, ask: Ask<'a>, is_left: bool) -> Sending<'a> {
         Sending {
             shared: &self.shared,
             channel: self.channel,
-            ask,
-            ticket: None,
+            call: Call {
+                ask,
+                is_left,
+                ticket: None,
+            },
         }
+    }
+
+    // Makes a call for a thread, which sleeps meanwhile. It is no future that may be dropped, so what it waits
+    // for may be done for it.
+    fn block(&self, ask: Ask, deadline: Option<Instant>) -> Result<(), SendTimeoutError> {
+        let mut call = self.sending(ask, true);
+        match block_until(&mut call, deadline) {
+            Some(sent) => Ok(sent?),
+            None if call.give_up() => Err(SendTimeoutError::Timeout),
+            None => Ok(()),
+        }
+    }
+
+    fn block_for_good(&self, ask: Ask) -> Result<(), SendError> {
+        self.block(ask, None).map_err(|error| match error {
+            SendTimeoutError::Failed(error) => error,
+            SendTimeoutError::Timeout => unreachable!("there is no deadline"),
+        })
     }
 
     /// The channel that it sends on.
@@ -105,21 +137,18 @@ impl Sender {
     /// - [`SendError::Closed`] once the session is closed or over, or where guarantees are missing and the
     ///   other side ended its direction.
     pub async fn send(&self, body: &[u8]) -> Result<(), SendError> {
-        self.sending(Ask::Message(body)).await
+        self.sending(Ask::Message(body), false).await
     }
 
     /// [`Sender::send`] for a thread, which sleeps meanwhile. It is not for a task of an executor.
     pub fn send_blocking(&self, body: &[u8]) -> Result<(), SendError> {
-        block_on(self.send(body))
+        self.block_for_good(Ask::Message(body))
     }
 
     /// [`Sender::send_blocking`] that waits so long at most, and then has sent nothing. What could go at
     /// once goes also where the time is none.
     pub fn send_timeout(&self, body: &[u8], timeout: Duration) -> Result<(), SendTimeoutError> {
-        match block_until(self.send(body), deadline(timeout)) {
-            Some(sent) => Ok(sent?),
-            None => Err(SendTimeoutError::Timeout),
-        }
+        self.block(Ask::Message(body), deadline(timeout))
     }
 
     /// Sends a message if that needs no wait, and no call of this sender waits. It has no place in the line:
@@ -135,13 +164,14 @@ impl Sender {
     /// *Cancel-safe*: a future that is dropped before it is ready reserved nothing, and left its place in
     /// the line to the next. Its errors are those of [`Sender::send`], but for 14.
     pub async fn reserve(&self, len: usize) -> Result<Permit<'_>, SendError> {
-        self.sending(Ask::Permit(len)).await?;
+        self.sending(Ask::Permit(len), false).await?;
         Ok(Permit { sender: self, len })
     }
 
     /// [`Sender::reserve`] for a thread, which sleeps meanwhile.
     pub fn reserve_blocking(&self, len: usize) -> Result<Permit<'_>, SendError> {
-        block_on(self.reserve(len))
+        self.block_for_good(Ask::Permit(len))?;
+        Ok(Permit { sender: self, len })
     }
 
     /// [`Sender::reserve_blocking`] that waits so long at most, and then has reserved nothing.
@@ -150,10 +180,8 @@ impl Sender {
         len: usize,
         timeout: Duration,
     ) -> Result<Permit<'_>, SendTimeoutError> {
-        match block_until(self.reserve(len), deadline(timeout)) {
-            Some(permit) => Ok(permit?),
-            None => Err(SendTimeoutError::Timeout),
-        }
+        self.block(Ask::Permit(len), deadline(timeout))?;
+        Ok(Permit { sender: self, len })
     }
 
     /// Answers a permit if that needs no wait.

@@ -1,8 +1,9 @@
 use super::io::Breaker;
 use super::state::State;
-use crate::Closed;
+use crate::{Channel, Closed};
 use std::collections::VecDeque;
 use std::mem;
+use std::sync::atomic::{AtomicBool, AtomicU8, Ordering::Relaxed, Ordering::SeqCst};
 use std::sync::{Mutex, MutexGuard, PoisonError};
 use std::task::Waker;
 
@@ -57,18 +58,30 @@ impl Drop for Wakes {
 }
 
 /// A session, as its ends, its driver and its `Mux` share it.
-pub(crate) struct Shared(Mutex<State>);
+pub(crate) struct Shared {
+    state: Mutex<State>,
+    /// Channels whose lent message was given back, of which the state was not told yet, as bits.
+    given_back: AtomicU8,
+    /// Whether the writing half waits until something is to go out: then the state is told at once.
+    is_idle: AtomicBool,
+}
 
 impl Shared {
     pub fn new(state: State) -> Shared {
-        Shared(Mutex::new(state))
+        Shared {
+            state: Mutex::new(state),
+            given_back: AtomicU8::new(0),
+            is_idle: AtomicBool::new(false),
+        }
     }
 
     /// Changes the state, and then wakes whom that lets go on.
     pub fn with<T>(&self, call: impl FnOnce(&mut State) -> T) -> T {
         let rescue = Rescue(self);
         let mut state = self.lock();
+        self.tell_given_back(&mut state);
         let answer = call(&mut state);
+        self.note_idle(&mut state);
         let wakes = state.wakes.take();
         drop(state);
         mem::forget(rescue);
@@ -78,8 +91,32 @@ impl Shared {
         answer
     }
 
+    /// A message that was lent on a channel is room again. The lock is not taken for it where the writing half is
+    /// on its way: whoever takes it next tells the state, at the latest that half before it waits.
+    pub fn give_back(&self, channel: Channel) {
+        self.given_back.fetch_or(1 << channel.number(), SeqCst);
+        if self.is_idle.load(SeqCst) {
+            self.with(|_| {});
+        }
+    }
+
+    fn tell_given_back(&self, state: &mut State) {
+        if self.given_back.load(SeqCst) != 0 {
+            state.give_back_lent(self.given_back.swap(0, SeqCst));
+        }
+    }
+
+    // Who gives back sees that the writing half waits, or else this sees what was given back.
+    fn note_idle(&self, state: &mut State) {
+        let is_idle = state.is_idle();
+        if self.is_idle.load(Relaxed) != is_idle {
+            self.is_idle.store(is_idle, SeqCst);
+            self.tell_given_back(state);
+        }
+    }
+
     fn lock(&self) -> MutexGuard<'_, State> {
-        self.0.lock().unwrap_or_else(PoisonError::into_inner)
+        self.state.lock().unwrap_or_else(PoisonError::into_inner)
     }
 }
 
@@ -93,5 +130,101 @@ impl Drop for Rescue<'_> {
         let mut wakes = mem::take(&mut state.wakes);
         drop(state);
         wakes.run();
+    }
+}
+
+#[cfg(test)]
+mod tests {
+    use super::*;
+    use crate::mux::state::Pulled;
+    use crate::{Channel::Overlap, Config, Take};
+    use std::sync::atomic::AtomicUsize;
+    use std::sync::Arc;
+    use std::task::Wake;
+
+    #[derive(Default)]
+    struct Count(AtomicUsize);
+
+    impl Wake for Count {
+        fn wake(self: Arc<Count>) {
+            self.0.fetch_add(1, Relaxed);
+        }
+    }
+
+    struct Session {
+        shared: Shared,
+        buffer: [u8; 64],
+        count: Arc<Count>,
+    }
+
+    impl Session {
+        /// One whose first issues are written, and that lent a message on channel 2.
+        fn new() -> Session {
+            let state = State::new(&Config::new([64; 7], 16).into()).unwrap();
+            let mut session = Session {
+                shared: Shared::new(state),
+                buffer: [0; 64],
+                count: Arc::default(),
+            };
+            assert_eq!(session.pull().len(), 35);
+            let lent = session.shared.with(|state| {
+                state.deliver(b"\x12\0\x02hi").unwrap();
+                state.lend(Overlap, &mut Vec::new())
+            });
+            assert_eq!(lent, Ok(Take::Took(2)));
+            session
+        }
+
+        /// What the writing half has to write; where that is nothing, it waits.
+        fn pull(&mut self) -> &[u8] {
+            self.pull_and(|_| {})
+        }
+
+        // What else happens before the lock is free again.
+        fn pull_and(&mut self, also: impl FnOnce(&Shared)) -> &[u8] {
+            let waker = Waker::from(Arc::clone(&self.count));
+            let pulled = self.shared.with(|state| {
+                let pulled = state.pull(&mut self.buffer, &waker);
+                also(&self.shared);
+                pulled
+            });
+            match pulled {
+                Pulled::Bytes(count) => &self.buffer[..count],
+                Pulled::Idle => &[],
+                Pulled::End | Pulled::Over(_) => unreachable!(),
+            }
+        }
+
+        fn wakes(&self) -> usize {
+            self.count.0.load(Relaxed)
+        }
+    }
+
+    const ISSUE: &[u8] = b"\x22\0\0\0\x02";
+
+    #[test]
+    fn what_is_given_back_is_issued_when_the_writing_half_comes() {
+        let mut session = Session::new();
+        session.shared.give_back(Overlap);
+        assert_eq!(session.pull(), ISSUE);
+        assert_eq!(session.wakes(), 0);
+    }
+
+    #[test]
+    fn what_is_given_back_wakes_a_writing_half_that_waits() {
+        let mut session = Session::new();
+        assert_eq!(session.pull(), b"");
+        session.shared.give_back(Overlap);
+        assert_eq!(session.wakes(), 1);
+        assert_eq!(session.pull(), ISSUE);
+    }
+
+    // Between its last look and its wait: there no lock is taken, so this does not wait for itself.
+    #[test]
+    fn what_is_given_back_just_before_the_writing_half_waits_wakes_it() {
+        let mut session = Session::new();
+        assert_eq!(session.pull_and(|shared| shared.give_back(Overlap)), b"");
+        assert_eq!(session.wakes(), 1);
+        assert_eq!(session.pull(), ISSUE);
     }
 }

@@ -1,14 +1,17 @@
 //! What a session knows and who waits in it: no threads, no lock and no transport.
 //!
-//! Nothing is handed over to whom is woken. Each change ends with `settle`, which puts what is owed into the
-//! queue and wakes the one call that may go now; that call looks again when it is polled, and one that is
-//! dropped instead settles, too. So no wake-up is lost with a call that was given up.
+//! Each change ends with `settle`, which puts what is owed into the queue, makes the calls of threads that may
+//! go now, and wakes these; a thread looks before it gives up. Nothing is handed over to a task: the one whose
+//! call may go now is woken, looks again when it is polled, and settles, too, where it is dropped instead. So no
+//! wake-up is lost with a call that was given up.
 mod control;
 mod line;
 mod receiving;
 mod sending;
+#[cfg(test)]
+mod tests;
 
-pub(crate) use sending::Ask;
+pub(crate) use sending::{Ask, Call};
 
 use super::config::MuxConfig;
 use super::io::Breaker;
@@ -191,6 +194,11 @@ impl State {
 
     pub fn is_closing(&self) -> bool {
         self.closing || self.closed.is_some()
+    }
+
+    /// Whether the writing half waits until something is to go out.
+    pub fn is_idle(&self) -> bool {
+        self.writer.is_some()
     }
 
     // Why a call that puts something on the stream is refused.

@@ -2,6 +2,9 @@
 use crate::hand::{Call, Hand};
 use crate::*;
 use lcmux::{Needs, Sender, TrySendError};
+use std::sync::mpsc;
+use std::thread;
+use std::time::Duration;
 
 fn senders(hand: &mut Hand) -> Vec<Sender> {
     ALL.map(|channel| hand.mux.sender(channel).unwrap()).into()
@@ -120,4 +123,60 @@ fn a_call_that_does_not_wait_has_its_turn_too() {
     assert_eq!(waits.poll(), None);
     hand.written();
     assert_eq!(waits.poll(), Some(Ok(())));
+}
+
+// A call of the sender in a thread waits for a slot, or its turn.
+fn until_it_waits(sender: &Sender) {
+    while sender.stats().waited_for_slots == Duration::ZERO {
+        thread::yield_now();
+    }
+}
+
+/// Whoever moves the bytes sends what threads wait to send, each in its turn and with what is behind it, while
+/// these sleep; a task goes by itself, and those whose turn is later after it.
+#[test]
+fn what_threads_wait_to_send_goes_in_turn_while_they_sleep() {
+    let mut hand = Hand::started(narrow());
+    hand.feed(&room_on_all());
+    let senders = senders(&mut hand);
+    senders[3].try_send(b"x").unwrap();
+    thread::scope(|scope| {
+        for at in [6, 3, 0, 4] {
+            let sender = &senders[at];
+            scope.spawn(move || sender.send_blocking(&[at as u8]).unwrap());
+            until_it_waits(sender);
+        }
+        let task = Call::waiting(senders[1].send(b"t"));
+        senders[4].finish().unwrap();
+        assert_eq!(hand.written(), frames("send 3 78, send 0 00"));
+        assert_eq!(task.woken(), Ok(()));
+        let rest = "send 1 74, send 4 04, finish 4, send 6 06, send 3 03";
+        assert_eq!(hand.written(), frames(rest));
+    });
+}
+
+/// The permit is given while the thread that waits for it sleeps, and is its own.
+#[test]
+fn a_permit_is_given_to_a_thread_that_sleeps() {
+    let mut hand = Hand::started(narrow());
+    hand.feed(&room_on_all());
+    let senders = senders(&mut hand);
+    senders[0].try_send(b"x").unwrap();
+    thread::scope(|scope| {
+        let (go, wait) = mpsc::channel();
+        let sender = &senders[1];
+        scope.spawn(move || {
+            let permit = sender.reserve_blocking(60).unwrap();
+            wait.recv().unwrap();
+            permit.send(b"permit").unwrap();
+        });
+        until_it_waits(sender);
+        assert_eq!(sender.held(), 64);
+        assert_eq!(hand.written(), frames("send 0 78"));
+        assert_eq!(sender.held(), 4);
+        let full = Err(TrySendError::Full(Needs::Slot));
+        assert_eq!(senders[0].try_send(b"y"), full, "the permit has the slot");
+        go.send(()).unwrap();
+    });
+    assert_eq!(hand.written(), frames("send 1 7065726d6974"));
 }

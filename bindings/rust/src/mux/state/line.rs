@@ -18,6 +18,14 @@ pub(super) struct Waiter {
     pub len: usize,
     /// Taken once it was woken.
     pub waker: Option<Waker>,
+    /// What it left to be done for it, if it did.
+    pub left: Option<Left>,
+}
+
+/// What a thread that waits wants, kept where whoever has the lock can do it.
+pub(super) enum Left {
+    Message(Vec<u8>),
+    Permit,
 }
 
 impl Place {
@@ -54,6 +62,11 @@ impl Line {
         }
     }
 
+    /// Whether the call of this ticket waits.
+    pub fn has(&self, ticket: u64) -> bool {
+        self.places.iter().any(|place| place.has(ticket))
+    }
+
     pub fn has_calls(&self) -> bool {
         self.places.iter().any(|place| place.call().is_some())
     }
@@ -75,6 +88,14 @@ impl Line {
             *left = bound;
         } else {
             self.push(Place::Limit(bound));
+        }
+    }
+
+    /// What the first call left, where nothing is owed before it.
+    pub fn take_left(&mut self) -> Option<Left> {
+        match self.places.front_mut()? {
+            Place::Call(waiter) => waiter.left.take(),
+            Place::Limit(_) | Place::Finish => None,
         }
     }
 

@@ -1,5 +1,5 @@
 //! Receivers: what is taken, and what was lent.
-use super::{at, keep, State};
+use super::{at, channels, keep, State};
 use crate::{Channel, Closed, Take};
 use std::task::Waker;
 
@@ -33,10 +33,12 @@ impl State {
         }
     }
 
-    /// What was lent is room again.
-    pub fn give_back_lent(&mut self, channel: Channel) {
-        self.inc[at(channel)].lent = 0;
-        self.freed(channel);
+    /// What was lent on these channels is room again.
+    pub fn give_back_lent(&mut self, bits: u8) {
+        for channel in channels(bits) {
+            self.inc[at(channel)].lent = 0;
+            self.freed(channel);
+        }
     }
 
     /// Keeps the waker of a call that waits for a message.

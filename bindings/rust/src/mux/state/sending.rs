@@ -1,10 +1,14 @@
 //! Senders: what a message lacks, whose turn it is, and who waits.
-use super::line::{Place, Waiter};
+use super::line::{Left, Place, Waiter};
 use super::{at, channels, keep, State, KEPT};
 use crate::mux::stats::Lack;
 use crate::{Channel, Closed, Needs, Refusal, SendError, TrySendError};
 use std::mem;
 use std::task::{Poll, Waker};
+
+/// The longest message that is copied for another thread to send: to copy a longer one takes as long as to wake
+/// who waits.
+const MOST_LEFT: usize = 4_096;
 
 /// What a call of a sender wants.
 #[derive(Clone, Copy)]
@@ -22,6 +26,23 @@ impl Ask<'_> {
             Ask::Permit(len) => len,
         }
     }
+
+    // What is kept of it, so that it can be done by another thread.
+    fn left(self) -> Option<Left> {
+        match self {
+            Ask::Message(body) if body.len() > MOST_LEFT => None,
+            Ask::Message(body) => Some(Left::Message(body.into())),
+            Ask::Permit(_) => Some(Left::Permit),
+        }
+    }
+}
+
+/// A call that waits, between two looks at it.
+pub(crate) struct Call<'a> {
+    pub ask: Ask<'a>,
+    /// Whether it may be done for the one that makes it, who then has to look before it gives up.
+    pub is_left: bool,
+    pub ticket: Option<u64>,
 }
 
 impl State {
@@ -37,32 +58,44 @@ impl State {
     pub fn poll_send(
         &mut self,
         channel: Channel,
-        ask: Ask,
-        ticket: &mut Option<u64>,
+        call: &mut Call,
         waker: &Waker,
     ) -> Poll<Result<(), SendError>> {
-        let answer = match self.go(channel, ask, *ticket) {
+        if self.was_done(channel, call.ticket) {
+            call.ticket = None;
+            return Poll::Ready(Ok(()));
+        }
+        let answer = match self.go(channel, call.ask, call.ticket) {
             Ok(()) => Ok(()),
             Err(TrySendError::Failed(error)) => Err(error),
             Err(TrySendError::Full(needs)) => {
-                self.wait(channel, ask.len(), ticket, waker);
-                if self.is_first(channel, *ticket) {
+                self.wait(channel, call, waker);
+                if self.is_first(channel, call.ticket) {
                     self.front_needs(channel, needs);
                 }
                 return Poll::Pending;
             }
         };
-        if let Some(ticket) = ticket.take() {
+        if let Some(ticket) = call.ticket.take() {
             self.remove(channel, ticket);
         }
         self.settle();
         Poll::Ready(answer)
     }
 
-    /// A call that waited was given up.
-    pub fn forget_send(&mut self, channel: Channel, ticket: u64) {
+    // Whether a call that waited was done for who made it: no other way leads out of the line without it.
+    fn was_done(&self, channel: Channel, ticket: Option<u64>) -> bool {
+        ticket.is_some_and(|ticket| !self.out[at(channel)].line.has(ticket))
+    }
+
+    /// A call that waited is given up. Whether it was: one that was done meanwhile is not.
+    pub fn forget_send(&mut self, channel: Channel, ticket: u64) -> bool {
+        if self.was_done(channel, Some(ticket)) {
+            return false;
+        }
         self.remove(channel, ticket);
         self.settle();
+        true
     }
 
     /// A message by a permit for so many bytes, which is used up, whatever the answer is.
@@ -115,13 +148,15 @@ impl State {
         }
         match ask {
             Ask::Message(body) => self.put(channel, body)?,
-            Ask::Permit(len) => {
-                self.out[at(channel)].reserved += len as u64;
-                self.permits += 1;
-                self.went(channel);
-            }
+            Ask::Permit(len) => self.reserve(channel, len),
         }
         Ok(())
+    }
+
+    fn reserve(&mut self, channel: Channel, len: usize) {
+        self.out[at(channel)].reserved += len as u64;
+        self.permits += 1;
+        self.went(channel);
     }
 
     fn put(&mut self, channel: Channel, body: &[u8]) -> Result<(), SendError> {
@@ -253,32 +288,39 @@ impl State {
         }
     }
 
-    fn wait(&mut self, channel: Channel, len: usize, ticket: &mut Option<u64>, waker: &Waker) {
+    fn wait(&mut self, channel: Channel, call: &mut Call, waker: &Waker) {
         let new = self.next_ticket();
-        let ticket = *ticket.get_or_insert(new);
+        let ticket = *call.ticket.get_or_insert(new);
         let line = &mut self.out[at(channel)].line;
         let known = line.calls().find(|waiter| waiter.ticket == ticket);
         match known {
             Some(waiter) => keep(&mut waiter.waker, waker, &mut self.wakes),
             None => line.push(Place::Call(Waiter {
                 ticket,
-                len,
+                len: call.ask.len(),
                 waker: Some(waker.clone()),
+                left: call.is_left.then(|| call.ask.left()).flatten(),
             })),
         }
     }
 
     fn remove(&mut self, channel: Channel, ticket: u64) {
+        let waker = self.leave_line(channel, ticket);
+        self.wakes.discard(waker);
+    }
+
+    // The call's waker, unless it was woken.
+    fn leave_line(&mut self, channel: Channel, ticket: u64) -> Option<Waker> {
         self.fronts.stale |= 1 << at(channel);
         let line = &mut self.out[at(channel)].line;
         let removed = line.remove_call(ticket);
-        self.wakes.discard(removed.and_then(|waiter| waiter.waker));
         if line.owed(false).is_some() {
             self.owing_out |= 1 << at(channel);
         }
         if !line.has_calls() {
             line.lacking.note(None, &mut self.stats[at(channel)]);
         }
+        removed.and_then(|waiter| waiter.waker)
     }
 
     // What the first call that waits lacks is counted from now.
@@ -291,17 +333,44 @@ impl State {
         lacking.note(Some(lack), &mut self.stats[at(channel)]);
     }
 
-    // Wakes the call whose turn it is, where there is a slot, and those that will never go.
+    // Does what calls left whose turn it is, as long as there are slots, and wakes them; then the next one that
+    // has to go by itself, and those that will never go.
     pub(super) fn wake_senders(&mut self) {
-        self.look_at_fronts();
+        while let Some(channel) = self.next() {
+            if !self.do_left(channel) {
+                self.wake_first(channel);
+                break;
+            }
+            self.flush(); // limits and a finish behind it
+        }
         for channel in channels(self.fronts.hopeless) {
             self.wake_first(channel);
         }
+    }
+
+    // The sender whose call goes next.
+    fn next(&mut self) -> Option<Channel> {
+        self.look_at_fronts();
         let went = |channel: &Channel| self.out[at(*channel)].went;
         let next = channels(self.fronts.able).min_by_key(went);
-        if let Some(channel) = next.filter(|_| self.has_slot()) {
-            self.wake_first(channel);
+        next.filter(|_| self.has_slot())
+    }
+
+    // Whether what the first call left could be done. Where memory was refused, it is for that call to say so.
+    fn do_left(&mut self, channel: Channel) -> bool {
+        let line = &mut self.out[at(channel)].line;
+        let (Some(left), Some(first)) = (line.take_left(), line.first()) else {
+            return false;
+        };
+        let (ticket, len) = (first.ticket, first.len);
+        match left {
+            Left::Message(body) if self.put(channel, &body).is_err() => return false,
+            Left::Message(_) => {}
+            Left::Permit => self.reserve(channel, len),
         }
+        let waker = self.leave_line(channel, ticket);
+        self.wakes.wake(waker);
+        true
     }
 
     fn wake_first(&mut self, channel: Channel) {
