@@ -137,7 +137,8 @@ impl Drop for Rescue<'_> {
 mod tests {
     use super::*;
     use crate::mux::state::Pulled;
-    use crate::{Channel::Overlap, Config, Take};
+    use crate::Channel::{Data, Overlap};
+    use crate::{Config, Take};
     use std::sync::atomic::AtomicUsize;
     use std::sync::Arc;
     use std::task::Wake;
@@ -167,12 +168,16 @@ mod tests {
                 count: Arc::default(),
             };
             assert_eq!(session.pull().len(), 35);
-            let lent = session.shared.with(|state| {
-                state.deliver(b"\x12\0\x02hi").unwrap();
-                state.lend(Overlap, &mut Vec::new())
+            session.lend(Overlap, b"\x12\0\x02hi");
+            session
+        }
+
+        fn lend(&self, channel: Channel, frame: &[u8]) {
+            let lent = self.shared.with(|state| {
+                state.deliver(frame).unwrap();
+                state.lend(channel, &mut Vec::new())
             });
             assert_eq!(lent, Ok(Take::Took(2)));
-            session
         }
 
         /// What the writing half has to write; where that is nothing, it waits.
@@ -208,6 +213,15 @@ mod tests {
         session.shared.give_back(Overlap);
         assert_eq!(session.pull(), ISSUE);
         assert_eq!(session.wakes(), 0);
+    }
+
+    #[test]
+    fn what_is_given_back_on_two_channels_is_issued_on_both() {
+        let mut session = Session::new();
+        session.lend(Data, b"\x11\0\x02hi");
+        session.shared.give_back(Overlap);
+        session.shared.give_back(Data);
+        assert_eq!(session.pull(), [b"\x21\0\0\0\x02", ISSUE].concat());
     }
 
     #[test]
