@@ -4,7 +4,7 @@ ghost use Rattle.std.specs.Io.KnownBytes.{Appends};
 ghost use Rattle.std.specs.Fmt.{decimal};
 ghost use Rattle.hex.specs.Hex.{encode_lower};
 ghost use Rattle.lc_frame.specs.Channel.{number_of};
-ghost use Rattle.lc_frame.specs.Held.{IsUndecided};
+ghost use Rattle.lc_frame.specs.Stored.{IsUndecided};
 
 use crate::fault::{Fault, Status};
 use crate::input::{MAX_INPUT, PIECE};
@@ -161,7 +161,7 @@ impl Listing {
         ensures position { IfOk result (λ n. self.new.position ≡ self.old.position + n) }
         ensures open { OnOk result (IsUndecided self.new.decoder) }
     {
-        let _held = self.decoder.held();
+        let _stored = self.decoder.stored();
         let taken = self.decoder.feed(piece);
         self.position += taken;
         if let Some(fault) = self.decoder.fault() {
@@ -178,7 +178,7 @@ impl Listing {
     fn fault(&self, fault: FrameFault) -> Fault {
         Fault::BadFrame {
             number: fault.number(),
-            offset: self.position.saturating_sub(self.decoder.held()),
+            offset: self.position.saturating_sub(self.decoder.stored()),
         }
     }
 }

@@ -4,7 +4,7 @@ ghost use Rattle.lc_frame.specs.declared.frame.Frame.{Frame};
 ghost use Rattle.lc_frame.specs.declared.frame_fault.FrameFault.{FrameFault};
 ghost use Rattle.lc_frame.specs.FrameRef.{frame_of};
 ghost use Rattle.lc_frame.specs.Decoded.{Decodes};
-ghost use Rattle.lc_frame.specs.Held.{nothing_held, held_in, IsSettled, fed, IsValidIn, encoding_in, HasFrame, HasFault, IsUndecided, IsDecided};
+ghost use Rattle.lc_frame.specs.Stored.{nothing_stored, stored_in, IsSettled, fed, IsValidIn, encoding_in, HasFrame, HasFault, IsUndecided, IsDecided};
 ghost use Rattle.lc_frame.specs.declared.fill.Filled.TheVariants.{Few};
 ghost use Rattle.lc_frame.specs.Fill.{FilledAs, LacksMore};
 ghost use Rattle.lc_frame.specs.StreamDecoder.{EndsAs, TakesMore};
@@ -33,9 +33,9 @@ pub struct StreamDecoder {
 
 impl Model for StreamDecoder {
     ghost use Rattle.lc_frame.specs.Progress.{Remembers, known_version};
-    ghost use Rattle.lc_frame.specs.Held.{Held};
+    ghost use Rattle.lc_frame.specs.Stored.{Stored};
 
-    ghost Value = { Held };
+    ghost Value = { Stored };
 
     ghost view = { λ decoder. record { version = known_version decoder.version decoder.progress; bytes = decoder.buffer } };
 
@@ -46,7 +46,7 @@ impl StreamDecoder {
     /// A decoder at the start of a stream. It takes the memory for `MAX_FRAME` bytes here and none
     /// later; the error is want of it.
     pub fn new(alloc: Global) -> Result<StreamDecoder, AllocError>
-        ensures { IfOk result (λ decoder. decoder ≡ nothing_held) }
+        ensures { IfOk result (λ decoder. decoder ≡ nothing_stored) }
     {
         Ok(StreamDecoder {
             buffer: Hold::new(alloc)?,
@@ -120,7 +120,7 @@ impl StreamDecoder {
     /// is taken else.
     #[inline(always)]
     pub fn decode_or_take<'a>(&mut self, version: Version, piece: &'a [u8]) -> Decoded<'a>
-        requires { self.old ≡ held_in version [] }
+        requires { self.old ≡ stored_in version [] }
         ensures decodes { Decodes version result piece.now }
         ensures held { TakesMore result self.old piece.now self.new }
     {
@@ -179,16 +179,16 @@ impl StreamDecoder {
         }
     }
 
-    /// How many bytes are held: those that were taken since the last whole frame was cleared, and
+    /// How many bytes are stored: those that were taken since the last whole frame was cleared, and
     /// since a greeting was whole.
     #[inline]
-    pub fn held(&self) -> usize
+    pub fn stored(&self) -> usize
         ensures value { result ≡ length self.now.bytes }
         ensures bytes { All (λ b. b < 256) self.now.bytes }
         ensures settled { IsSettled self.now }
     {
-        let held = self.buffer.as_slice();
-        held.len()
+        let stored = self.buffer.as_slice();
+        stored.len()
     }
 
     /// The whole frame, `None` where there is none.

@@ -1,5 +1,5 @@
 use Rattle.std.proofs.Common.{◌≡◌, ◌+◌, length}
-use Rattle.lc_frame.specs.Held.{IsUndecided}
+use Rattle.lc_frame.specs.Stored.{IsUndecided}
 use Rattle.lc_cli.proofs.listing.Listing.feed.Given as goal
 
 abbrev pub invariant-loop-rest : goal.invariant-loop-rest

@@ -1,5 +1,5 @@
 use Rattle.std.proofs.Common.{◌≤◌, ◌-◌}
-use Rattle.lc_frame.specs.Held.{IsUndecided}
+use Rattle.lc_frame.specs.Stored.{IsUndecided}
 use Rattle.lc_cli.proofs.listing.Listing.read.Given as goal
 
 abbrev pub invariant-loop-input : goal.invariant-loop-input

@@ -7,7 +7,7 @@ use Rattle.lc_cli.proofs.listing.Listing.step.Goals.{in-Some-frame+in_ok-map_err
 
 pub returns-clause-progress : goal.returns-clause-progress
 returns-clause-progress g c =
-    takes_one _ _ _ _ c.requires.open c.held-held.ensures.settled c.feed-taken.ensures.held c.feed-taken.ensures.stop
+    takes_one _ _ _ _ c.requires.open c.stored-stored.ensures.settled c.feed-taken.ensures.held c.feed-taken.ensures.stop
 
 pub returns-clause-open : goal.returns-clause-open
 returns-clause-open g c = elim c.match-frame.branch [

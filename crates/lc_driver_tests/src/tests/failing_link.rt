@@ -36,20 +36,25 @@ impl<D: Write> Write for Failing<D> {
 
 /// One side of a session, with how its devices fail.
 #[derive(Drop)]
-pub struct Side {
+pub struct FailingLink {
     pub link: Link,
     pub kind: ErrorKind,
 }
 
-impl Side {
+impl FailingLink {
     /// A side on which nothing has happened, which writes this version.
-    pub fn new(alloc: Global, version: Version, capacity: u32, slots: u32) -> Result<Side, Fail> {
+    pub fn new(
+        alloc: Global,
+        version: Version,
+        capacity: u32,
+        slots: u32,
+    ) -> Result<FailingLink, Fail> {
         let config = Config {
             version,
             capacities: [capacity; CHANNELS],
             slots,
         };
-        Ok(Side {
+        Ok(FailingLink {
             link: Link::new(alloc, config)?,
             kind: ErrorKind::Other,
         })

@@ -15,7 +15,7 @@ use Rattle.lc_frame.specs.declared.frame_fault.FrameFault.{FrameFault}
 use Rattle.lc_frame.specs.Version.{greeting, begins, version_of, IsGreetingPart, GreetingBreaks}
 use Rattle.lc_frame.specs.Frame.{kind_of, channel_of}
 use Rattle.lc_frame.specs.Encoding.{tag_of, encoding}
-use Rattle.lc_frame.specs.Held.{Held, held_in, opened_as, opened, held_as, fed, IsSettled, IsValidIn, encoding_in, before, FrameIn, FaultIn, HasFrame, HasFault, IsUndecided, front}
+use Rattle.lc_frame.specs.Stored.{Stored, stored_in, opened_as, opened, stored_as, fed, IsSettled, IsValidIn, encoding_in, before, FrameIn, FaultIn, HasFrame, HasFault, IsUndecided, front}
 use Rattle.std.proofs.lemmas.List.Concat.{flat_map-append}
 use Rattle.lc_frame.proofs.Bytes.{IsBytes, IsBytes-drop}
 use Rattle.lc_frame.proofs.Channels.{number_below}
@@ -97,27 +97,27 @@ opened_goes_on None bytes ys e = refl
 opened_goes_on (Some v) bytes ys e =
     let later : version_of (bytes ++ ys) ≡ Some v = version_goes_on bytes ys v e in
     let behind : drop (length (greeting v)) (bytes ++ ys) ≡ drop (length (greeting v)) bytes ++ ys = drop-append-le (length (greeting v)) bytes ys (greeting_long bytes v e) in
-    ap (λ (xs : List ℕ). held_in v xs) (sym behind) ∙ sym (ap (λ (o : Option Version). opened_as o (bytes ++ ys)) later)
+    ap (λ (xs : List ℕ). stored_in v xs) (sym behind) ∙ sym (ap (λ (o : Option Version). opened_as o (bytes ++ ys)) later)
 
-held_goes_on : (version : Option Version) (bytes first later : List ℕ) → fed (held_as version (bytes ++ first)) later ≡ held_as version (bytes ++ (first ++ later))
+held_goes_on : (version : Option Version) (bytes first later : List ℕ) → fed (stored_as version (bytes ++ first)) later ≡ stored_as version (bytes ++ (first ++ later))
 held_goes_on None bytes first later = opened_goes_on (version_of (bytes ++ first)) (bytes ++ first) later refl ∙ ap opened (append_assoc bytes first later)
-held_goes_on (Some v) bytes first later = ap (held_in v) (append_assoc bytes first later)
+held_goes_on (Some v) bytes first later = ap (stored_in v) (append_assoc bytes first later)
 
-pub fed_fed : (h : Held) (first later : List ℕ) → fed (fed h first) later ≡ fed h (first ++ later)
+pub fed_fed : (h : Stored) (first later : List ℕ) → fed (fed h first) later ≡ fed h (first ++ later)
 fed_fed h first later = held_goes_on h.version h.bytes first later
 
-pub fed_nothing : (h : Held) → IsSettled h → fed h [] ≡ h
-fed_nothing h settled = ap (held_as h.version) (append-nil h.bytes) ∙ sym settled
+pub fed_nothing : (h : Stored) → IsSettled h → fed h [] ≡ h
+fed_nothing h settled = ap (stored_as h.version) (append-nil h.bytes) ∙ sym settled
 
 opened_settled : (o : Option Version) (bytes : List ℕ) → version_of bytes ≡ o → IsSettled (opened_as o bytes)
 opened_settled None bytes e = sym (ap (λ (o : Option Version). opened_as o bytes) e)
 opened_settled (Some v) bytes e = refl
 
-settled_as : (version : Option Version) (bytes : List ℕ) → IsSettled (held_as version bytes)
+settled_as : (version : Option Version) (bytes : List ℕ) → IsSettled (stored_as version bytes)
 settled_as None bytes = opened_settled (version_of bytes) bytes refl
 settled_as (Some v) bytes = refl
 
-pub fed_settled : (h : Held) (more : List ℕ) → IsSettled (fed h more)
+pub fed_settled : (h : Stored) (more : List ℕ) → IsSettled (fed h more)
 fed_settled h more = settled_as h.version (h.bytes ++ more)
 
 pub settled_none : (bytes : List ℕ) → version_of bytes ≡ None → IsSettled (record { version = None; bytes = bytes })
@@ -134,11 +134,11 @@ no_mark kinds.LimitSending c = let small = number_below c in grind (arith, nat_t
 no_mark kinds.LimitReceiving c = let small = number_below c in grind (arith, nat_tests)
 no_mark kinds.Finish c = let small = number_below c in grind (arith, nat_tests)
 
-pub stream_told : (v : Version) (f : Frame) (more : List ℕ) → opened (greeting v ++ encoding v f ++ more) ≡ held_in v (encoding v f ++ more)
+pub stream_told : (v : Version) (f : Frame) (more : List ℕ) → opened (greeting v ++ encoding v f ++ more) ≡ stored_in v (encoding v f ++ more)
 stream_told One f more = rw (no_mark (kind_of f) (channel_of f)) refl
 stream_told Two f more = refl
 
-pub greeted_told : (more : List ℕ) → opened (greeting Two ++ more) ≡ held_in Two more
+pub greeted_told : (more : List ℕ) → opened (greeting Two ++ more) ≡ stored_in Two more
 greeted_told more = refl
 
 -- ---- parts of a greeting
@@ -214,42 +214,42 @@ whole_as : (version : Option Version) (f : Frame) (bytes : List ℕ) → IsValid
 whole_as None f bytes valid e = absurd valid
 whole_as (Some v) f bytes valid e = record { valid = valid; rest = []; is = e ∙ sym (append-nil (encoding v f)) }
 
-pub whole_has : (f : Frame) (h : Held) → IsValidIn h.version f × (h.bytes ≡ encoding_in h.version f) → HasFrame f h
+pub whole_has : (f : Frame) (h : Stored) → IsValidIn h.version f × (h.bytes ≡ encoding_in h.version f) → HasFrame f h
 whole_has f h found = whole_as h.version f h.bytes found.0 found.1
 
-frame_goes_on_as : (version : Option Version) (f : Frame) (bytes ys : List ℕ) → FrameIn version f bytes → HasFrame f (held_as version (bytes ++ ys))
+frame_goes_on_as : (version : Option Version) (f : Frame) (bytes ys : List ℕ) → FrameIn version f bytes → HasFrame f (stored_as version (bytes ++ ys))
 frame_goes_on_as None f bytes ys s = absurd s
 frame_goes_on_as (Some v) f bytes ys s = frame_goes_on v f bytes ys s
 
-pub has_frame_goes_on : (f : Frame) (h : Held) (ys : List ℕ) → HasFrame f h → HasFrame f (fed h ys)
+pub has_frame_goes_on : (f : Frame) (h : Stored) (ys : List ℕ) → HasFrame f h → HasFrame f (fed h ys)
 has_frame_goes_on f h ys s = frame_goes_on_as h.version f h.bytes ys s
 
-fault_goes_on_as : (version : Option Version) (e : FrameFault) (bytes ys : List ℕ) → FaultIn version e bytes → HasFault e (held_as version (bytes ++ ys))
+fault_goes_on_as : (version : Option Version) (e : FrameFault) (bytes ys : List ℕ) → FaultIn version e bytes → HasFault e (stored_as version (bytes ++ ys))
 fault_goes_on_as None e bytes ys s = subst (HasFault e) (sym (opened_is None (bytes ++ ys) (breaks_told bytes ys s.1))) (s.0, breaks_goes_on bytes ys s.1)
 fault_goes_on_as (Some v) e bytes ys s = fault_goes_on v e bytes ys s
 
-pub has_fault_goes_on : (e : FrameFault) (h : Held) (ys : List ℕ) → HasFault e h → HasFault e (fed h ys)
+pub has_fault_goes_on : (e : FrameFault) (h : Stored) (ys : List ℕ) → HasFault e h → HasFault e (fed h ys)
 has_fault_goes_on e h ys s = fault_goes_on_as h.version e h.bytes ys s
 
 one_frame_in : (version : Option Version) (f g : Frame) (bytes : List ℕ) → FrameIn version f bytes → FrameIn version g bytes → f ≡ g
 one_frame_in None f g bytes s t = absurd s
 one_frame_in (Some v) f g bytes s t = one_frame v f g bytes s t
 
-pub has_one_frame : (f g : Frame) (h : Held) → HasFrame f h → HasFrame g h → f ≡ g
+pub has_one_frame : (f g : Frame) (h : Stored) → HasFrame f h → HasFrame g h → f ≡ g
 has_one_frame f g h s t = one_frame_in h.version f g h.bytes s t
 
 one_fault_in : (version : Option Version) (d e : FrameFault) (bytes : List ℕ) → FaultIn version d bytes → FaultIn version e bytes → d ≡ e
 one_fault_in None d e bytes s t = s.0 ∙ sym t.0
 one_fault_in (Some v) d e bytes s t = one_fault v d e bytes s t
 
-pub has_one_fault : (d e : FrameFault) (h : Held) → HasFault d h → HasFault e h → d ≡ e
+pub has_one_fault : (d e : FrameFault) (h : Stored) → HasFault d h → HasFault e h → d ≡ e
 has_one_fault d e h s t = one_fault_in h.version d e h.bytes s t
 
 never_both_in : (version : Option Version) (f : Frame) (e : FrameFault) (bytes : List ℕ) → FrameIn version f bytes → FaultIn version e bytes → ⊥
 never_both_in None f e bytes s t = s
 never_both_in (Some v) f e bytes s t = frame_no_fault v f e bytes s t
 
-pub has_never_both : (f : Frame) (e : FrameFault) (h : Held) → HasFrame f h → HasFault e h → ⊥
+pub has_never_both : (f : Frame) (e : FrameFault) (h : Stored) → HasFrame f h → HasFault e h → ⊥
 has_never_both f e h s t = never_both_in h.version f e h.bytes s t
 
 -- ---- frames in front of what is held
@@ -259,29 +259,29 @@ none_valid [] each = refl
 none_valid (f ∷ fs) each = absurd each.0
 
 before_fed_as : (version : Option Version) (fs : List Frame) (bytes more : List ℕ) → AllByRecursion (IsValidIn version) fs
-    → held_as version ((flat_map (encoding_in version) fs ++ bytes) ++ more) ≡ before fs (held_as version (bytes ++ more))
+    → stored_as version ((flat_map (encoding_in version) fs ++ bytes) ++ more) ≡ before fs (stored_as version (bytes ++ more))
 before_fed_as None fs bytes more each =
     let none : fs ≡ [] = none_valid fs each in
     ap (λ (gs : List Frame). opened ((flat_map (encoding_in None) gs ++ bytes) ++ more)) none ∙ sym (ap (λ (gs : List Frame). before gs (opened (bytes ++ more))) none)
-before_fed_as (Some v) fs bytes more each = ap (held_in v) (append_assoc (flat_map (encoding v) fs) bytes more)
+before_fed_as (Some v) fs bytes more each = ap (stored_in v) (append_assoc (flat_map (encoding v) fs) bytes more)
 
 -- frames in front stay there when more bytes come
-pub before_fed : (fs : List Frame) (h : Held) (more : List ℕ) → AllByRecursion (IsValidIn h.version) fs → fed (before fs h) more ≡ before fs (fed h more)
+pub before_fed : (fs : List Frame) (h : Stored) (more : List ℕ) → AllByRecursion (IsValidIn h.version) fs → fed (before fs h) more ≡ before fs (fed h more)
 before_fed fs h more each = before_fed_as h.version fs h.bytes more each
 
 before_append_as : (version : Option Version) (fs gs : List Frame) (bytes : List ℕ) → flat_map (encoding_in version) (fs ++ gs) ++ bytes ≡ flat_map (encoding_in version) fs ++ (flat_map (encoding_in version) gs ++ bytes)
 before_append_as version fs gs bytes = ap (λ (x : List ℕ). x ++ bytes) (flat_map-append (encoding_in version) fs gs) ∙ append_assoc (flat_map (encoding_in version) fs) (flat_map (encoding_in version) gs) bytes
 
-pub before_append : (fs gs : List Frame) (h : Held) → before (fs ++ gs) h ≡ before fs (before gs h)
+pub before_append : (fs gs : List Frame) (h : Stored) → before (fs ++ gs) h ≡ before fs (before gs h)
 before_append fs gs h = ap (λ (x : List ℕ). record { version = h.version; bytes = x }) (before_append_as h.version fs gs h.bytes)
 
 -- frames that are valid stay so when more bytes come
-each_as : (version : Option Version) (fs : List Frame) (bytes : List ℕ) → AllByRecursion (IsValidIn version) fs → AllByRecursion (IsValidIn (held_as version bytes).version) fs
+each_as : (version : Option Version) (fs : List Frame) (bytes : List ℕ) → AllByRecursion (IsValidIn version) fs → AllByRecursion (IsValidIn (stored_as version bytes).version) fs
 each_as None [] bytes each = tt
 each_as None (f ∷ fs) bytes each = absurd each.0
 each_as (Some v) fs bytes each = each
 
-pub each_fed : (fs : List Frame) (h : Held) (more : List ℕ) → AllByRecursion (IsValidIn h.version) fs → AllByRecursion (IsValidIn (fed h more).version) fs
+pub each_fed : (fs : List Frame) (h : Stored) (more : List ℕ) → AllByRecursion (IsValidIn h.version) fs → AllByRecursion (IsValidIn (fed h more).version) fs
 each_fed fs h more each = each_as h.version fs (h.bytes ++ more) each
 
 -- ---- how long it is, and that it is bytes
@@ -290,22 +290,22 @@ opened_short : (o : Option Version) (bytes : List ℕ) → length (opened_as o b
 opened_short None bytes = omega arith
 opened_short (Some v) bytes = omega (arith, length-drop (length (greeting v)) bytes)
 
-held_short : (version : Option Version) (bytes : List ℕ) → length (held_as version bytes).bytes ≤ length bytes
+held_short : (version : Option Version) (bytes : List ℕ) → length (stored_as version bytes).bytes ≤ length bytes
 held_short None bytes = opened_short (version_of bytes) bytes
 held_short (Some v) bytes = omega arith
 
-pub fed_short : (h : Held) (more : List ℕ) → length (fed h more).bytes ≤ length h.bytes + length more
+pub fed_short : (h : Stored) (more : List ℕ) → length (fed h more).bytes ≤ length h.bytes + length more
 fed_short h more = omega (arith, held_short h.version (h.bytes ++ more), length-append h.bytes more)
 
 opened_fits : (o : Option Version) (bytes : List ℕ) → IsBytes bytes → IsBytes (opened_as o bytes).bytes
 opened_fits None bytes fits = fits
 opened_fits (Some v) bytes fits = IsBytes-drop (length (greeting v)) bytes fits
 
-held_fits : (version : Option Version) (bytes : List ℕ) → IsBytes bytes → IsBytes (held_as version bytes).bytes
+held_fits : (version : Option Version) (bytes : List ℕ) → IsBytes bytes → IsBytes (stored_as version bytes).bytes
 held_fits None bytes fits = opened_fits (version_of bytes) bytes fits
 held_fits (Some v) bytes fits = fits
 
-pub fed_fits : (h : Held) (more : List ℕ) → IsBytes (h.bytes ++ more) → IsBytes (fed h more).bytes
+pub fed_fits : (h : Stored) (more : List ℕ) → IsBytes (h.bytes ++ more) → IsBytes (fed h more).bytes
 fed_fits h more fits = held_fits h.version (h.bytes ++ more) fits
 
 -- ---- fronts of what is held
@@ -352,21 +352,21 @@ one_more_opened None bytes b k e none u lt =
     subst (λ (x : List ℕ). IsUndecided (record { version = None; bytes = x })) (sym same) (front_as None k bytes u)
 one_more_opened (Some v) bytes b k e none u lt =
     let first : k ≡ 0 = omega (arith, lt, length-drop (length (greeting v)) (bytes ++ b ∷ []), length-append bytes (b ∷ []), told_late bytes (b ∷ []) v none e, greeting_long (bytes ++ b ∷ []) v e) in
-    subst (λ (n : ℕ). IsUndecided (held_in v (take n (drop (length (greeting v)) (bytes ++ b ∷ []))))) (sym first) (nothing_in (Some v))
+    subst (λ (n : ℕ). IsUndecided (stored_in v (take n (drop (length (greeting v)) (bytes ++ b ∷ []))))) (sym first) (nothing_in (Some v))
 
 settled_version : (o : Option Version) (bytes : List ℕ) → version_of bytes ≡ o → record { version = None; bytes = bytes } ≡ opened bytes → version_of bytes ≡ None
 settled_version None bytes e settled = e
-settled_version (Some v) bytes e settled = absurd (none_some (ap (λ (h : Held). h.version) (settled ∙ opened_is (Some v) bytes e)))
+settled_version (Some v) bytes e settled = absurd (none_some (ap (λ (h : Stored). h.version) (settled ∙ opened_is (Some v) bytes e)))
   where
     none_some : None ≡ Some v → ⊥
     none_some e = cc
 
-one_more_as : (version : Option Version) (bytes : List ℕ) (b k : ℕ) → IsSettled (record { version = version; bytes = bytes }) → IsUndecided (record { version = version; bytes = bytes }) → k < length (held_as version (bytes ++ b ∷ [])).bytes
-    → IsUndecided (front k (held_as version (bytes ++ b ∷ [])))
+one_more_as : (version : Option Version) (bytes : List ℕ) (b k : ℕ) → IsSettled (record { version = version; bytes = bytes }) → IsUndecided (record { version = version; bytes = bytes }) → k < length (stored_as version (bytes ++ b ∷ [])).bytes
+    → IsUndecided (front k (stored_as version (bytes ++ b ∷ [])))
 one_more_as None bytes b k settled u lt = one_more_opened (version_of (bytes ++ b ∷ [])) bytes b k refl (settled_version (version_of bytes) bytes refl settled) u lt
 one_more_as (Some v) bytes b k settled u lt =
     let same : take k (bytes ++ b ∷ []) ≡ take k bytes = take-append-le k bytes (b ∷ []) (omega (arith, lt, length-append bytes (b ∷ []))) in
-    subst (λ (x : List ℕ). IsUndecided (held_in v x)) (sym same) (front_as (Some v) k bytes u)
+    subst (λ (x : List ℕ). IsUndecided (stored_in v x)) (sym same) (front_as (Some v) k bytes u)
 
-pub one_more_front : (h : Held) (b k : ℕ) → IsSettled h → IsUndecided h → k < length (fed h (b ∷ [])).bytes → IsUndecided (front k (fed h (b ∷ [])))
+pub one_more_front : (h : Stored) (b k : ℕ) → IsSettled h → IsUndecided h → k < length (fed h (b ∷ [])).bytes → IsUndecided (front k (fed h (b ∷ [])))
 one_more_front h b k settled u lt = one_more_as h.version h.bytes b k settled u lt
