@@ -225,7 +225,7 @@ impl<'a> Fields<'a> {
 
     fn channel(&mut self) -> Result<Channel, LineFault> {
         let number = match self.field()? {
-            [digit @ b'0'..=b'6'] => *digit - b'0',
+            [digit @ b'0'..=b'9'] => *digit - b'0',
             _ => return Err(LineFault::Bad),
         };
         Channel::from_number(number).ok_or(LineFault::Bad)

@@ -162,7 +162,12 @@ fn send_each<R: Threads + Wait + Clock + Sync>(rt: &R, ends: &mut [SendEnd; CHAN
     ensures len { length ends.new ≡ length ends.old }
     ensures same { (k : ℕ) (d : OutboxState) → k < length ends.old → IsSameOutbox (slice_index_or ends.old k d) (slice_index_or ends.new k d) }
 {
-    thread::for_each_mut(rt, ends, 7, &|at, end| send_all(rt, end, load.job_on(at)));
+    thread::for_each_mut(
+        rt,
+        ends,
+        CHANNELS,
+        &|at, end| send_all(rt, end, load.job_on(at)),
+    );
 }
 
 // And each receiving end.
@@ -173,7 +178,7 @@ fn take_each<R: Threads + Wait + Clock + Sync>(rt: &R, ends: &mut [RecvEnd; CHAN
     thread::for_each_mut(
         rt,
         ends,
-        7,
+        CHANNELS,
         &|at, end| { take_all(rt, end, load.capacity, load.job_on(at)) },
     );
 }

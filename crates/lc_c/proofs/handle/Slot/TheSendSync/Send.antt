@@ -12,8 +12,8 @@ use Rattle.std.proofs.Crossing as heap
 use Rattle.std_alloc.proofs.SendSync.{quiet, lies}
 use Rattle.std_heap.proofs.Global.TheSendSync as handle
 use Rattle.lc_c.specs.Handle.{handle_owns}
-use Rattle.lc_c.specs.contracts.side.CPeer as CPeer
-use Rattle.lc_c.proofs.side.CPeer.TheSendSync.{the_send as side}
+use Rattle.lc_c.specs.contracts.c_peer.CPeer as CPeer
+use Rattle.lc_c.proofs.c_peer.CPeer.TheSendSync.{the_send as side}
 use Rattle.lc_c.specs.contracts.handle.Slot.{the_row, the_type}
 
 owned_keyless : (alloc : Global) (p : Ptr) (held : Option CPeer.the_row.Denot) → Keyless (handle_owns alloc p held)
