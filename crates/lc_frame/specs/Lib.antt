@@ -14,5 +14,6 @@ pub mod Stored
 pub mod Splits
 pub mod Progress
 pub mod Fill
+pub mod Begun
 pub mod StreamDecoder
 pub mod StreamEncoder

@@ -8,7 +8,10 @@ ghost use Rattle.lc_frame.specs.Stored.{nothing_stored, stored_in, IsSettled, fe
 ghost use Rattle.lc_frame.specs.declared.fill.Filled.TheVariants.{Few};
 ghost use Rattle.lc_frame.specs.Fill.{FilledAs, LacksMore};
 ghost use Rattle.lc_frame.specs.StreamDecoder.{EndsAs, TakesMore};
+ghost use Rattle.lc_frame.specs.declared.channel.Channel.{Channel};
+ghost use Rattle.lc_frame.specs.Begun.{HasBegun};
 
+use crate::begun::{BegunSend, begun_send};
 use crate::decoded::Decoded;
 use crate::fill::{Fill, Filled};
 use crate::frame_fault::FrameFault;
@@ -200,6 +203,22 @@ impl StreamDecoder {
         match self.progress {
             Progress::Wants(_) => None,
             Progress::Whole(head) => Some(head.frame_in(self.version, self.buffer.as_slice())),
+            Progress::Fault(_) => None,
+            Progress::Greeted => None,
+            Progress::Broken => None,
+        }
+    }
+
+    /// The Send that is begun, where no frame is whole; `None` where none is, or where its length is not
+    /// there yet.
+    #[inline]
+    pub fn begun(&self) -> Option<BegunSend>
+        ensures some { IfSome result (λ b. IsUndecided self.now × HasBegun b.channel b.len self.now) }
+        ensures none { IfNone result (IsUndecided self.now → (c : Channel) (len : ℕ) → ¬ HasBegun c len self.now) }
+    {
+        match self.progress {
+            Progress::Wants(_) => begun_send(self.version, self.buffer.as_slice()),
+            Progress::Whole(_) => None,
             Progress::Fault(_) => None,
             Progress::Greeted => None,
             Progress::Broken => None,
