@@ -207,7 +207,7 @@ breaks_told (b ∷ bytes) ys s = breaks_tells (b == 76) (begins (greeting Two) (
 breaks_goes_on : (bytes ys : List ℕ) → GreetingBreaks bytes → GreetingBreaks (bytes ++ ys)
 breaks_goes_on bytes ys s = record { no_version = breaks_told bytes ys s; no_part = λ p. s.no_part (front_of_part bytes ys p) }
 
--- ---- what stands at the front of what is held
+-- ---- what stands at the front of what is stored
 
 -- a valid frame whose bytes are all that is held
 whole_as : (version : Option Version) (f : Frame) (bytes : List ℕ) → IsValidIn version f → bytes ≡ encoding_in version f → FrameIn version f bytes
@@ -252,7 +252,7 @@ never_both_in (Some v) f e bytes s t = frame_no_fault v f e bytes s t
 pub has_never_both : (f : Frame) (e : FrameFault) (h : Stored) → HasFrame f h → HasFault e h → ⊥
 has_never_both f e h s t = never_both_in h.version f e h.bytes s t
 
--- ---- frames in front of what is held
+-- ---- frames in front of what is stored
 
 none_valid : (fs : List Frame) → AllByRecursion (IsValidIn None) fs → fs ≡ []
 none_valid [] each = refl
@@ -308,7 +308,7 @@ held_fits (Some v) bytes fits = fits
 pub fed_fits : (h : Stored) (more : List ℕ) → IsBytes (h.bytes ++ more) → IsBytes (fed h more).bytes
 fed_fits h more fits = held_fits h.version (h.bytes ++ more) fits
 
--- ---- fronts of what is held
+-- ---- fronts of what is stored
 
 front_as : (version : Option Version) (k : ℕ) (bytes : List ℕ) → IsUndecided (record { version = version; bytes = bytes }) → IsUndecided (record { version = version; bytes = take k bytes })
 front_as None k bytes u = record { no_frame = λ f s. s; no_fault = λ e s. u.no_fault e (s.0, subst GreetingBreaks (take-append-drop k bytes) (breaks_goes_on (take k bytes) (drop k bytes) s.1)) }

@@ -1,4 +1,4 @@
--- A Send that is begun at the front of some bytes, or of what is held: its tag and its length stand there, and of its body any part, or nothing. That a frame's length comes before its body is LCMUX's; the rest is this project's own.
+-- A Send that is begun at the front of some bytes, or of what is stored: its tag and its length stand there, and of its body any part, or nothing. That a frame's length comes before its body is LCMUX's; the rest is this project's own.
 use Rattle.std.specs.Prelude.{◌≡◌, ℕ, ◌++◌, List, Option, Some, None}
 use Rattle.lc_frame.specs.declared.version.Version.{Version}
 use Rattle.lc_frame.specs.declared.channel.Channel.{Channel}
@@ -18,6 +18,6 @@ abbrev pub BeginsSendIn : Option Version → Channel → ℕ → List ℕ → Ty
 BeginsSendIn None c len bytes = ⊥
 BeginsSendIn (Some v) c len bytes = BeginsSend v c len bytes
 
--- a Send on this channel, with a message of this length, is begun at the front of what is held
+-- a Send on this channel, with a message of this length, is begun at the front of what is stored
 abbrev pub HasBegun : Channel → ℕ → Stored → Type 0
 HasBegun c len h = BeginsSendIn h.version c len h.bytes

@@ -22,7 +22,7 @@ nothing_stored = record { version = None; bytes = [] }
 abbrev pub stored_in : Version → List ℕ → Stored
 stored_in v bytes = record { version = Some v; bytes = bytes }
 
--- what is held of a stream of which these are the bytes from its start, which tell this version: a greeting is gone once it is whole
+-- what is stored of a stream of which these are the bytes from its start, which tell this version: a greeting is gone once it is whole
 abbrev pub opened_as : Option Version → List ℕ → Stored
 opened_as None bytes = record { version = None; bytes = bytes }
 opened_as (Some v) bytes = stored_in v (drop (length (greeting v)) bytes)
@@ -31,12 +31,12 @@ opened_as (Some v) bytes = stored_in v (drop (length (greeting v)) bytes)
 abbrev pub opened : List ℕ → Stored
 opened bytes = opened_as (version_of bytes) bytes
 
--- what is held with these bytes: those behind a version that is known, or else those of the stream from its start, which may tell it
+-- what is stored with these bytes: those behind a version that is known, or else those of the stream from its start, which may tell it
 abbrev pub stored_as : Option Version → List ℕ → Stored
 stored_as None bytes = opened bytes
 stored_as (Some v) bytes = stored_in v bytes
 
--- what is held once these bytes come too
+-- what is stored once these bytes come too
 abbrev pub fed : Stored → List ℕ → Stored
 fed h more = stored_as h.version (h.bytes ++ more)
 
@@ -54,7 +54,7 @@ abbrev pub encoding_in : Option Version → Frame → List ℕ
 encoding_in None = λ f. []
 encoding_in (Some v) = encoding v
 
--- what is held, with the bytes of these frames in front
+-- what is stored, with the bytes of these frames in front
 abbrev pub before : List Frame → Stored → Stored
 before frames h = record { version = h.version; bytes = flat_map (encoding_in h.version) frames ++ h.bytes }
 
@@ -72,19 +72,19 @@ abbrev pub FaultIn : Option Version → FrameFault → List ℕ → Type 0
 FaultIn None e bytes = (e ≡ BadTag) × GreetingBreaks bytes
 FaultIn (Some v) e bytes = FaultStands v e bytes
 
--- this frame stands at the front of what is held
+-- this frame stands at the front of what is stored
 abbrev pub HasFrame : Frame → Stored → Type 0
 HasFrame f h = FrameIn h.version f h.bytes
 
--- this fault stands at the front of what is held
+-- this fault stands at the front of what is stored
 abbrev pub HasFault : FrameFault → Stored → Type 0
 HasFault e h = FaultIn h.version e h.bytes
 
--- neither a frame nor a fault stands at the front of what is held
+-- neither a frame nor a fault stands at the front of what is stored
 pub record IsUndecided (h : Stored) : Type 0 where
   pub no_frame : (f : Frame) → ¬ HasFrame f h
   pub no_fault : (e : FrameFault) → ¬ HasFault e h
 
--- a frame or a fault stands at the front of what is held
+-- a frame or a fault stands at the front of what is stored
 abbrev pub IsDecided : Stored → Type 0
 IsDecided h = ((f : Frame) × HasFrame f h) ⊎ ((e : FrameFault) × HasFault e h)

@@ -46,12 +46,12 @@ pub fn pieces_add_up()
     ensures { (h : Stored) (first later : List ℕ) → fed (fed h first) later ≡ fed h (first ++ later) }
 {}
 
-/// What is held is the frames of one list and one rest.
+/// What is stored is the frames of one list and one rest.
 pub fn one_split()
     ensures { (version : Option Version) (fs gs : List Frame) (bytes r s : List ℕ) → Splits version bytes fs r → Splits version bytes gs s → (fs ≡ gs) × (r ≡ s) }
 {}
 
-/// The frames of what is held and its rest are those that are computed.
+/// The frames of what is stored and its rest are those that are computed.
 pub fn frames_are_split()
     ensures { (h : Stored) → All (λ b. b < 256) h.bytes → Splits h.version h.bytes (frames_of h) (rest_of h).bytes }
 {}

@@ -94,7 +94,7 @@ impl StreamDecoder {
         }
     }
 
-    /// Takes all of a piece that is too short for more to be known of what is held, or else nothing.
+    /// Takes all of a piece that is too short for more to be known of what is stored, or else nothing.
     /// Whether it did.
     #[inline(always)]
     pub fn take_part(&mut self, piece: &[u8]) -> bool
@@ -118,7 +118,7 @@ impl StreamDecoder {
         }
     }
 
-    /// Decodes the front of a piece, as [`decode`](crate::decode) does, where nothing is held of a
+    /// Decodes the front of a piece, as [`decode`](crate::decode) does, where nothing is stored of a
     /// stream of this version. A piece that is `Decoded::More` is taken in as it is decoded, and nothing
     /// is taken else.
     #[inline(always)]
@@ -142,7 +142,7 @@ impl StreamDecoder {
     }
 
     /// Inside a frame that lacks more than 512 bytes, has the memory for so many filled where its next
-    /// bytes are held, and holds those that were given. So they need no other memory on their way.
+    /// bytes are stored, and stores those that were given. So they need no other memory on their way.
     #[inline]
     #[tactic(auto, using(crate::proofs::Fronts::frame_fits))]
     pub fn fill<R, F: Fill<R>>(&mut self, filler: &F, source: &mut R) -> Filled
