@@ -94,7 +94,11 @@ fn write<R: Wait + Clock>(rt: &R, hold: &Hold, pump: &mut WritePump) -> Result<(
 {
     let socket = Uninterrupted::new(hold.patient(rt));
     match pump.run(rt, &mut Counted::new(socket)) {
-        WriteEnd::Stopped => Ok(hold.socket.shutdown(Shutdown::Write)?),
+        WriteEnd::Stopped => {
+            // It fails where the other side has gone, as the reading pump says.
+            let _ = hold.socket.shutdown(Shutdown::Write);
+            Ok(())
+        }
         WriteEnd::Failed | WriteEnd::Zero => Err(Fault::Over),
     }
 }

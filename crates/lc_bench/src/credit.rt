@@ -19,7 +19,7 @@ const CHANNEL: Channel = Channel::DataChannel;
 
 // Which of both sides a turn is made of. The other makes one call for all of them.
 #[derive(Clone, Copy)]
-enum Side {
+enum CreditSide {
     Spends,
     Adds,
 }
@@ -28,7 +28,7 @@ enum Side {
 #[derive(Drop)]
 struct Crediting {
     parts: CreditParts,
-    side: Side,
+    side: CreditSide,
 }
 
 impl Turns for Crediting {
@@ -36,8 +36,8 @@ impl Turns for Crediting {
         let side = self.side;
         for _ in 0..turns {
             let went_well = match side {
-                Side::Spends => spending_turn(&mut self.parts),
-                Side::Adds => adding_turn(&mut self.parts),
+                CreditSide::Spends => spending_turn(&mut self.parts),
+                CreditSide::Adds => adding_turn(&mut self.parts),
             };
             if !went_well {
                 return Err(io::Error::other("a call was refused"));
@@ -135,10 +135,10 @@ fn measure<T: Turns>(rt: &HostRuntime, plan: &Plan, name: &str, subject: &mut T)
 pub fn measure_credits(rt: &HostRuntime, plan: &Plan) -> io::Result<()> {
     let mut crediting = Crediting {
         parts: credits(rt.alloc())?,
-        side: Side::Spends,
+        side: CreditSide::Spends,
     };
     measure(rt, plan, "credit.spend_confirm", &mut crediting)?;
-    crediting.side = Side::Adds;
+    crediting.side = CreditSide::Adds;
     measure(rt, plan, "credit.add", &mut crediting)?;
     let mut word = Word {
         word: AtomicU64::new(0),

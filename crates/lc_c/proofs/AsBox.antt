@@ -7,8 +7,8 @@ use Rattle.std_alloc.proofs.BoxSteps.Form.{Bx}
 use Rattle.std_heap.specs.contracts.Global as Heap
 use Rattle.std_heap.specs.contracts.GlobalAllocator.TheImpl.{ghosts, dict}
 use Rattle.std_heap.proofs.Global.TheLaws as heap
-use Rattle.lc_c.specs.contracts.side.Side as Decoder
-use Rattle.lc_c.proofs.side.Side.TheLaws as decoder
+use Rattle.lc_c.specs.contracts.c_peer.CPeer as Decoder
+use Rattle.lc_c.proofs.c_peer.CPeer.TheLaws as decoder
 use Rattle.lc_c.specs.contracts.parts.Parts as Parts
 use Rattle.lc_c.specs.contracts.handle.Slot as Handle
 

@@ -6,7 +6,7 @@ use denote.RawPtr.{Ptr}
 use Rattle.std.specs.Box.Ownership.{box_owns}
 use Rattle.std.specs.Global.{Global}
 use Rattle.std_heap.specs.contracts.GlobalAllocator.TheImpl.{ghosts}
-use Rattle.lc_c.specs.contracts.side.Side.{the_row}
+use Rattle.lc_c.specs.contracts.c_peer.CPeer.{the_row}
 use Rattle.std.specs.contracts.option.Option as option
 
 -- what a handle owns: nothing, or the side in its box

@@ -1,10 +1,10 @@
 //! A box as a pointer that C may keep.
 ghost use Rattle.std.specs.Prelude.{◌≡◌, Option, Some, None, IsSome};
-ghost use Rattle.lc_c.specs.declared.side.Side.{Side as SideState};
+ghost use Rattle.lc_c.specs.declared.c_peer.CPeer.{CPeer as CPeerState};
 ghost use Rattle.lc_c.specs.Handle.{handle_owns, held_coded};
 
+use crate::c_peer::CPeer;
 use crate::parts::Parts;
-use crate::side::Side;
 use std::alloc::Global;
 use std::marker::Model;
 use std::ptr;
@@ -14,7 +14,7 @@ use std::ptr;
 pub struct Slot {
     at: *mut (),
     alloc: Global,
-    pub ghost held: { Option SideState } by { held_coded },
+    pub ghost held: { Option CPeerState } by { held_coded },
 }
 
 impl Model for Slot {
@@ -31,20 +31,20 @@ impl Slot {
         }
     }
 
-    pub(crate) fn of(whole: Box<Side>) -> Slot
+    pub(crate) fn of(whole: Box<CPeer>) -> Slot
         ensures { result.held ≡ Some whole.value }
     {
         Slot::of_parts(Parts::of(whole))
     }
 
-    pub(crate) fn into_box(self) -> Box<Side>
+    pub(crate) fn into_box(self) -> Box<CPeer>
         requires { IsSome self.held }
         ensures { Some result.value ≡ self.held }
     {
         self.into_parts().into_box()
     }
 
-    fn of_parts(parts: Parts<Side, Global>) -> Slot
+    fn of_parts(parts: Parts<CPeer, Global>) -> Slot
         ensures { result.held ≡ Some parts.value }
     {
         let Parts { ptr, alloc } = parts;
@@ -54,13 +54,13 @@ impl Slot {
         }
     }
 
-    fn into_parts(self) -> Parts<Side, Global>
+    fn into_parts(self) -> Parts<CPeer, Global>
         requires { IsSome self.held }
         ensures { Some result.value ≡ self.held }
     {
         let Slot { at, alloc } = self;
         Parts {
-            ptr: at as *mut Side,
+            ptr: at as *mut CPeer,
             alloc,
         }
     }

@@ -5,12 +5,12 @@
 //! one that the last call left, and that a slice is as long as its length says.
 //!
 //! C keeps an `LcmuxPeer`: a mark that is 0 where the handle is empty, and a `Slot`, whose
-//! pointer is that of a `Box<Side>`. A raw pointer may cross to C and a box may not, so `Slot`
+//! pointer is that of a `Box<CPeer>`. A raw pointer may cross to C and a box may not, so `Slot`
 //! (in `handle.rt`) is a box with its fields in sight; its five functions, and the one that lends a
 //! message by its address, are the only ones that are proved by hand, and the contracts of all others see which side, if any, a handle holds.
 //! `open` takes it out, and `reach` where there is a channel too.
 //!
-//! A `Side` is a peer, the `Intake` of its stream, and `Pending`, what is left of the greeting or of
+//! A `CPeer` is a peer, the `Intake` of its stream, and `Pending`, what is left of the greeting or of
 //! the frame that was begun to go out. Bytes come in by `Intake::deliver`. They go out by `give` (in `streams.rt`): what is pending, then frame by frame
 //! what waits, each encoded into the buffer of `Pending` and copied as far as there is room. So a
 //! call writes exactly as many bytes as there are and have room, which `Outgo` can't promise: it
@@ -23,6 +23,7 @@
 mod answer;
 mod asking;
 mod balances;
+mod c_peer;
 mod handle;
 mod lend;
 mod make;
@@ -31,7 +32,6 @@ mod parts;
 mod peer;
 mod pending;
 mod reach;
-mod side;
 mod streams;
 mod take;
 mod text;
@@ -45,6 +45,7 @@ pub use asking::{
     lcmux_peer_would_limit_sending, lcmux_peer_would_plead, lcmux_peer_would_send,
 };
 pub use balances::{LcmuxClient, LcmuxServer, NO_LIMIT, lcmux_peer_client, lcmux_peer_server};
+pub use c_peer::CPeer;
 pub use handle::Slot;
 pub use lend::{LcmuxFront, LcmuxPiece, lcmux_peer_front};
 pub use make::{LcmuxConfig, lcmux_peer_free, lcmux_peer_new};
@@ -54,7 +55,6 @@ pub use own::{
 };
 pub use peer::LcmuxPeer;
 pub use pending::Pending;
-pub use side::Side;
 pub use take::{lcmux_peer_front_len, lcmux_peer_pop, lcmux_peer_take};
 pub use text::{lcmux_text, lcmux_version};
 pub use wire::{

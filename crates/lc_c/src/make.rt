@@ -3,14 +3,14 @@ ghost use Rattle.std.specs.Prelude.{◌≡◌, None, IfOk, is_some, if◌then◌
 ghost use Rattle.std.specs.Result.{result_err};
 ghost use Rattle.lc_peer.specs.Config.{IsNewAnswer};
 ghost use Rattle.lc_c.specs.Answers.{only, done, no_peer, is_done};
-ghost use Rattle.lc_c.specs.Make.{fault_answer, new_side, MakeAnswers, made, version_at};
+ghost use Rattle.lc_c.specs.Make.{fault_answer, new_c_peer, MakeAnswers, made, version_at};
 
 use crate::answer::{
     BAD_CAPACITY, BAD_SLOTS, BAD_VERSION, DONE, HAS_PEER, LcmuxAnswer, NO_PEER, only, refused,
 };
+use crate::c_peer::CPeer;
 use crate::peer::{LcmuxPeer, open};
 use crate::pending::Pending;
-use crate::side::Side;
 use lc_book::Refusal;
 use lc_frame::{CHANNELS, Version};
 use lc_peer::{Config, Intake, Peer, PeerFault};
@@ -54,9 +54,9 @@ fn fault_answer(fault: PeerFault) -> LcmuxAnswer
 }
 
 // A side on which nothing has happened.
-fn new_side(alloc: Global, config: Config) -> Result<Box<Side>, PeerFault>
+fn new_c_peer(alloc: Global, config: Config) -> Result<Box<CPeer>, PeerFault>
     ensures answer { IsNewAnswer config (result_err result) }
-    ensures value { IfOk result (λ side. side.value ≡ new_side config) }
+    ensures value { IfOk result (λ side. side.value ≡ new_c_peer config) }
 {
     let peer = Peer::new(alloc, config)?;
     let Ok(intake) = Intake::new(alloc) else {
@@ -65,7 +65,7 @@ fn new_side(alloc: Global, config: Config) -> Result<Box<Side>, PeerFault>
     let Ok(pending) = Pending::new(alloc, config.version) else {
         return Err(PeerFault::OutOfMemory);
     };
-    let side = Side {
+    let side = CPeer {
         peer,
         intake,
         pending,
@@ -103,7 +103,7 @@ pub extern "C" fn lcmux_peer_new(
         capacities: config.capacities,
         slots: config.slots,
     };
-    match new_side(alloc, bounds) {
+    match new_c_peer(alloc, bounds) {
         Ok(side) => {
             *peer = LcmuxPeer::of(side);
             only(DONE)

@@ -2,8 +2,8 @@
 ghost use Rattle.std.specs.Prelude.{◌≡◌, ◌==◌, not, is_some, Some, None};
 ghost use Rattle.std.specs.Option.{option_map};
 
+use crate::c_peer::CPeer;
 use crate::handle::Slot;
-use crate::side::Side;
 use std::alloc::Global;
 use std::mem;
 
@@ -27,7 +27,7 @@ impl LcmuxPeer {
         }
     }
 
-    pub(crate) fn of(side: Box<Side>) -> LcmuxPeer
+    pub(crate) fn of(side: Box<CPeer>) -> LcmuxPeer
         ensures { result.slot.held ≡ Some side.value }
     {
         LcmuxPeer {
@@ -36,7 +36,7 @@ impl LcmuxPeer {
         }
     }
 
-    pub(crate) fn into_side(self) -> Option<Box<Side>>
+    pub(crate) fn into_side(self) -> Option<Box<CPeer>>
         ensures { option_map (λ side. side.value) result ≡ self.slot.held }
     {
         let LcmuxPeer { mark, slot } = self;
@@ -48,7 +48,7 @@ impl LcmuxPeer {
 }
 
 /// What stands behind a handle, which is empty then.
-pub(crate) fn open(handle: &mut LcmuxPeer, alloc: Global) -> Option<Box<Side>>
+pub(crate) fn open(handle: &mut LcmuxPeer, alloc: Global) -> Option<Box<CPeer>>
     ensures value { option_map (λ side. side.value) result ≡ handle.old.slot.held }
     ensures empty { handle.new.slot.held ≡ None }
 {

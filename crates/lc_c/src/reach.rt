@@ -4,8 +4,8 @@ ghost use Rattle.lc_frame.specs.Channel.{channel_at};
 ghost use Rattle.lc_c.specs.Reach.{Reaches};
 
 use crate::answer::{LcmuxAnswer, NO_CHANNEL, NO_PEER, only};
+use crate::c_peer::CPeer;
 use crate::peer::{LcmuxPeer, open};
-use crate::side::Side;
 use lc_frame::Channel;
 use std::alloc::Global;
 
@@ -14,7 +14,7 @@ use std::alloc::Global;
 #[derive(Drop)]
 pub(crate) enum Target {
     Barred(LcmuxAnswer),
-    At(Box<Side>, Channel),
+    At(Box<CPeer>, Channel),
 }
 
 // The channel of a number.

@@ -2,10 +2,10 @@
 ghost use Rattle.std.specs.Prelude.{◌≡◌, ◌<◌, ◌≤◌, ◌++◌, [], min, length, take, drop};
 ghost use Rattle.lc_c.specs.Streams.{text, Begins, GivesOut};
 
-use crate::side::Side;
+use crate::c_peer::CPeer;
 
 // Where nothing is left of a frame or of the greeting, the next frame is begun.
-fn begin_next(side: &mut Side)
+fn begin_next(side: &mut CPeer)
     ensures { Begins side.old side.new }
 {
     if side.pending.len() > 0 {
@@ -20,7 +20,7 @@ fn begin_next(side: &mut Side)
 
 // What is left of the greeting or of the frame that was begun, or the next frame, as far as there
 // is room.
-fn give_next(side: &mut Side, out: &mut [u8]) -> usize
+fn give_next(side: &mut CPeer, out: &mut [u8]) -> usize
     requires { 0 < length out.old }
     ensures count { result ≤ length out.old }
     ensures written { out.new ≡ take result (text side.old) ++ drop result out.old }
@@ -32,7 +32,7 @@ fn give_next(side: &mut Side, out: &mut [u8]) -> usize
 }
 
 /// As many of the bytes that are to go out as there is room for.
-pub(crate) fn give(side: &mut Side, out: &mut [u8]) -> usize
+pub(crate) fn give(side: &mut CPeer, out: &mut [u8]) -> usize
     ensures count { result ≡ min (length (text side.old)) (length out.old) }
     ensures written { out.new ≡ take result (text side.old) ++ drop result out.old }
     ensures gives { GivesOut result side.old side.new }
@@ -50,7 +50,7 @@ pub(crate) fn give(side: &mut Side, out: &mut [u8]) -> usize
 }
 
 /// How many bytes are to go out.
-pub(crate) fn count(side: &Side) -> usize
+pub(crate) fn count(side: &CPeer) -> usize
     ensures { result ≡ length (text side.now) }
 {
     let version = side.peer.version();

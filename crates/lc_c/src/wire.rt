@@ -3,8 +3,8 @@ ghost use Rattle.std.specs.Prelude.{◌≡◌};
 ghost use Rattle.lc_c.specs.Streams.{stop_code, shown, DeliversAt, DeliversBehind, WritesBehind, pending_answer, EndsBehind};
 
 use crate::answer::{DONE, LcmuxAnswer, NO_PEER, only};
+use crate::c_peer::CPeer;
 use crate::peer::{LcmuxPeer, open};
-use crate::side::Side;
 use crate::streams::{count, give};
 use lc_peer::{Delivery, Stop};
 use std::alloc::Global;
@@ -41,7 +41,7 @@ fn shown(delivery: Delivery) -> LcmuxDelivery
 }
 
 // A piece of the stream is delivered, unless the stream was given up.
-fn deliver(side: &mut Side, piece: &[u8]) -> Delivery
+fn deliver(side: &mut CPeer, piece: &[u8]) -> Delivery
     ensures { DeliversAt side.old.intake.stop piece.now side.old side.new result }
 {
     side.intake.deliver(&mut side.peer, &(), piece)

@@ -14,3 +14,4 @@ mod words;
 pub use command::{Command, chart, run};
 pub use fault::ChartFault;
 pub use session::MAX_EVENTS;
+pub use words::Told;

@@ -63,9 +63,9 @@ impl Display for Happened<'_> {
     }
 }
 
-/// What was answered.
+/// What a picture says of an answer.
 #[derive(Clone, Copy)]
-pub(crate) struct Told<'a>(pub &'a Answer);
+pub struct Told<'a>(pub &'a Answer);
 
 impl Display for Told<'_> {
     fn fmt<W: fmt::Write>(&self, f: &mut fmt::Formatter<W>) -> fmt::Result {

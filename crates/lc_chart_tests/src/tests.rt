@@ -5,6 +5,7 @@ mod faults;
 mod layout;
 mod same_pictures;
 mod same_shapes;
+mod told;
 
 use lc_chart::run;
 use std::alloc::Global;

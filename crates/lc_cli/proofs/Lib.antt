@@ -1,5 +1,7 @@
 mod Decimal
 mod Digits
 mod LastDigits
+mod Listings
 mod Open
+mod Scripts
 mod Written

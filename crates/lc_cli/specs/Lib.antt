@@ -1,3 +1,7 @@
 pub mod Fault
+pub mod Fields
 pub mod Input
 pub mod Lines
+pub mod Listed
+pub mod Replayed
+pub mod Script

@@ -4,7 +4,7 @@ use Rattle.std.proofs.lemmas.Bool.Decides.{nat_tests}
 use Rattle.std.specs.Io.KnownBytes.{IsAtEnd}
 use Rattle.std.specs.declared.io.Error.{Error}
 use Rattle.std.specs.declared.io.ErrorKind.{ErrorKind}
-use Rattle.lc_frame.specs.Held.{Held}
+use Rattle.lc_frame.specs.Stored.{Stored}
 use Rattle.lc_driver.specs.declared.counts.Counts.{Counts}
 use Rattle.lc_driver.specs.declared.reading.ReadEnd.{ReadEnd}
 use Rattle.lc_driver.specs.declared.reading.ReadEnd.TheVariants.{Clean, Truncated, Fault, Violated, ReadFailed, TurnsSpent}
@@ -76,7 +76,7 @@ pub calls_count_on : (old now new : Counts) (n asked k : ℕ) → now.calls ≡ 
 calls_count_on old now new n asked k so_many call = ap (λ (c : Counts). c.calls) call ∙ ap count_up so_many ∙ one_more_on k old.calls
 
 -- a read that gave nothing: the input ended
-pub counts_end : (end : ReadEnd) (held : Held) (old new : Counts) → EndsHere end held → new ≡ record old { calls = new.calls; ends = count_up old.ends } → CountsReads end old new
+pub counts_end : (end : ReadEnd) (held : Stored) (old new : Counts) → EndsHere end held → new ≡ record old { calls = new.calls; ends = count_up old.ends } → CountsReads end old new
 counts_end Clean held old new e counts = counts
 counts_end Truncated held old new e counts = counts
 counts_end (Fault fault) held old new e counts = absurd e
@@ -84,7 +84,7 @@ counts_end (Violated violation) held old new e counts = absurd e
 counts_end ReadFailed held old new e counts = absurd e
 counts_end TurnsSpent held old new e counts = absurd e
 
-pub ends_input : (end : ReadEnd) (held : Held) (remaining : Option (List ℕ)) → EndsHere end held → IsAtEnd remaining → EndsInput end remaining
+pub ends_input : (end : ReadEnd) (held : Stored) (remaining : Option (List ℕ)) → EndsHere end held → IsAtEnd remaining → EndsInput end remaining
 ends_input Clean held remaining e at = at
 ends_input Truncated held remaining e at = at
 ends_input (Fault fault) held remaining e at = absurd e

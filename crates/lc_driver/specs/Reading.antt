@@ -3,7 +3,7 @@ use Rattle.std.specs.Prelude.{◌≡◌, ℕ, ◌*◌, ◌<◌, ◌≤◌, List,
 use Rattle.std.specs.Io.KnownBytes.{Consumes, Keeps, ReadConsumes, IsAtEnd}
 use Rattle.std.specs.declared.io.Error.{Error}
 use Rattle.lc_frame.specs.declared.frame.Frame.{Frame}
-use Rattle.lc_frame.specs.Held.{Held, fed, HasFault, IsUndecided}
+use Rattle.lc_frame.specs.Stored.{Stored, fed, HasFault, IsUndecided}
 use Rattle.lc_frame.specs.StreamDecoder.{IsPart}
 use Rattle.lc_frame.specs.Splits.{frames_of, rest_of}
 use Rattle.lc_book.specs.declared.fault.Violation.{Violation}
@@ -40,19 +40,19 @@ stop_of (Violated violation) = Some (stops.Violated violation)
 stop_of end = None
 
 -- what it means that the input ends where this is held and the stream was not given up
-abbrev pub EndsHere : ReadEnd → Held → Type 0
+abbrev pub EndsHere : ReadEnd → Stored → Type 0
 EndsHere Clean held = held.bytes ≡ []
 EndsHere Truncated held = IsPart held
 EndsHere end held = ⊥
 
 -- every frame arrived, and the rest, which may be part of one, is held
-pub record GoesOn (came : Arrival) (rest held : Held) : Type 0 where
+pub record GoesOn (came : Arrival) (rest held : Stored) : Type 0 where
   pub lawful : came.violation ≡ None
   pub all : held ≡ rest
   pub undecided : IsUndecided held
 
 -- why a call of so many reads at most ended, which read so many bytes: what came of the frames, and what follows them
-abbrev pub EndsBy : ReadEnd → Arrival → Held → Held → ℕ → ℕ → Type 0
+abbrev pub EndsBy : ReadEnd → Arrival → Stored → Stored → ℕ → ℕ → Type 0
 EndsBy Clean came rest held read max_reads = GoesOn came rest held × (rest.bytes ≡ [])
 EndsBy Truncated came rest held read max_reads = GoesOn came rest held × IsPart rest
 EndsBy (Fault fault) came rest held read max_reads = (came.violation ≡ None) × HasFault fault rest
@@ -61,7 +61,7 @@ EndsBy ReadFailed came rest held read max_reads = GoesOn came rest held
 EndsBy TurnsSpent came rest held read max_reads = GoesOn came rest held × (max_reads ≤ read)
 
 -- the frames of what was held and of what was read arrive, in order, up to the first fault or violation, however the reads were cut
-pub record Reads (before after : Option (List ℕ)) (held : Held) (old : PeerState) (intake : IntakeState) (new : PeerState) (max_reads : ℕ) (end : ReadEnd) : Type 0 where
+pub record Reads (before after : Option (List ℕ)) (held : Stored) (old : PeerState) (intake : IntakeState) (new : PeerState) (max_reads : ℕ) (end : ReadEnd) : Type 0 where
   pub read : List ℕ
   pub consumed : Consumes before after read
   pub few : length read ≤ max_read * max_reads
@@ -72,12 +72,12 @@ pub record Reads (before after : Option (List ℕ)) (held : Held) (old : PeerSta
   pub kept : intake.stop ≡ stop_of end
 
 -- the rest, which may be part of a frame, is held
-pub record HoldsRest (rest held : Held) : Type 0 where
+pub record HoldsRest (rest held : Stored) : Type 0 where
   pub all : held ≡ rest
   pub undecided : IsUndecided held
 
 -- why a call of so many reads at most ended, which read so many bytes, by what follows the frames. After a violation what came of the frames says it
-abbrev pub EndsAt : ReadEnd → Held → Held → ℕ → ℕ → Type 0
+abbrev pub EndsAt : ReadEnd → Stored → Stored → ℕ → ℕ → Type 0
 EndsAt Clean rest held read max_reads = HoldsRest rest held × (rest.bytes ≡ [])
 EndsAt Truncated rest held read max_reads = HoldsRest rest held × IsPart rest
 EndsAt (Fault fault) rest held read max_reads = HasFault fault rest
@@ -86,7 +86,7 @@ EndsAt ReadFailed rest held read max_reads = HoldsRest rest held
 EndsAt TurnsSpent rest held read max_reads = HoldsRest rest held × (max_reads ≤ read)
 
 -- the same of any sink: the frames of what was held and of what was read arrive at it, in order, up to the first fault or violation
-pub record ReadsInto {T : Type 0} (arrives : T → Frame → T → Type 0) (violates : Violation → T → Frame → T → Type 0) (before after : Option (List ℕ)) (held : Held) (old : T) (intake : IntakeState) (new : T) (max_reads : ℕ) (end : ReadEnd) : Type 0 where
+pub record ReadsInto {T : Type 0} (arrives : T → Frame → T → Type 0) (violates : Violation → T → Frame → T → Type 0) (before after : Option (List ℕ)) (held : Stored) (old : T) (intake : IntakeState) (new : T) (max_reads : ℕ) (end : ReadEnd) : Type 0 where
   pub read : List ℕ
   pub consumed : Consumes before after read
   pub few : length read ≤ max_read * max_reads

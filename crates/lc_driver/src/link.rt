@@ -2,7 +2,7 @@
 ghost use Rattle.std.specs.Prelude.{◌≡◌, ◌+◌, ◌≤◌, ◌↔◌, [], length, false, None, IfOk, OnOk, IfSome};
 ghost use Rattle.std.specs.Result.{result_err};
 ghost use Rattle.lc_frame.specs.Kind.{max_frame};
-ghost use Rattle.lc_frame.specs.Held.{nothing_held};
+ghost use Rattle.lc_frame.specs.Stored.{nothing_stored};
 ghost use Rattle.lc_peer.specs.Config.{IsNewAnswer, new_peer};
 ghost use Rattle.lc_driver.specs.Outgo.{new_outgo};
 ghost use Rattle.lc_driver.specs.Writing.{Writes, CountsWrites, written_in};
@@ -43,7 +43,7 @@ impl Link {
         ensures answer { IsNewAnswer config (result_err result) }
         ensures peer { IfOk result (λ link. link.peer ≡ new_peer config) }
         ensures outgo { IfOk result (λ link. link.outgo ≡ new_outgo config.version) }
-        ensures intake { IfOk result (λ link. link.intake ≡ record { held = nothing_held; stop = None }) }
+        ensures intake { IfOk result (λ link. link.intake ≡ record { held = nothing_stored; stop = None }) }
     {
         let peer = Peer::new(alloc, config)?;
         let Ok(outgo) = Outgo::new(alloc, config.version) else {

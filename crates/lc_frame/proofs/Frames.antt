@@ -16,7 +16,7 @@ use Rattle.lc_frame.specs.Kind.{has, width_of, width_len, is_in_range, fault_of,
 use Rattle.lc_frame.specs.Frame.{IsValid}
 use Rattle.lc_frame.specs.Encoding.{encoding, FrameStands}
 use Rattle.lc_frame.specs.Scan.{frame_in, number_in, scan_body, scan_number, scan_tag, scan_of, Finds}
-use Rattle.lc_frame.specs.Held.{Held, IsValidIn, encoding_in, before}
+use Rattle.lc_frame.specs.Stored.{Stored, IsValidIn, encoding_in, before}
 use Rattle.lc_frame.specs.Splits.{Splits, first_frame, split_in, split_as, frames_of, rest_of}
 use Rattle.lc_frame.proofs.Bytes.{IsBytes, IsBytes-drop}
 use Rattle.lc_frame.proofs.Fronts.{length-encoding, stands_whole, frame_again, finds_of, nothing_yet}
@@ -116,7 +116,7 @@ computed_as : (version : Option Version) (bytes : List ℕ) → IsBytes bytes �
 computed_as None bytes fits = record { whole = refl; each = tt; partial = λ f s. s }
 computed_as (Some v) bytes fits = splits_in v (length bytes) bytes fits (omega arith)
 
-pub computed_split : (h : Held) → IsBytes h.bytes → Splits h.version h.bytes (frames_of h) (rest_of h).bytes
+pub computed_split : (h : Stored) → IsBytes h.bytes → Splits h.version h.bytes (frames_of h) (rest_of h).bytes
 computed_split h fits = computed_as h.version h.bytes fits
 
 -- ---- the bytes of frames, and more behind them
@@ -147,7 +147,7 @@ joined_as (Some v) (f ∷ fs) more each =
     ∙ first_split v f (flat_map (encoding v) fs ++ more) each.0
     ∙ ap (λ (p : List Frame × List ℕ). (f ∷ p.0, p.1)) (joined_as (Some v) fs more each.1)
 
-pub joined_law : (fs : List Frame) (h : Held) → AllByRecursion (IsValidIn h.version) fs → (frames_of (before fs h) ≡ fs ++ frames_of h) × (rest_of (before fs h) ≡ rest_of h)
+pub joined_law : (fs : List Frame) (h : Stored) → AllByRecursion (IsValidIn h.version) fs → (frames_of (before fs h) ≡ fs ++ frames_of h) × (rest_of (before fs h) ≡ rest_of h)
 joined_law fs h each =
     let joined = joined_as h.version fs h.bytes each in
     (ap (λ (p : List Frame × List ℕ). p.0) joined, ap (λ (p : List Frame × List ℕ). record { version = h.version; bytes = p.1 }) joined)

@@ -27,11 +27,11 @@ use Rattle.lc_frame.proofs.Tags.{kind_again, channel_again, tag_from}
 
 -- ---- headers
 
-length-header : (v : Version) (k : Kind) (c : Channel) (n : ℕ) → length (header v k c n) ≡ header_len v k
+pub length-header : (v : Version) (k : Kind) (c : Channel) (n : ℕ) → length (header v k c n) ≡ header_len v k
 length-header v k c n = omega (arith, (wide_of v k).len n)
 
 -- a header in front is read as its kind, channel and number
-scan_header : (v : Version) (k : Kind) (c : Channel) (n : ℕ) (rest : List ℕ) → has v k ≡ true → n < 256 ^ width_len (width_of v k)
+pub scan_header : (v : Version) (k : Kind) (c : Channel) (n : ℕ) (rest : List ℕ) → has v k ≡ true → n < 256 ^ width_len (width_of v k)
     → scan_of v (header v k c n ++ rest) ≡ cond (is_in_range v k n) (scan_body v k c n rest) (Fault (fault_of k n))
 unfolding scan_of scan_tag scan_number
 scan_header v k c n rest known fits =
@@ -42,10 +42,10 @@ scan_header v k c n rest known fits =
 
 -- ---- numbers in range
 
-range_test : (v : Version) (k : Kind) (n : ℕ) → IsInRange v k n → is_in_range v k n ≡ true
+pub range_test : (v : Version) (k : Kind) (n : ℕ) → IsInRange v k n → is_in_range v k n ≡ true
 range_test v k n r = grind (arith, nat_tests)
 
-range_from : (v : Version) (k : Kind) (n : ℕ) → is_in_range v k n ≡ true → IsInRange v k n
+pub range_from : (v : Version) (k : Kind) (n : ℕ) → is_in_range v k n ≡ true → IsInRange v k n
 range_from v k n e = (grind (arith, nat_tests), grind (arith, nat_tests))
 
 out_test : (v : Version) (k : Kind) (n : ℕ) → ¬ IsInRange v k n → is_in_range v k n ≡ false
@@ -97,7 +97,7 @@ header_small Two kinds.Finish = omega arith
 
 -- ---- what stands is what is read
 
-ranged : (v : Version) (k : Kind) (c : Channel) (n : ℕ) (rest : List ℕ) → has v k ≡ true → IsInRange v k n → scan_of v (header v k c n ++ rest) ≡ scan_body v k c n rest
+pub ranged : (v : Version) (k : Kind) (c : Channel) (n : ℕ) (rest : List ℕ) → has v k ≡ true → IsInRange v k n → scan_of v (header v k c n ++ rest) ≡ scan_body v k c n rest
 ranged v k c n rest known r = scan_header v k c n rest known (fits_of v k n r) ∙ rw (range_test v k n r) refl
 
 abbrev pub head_of : Frame → Head
@@ -107,7 +107,7 @@ long_body : (v : Version) (k : Kind) (c : Channel) (n : ℕ) (rest : List ℕ) �
 unfolding scan_body
 long_body v k c n rest long = let t : ltb (length rest) (body_len k n) ≡ false = le-ltb _ _ long in rw t refl
 
-short_body : (v : Version) (k : Kind) (c : Channel) (n : ℕ) (rest : List ℕ) → length rest < body_len k n → scan_body v k c n rest ≡ Needs (header_len v k + body_len k n)
+pub short_body : (v : Version) (k : Kind) (c : Channel) (n : ℕ) (rest : List ℕ) → length rest < body_len k n → scan_body v k c n rest ≡ Needs (header_len v k + body_len k n)
 unfolding scan_body
 short_body v k c n rest few = let t : ltb (length rest) (body_len k n) ≡ true = lt-ltb _ _ few in rw t refl
 
@@ -217,7 +217,7 @@ only_frame v f bytes s = record { stands = s; same = λ g t. one_frame v g f byt
 pub only_fault : (v : Version) (e : FrameFault) (bytes : List ℕ) → FaultStands v e bytes → OnlyFault v e bytes
 only_fault v e bytes s = record { stands = s; same = λ d t. one_fault v d e bytes t s; no_frame = λ f t. frame_no_fault v f e bytes t s }
 
-needs_open : (v : Version) (bytes : List ℕ) (n : ℕ) → scan_of v bytes ≡ Needs n → IsOpen v bytes
+pub needs_open : (v : Version) (bytes : List ℕ) (n : ℕ) → scan_of v bytes ≡ Needs n → IsOpen v bytes
 needs_open v bytes n e = record {
   no_frame = λ f s. let both = sym (stands_whole v f bytes s) ∙ e in absurd cc;
   no_fault = λ d s. let both = sym (stands_fault v d bytes s) ∙ e in absurd cc;
@@ -236,7 +236,7 @@ needs_more v bytes n short small more = record {
 }
 
 -- what is left of a number's bytes is read as the number
-header_back : (v : Version) (k : Kind) (c : Channel) (rest : List ℕ) → IsBytes rest → width_len (width_of v k) ≤ length rest
+pub header_back : (v : Version) (k : Kind) (c : Channel) (rest : List ℕ) → IsBytes rest → width_len (width_of v k) ≤ length rest
     → tag_of k c ∷ rest ≡ header v k c (number_in (width_of v k) (take (width_len (width_of v k)) rest)) ++ drop (width_len (width_of v k)) rest
 header_back v k c rest fits long =
     let w = width_len (width_of v k) in
@@ -262,7 +262,7 @@ with_encoding v kinds.LimitSending c n body e = ap (λ (x : List ℕ). header v 
 with_encoding v kinds.LimitReceiving c n body e = ap (λ (x : List ℕ). header v kinds.LimitReceiving c n ++ x) (nil_from_length body e)
 with_encoding v kinds.Finish c n body e = ap (λ (x : List ℕ). header v kinds.Finish c n ++ x) (nil_from_length body e)
 
-body_found : (v : Version) (k : Kind) (c : Channel) (n : ℕ) (rest bytes : List ℕ) → has v k ≡ true → IsInRange v k n → bytes ≡ header v k c n ++ rest → body_len k n ≤ length rest
+pub body_found : (v : Version) (k : Kind) (c : Channel) (n : ℕ) (rest bytes : List ℕ) → has v k ≡ true → IsInRange v k n → bytes ≡ header v k c n ++ rest → body_len k n ≤ length rest
     → FindsFrame v (record { kind = k; channel = c; number = n }) (header_len v k + body_len k n) bytes
 body_found v k c n rest bytes known r e long =
     let h : Head = record { kind = k; channel = c; number = n } in
@@ -301,7 +301,7 @@ finds_body v k c n rest bytes known r e =
     ]
 
 -- a number out of range is a fault
-number_fault : (v : Version) (k : Kind) (n : ℕ) (bytes : List ℕ) → NumberStands v (fault_of k n) bytes → FaultStands v (fault_of k n) bytes
+pub number_fault : (v : Version) (k : Kind) (n : ℕ) (bytes : List ℕ) → NumberStands v (fault_of k n) bytes → FaultStands v (fault_of k n) bytes
 number_fault v kinds.Send zero bytes s = s
 number_fault v kinds.Send (suc n) bytes s = s
 number_fault v kinds.Issue n bytes s = s
@@ -358,7 +358,7 @@ some_is : {X : Type 0} {x y : X} → Some x ≡ Some y → x ≡ y
 some_is e = cc
 
 -- behind a tag of the version, or of the other one
-finds_known : (v : Version) (first : ℕ) (k : Kind) (c : Channel) (rest : List ℕ) → IsBytes rest → kind_at (first / 16) ≡ Some k → channel_at (first % 16) ≡ Some c → (known : Bool) → has v k ≡ known
+pub finds_known : (v : Version) (first : ℕ) (k : Kind) (c : Channel) (rest : List ℕ) → IsBytes rest → kind_at (first / 16) ≡ Some k → channel_at (first % 16) ≡ Some c → (known : Bool) → has v k ≡ known
     → Finds v (cond known (scan_number v k c rest) (Fault BadTag)) (first ∷ rest)
 finds_known v first k c rest fits ek ec true known = finds_number v k c rest (first ∷ rest) known fits (ap (λ (b : ℕ). b ∷ rest) (tag_from first k c ek ec)) _ refl
 finds_known v first k c rest fits ek ec false alien =
@@ -371,7 +371,7 @@ finds_known v first k c rest fits ek ec false alien =
           absurd (true≢false (sym known ∙ ap (has v) (sym same) ∙ alien));
     })
 
-finds_tag : (v : Version) (first : ℕ) (rest : List ℕ) (k : Option Kind) (c : Option Channel) → IsBytes rest → kind_at (first / 16) ≡ k → channel_at (first % 16) ≡ c → Finds v (scan_tag v k c rest) (first ∷ rest)
+pub finds_tag : (v : Version) (first : ℕ) (rest : List ℕ) (k : Option Kind) (c : Option Channel) → IsBytes rest → kind_at (first / 16) ≡ k → channel_at (first % 16) ≡ c → Finds v (scan_tag v k c rest) (first ∷ rest)
 unfolding scan_tag
 finds_tag v first rest None c fits ek ec = only_fault v BadTag (first ∷ rest) (record { first = first; rest = rest; is = refl; no_tag = λ k' c' known e. absurd (none_some (sym ek ∙ ap (λ (b : ℕ). kind_at (b / 16)) e ∙ kind_again k' c')) })
 finds_tag v first rest (Some k) None fits ek ec = only_fault v BadTag (first ∷ rest) (record { first = first; rest = rest; is = refl; no_tag = λ k' c' known e. absurd (none_some (sym ec ∙ ap (λ (b : ℕ). channel_at (b % 16)) e ∙ channel_again k' c')) })

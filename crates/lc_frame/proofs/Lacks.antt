@@ -7,7 +7,7 @@ use Rattle.lc_frame.specs.declared.scan.Scan.TheVariants as scans
 use Rattle.lc_frame.specs.declared.progress.Progress.{Progress}
 use Rattle.lc_frame.specs.declared.progress.Progress.TheVariants.{Wants, Whole, Fault, Greeted, Broken}
 use Rattle.lc_frame.specs.Scan.{scan_of}
-use Rattle.lc_frame.specs.Held.{Held}
+use Rattle.lc_frame.specs.Stored.{Stored}
 use Rattle.lc_frame.specs.Fill.{fill_len, LacksMore}
 use Rattle.lc_frame.specs.Progress.{Remembers, known_version}
 use Rattle.lc_frame.proofs.Fronts.{headed_again, stands_whole, stands_fault}
@@ -35,6 +35,6 @@ few_missing v Greeted inside k few = λ l. let none = l.known in cc
 few_missing v Broken inside k few = λ l. let none = l.known in cc
 
 -- a frame lacks no more than is asked for at once, where so few bytes make more known
-pub lacks_few : (v : Version) (progress : Progress) (inside : List ℕ) (held : Held) → Remembers v progress inside → record { version = known_version v progress; bytes = inside } ≡ held
+pub lacks_few : (v : Version) (progress : Progress) (inside : List ℕ) (held : Stored) → Remembers v progress inside → record { version = known_version v progress; bytes = inside } ≡ held
     → ((n : ℕ) → progress ≡ Wants n → n ≤ length inside + fill_len) → ¬ LacksMore held
-lacks_few v progress inside held knows view_is few = subst (λ (h : Held). ¬ LacksMore h) view_is (few_missing v progress inside knows few)
+lacks_few v progress inside held knows view_is few = subst (λ (h : Stored). ¬ LacksMore h) view_is (few_missing v progress inside knows few)

@@ -16,9 +16,9 @@ use Rattle.lc_frame.specs.declared.greeting.Opening.TheVariants as openings
 use Rattle.lc_frame.specs.Version.{greeting, begins, version_of, IsGreetingPart, GreetingBreaks}
 use Rattle.lc_frame.specs.Decoded.{IsOpen, IsKnown}
 use Rattle.lc_frame.specs.Scan.{frame_in, NeedsMore}
-use Rattle.lc_frame.specs.Held.{Held, held_in, opened, HasFrame, HasFault, IsUndecided, IsDecided, IsSettled}
+use Rattle.lc_frame.specs.Stored.{Stored, stored_in, opened, HasFrame, HasFault, IsUndecided, IsDecided, IsSettled}
 use Rattle.lc_frame.specs.Progress.{Holds, Remembers, known_version, Takes, TakesPart, OpensAs, Opens, IsDue}
-use Rattle.lc_frame.proofs.Held.{told, begins_long, front_is, settled_none, part_none, front_of_part, opened_is, part_undecided, part_opened, greeted_told}
+use Rattle.lc_frame.proofs.Stored.{told, begins_long, front_is, settled_none, part_none, front_of_part, opened_is, part_undecided, part_opened, greeted_told}
 
 -- ---- in a version
 
@@ -36,14 +36,14 @@ remembers_of v (Fault fault) bytes h = h
 remembers_of v Greeted bytes h = absurd h
 remembers_of v Broken bytes h = absurd h
 
-pub undecided_of : (v : Version) (bytes : List ℕ) → IsOpen v bytes → IsUndecided (held_in v bytes)
+pub undecided_of : (v : Version) (bytes : List ℕ) → IsOpen v bytes → IsUndecided (stored_in v bytes)
 undecided_of v bytes o = record { no_frame = o.no_frame; no_fault = o.no_fault }
 
-held_of : (v : Version) (progress : Progress) (bytes : List ℕ) → Holds v progress bytes → record { version = known_version v progress; bytes = bytes } ≡ held_in v bytes
-held_of v progress bytes h = ap (λ (o : Option Version). record { version = o; bytes = bytes }) (known_of v progress bytes h)
+stored_of : (v : Version) (progress : Progress) (bytes : List ℕ) → Holds v progress bytes → record { version = known_version v progress; bytes = bytes } ≡ stored_in v bytes
+stored_of v progress bytes h = ap (λ (o : Option Version). record { version = o; bytes = bytes }) (known_of v progress bytes h)
 
 decided_of : (v : Version) (progress : Progress) (bytes : List ℕ) → Holds v progress bytes → IsKnown v bytes → IsDecided (record { version = known_version v progress; bytes = bytes })
-decided_of v progress bytes h known = subst IsDecided (sym (held_of v progress bytes h)) known
+decided_of v progress bytes h known = subst IsDecided (sym (stored_of v progress bytes h)) known
 
 -- ---- of version One
 
@@ -73,7 +73,7 @@ one_some [] e = absurd (none_one e)
     none_one e = cc
 one_some (b ∷ piece) e = omega arith
 
-one_opened : (piece : List ℕ) (k : ℕ) → version_of piece ≡ Some One → 0 < k → opened (take k piece) ≡ held_in One (take k piece)
+one_opened : (piece : List ℕ) (k : ℕ) → version_of piece ≡ Some One → 0 < k → opened (take k piece) ≡ stored_in One (take k piece)
 one_opened piece k e some = opened_is (Some One) (take k piece) (one_told piece k e some)
 
 pub nothing_is_part : IsGreetingPart []
@@ -97,7 +97,7 @@ opens_one old start new piece taken progress wanted o t =
     record {
       feeds = record {
         count = at.count;
-        held = held_of One progress new at.knows ∙ ap (held_in One) at.held ∙ sym (one_opened piece taken o.2 some);
+        held = stored_of One progress new at.knows ∙ ap (stored_in One) at.held ∙ sym (one_opened piece taken o.2 some);
         shortest = λ k lt. one_open piece k o.2 (at.shortest k lt);
         stop = λ lt. decided_of One progress new at.knows (at.stop lt);
       };
@@ -140,7 +140,7 @@ opens_broken old new piece taken o = record {
 
 pub opens_whole : (old start new piece : List ℕ) (taken count : ℕ) (progress : Progress) → OpensAs (openings.Whole taken) old start piece → Takes Two [] new (drop taken piece) count progress → Opens old new piece Two (taken + count) progress
 opens_whole old start new piece taken count progress o t =
-    let greeted : (k : ℕ) → opened (old ++ take (taken + k) piece) ≡ held_in Two (take k (drop taken piece)) = λ k.
+    let greeted : (k : ℕ) → opened (old ++ take (taken + k) piece) ≡ stored_in Two (take k (drop taken piece)) = λ k.
     let text : old ++ take (taken + k) piece ≡ greeting Two ++ take k (drop taken piece) =
     ap (λ (x : List ℕ). old ++ x) (take-add taken k piece) ∙ sym (append_assoc old (take taken piece) (take k (drop taken piece))) ∙ ap (λ (x : List ℕ). x ++ take k (drop taken piece)) (sym o.1.held ∙ o.0) in
     ap opened text ∙ greeted_told (take k (drop taken piece)) in
@@ -148,13 +148,13 @@ opens_whole old start new piece taken count progress o t =
     record {
       feeds = record {
         count = omega (arith, o.1.count, t.count, left);
-        held = held_of Two progress new t.knows ∙ ap (held_in Two) t.held ∙ sym (greeted count);
+        held = stored_of Two progress new t.knows ∙ ap (stored_in Two) t.held ∙ sym (greeted count);
         shortest = λ k lt.
             elim (cases_lt k taken) [
               | inl under ↦ part_opened (old ++ take k piece) (o.1.shortest k under)
               | inr past ↦
                   let j : ℕ = k - taken in
-                  let at : opened (old ++ take k piece) ≡ held_in Two (take j (drop taken piece)) = ap (λ (m : ℕ). opened (old ++ take m piece)) (omega arith) ∙ greeted j in
+                  let at : opened (old ++ take k piece) ≡ stored_in Two (take j (drop taken piece)) = ap (λ (m : ℕ). opened (old ++ take m piece)) (omega arith) ∙ greeted j in
                   subst IsUndecided (sym at) (undecided_of Two (take j (drop taken piece)) (t.shortest j (omega arith)))
             ];
         stop = λ lt. decided_of Two progress new t.knows (t.stop (omega (arith, lt, left, o.1.count)));
@@ -257,7 +257,7 @@ from_cleared old new rest more taken progress none same t = subst (λ (x : List 
 -- ---- what a decoder holds
 
 -- that a decoder is in this state, as its fields and as it is seen
-module _ (v : Version) (progress : Progress) (inside : List ℕ) (held : Held) (knows : Remembers v progress inside) (view_is : record { version = known_version v progress; bytes = inside } ≡ held) where
+module _ (v : Version) (progress : Progress) (inside : List ℕ) (held : Stored) (knows : Remembers v progress inside) (view_is : record { version = known_version v progress; bytes = inside } ≡ held) where
   seen : (p : Progress) → progress ≡ p → record { version = known_version v p; bytes = inside } ≡ held
   seen p e = subst (λ (q : Progress). record { version = known_version v q; bytes = inside } ≡ held) e view_is
 
@@ -271,22 +271,22 @@ module _ (v : Version) (progress : Progress) (inside : List ℕ) (held : Held) (
   greeted_undecided e = subst IsUndecided (seen Greeted e) (part_undecided inside (known Greeted e))
 
   pub whole_stands : (head : Head) → progress ≡ Whole head → HasFrame (frame_in v head inside) held
-  whole_stands head e = subst (λ (h : Held). HasFrame (frame_in v head inside) h) (seen (Whole head) e) (known (Whole head) e).only.stands
+  whole_stands head e = subst (λ (h : Stored). HasFrame (frame_in v head inside) h) (seen (Whole head) e) (known (Whole head) e).only.stands
 
   pub whole_no_fault : (head : Head) → progress ≡ Whole head → (d : FrameFault) → ¬ HasFault d held
-  whole_no_fault head e = subst (λ (h : Held). (d : FrameFault) → ¬ HasFault d h) (seen (Whole head) e) (known (Whole head) e).only.no_fault
+  whole_no_fault head e = subst (λ (h : Stored). (d : FrameFault) → ¬ HasFault d h) (seen (Whole head) e) (known (Whole head) e).only.no_fault
 
   pub fault_stands : (d : FrameFault) → progress ≡ Fault d → HasFault d held
-  fault_stands d e = subst (λ (h : Held). HasFault d h) (seen (Fault d) e) (known (Fault d) e).stands
+  fault_stands d e = subst (λ (h : Stored). HasFault d h) (seen (Fault d) e) (known (Fault d) e).stands
 
   pub fault_no_frame : (d : FrameFault) → progress ≡ Fault d → (f : Frame) → ¬ HasFrame f held
-  fault_no_frame d e = subst (λ (h : Held). (f : Frame) → ¬ HasFrame f h) (seen (Fault d) e) (known (Fault d) e).no_frame
+  fault_no_frame d e = subst (λ (h : Stored). (f : Frame) → ¬ HasFrame f h) (seen (Fault d) e) (known (Fault d) e).no_frame
 
   pub broken_stands : progress ≡ Broken → HasFault BadTag held
-  broken_stands e = subst (λ (h : Held). HasFault BadTag h) (seen Broken e) (refl, known Broken e)
+  broken_stands e = subst (λ (h : Stored). HasFault BadTag h) (seen Broken e) (refl, known Broken e)
 
   pub broken_no_frame : progress ≡ Broken → (f : Frame) → ¬ HasFrame f held
-  broken_no_frame e = subst (λ (h : Held). (f : Frame) → ¬ HasFrame f h) (seen Broken e) (λ f s. s)
+  broken_no_frame e = subst (λ (h : Stored). (f : Frame) → ¬ HasFrame f h) (seen Broken e) (λ f s. s)
 
   pub is_settled : IsSettled held
   is_settled = subst IsSettled view_is (settled_of progress knows)
@@ -300,6 +300,6 @@ module _ (v : Version) (progress : Progress) (inside : List ℕ) (held : Held) (
 
 -- ---- feeds
 
-pub undecided_not : (h : Held) → IsUndecided h → ¬ IsDecided h
+pub undecided_not : (h : Stored) → IsUndecided h → ¬ IsDecided h
 undecided_not h u (inl p) = u.no_frame p.0 p.1
 undecided_not h u (inr p) = u.no_fault p.0 p.1

@@ -10,7 +10,7 @@ use Rattle.lc_frame.specs.Frame.{IsValid}
 use Rattle.lc_frame.specs.declared.frame_fault.FrameFault.{FrameFault}
 use Rattle.lc_frame.specs.Encoding.{encoding, FrameStands, FaultStands}
 use Rattle.lc_frame.specs.Version.{greeting, IsGreetingPart, GreetingBreaks}
-use Rattle.lc_frame.specs.Held.{IsValidIn, encoding_in}
+use Rattle.lc_frame.specs.Stored.{IsValidIn, encoding_in}
 use Rattle.lc_frame.specs.Splits.{Splits, Begins}
 use Rattle.lc_frame.proofs.Fronts.{one_frame, frame_no_fault, fault_goes_on, nothing_yet}
 

@@ -7,14 +7,14 @@ use Rattle.lc_frame.specs.declared.fill.Filled.TheVariants.{Few, Failed, Took}
 use Rattle.lc_frame.specs.Kind.{header_len}
 use Rattle.lc_frame.specs.Frame.{kind_of, IsValid}
 use Rattle.lc_frame.specs.Encoding.{encoding}
-use Rattle.lc_frame.specs.Held.{Held, fed, IsUndecided}
+use Rattle.lc_frame.specs.Stored.{Stored, fed, IsUndecided}
 
 -- how many bytes of a body are asked for at once
 abbrev pub fill_len : ℕ
 fill_len = 512
 
 -- the bytes are the front of a frame, with its tag and its number, and more than so many of its bytes are missing
-pub record LacksMore (h : Held) : Type 0 where
+pub record LacksMore (h : Stored) : Type 0 where
   pub version : Version
   pub known : h.version ≡ Some version
   pub frame : Frame
@@ -38,7 +38,7 @@ pub record FillsFrom {R : Type 0} (fills : R → Option ℕ → List ℕ → R �
   pub grows : Grows answer memory old new
 
 -- so many bytes were given, and are held: still neither a frame nor a fault stands
-pub record TakesFrom {R : Type 0} (fills : R → Option ℕ → List ℕ → R → Type 0) (n : ℕ) (before after : R) (old new : Held) : Type 0 where
+pub record TakesFrom {R : Type 0} (fills : R → Option ℕ → List ℕ → R → Type 0) (n : ℕ) (before after : R) (old new : Stored) : Type 0 where
   pub memory : List ℕ
   pub size : length memory ≡ fill_len
   pub filled : fills before (Some n) memory after
@@ -48,14 +48,14 @@ pub record TakesFrom {R : Type 0} (fills : R → Option ℕ → List ℕ → R �
   pub undecided : IsUndecided new
 
 -- the source failed, and what is held is the same
-pub record FailsFrom {R : Type 0} (fills : R → Option ℕ → List ℕ → R → Type 0) (before after : R) (old new : Held) : Type 0 where
+pub record FailsFrom {R : Type 0} (fills : R → Option ℕ → List ℕ → R → Type 0) (before after : R) (old new : Stored) : Type 0 where
   pub memory : List ℕ
   pub size : length memory ≡ fill_len
   pub filled : fills before None memory after
   pub same : new ≡ old
 
 -- what came of it, by the answer
-abbrev pub FilledAs : {R : Type 0} → (R → Option ℕ → List ℕ → R → Type 0) → Filled → R → R → Held → Held → Type 0
+abbrev pub FilledAs : {R : Type 0} → (R → Option ℕ → List ℕ → R → Type 0) → Filled → R → R → Stored → Stored → Type 0
 FilledAs fills Few before after old new = (new ≡ old) × (after ≡ before)
 FilledAs fills Failed before after old new = FailsFrom fills before after old new
 FilledAs fills (Took n) before after old new = TakesFrom fills n before after old new

@@ -10,9 +10,10 @@ pub mod FrameFault
 pub mod Encoding
 pub mod Decoded
 pub mod Scan
-pub mod Held
+pub mod Stored
 pub mod Splits
 pub mod Progress
 pub mod Fill
+pub mod Begun
 pub mod StreamDecoder
 pub mod StreamEncoder

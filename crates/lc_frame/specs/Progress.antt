@@ -12,7 +12,7 @@ use Rattle.lc_frame.specs.Kind.{header_len, IsInRange}
 use Rattle.lc_frame.specs.Encoding.{encoding}
 use Rattle.lc_frame.specs.Decoded.{IsOpen, IsKnown, OnlyFrame, OnlyFault}
 use Rattle.lc_frame.specs.Scan.{frame_in, NeedsMore}
-use Rattle.lc_frame.specs.Held.{Held, fed, IsUndecided, IsDecided}
+use Rattle.lc_frame.specs.Stored.{Stored, fed, IsUndecided, IsDecided}
 
 -- the bytes are those of the frame with this head
 pub record HoldsFrame (v : Version) (head : Head) (bytes : List ℕ) : Type 0 where
@@ -76,7 +76,7 @@ OpensAs (openings.Whole taken) old new piece = (new ≡ greeting Two) × TakesPa
 OpensAs (openings.Broken taken) old new piece = GreetingBreaks new × TakesPart taken old new piece
 
 -- what is held took so many bytes from the front of a piece: as few as it takes that a frame or a fault stands, and all where none comes to stand
-pub record Feeds (old new : Held) (piece : List ℕ) (taken : ℕ) : Type 0 where
+pub record Feeds (old new : Stored) (piece : List ℕ) (taken : ℕ) : Type 0 where
   pub count : taken ≤ length piece
   pub held : new ≡ fed old (take taken piece)
   pub shortest : (k : ℕ) → k < taken → IsUndecided (fed old (take k piece))

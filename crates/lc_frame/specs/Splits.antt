@@ -8,7 +8,7 @@ use Rattle.lc_frame.specs.declared.frame_fault.FrameFault.{FrameFault}
 use Rattle.lc_frame.specs.declared.scan.Scan.{Scan}
 use Rattle.lc_frame.specs.declared.scan.Scan.TheVariants.{Whole, Fault, Needs}
 use Rattle.lc_frame.specs.Scan.{frame_in, scan_of}
-use Rattle.lc_frame.specs.Held.{Held, IsValidIn, encoding_in, FrameIn, FaultIn}
+use Rattle.lc_frame.specs.Stored.{Stored, IsValidIn, encoding_in, FrameIn, FaultIn}
 
 -- the bytes of these frames, and then a rest at whose front no frame stands
 pub record Splits (version : Option Version) (bytes : List ℕ) (frames : List Frame) (rest : List ℕ) : Type 0 where
@@ -39,9 +39,9 @@ split_as None bytes = ([], bytes)
 split_as (Some v) bytes = split_in v (length bytes) bytes
 
 -- all frames at the front of what is held. This computes, one frame a turn, as a scan finds it; the law frames_are_split says that it is what Splits says
-abbrev pub frames_of : Held → List Frame
+abbrev pub frames_of : Stored → List Frame
 frames_of h = (split_as h.version h.bytes).0
 
 -- what is held behind these frames, computed with them
-abbrev pub rest_of : Held → Held
+abbrev pub rest_of : Stored → Stored
 rest_of h = record { version = h.version; bytes = (split_as h.version h.bytes).1 }

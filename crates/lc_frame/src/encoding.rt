@@ -16,7 +16,7 @@ use crate::version::Version;
 use std::alloc::AllocError;
 
 // A tag and a number of each width.
-const SHORT: usize = 1 + size_of::<u16>();
+pub(crate) const SHORT: usize = 1 + size_of::<u16>();
 
 const WORD: usize = 1 + size_of::<u32>();
 

@@ -21,10 +21,10 @@ pub trait Fill<R> {
 #[must_use]
 #[derive(Clone, Copy, Debug, PartialEq, Eq)]
 pub enum Filled {
-    /// Nothing was done, since too few bytes are missing of what is held.
+    /// Nothing was done, since too few bytes are missing of what is stored.
     Few,
     /// It failed.
     Failed,
-    /// So many bytes were given, and are held.
+    /// So many bytes were given, and are stored.
     Took(usize),
 }

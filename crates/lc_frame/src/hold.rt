@@ -103,7 +103,7 @@ impl Hold {
         self.bytes.clear();
     }
 
-    /// Has the memory behind what is held filled from a source, and holds what that gave. The source
+    /// Has the memory behind what is stored filled from a source, and stores what that gave. The source
     /// finds zeros there: one that says it gave more than it did gives no byte of an earlier frame.
     #[inline(always)]
     pub(crate) fn fill<R, F: Fill<R>>(&mut self, filler: &F, source: &mut R) -> Option<usize>

@@ -9,7 +9,7 @@ ghost use Rattle.lc_frame.specs.Kind.{max_frame};
 ghost use Rattle.lc_frame.specs.Frame.{IsValid};
 ghost use Rattle.lc_frame.specs.Encoding.{encoding};
 ghost use Rattle.lc_frame.specs.Decoded.{StandsAlone};
-ghost use Rattle.lc_frame.specs.Held.{Held, held_in, opened, fed, before, IsValidIn, encoding_in};
+ghost use Rattle.lc_frame.specs.Stored.{Stored, stored_in, opened, fed, before, IsValidIn, encoding_in};
 ghost use Rattle.lc_frame.specs.Splits.{Splits, Begins, frames_of, rest_of};
 
 /// The bytes of no frame begin those of another of its version.
@@ -37,30 +37,30 @@ pub fn one_is_in_two()
 /// A stream tells its version: that of the greeting which it begins with, or One by its first
 /// frame. Behind that the bytes are those of frames.
 pub fn a_stream_tells_its_version()
-    ensures framed { (v : Version) (f : Frame) (more : List ℕ) → IsValid v f → opened (greeting v ++ encoding v f ++ more) ≡ held_in v (encoding v f ++ more) }
-    ensures greeted { (more : List ℕ) → opened (greeting Two ++ more) ≡ held_in Two more }
+    ensures framed { (v : Version) (f : Frame) (more : List ℕ) → IsValid v f → opened (greeting v ++ encoding v f ++ more) ≡ stored_in v (encoding v f ++ more) }
+    ensures greeted { (more : List ℕ) → opened (greeting Two ++ more) ≡ stored_in Two more }
 {}
 
 /// Bytes that come in two pieces come to the same as in one.
 pub fn pieces_add_up()
-    ensures { (h : Held) (first later : List ℕ) → fed (fed h first) later ≡ fed h (first ++ later) }
+    ensures { (h : Stored) (first later : List ℕ) → fed (fed h first) later ≡ fed h (first ++ later) }
 {}
 
-/// What is held is the frames of one list and one rest.
+/// What is stored is the frames of one list and one rest.
 pub fn one_split()
     ensures { (version : Option Version) (fs gs : List Frame) (bytes r s : List ℕ) → Splits version bytes fs r → Splits version bytes gs s → (fs ≡ gs) × (r ≡ s) }
 {}
 
-/// The frames of what is held and its rest are those that are computed.
+/// The frames of what is stored and its rest are those that are computed.
 pub fn frames_are_split()
-    ensures { (h : Held) → All (λ b. b < 256) h.bytes → Splits h.version h.bytes (frames_of h) (rest_of h).bytes }
+    ensures { (h : Stored) → All (λ b. b < 256) h.bytes → Splits h.version h.bytes (frames_of h) (rest_of h).bytes }
 {}
 
 /// Of the bytes of valid frames with more behind them, these frames are the first, and the rest is
 /// that of what is behind them.
 pub fn joined_frames_come_first()
-    ensures frames { (fs : List Frame) (h : Held) → AllByRecursion (IsValidIn h.version) fs → frames_of (before fs h) ≡ fs ++ frames_of h }
-    ensures rest { (fs : List Frame) (h : Held) → AllByRecursion (IsValidIn h.version) fs → rest_of (before fs h) ≡ rest_of h }
+    ensures frames { (fs : List Frame) (h : Stored) → AllByRecursion (IsValidIn h.version) fs → frames_of (before fs h) ≡ fs ++ frames_of h }
+    ensures rest { (fs : List Frame) (h : Stored) → AllByRecursion (IsValidIn h.version) fs → rest_of (before fs h) ≡ rest_of h }
 {}
 
 /// The frames of what begins the bytes of valid frames are the first of these, and no fault stands

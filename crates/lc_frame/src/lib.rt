@@ -2,6 +2,7 @@
 //! bytes, and what a list of frames adds up to on one channel.
 #![tactic(auto)]
 
+mod begun;
 mod body;
 mod bounds;
 mod buffer_too_small;
@@ -24,6 +25,7 @@ mod stream_decoder;
 mod stream_encoder;
 mod version;
 
+pub use begun::{BegunSend, begun_send};
 pub use body::Body;
 pub use bounds::{MAX_SLOTS, is_capacity, is_slots};
 pub use buffer_too_small::BufferTooSmall;

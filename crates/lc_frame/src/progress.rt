@@ -9,7 +9,7 @@ use crate::hold::Hold;
 use crate::scan::{Scan, scan_front};
 use crate::version::Version;
 
-/// What the last scan said of the bytes held.
+/// What the last scan said of the bytes stored.
 #[derive(Clone, Copy, Debug)]
 pub(crate) enum Progress {
     /// Part of a frame, or nothing: how many bytes there have to be before more is known.
@@ -57,7 +57,7 @@ fn advance(version: Version, buffer: &mut Hold, need: usize, piece: &[u8]) -> St
     Step { taken, progress }
 }
 
-/// Takes bytes where part of a frame may be held, up to where a frame or a fault stands. Answers how
+/// Takes bytes where part of a frame may be stored, up to where a frame or a fault stands. Answers how
 /// many, and puts what is known then into `progress`, as the others here do: in a result it would be
 /// copied on its way to the decoder.
 pub(crate) fn resume(
@@ -93,7 +93,7 @@ pub(crate) fn resume(
     }
 }
 
-// Takes bytes where none are held: of a frame that lies whole in the piece all at once.
+// Takes bytes where none are stored: of a frame that lies whole in the piece all at once.
 #[inline(always)]
 #[tactic(auto, using(crate::proofs::Fronts::frame_fits))]
 fn begin(
@@ -122,7 +122,7 @@ fn begin(
     }
 }
 
-// Takes a few bytes where few are held: all are copied and scanned at once, and those behind a frame
+// Takes a few bytes where few are stored: all are copied and scanned at once, and those behind a frame
 // dropped again.
 #[inline(always)]
 #[tactic(auto, using(crate::proofs::Fronts::frame_fits))]

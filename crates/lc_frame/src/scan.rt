@@ -23,9 +23,9 @@ pub(crate) enum Scan {
     Needs(usize),
 }
 
-// The number of a kind that the bytes are, 0 where it has none.
+/// The number of a kind that the bytes are, 0 where it has none.
 #[inline]
-fn number_at(version: Version, kind: Kind, bytes: &[u8]) -> u64
+pub(crate) fn number_at(version: Version, kind: Kind, bytes: &[u8]) -> u64
     requires { length bytes.now ≡ width_len (width_of version kind) }
     ensures { result ≡ number_in (width_of version kind) bytes.now }
 {
@@ -84,9 +84,9 @@ fn scan_number(version: Version, kind: Kind, channel: Channel, bytes: &[u8]) -> 
     scan_body(version, kind, channel, number, rest)
 }
 
-// The channel of a Send with this tag.
+/// The channel of a Send with this tag.
 #[inline]
-fn send_channel(tag: u8) -> Option<Channel>
+pub(crate) fn send_channel(tag: u8) -> Option<Channel>
     ensures some { IfSome result (λ c. tag ≡ tag_of Send c) }
     ensures none { IfNone result ((c : Channel) → ¬ tag ≡ tag_of Send c) }
 {

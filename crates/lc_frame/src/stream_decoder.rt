@@ -4,11 +4,14 @@ ghost use Rattle.lc_frame.specs.declared.frame.Frame.{Frame};
 ghost use Rattle.lc_frame.specs.declared.frame_fault.FrameFault.{FrameFault};
 ghost use Rattle.lc_frame.specs.FrameRef.{frame_of};
 ghost use Rattle.lc_frame.specs.Decoded.{Decodes};
-ghost use Rattle.lc_frame.specs.Held.{nothing_held, held_in, IsSettled, fed, IsValidIn, encoding_in, HasFrame, HasFault, IsUndecided, IsDecided};
+ghost use Rattle.lc_frame.specs.Stored.{nothing_stored, stored_in, IsSettled, fed, IsValidIn, encoding_in, HasFrame, HasFault, IsUndecided, IsDecided};
 ghost use Rattle.lc_frame.specs.declared.fill.Filled.TheVariants.{Few};
 ghost use Rattle.lc_frame.specs.Fill.{FilledAs, LacksMore};
 ghost use Rattle.lc_frame.specs.StreamDecoder.{EndsAs, TakesMore};
+ghost use Rattle.lc_frame.specs.declared.channel.Channel.{Channel};
+ghost use Rattle.lc_frame.specs.Begun.{HasBegun};
 
+use crate::begun::{BegunSend, begun_send};
 use crate::decoded::Decoded;
 use crate::fill::{Fill, Filled};
 use crate::frame_fault::FrameFault;
@@ -33,9 +36,9 @@ pub struct StreamDecoder {
 
 impl Model for StreamDecoder {
     ghost use Rattle.lc_frame.specs.Progress.{Remembers, known_version};
-    ghost use Rattle.lc_frame.specs.Held.{Held};
+    ghost use Rattle.lc_frame.specs.Stored.{Stored};
 
-    ghost Value = { Held };
+    ghost Value = { Stored };
 
     ghost view = { λ decoder. record { version = known_version decoder.version decoder.progress; bytes = decoder.buffer } };
 
@@ -46,7 +49,7 @@ impl StreamDecoder {
     /// A decoder at the start of a stream. It takes the memory for `MAX_FRAME` bytes here and none
     /// later; the error is want of it.
     pub fn new(alloc: Global) -> Result<StreamDecoder, AllocError>
-        ensures { IfOk result (λ decoder. decoder ≡ nothing_held) }
+        ensures { IfOk result (λ decoder. decoder ≡ nothing_stored) }
     {
         Ok(StreamDecoder {
             buffer: Hold::new(alloc)?,
@@ -91,7 +94,7 @@ impl StreamDecoder {
         }
     }
 
-    /// Takes all of a piece that is too short for more to be known of what is held, or else nothing.
+    /// Takes all of a piece that is too short for more to be known of what is stored, or else nothing.
     /// Whether it did.
     #[inline(always)]
     pub fn take_part(&mut self, piece: &[u8]) -> bool
@@ -115,12 +118,12 @@ impl StreamDecoder {
         }
     }
 
-    /// Decodes the front of a piece, as [`decode`](crate::decode) does, where nothing is held of a
+    /// Decodes the front of a piece, as [`decode`](crate::decode) does, where nothing is stored of a
     /// stream of this version. A piece that is `Decoded::More` is taken in as it is decoded, and nothing
     /// is taken else.
     #[inline(always)]
     pub fn decode_or_take<'a>(&mut self, version: Version, piece: &'a [u8]) -> Decoded<'a>
-        requires { self.old ≡ held_in version [] }
+        requires { self.old ≡ stored_in version [] }
         ensures decodes { Decodes version result piece.now }
         ensures held { TakesMore result self.old piece.now self.new }
     {
@@ -139,7 +142,7 @@ impl StreamDecoder {
     }
 
     /// Inside a frame that lacks more than 512 bytes, has the memory for so many filled where its next
-    /// bytes are held, and holds those that were given. So they need no other memory on their way.
+    /// bytes are stored, and stores those that were given. So they need no other memory on their way.
     #[inline]
     #[tactic(auto, using(crate::proofs::Fronts::frame_fits))]
     pub fn fill<R, F: Fill<R>>(&mut self, filler: &F, source: &mut R) -> Filled
@@ -179,16 +182,16 @@ impl StreamDecoder {
         }
     }
 
-    /// How many bytes are held: those that were taken since the last whole frame was cleared, and
+    /// How many bytes are stored: those that were taken since the last whole frame was cleared, and
     /// since a greeting was whole.
     #[inline]
-    pub fn held(&self) -> usize
+    pub fn stored(&self) -> usize
         ensures value { result ≡ length self.now.bytes }
         ensures bytes { All (λ b. b < 256) self.now.bytes }
         ensures settled { IsSettled self.now }
     {
-        let held = self.buffer.as_slice();
-        held.len()
+        let stored = self.buffer.as_slice();
+        stored.len()
     }
 
     /// The whole frame, `None` where there is none.
@@ -200,6 +203,22 @@ impl StreamDecoder {
         match self.progress {
             Progress::Wants(_) => None,
             Progress::Whole(head) => Some(head.frame_in(self.version, self.buffer.as_slice())),
+            Progress::Fault(_) => None,
+            Progress::Greeted => None,
+            Progress::Broken => None,
+        }
+    }
+
+    /// The Send that is begun, where no frame is whole; `None` where none is, or where its length is not
+    /// there yet.
+    #[inline]
+    pub fn begun(&self) -> Option<BegunSend>
+        ensures some { IfSome result (λ b. IsUndecided self.now × HasBegun b.channel b.len self.now) }
+        ensures none { IfNone result (IsUndecided self.now → (c : Channel) (len : ℕ) → ¬ HasBegun c len self.now) }
+    {
+        match self.progress {
+            Progress::Wants(_) => begun_send(self.version, self.buffer.as_slice()),
+            Progress::Whole(_) => None,
             Progress::Fault(_) => None,
             Progress::Greeted => None,
             Progress::Broken => None,

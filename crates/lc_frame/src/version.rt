@@ -5,7 +5,8 @@ ghost use Rattle.lc_frame.specs.Version.{greeting};
 ghost use Rattle.lc_frame.specs.declared.kind.Kind.TheVariants.{Finish};
 ghost use Rattle.lc_frame.specs.Kind.{max_body, max_frame, has};
 
-use crate::encoding::MAX_FRAME;
+use crate::encoding::{MAX_FRAME, SHORT};
+use crate::frame::MAX_BODY;
 
 /// A version of the format. A stream of version Two begins with a greeting of four bytes, and the
 /// length of a message has four bytes there, where it has two in version One, which has no Finish.
@@ -15,6 +16,9 @@ pub enum Version {
     One,
     Two,
 }
+
+// The longest message of version One, in bytes.
+const MAX_SHORT_BODY: usize = 65_535;
 
 /// The bytes that a stream of version Two begins with.
 pub const GREETING: [u8; 4] = [0x4c, 0x43, 0x4d, 0x02];
@@ -36,8 +40,8 @@ impl Version {
         ensures { result ≡ max_body self }
     {
         match self {
-            Version::One => 65_535,
-            Version::Two => 1_048_576,
+            Version::One => MAX_SHORT_BODY,
+            Version::Two => MAX_BODY,
         }
     }
 
@@ -48,7 +52,7 @@ impl Version {
         ensures most { result ≤ max_frame Two }
     {
         match self {
-            Version::One => 65_538,
+            Version::One => SHORT + MAX_SHORT_BODY,
             Version::Two => MAX_FRAME,
         }
     }

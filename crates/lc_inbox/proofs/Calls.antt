@@ -21,7 +21,7 @@ use Rattle.lc_inbox.specs.History.{heard_of, put_of, took_of, heard, put, took, 
 use Rattle.lc_inbox.specs.declared.lent.Lent.{Lent}
 use Rattle.lc_inbox.specs.declared.lent.Lent.TheVariants.{Read, Empty, Ended}
 use Rattle.lc_inbox.specs.Lends.{Reader, first_taken, taken_entry, IsLent, IsLentBy}
-use Rattle.lc_inbox.specs.Sides.{Half, HasTaken, Side, side_of, IsHeard, IsViolated, HasLooked, IsPutBy, IsTaken, IsTakeAnswer, IsFinished}
+use Rattle.lc_inbox.specs.Sides.{Half, HasTaken, InboxSide, side_of, IsHeard, IsViolated, HasLooked, IsPutBy, IsTaken, IsTakeAnswer, IsFinished}
 use Rattle.lc_inbox.specs.Loans.{loan_with}
 use Rattle.lc_inbox.proofs.Histories.{in_order, left_took}
 use Rattle.lc_inbox.proofs.Takes.{IsNone, nothing_taken, unlent_left, took_front, length_front, filled_is, none_filled}
@@ -179,7 +179,7 @@ lent_by g read Empty old new log held l side_is knows left gives = let n = nothi
 lent_by g read Ended old new log held l side_is knows left gives = let n = nothing_took NoneComes old new log held tt (sym l) side_is knows left gives in (n.0, sym n.1)
 
 -- both sides have ended
-pub finished : (incoming outgoing : Side) (held : Held) (book : Server) (lane : End) (history : List Entry) → Knows (is_of true) incoming.seen history → Knows (is_of false) outgoing.seen history → IsLeftBy incoming.key held history → book ≡ held.inbox.book → lane ≡ held.lane → IsFinished incoming outgoing book lane
+pub finished : (incoming outgoing : InboxSide) (held : Held) (book : Server) (lane : End) (history : List Entry) → Knows (is_of true) incoming.seen history → Knows (is_of false) outgoing.seen history → IsLeftBy incoming.key held history → book ≡ held.inbox.book → lane ≡ held.lane → IsFinished incoming outgoing book lane
 finished incoming outgoing held book lane history reads receives left book_is lane_is =
     record {
       history = history;

@@ -4,11 +4,11 @@ use Rattle.std.specs.Prelude.{IsSomeAnd, slice_get}
 use Rattle.lc_book.specs.Server.{Server}
 use Rattle.lc_queue.specs.Parts.{End}
 use Rattle.lc_inbox.specs.declared.rule.Key.{Key}
-use Rattle.lc_inbox.specs.Sides.{InboxId, Side, IsSameSide, AreOfOne, IsFinished}
+use Rattle.lc_inbox.specs.Sides.{InboxId, InboxSide, IsSameSide, AreOfOne, IsFinished}
 use Rattle.lc_inbox.specs.Inboxes.{inbox_of, origin_of, AreMatched, AreSameSides, AreFinished}
 
 -- sides that stay of their inboxes stay matched, on either side
-inboxes_stay : (old new : List Side) → AreSameSides old new → map inbox_of new ≡ map inbox_of old
+inboxes_stay : (old new : List InboxSide) → AreSameSides old new → map inbox_of new ≡ map inbox_of old
 inboxes_stay [] [] same = refl
 inboxes_stay [] (s ∷ new) same = absurd (cc)
 inboxes_stay (s ∷ old) [] same = absurd (cc)
@@ -18,26 +18,26 @@ inboxes_stay (s ∷ old) (t ∷ new) same =
     let later : AreSameSides old new = cc in
     (λ i. here i ∷ inboxes_stay old new later i)
 
-pub matched_in : (old new outgoing : List Side) → AreSameSides old new → AreMatched old outgoing → AreMatched new outgoing
+pub matched_in : (old new outgoing : List InboxSide) → AreSameSides old new → AreMatched old outgoing → AreMatched new outgoing
 matched_in old new outgoing same matched = inboxes_stay old new same ∙ matched
 
-pub matched_out : (incoming old new : List Side) → AreSameSides old new → AreMatched incoming old → AreMatched incoming new
+pub matched_out : (incoming old new : List InboxSide) → AreSameSides old new → AreMatched incoming old → AreMatched incoming new
 matched_out incoming old new same matched = matched ∙ sym (inboxes_stay old new same)
 
 -- so it is after a call of one side
-pub same_sides_set : (sides : List Side) (at : ℕ) (other now : Side) → IsSameSide (get_or sides at other) now → AreSameSides sides (set sides at now)
+pub same_sides_set : (sides : List InboxSide) (at : ℕ) (other now : InboxSide) → IsSameSide (get_or sides at other) now → AreSameSides sides (set sides at now)
 same_sides_set [] at other now same = refl
 same_sides_set (s ∷ sides) zero other now same = (λ i. (same.inbox i, same.key i) ∷ map origin_of sides)
 same_sides_set (s ∷ sides) (suc at) other now same = ap (λ (os : List (InboxId × Key)). origin_of s ∷ os) (same_sides_set sides at other now same)
 
 -- each place by itself
-pub matched_at : (incoming outgoing : List Side) (at : ℕ) → AreMatched incoming outgoing → at < length incoming → IsSomeAnd (slice_get incoming at) (λ i. IsSomeAnd (slice_get outgoing at) (λ o. AreOfOne i o))
+pub matched_at : (incoming outgoing : List InboxSide) (at : ℕ) → AreMatched incoming outgoing → at < length incoming → IsSomeAnd (slice_get incoming at) (λ i. IsSomeAnd (slice_get outgoing at) (λ o. AreOfOne i o))
 matched_at [] outgoing at matched few = absurd (omega arith)
 matched_at (i ∷ incoming) [] at matched few = absurd (cc)
 matched_at (i ∷ incoming) (o ∷ outgoing) zero matched few = cc
 matched_at (i ∷ incoming) (o ∷ outgoing) (suc at) matched few = matched_at incoming outgoing at (cc) (omega arith)
 
-pub finished_at : (incoming outgoing : List Side) (books : List Server) (lanes : List End) (at : ℕ) → AreFinished incoming outgoing books lanes → at < length incoming
+pub finished_at : (incoming outgoing : List InboxSide) (books : List Server) (lanes : List End) (at : ℕ) → AreFinished incoming outgoing books lanes → at < length incoming
     → IsSomeAnd (slice_get incoming at) (λ i. IsSomeAnd (slice_get outgoing at) (λ o. IsSomeAnd (slice_get books at) (λ book. IsSomeAnd (slice_get lanes at) (λ lane. IsFinished i o book lane))))
 finished_at [] outgoing books lanes at all few = absurd (omega arith)
 finished_at (i ∷ incoming) [] books lanes at all few = absurd all

@@ -6,7 +6,7 @@ use Rattle.std.specs.Iterator.{Yields}
 use Rattle.lc_book.specs.Server.{Server}
 use Rattle.lc_queue.specs.Parts.{End}
 use Rattle.lc_inbox.specs.Inboxes.{IsNewShared, inbox_of, AreNew, AreMatched, AreFinished}
-use Rattle.lc_inbox.specs.Sides.{Side, AreOfOne, IsFinished}
+use Rattle.lc_inbox.specs.Sides.{InboxSide, AreOfOne, IsFinished}
 
 -- one element more of each list
 pub zip_push : {A B : Type 0} (R : A → B → Type 0) (xs : List A) (ys : List B) (x : A) (y : B) → AllZip R xs ys → R x y → AllZip R (xs ++ x ∷ []) (ys ++ y ∷ [])
@@ -58,38 +58,38 @@ seven_of (x0 ∷ x1 ∷ x2 ∷ x3 ∷ x4 ∷ x5 ∷ []) a b c d e f g n h0 h1 h2
 seven_of (x0 ∷ x1 ∷ x2 ∷ x3 ∷ x4 ∷ x5 ∷ x6 ∷ xs) a b c d e f g n h0 h1 h2 h3 h4 h5 h6 =
     one_more x0 a _ _ h0 (one_more x1 b _ _ h1 (one_more x2 c _ _ h2 (one_more x3 d _ _ h3 (one_more x4 e _ _ h4 (one_more x5 f _ _ h5 (one_more x6 g _ _ h6 (none_left xs (omega arith))))))))
 
-new_from : (capacities : List ℕ) (lanes : List End) (shared : List (Side × Side)) → AllZip (IsNewShared capacities) lanes shared → AreNew capacities lanes (map (λ p. p.0) shared) (map (λ p. p.1) shared)
+new_from : (capacities : List ℕ) (lanes : List End) (shared : List (InboxSide × InboxSide)) → AllZip (IsNewShared capacities) lanes shared → AreNew capacities lanes (map (λ p. p.0) shared) (map (λ p. p.1) shared)
 new_from capacities [] [] all = tt
 new_from capacities [] (s ∷ shared) all = absurd all
 new_from capacities (l ∷ lanes) [] all = absurd all
 new_from capacities (l ∷ lanes) (s ∷ shared) all = (all.0, new_from capacities lanes shared all.1)
 
 -- the sides of each inbox, by place
-pub parts_are_new : (capacities : List ℕ) (lanes : List End) (shared : List (Side × Side)) (incoming outgoing : List Side) → AllZip (IsNewShared capacities) lanes shared → incoming ≡ map (λ p. p.0) shared → outgoing ≡ map (λ p. p.1) shared → AreNew capacities lanes incoming outgoing
-parts_are_new capacities lanes shared incoming outgoing all reading receiving = subst (λ (p : List Side × List Side). AreNew capacities lanes p.0 p.1) (λ i. (sym reading i, sym receiving i)) (new_from capacities lanes shared all)
+pub parts_are_new : (capacities : List ℕ) (lanes : List End) (shared : List (InboxSide × InboxSide)) (incoming outgoing : List InboxSide) → AllZip (IsNewShared capacities) lanes shared → incoming ≡ map (λ p. p.0) shared → outgoing ≡ map (λ p. p.1) shared → AreNew capacities lanes incoming outgoing
+parts_are_new capacities lanes shared incoming outgoing all reading receiving = subst (λ (p : List InboxSide × List InboxSide). AreNew capacities lanes p.0 p.1) (λ i. (sym reading i, sym receiving i)) (new_from capacities lanes shared all)
 
 -- both sides of each inbox, where they are matched
-pub pairs_match : (pairs : List (Side × Side)) (incoming outgoing : List Side) → map (λ p. p.0) pairs ≡ incoming → map (λ p. p.1) pairs ≡ outgoing → AreMatched incoming outgoing → AllByRecursion (λ p. AreOfOne p.0 p.1) pairs
-pairs_match pairs incoming outgoing reading receiving matched = each pairs (subst (λ (p : List Side × List Side). AreMatched p.0 p.1) (λ i. (sym reading i, sym receiving i)) matched)
+pub pairs_match : (pairs : List (InboxSide × InboxSide)) (incoming outgoing : List InboxSide) → map (λ p. p.0) pairs ≡ incoming → map (λ p. p.1) pairs ≡ outgoing → AreMatched incoming outgoing → AllByRecursion (λ p. AreOfOne p.0 p.1) pairs
+pairs_match pairs incoming outgoing reading receiving matched = each pairs (subst (λ (p : List InboxSide × List InboxSide). AreMatched p.0 p.1) (λ i. (sym reading i, sym receiving i)) matched)
   where
-    each : (ps : List (Side × Side)) → AreMatched (map (λ p. p.0) ps) (map (λ p. p.1) ps) → AllByRecursion (λ p. AreOfOne p.0 p.1) ps
+    each : (ps : List (InboxSide × InboxSide)) → AreMatched (map (λ p. p.0) ps) (map (λ p. p.1) ps) → AllByRecursion (λ p. AreOfOne p.0 p.1) ps
     each [] m = tt
     each (p ∷ ps) m = (cc, each ps (cc))
 
-finished_from : (pairs : List (Side × Side)) (ended : List (Server × End)) → AllZip (λ p e. IsFinished p.0 p.1 e.0 e.1) pairs ended → AreFinished (map (λ p. p.0) pairs) (map (λ p. p.1) pairs) (map (λ e. e.0) ended) (map (λ e. e.1) ended)
+finished_from : (pairs : List (InboxSide × InboxSide)) (ended : List (Server × End)) → AllZip (λ p e. IsFinished p.0 p.1 e.0 e.1) pairs ended → AreFinished (map (λ p. p.0) pairs) (map (λ p. p.1) pairs) (map (λ e. e.0) ended) (map (λ e. e.1) ended)
 finished_from [] [] all = tt
 finished_from [] (e ∷ ended) all = absurd all
 finished_from (p ∷ pairs) [] all = absurd all
 finished_from (p ∷ pairs) (e ∷ ended) all = (all.0, finished_from pairs ended all.1)
 
 -- what each inbox leaves, by place
-pub parts_are_finished : (pairs : List (Side × Side)) (ended : List (Server × End)) (incoming outgoing : List Side) (books : List Server) (lanes : List End) → AllZip (λ p e. IsFinished p.0 p.1 e.0 e.1) pairs ended → map (λ p. p.0) pairs ≡ incoming → map (λ p. p.1) pairs ≡ outgoing → books ≡ map (λ e. e.0) ended → lanes ≡ map (λ e. e.1) ended
+pub parts_are_finished : (pairs : List (InboxSide × InboxSide)) (ended : List (Server × End)) (incoming outgoing : List InboxSide) (books : List Server) (lanes : List End) → AllZip (λ p e. IsFinished p.0 p.1 e.0 e.1) pairs ended → map (λ p. p.0) pairs ≡ incoming → map (λ p. p.1) pairs ≡ outgoing → books ≡ map (λ e. e.0) ended → lanes ≡ map (λ e. e.1) ended
     → AreFinished incoming outgoing books lanes
 parts_are_finished pairs ended incoming outgoing books lanes all reading receiving books_are lanes_are =
-    subst (λ (p : (List Side × List Side) × (List Server × List End)). AreFinished p.0.0 p.0.1 p.1.0 p.1.1) (λ i. ((reading i, receiving i), (sym books_are i, sym lanes_are i))) (finished_from pairs ended all)
+    subst (λ (p : (List InboxSide × List InboxSide) × (List Server × List End)). AreFinished p.0.0 p.0.1 p.1.0 p.1.1) (λ i. ((reading i, receiving i), (sym books_are i, sym lanes_are i))) (finished_from pairs ended all)
 
 -- both sides of new inboxes are matched
-pub new_are_matched : (capacities : List ℕ) (lanes : List End) (incoming outgoing : List Side) → AreNew capacities lanes incoming outgoing → AreMatched incoming outgoing
+pub new_are_matched : (capacities : List ℕ) (lanes : List End) (incoming outgoing : List InboxSide) → AreNew capacities lanes incoming outgoing → AreMatched incoming outgoing
 new_are_matched capacities [] [] [] new = refl
 new_are_matched capacities [] [] (o ∷ outgoing) new = absurd new
 new_are_matched capacities [] (i ∷ incoming) outgoing new = absurd new

@@ -8,7 +8,7 @@ use Rattle.lc_peer.specs.Config.{first_bad}
 use Rattle.lc_book.specs.Server.{Server}
 use Rattle.lc_queue.specs.Parts.{End}
 use Rattle.lc_inbox.specs.declared.rule.Key.{Key}
-use Rattle.lc_inbox.specs.Sides.{InboxId, Side, IsNew, IsFinished}
+use Rattle.lc_inbox.specs.Sides.{InboxId, InboxSide, IsNew, IsFinished}
 
 -- the end of a lane on which a server puts, where nothing was put
 pub record IsServerEnd (lane : End) : Type 0 where
@@ -20,33 +20,33 @@ abbrev pub capacity_of : List ℕ → End → ℕ
 capacity_of capacities lane = slice_index capacities (lane.lane - channel_count)
 
 -- both sides of a new inbox of the lane's channel, which puts on the lane
-abbrev pub IsNewShared : List ℕ → End → Side × Side → Type 0
+abbrev pub IsNewShared : List ℕ → End → InboxSide × InboxSide → Type 0
 IsNewShared capacities lane shared = IsNew (capacity_of capacities lane) lane shared.0 shared.1
 
 -- of these lanes, in order, each one's new inbox, of its channel's capacity, has its two sides at its place
-abbrev pub AreNew : List ℕ → List End → List Side → List Side → Type 0
+abbrev pub AreNew : List ℕ → List End → List InboxSide → List InboxSide → Type 0
 AreNew capacities [] [] [] = Unit {0}
 AreNew capacities (lane ∷ lanes) (i ∷ incoming) (o ∷ outgoing) = IsNew (capacity_of capacities lane) lane i o × AreNew capacities lanes incoming outgoing
 AreNew capacities lanes incoming outgoing = ⊥
 
 -- which inbox a side is of
-abbrev pub inbox_of : Side → InboxId
+abbrev pub inbox_of : InboxSide → InboxId
 inbox_of side = side.inbox
 
 -- at each place both sides are of one inbox
-abbrev pub AreMatched : List Side → List Side → Type 0
+abbrev pub AreMatched : List InboxSide → List InboxSide → Type 0
 AreMatched incoming outgoing = map inbox_of incoming ≡ map inbox_of outgoing
 
 -- which inbox a side is of, and what that was made of
-abbrev pub origin_of : Side → InboxId × Key
+abbrev pub origin_of : InboxSide → InboxId × Key
 origin_of side = (side.inbox, side.key)
 
 -- each side is still of the inbox that it was of, place by place
-abbrev pub AreSameSides : List Side → List Side → Type 0
+abbrev pub AreSameSides : List InboxSide → List InboxSide → Type 0
 AreSameSides old new = map origin_of new ≡ map origin_of old
 
 -- at each place the book and the end of the lane are those that the history of both sides leaves, and there are as many of each
-abbrev pub AreFinished : List Side → List Side → List Server → List End → Type 0
+abbrev pub AreFinished : List InboxSide → List InboxSide → List Server → List End → Type 0
 AreFinished [] [] [] [] = Unit {0}
 AreFinished (i ∷ incoming) (o ∷ outgoing) (book ∷ books) (lane ∷ lanes) = IsFinished i o book lane × AreFinished incoming outgoing books lanes
 AreFinished incoming outgoing books lanes = ⊥

@@ -11,7 +11,7 @@ use Rattle.lc_inbox.specs.declared.history.Entry.{Entry}
 use Rattle.lc_inbox.specs.declared.history.Entry.TheVariants.{Took}
 use Rattle.lc_inbox.specs.Ends.{Held}
 use Rattle.lc_inbox.specs.History.{inbox_after}
-use Rattle.lc_inbox.specs.Sides.{Side, IsTaken, HasLooked}
+use Rattle.lc_inbox.specs.Sides.{InboxSide, IsTaken, HasLooked}
 
 -- the entry of a take of the first message, where there is one
 abbrev pub taken_entry : Option (List ℕ) → List Entry
@@ -37,7 +37,7 @@ IsLent g read Empty inbox = take_answer inbox ≡ NoneWaits
 IsLent g read Ended inbox = take_answer inbox ≡ NoneComes
 
 -- the same of the inbox that two sides share: a message was taken, or the whole history up to here leaves none that waits
-abbrev pub IsLentBy : {F T : Type 0} → Reader F T → F → Lent T → Side → Side → Type 0
+abbrev pub IsLentBy : {F T : Type 0} → Reader F T → F → Lent T → InboxSide → InboxSide → Type 0
 IsLentBy g read (Read made) old new = (near : List ℕ) × (far : List ℕ) × IsTaken (near ++ far) old new × FnOnceReturnsAtPair g read near far made
 IsLentBy g read Empty old new = HasLooked old new × (take_answer (inbox_after old.key new.seen) ≡ NoneWaits)
 IsLentBy g read Ended old new = HasLooked old new × (take_answer (inbox_after old.key new.seen) ≡ NoneComes)

@@ -25,9 +25,9 @@ pub struct InboxIn {
 
 impl Model for InboxIn {
     ghost use Rattle.std.specs.Prelude.{◌≡◌, true};
-    ghost use Rattle.lc_inbox.specs.Sides.{Side, IsIdle, side_of};
+    ghost use Rattle.lc_inbox.specs.Sides.{InboxSide, IsIdle, side_of};
 
-    ghost Value = { Side };
+    ghost Value = { InboxSide };
 
     ghost view = { λ i. side_of i.half };
 

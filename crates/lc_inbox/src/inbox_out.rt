@@ -33,9 +33,9 @@ pub struct InboxOut {
 
 impl Model for InboxOut {
     ghost use Rattle.std.specs.Prelude.{◌≡◌, false};
-    ghost use Rattle.lc_inbox.specs.Sides.{Side, IsIdle, side_of};
+    ghost use Rattle.lc_inbox.specs.Sides.{InboxSide, IsIdle, side_of};
 
-    ghost Value = { Side };
+    ghost Value = { InboxSide };
 
     ghost view = { λ i. side_of i.half };
 

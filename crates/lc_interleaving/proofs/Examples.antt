@@ -10,7 +10,7 @@ use Rattle.lc_frame.specs.declared.channel.Channel.TheVariants.{ReconciliationCh
 use Rattle.lc_frame.specs.declared.kind.Kind.TheVariants as kinds
 use Rattle.lc_frame.specs.declared.frame.Frame.{Frame}
 use Rattle.lc_frame.specs.declared.frame.Frame.TheVariants.{Send, Issue, Absolve, Plead, LimitSending, LimitReceiving, Finish}
-use Rattle.lc_frame.specs.Held.{nothing_held}
+use Rattle.lc_frame.specs.Stored.{nothing_stored}
 use Rattle.lc_frame.specs.Channel.{channel_count, number_of}
 use Rattle.lc_book.specs.Server.{Server}
 use Rattle.lc_queue.specs.Parts.{End, new_outlet}
@@ -24,7 +24,7 @@ use Rattle.lc_inbox.specs.declared.history.Entry.TheVariants.{Heard, Put, Took}
 use Rattle.lc_inbox.specs.declared.rule.Key.{Key}
 use Rattle.lc_inbox.specs.History.{book_after, lane_after}
 use Rattle.lc_inbox.specs.Sides as sides
-use Rattle.lc_inbox.specs.Sides.{Side}
+use Rattle.lc_inbox.specs.Sides.{InboxSide}
 use Rattle.lc_session.specs.Reading.{HasHeard, HasHeardAll}
 use Rattle.lc_session.specs.Pumping.{new_pumping}
 use Rattle.lc_session.specs.Report.{SessionState, AreOfOneSession, PutsOn, ServesOn, GaveAll, GaveAllOf, IsReport}
@@ -90,7 +90,7 @@ abbrev pub nothing : Balance
 nothing = record { received = 0; held = 0; spent = 0; absolved = 0; waived = 0 }
 
 -- which queue, which credits and which inboxes they are does not matter
-module _ (id : TableId) (base : Side) where
+module _ (id : TableId) (base : InboxSide) where
   abbrev pub end_of : Version → ℕ → List Frame → End
   end_of v lane frames = record { queue = id; version = v; lane = lane; put = frames }
 
@@ -100,7 +100,7 @@ module _ (id : TableId) (base : Side) where
   abbrev pub key : Version → Channel → Key
   key v c = record base.key { channel = c; capacity = 6; lane = record base.key.lane { value = end_of v (channel_count + number_of c) [] } }
 
-  abbrev pub side : Version → Channel → List Entry → Side
+  abbrev pub side : Version → Channel → List Entry → InboxSide
   side v c seen = record { inbox = id; key = key v c; seen = seen; turns = 0 }
 
   -- a session of which only the data channel was used
@@ -110,7 +110,7 @@ module _ (id : TableId) (base : Side) where
     receiving = listed (λ c. side v c []) (side v DataChannel receives);
     reading = record {
       side = record { credits = listed (λ c. new_incoming id) i; inboxes = listed (λ c. side v c []) (side v DataChannel reads) };
-      intake = record { held = nothing_held; stop = None };
+      intake = record { held = nothing_stored; stop = None };
     };
     writing = new_pumping (new_outlet id v);
   }
@@ -310,8 +310,8 @@ module _ (id : TableId) (base : Side) where
   pub were_one : WereOne 6 a b a_finished b_finished order
   were_one = record {
     is_capacity = record { at_least = omega arith; at_most = omega arith };
-    a_rings = all_of (λ (s : Side). s.key.capacity ≤ 6) a.session.reading.side.inboxes (omega arith, (omega arith, (omega arith, (omega arith, (omega arith, (omega arith, (omega arith, tt)))))));
-    b_rings = all_of (λ (s : Side). s.key.capacity ≤ 6) b.session.reading.side.inboxes (omega arith, (omega arith, (omega arith, (omega arith, (omega arith, (omega arith, (omega arith, tt)))))));
+    a_rings = all_of (λ (s : InboxSide). s.key.capacity ≤ 6) a.session.reading.side.inboxes (omega arith, (omega arith, (omega arith, (omega arith, (omega arith, (omega arith, (omega arith, tt)))))));
+    b_rings = all_of (λ (s : InboxSide). s.key.capacity ≤ 6) b.session.reading.side.inboxes (omega arith, (omega arith, (omega arith, (omega arith, (omega arith, (omega arith, (omega arith, tt)))))));
     interleaving = interleaving;
   }
 

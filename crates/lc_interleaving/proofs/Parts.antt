@@ -21,7 +21,7 @@ use Rattle.lc_outbox.specs.Outbox.{OutboxState, MayPut, IsOutbox}
 use Rattle.lc_outbox.proofs.Uses.{uses_same}
 use Rattle.lc_inbox.specs.declared.history.Entry.{Entry}
 use Rattle.lc_inbox.specs.History as inboxes
-use Rattle.lc_inbox.specs.Sides.{Side}
+use Rattle.lc_inbox.specs.Sides.{InboxSide}
 use Rattle.lc_inbox.specs.Inboxes.{AreFinished}
 use Rattle.lc_session.specs.Channels.{channels}
 use Rattle.lc_session.specs.Reading.{channel_of_side}
@@ -131,7 +131,7 @@ received_at None n incoming outgoing balances b sum there is h eb = absurd is
 received_at (Some i) n incoming outgoing balances b sum there is h eb = settled_received n incoming outgoing balances i b h there eb ∙ is
 
 -- and the receiving ends: each kept the rules, and its book is that of its history
-abbrev FitsRing : ℕ → Side → Type 0
+abbrev FitsRing : ℕ → InboxSide → Type 0
 FitsRing capacity side = side.key.capacity ≤ capacity
 
 pub record Serves (capacity : ℕ) (c : Channel) (history : List Entry) (book : Server) : Type 0 where
@@ -139,7 +139,7 @@ pub record Serves (capacity : ℕ) (c : Channel) (history : List Entry) (book : 
   pub book_is : book ≡ inboxes.book_after receiving.key history
   pub ordered : inboxes.IsInOrder receiving.key history
 
-receive_all : (capacity : ℕ) (incoming outgoing : List Side) (books : List Server) (lanes : List End) (h : AreFinished incoming outgoing books lanes) → All (FitsRing capacity) incoming → EachKeeps (Serves capacity) (map channel_of_side incoming) (inbox_histories incoming outgoing books lanes h) books
+receive_all : (capacity : ℕ) (incoming outgoing : List InboxSide) (books : List Server) (lanes : List End) (h : AreFinished incoming outgoing books lanes) → All (FitsRing capacity) incoming → EachKeeps (Serves capacity) (map channel_of_side incoming) (inbox_histories incoming outgoing books lanes h) books
 receive_all capacity [] outgoing books lanes h small = tt
 receive_all capacity (i ∷ incoming) [] books lanes h small = absurd h
 receive_all capacity (i ∷ incoming) (o ∷ outgoing) [] lanes h small = absurd h
@@ -166,12 +166,12 @@ sender_at frames (suc n) c (o ∷ ends) is gave =
     let rest : SenderAt frames c ends n = sender_at frames n c ends is (all_rest (GaveAll frames) o ends gave) in
     record { end = rest.end; there = rest.there; gave = rest.gave }
 
-pub record ReceiverAt (history : List Entry) (ends : List Side) (n : ℕ) : Type 0 where
-  pub end : Side
+pub record ReceiverAt (history : List Entry) (ends : List InboxSide) (n : ℕ) : Type 0 where
+  pub end : InboxSide
   pub there : slice_get ends n ≡ Some end
   pub took_is : inboxes.took history ≡ inboxes.took end.seen
 
-receiver_at : (n : ℕ) (c : Channel) (incoming outgoing : List Side) (books : List Server) (lanes : List End) (h : AreFinished incoming outgoing books lanes) → slice_get (map channel_of_side incoming) n ≡ Some c → ReceiverAt (slice_index_or (inbox_histories incoming outgoing books lanes h) n []) outgoing n
+receiver_at : (n : ℕ) (c : Channel) (incoming outgoing : List InboxSide) (books : List Server) (lanes : List End) (h : AreFinished incoming outgoing books lanes) → slice_get (map channel_of_side incoming) n ≡ Some c → ReceiverAt (slice_index_or (inbox_histories incoming outgoing books lanes h) n []) outgoing n
 receiver_at n c [] outgoing books lanes h is = absurd (cc)
 receiver_at n c (i ∷ incoming) [] books lanes h is = absurd h
 receiver_at n c (i ∷ incoming) (o ∷ outgoing) [] lanes h is = absurd h

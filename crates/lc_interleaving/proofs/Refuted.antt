@@ -5,7 +5,7 @@ use Rattle.lc_history.specs.History.{IsHistory}
 use Rattle.lc_frame.specs.declared.channel.Channel.{Channel}
 use Rattle.lc_frame.specs.declared.channel.Channel.TheVariants.{DataChannel}
 use Rattle.lc_frame.specs.declared.frame.Frame.TheVariants.{Send, Issue, Absolve, Plead, LimitSending, LimitReceiving, Finish}
-use Rattle.lc_inbox.specs.Sides.{Side}
+use Rattle.lc_inbox.specs.Sides.{InboxSide}
 use Rattle.lc_world.specs.State.{Versions, opening}
 use Rattle.lc_world.specs.Histories.{IsLegal}
 use Rattle.lc_interleaving.specs.Steps.{Step, put, heard, entries, without_refusals}
@@ -36,7 +36,7 @@ record IsOrderBut (t : Trace) (steps : List Step) : Type 0 where
   heard_is : heard steps ≡ t.heard
   inboxes : (c : Channel) → entries c steps ≡ without_refusals (t.inbox c)
 
-module _ (id : TableId) (base : Side) where
+module _ (id : TableId) (base : InboxSide) where
   -- the versions in which both wrote
   abbrev versions : Versions
   versions = versions_of (trace (a id base) (a_finished id base)) (trace (b id base) (b_finished id base))

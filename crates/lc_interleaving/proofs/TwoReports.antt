@@ -16,7 +16,7 @@ use Rattle.lc_peer.specs.declared.config.PeerFault.TheVariants.{BadCapacity}
 use Rattle.lc_peer.specs.Config.{bad_from, first_bad}
 use Rattle.lc_queue.specs.Parts.{End, new_ends}
 use Rattle.lc_inbox.specs.declared.rule.Key.{Key}
-use Rattle.lc_inbox.specs.Sides.{InboxId, Side}
+use Rattle.lc_inbox.specs.Sides.{InboxId, InboxSide}
 use Rattle.lc_inbox.specs.Inboxes.{AreNew, AreSameSides, origin_of}
 use Rattle.lc_session.specs.declared.report.Report.{Report}
 use Rattle.lc_session.specs.Played.{WasPlayed}
@@ -59,7 +59,7 @@ none_bad : (bad : Option Channel) (rest : Option PeerFault) → option_or (optio
 none_bad None rest none = refl
 none_bad (Some c) rest none = absurd (cc)
 
-new_rings : (capacities : List ℕ) (lanes : List End) (incoming outgoing : List Side) → first_bad capacities ≡ None → AreNew capacities lanes incoming outgoing → AllByRecursion (λ (s : Side). s.key.capacity ≤ max_amount) incoming
+new_rings : (capacities : List ℕ) (lanes : List End) (incoming outgoing : List InboxSide) → first_bad capacities ≡ None → AreNew capacities lanes incoming outgoing → AllByRecursion (λ (s : InboxSide). s.key.capacity ≤ max_amount) incoming
 new_rings capacities [] [] outgoing none new = tt
 new_rings capacities [] (i ∷ incoming) outgoing none new = absurd new
 new_rings capacities (l ∷ lanes) [] outgoing none new = absurd new
@@ -68,7 +68,7 @@ new_rings capacities (l ∷ lanes) (i ∷ incoming) (o ∷ outgoing) none new =
     let few : l.lane - channel_count < channel_count = omega (arith, new.0.channel_is, number_below i.key.channel) in
     (subst (λ (n : ℕ). n ≤ max_amount) (sym new.0.capacity_is) (small 0 (l.lane - channel_count) capacities (omega (arith, few)) none), new_rings capacities lanes incoming outgoing none new.1)
 
-rings_stay : (old new : List Side) → AreSameSides old new → AllByRecursion (λ (s : Side). s.key.capacity ≤ max_amount) old → AllByRecursion (λ (s : Side). s.key.capacity ≤ max_amount) new
+rings_stay : (old new : List InboxSide) → AreSameSides old new → AllByRecursion (λ (s : InboxSide). s.key.capacity ≤ max_amount) old → AllByRecursion (λ (s : InboxSide). s.key.capacity ≤ max_amount) new
 rings_stay [] [] same all = tt
 rings_stay [] (t ∷ new) same all = absurd (cc)
 rings_stay (s ∷ old) [] same all = absurd (cc)
@@ -76,12 +76,12 @@ rings_stay (s ∷ old) (t ∷ new) same all =
     let both : origin_of s ≡ origin_of t = cc in
     (subst (λ (c : ℕ). c ≤ max_amount) (ap (λ (o : InboxId × Key). o.1.capacity) both) all.0, rings_stay old new (cc) all.1)
 
-rings_are : (config : Config) (s : SessionState) → WasPlayed config s → All (λ (side : Side). side.key.capacity ≤ max_amount) s.reading.side.inboxes
+rings_are : (config : Config) (s : SessionState) → WasPlayed config s → All (λ (side : InboxSide). side.key.capacity ≤ max_amount) s.reading.side.inboxes
 rings_are config s was =
     let began = was.began in
     let none = none_bad (first_bad config.capacities) _ was.new.lawful in
     let rings = new_rings config.capacities (drop channel_count (new_ends began.writing.drain.queue config.version)) began.reading.side.inboxes began.receiving none was.new.inboxes_new in
-    All-from_recursion (λ (side : Side). side.key.capacity ≤ max_amount) s.reading.side.inboxes (rings_stay began.reading.side.inboxes s.reading.side.inboxes was.played.same.reading.inboxes rings)
+    All-from_recursion (λ (side : InboxSide). side.key.capacity ≤ max_amount) s.reading.side.inboxes (rings_stay began.reading.side.inboxes s.reading.side.inboxes was.played.same.reading.inboxes rings)
 
 -- ---- two sessions that were new and played
 

@@ -9,7 +9,7 @@ use Rattle.lc_credit.specs.declared.history.Entry.{Entry}
 use Rattle.lc_credit.specs.Sides.{Incoming, Outgoing}
 use Rattle.lc_credit.specs.Channels.{AreSettled}
 use Rattle.lc_inbox.specs.declared.history.Entry as inbox
-use Rattle.lc_inbox.specs.Sides.{Side}
+use Rattle.lc_inbox.specs.Sides.{InboxSide}
 use Rattle.lc_inbox.specs.Inboxes.{AreFinished}
 use Rattle.lc_session.specs.Reading.{HasHeardAll}
 use Rattle.lc_session.specs.Report.{SessionState, outgoing_of, AreOfOneSession, IsReport}
@@ -36,7 +36,7 @@ credit_histories (i ∷ incoming) (o ∷ outgoing) (b ∷ balances) h = h.0.hist
 credit_histories incoming outgoing balances h = []
 
 -- the histories of the inboxes that it tells of, by channel
-abbrev pub inbox_histories : (incoming outgoing : List Side) (books : List Server) (lanes : List End) → AreFinished incoming outgoing books lanes → List (List inbox.Entry)
+abbrev pub inbox_histories : (incoming outgoing : List InboxSide) (books : List Server) (lanes : List End) → AreFinished incoming outgoing books lanes → List (List inbox.Entry)
 inbox_histories (i ∷ incoming) (o ∷ outgoing) (book ∷ books) (lane ∷ lanes) h = h.0.history ∷ inbox_histories incoming outgoing books lanes h.1
 inbox_histories incoming outgoing books lanes h = []
 
@@ -52,4 +52,4 @@ trace r h = record {
 
 -- no ring of the session is larger than so many bytes
 abbrev pub FitsRings : ℕ → Finished → Type 0
-FitsRings capacity r = All (λ (side : Side). side.key.capacity ≤ capacity) r.session.reading.side.inboxes
+FitsRings capacity r = All (λ (side : InboxSide). side.key.capacity ≤ capacity) r.session.reading.side.inboxes

@@ -8,7 +8,7 @@ use Rattle.lc_book.specs.Server.{Server, outstanding, buffered, room}
 use Rattle.lc_credit.specs.declared.balance.Balance.{Balance}
 use Rattle.lc_outbox.specs.Outbox.{OutboxState}
 use Rattle.lc_inbox.specs.History.{took}
-use Rattle.lc_inbox.specs.Sides.{Side}
+use Rattle.lc_inbox.specs.Sides.{InboxSide}
 use Rattle.lc_world.specs.Guarantee.{IsPrefix, FitsBuffer}
 use Rattle.lc_interleaving.specs.Interleaving.{Trace}
 use Rattle.lc_interleaving.specs.Finished.{Finished, IsFinished, trace}
@@ -38,7 +38,7 @@ pub record IsBalanceOf (c : Channel) (t : Trace) (b : Balance) : Type 0 where
 pub record KeepsBetween (c : Channel) (client server : Finished) (sent received : Trace) : Type 0 where
   -- the two ends, and what `finish` gave for them
   pub sender : OutboxState
-  pub receiver : Side
+  pub receiver : InboxSide
   pub balance : Balance
   pub book : Server
   pub sender_there : slice_get client.session.sending (number_of c) ≡ Some sender

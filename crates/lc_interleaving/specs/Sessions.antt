@@ -8,7 +8,7 @@ use Rattle.lc_frame.specs.Bounds.{IsCapacity}
 use Rattle.lc_frame.specs.Frame.{kind_of}
 use Rattle.lc_credit.specs.declared.history.Entry.{Entry}
 use Rattle.lc_credit.specs.declared.history.Entry.TheVariants.{Returned, Taken}
-use Rattle.lc_inbox.specs.Sides.{Side}
+use Rattle.lc_inbox.specs.Sides.{InboxSide}
 use Rattle.lc_interleaving.specs.Interleaving.{Trace, Joint, IsInterleaving}
 use Rattle.lc_interleaving.specs.History.{history_of}
 use Rattle.lc_interleaving.specs.State.{IsStateOfBoth}
@@ -62,4 +62,4 @@ pub record SomeWereOne : Type 0 where
 
 -- there are two finished sessions and an order of their steps, so that these laws speak of something
 abbrev pub PremisesCanBeMet : Type 0
-PremisesCanBeMet = TableId → Side → SomeWereOne
+PremisesCanBeMet = TableId → InboxSide → SomeWereOne

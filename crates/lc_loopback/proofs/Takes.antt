@@ -10,7 +10,7 @@ use Rattle.lc_credit.specs.declared.balance.Balance.{Balance}
 use Rattle.lc_peer.specs.declared.inbox.Take.{Take}
 use Rattle.lc_peer.specs.declared.inbox.Take.TheVariants.{Took}
 use Rattle.lc_inbox.specs.History.{took}
-use Rattle.lc_inbox.specs.Sides.{Side, IsSameSide, IsTakeAnswer}
+use Rattle.lc_inbox.specs.Sides.{InboxSide, IsSameSide, IsTakeAnswer}
 use Rattle.lc_inbox.specs.declared.rule.Key.{Key}
 use Rattle.lc_inbox.specs.Inboxes.{AreNew}
 use Rattle.lc_loopback.specs.declared.taken.Taken.{Taken}
@@ -19,19 +19,19 @@ use Rattle.lc_loopback.specs.Plan.{message, due_first, due}
 use Rattle.lc_loopback.specs.Played.{TakesAll, EachGave, HasTaken, AgreesWith, messages_of, bytes_of, messages_taken, bytes_taken}
 
 -- the message that was taken stands in the buffer
-pub takes_next : (len : ℕ) (answer : Take) (buffer filled : List ℕ) (first old new : Side) → answer ≡ Took len → took old.seen ≡ took first.seen → IsTakeAnswer answer buffer filled old new → took new.seen ≡ took first.seen ++ take len filled ∷ []
+pub takes_next : (len : ℕ) (answer : Take) (buffer filled : List ℕ) (first old new : InboxSide) → answer ≡ Took len → took old.seen ≡ took first.seen → IsTakeAnswer answer buffer filled old new → took new.seen ≡ took first.seen ++ take len filled ∷ []
 takes_next len answer buffer filled first old new is same given =
     let h = subst (λ (t : Take). IsTakeAnswer t buffer filled old new) is given in
     let there : take len filled ≡ h.0 = ap (take len) h.3 ∙ take_at h.0 (drop (length h.0) buffer) len (sym h.2) in
     h.1.took ∙ (λ i. same i ++ sym there i ∷ [])
 
 -- so many of the messages that are due were taken, of so many bytes
-pub record TookSome (p : Plan) (old new : Side) (count bytes : ℕ) : Type 0 where
+pub record TookSome (p : Plan) (old new : InboxSide) (count bytes : ℕ) : Type 0 where
   pub took_is : took new.seen ≡ took old.seen ++ due_first p old.key.channel count
   pub bytes_is : bytes ≡ sum_by length (due_first p old.key.channel count)
   pub few : bytes ≤ 65536 * count
 
-pub took_none : (p : Plan) (old new : Side) → took new.seen ≡ took old.seen → TookSome p old new 0 0
+pub took_none : (p : Plan) (old new : InboxSide) → took new.seen ≡ took old.seen → TookSome p old new 0 0
 took_none p old new same = record { took_is = same ∙ sym (append-nil (took old.seen)); bytes_is = refl; few = omega arith }
 
 pub length_due : (p : Plan) (c : Channel) (n : ℕ) → length (due_first p c n) ≡ n
@@ -41,7 +41,7 @@ length_due p c (suc n) = omega (arith, length-append (due_first p c n) (message 
 sum_more : (xs : List (List ℕ)) (x : List ℕ) → sum_by length (xs ++ x ∷ []) ≡ sum_by length xs + length x
 sum_more xs x = let one : sum_by length (x ∷ []) ≡ length x = omega arith in sum_by-append length xs (x ∷ []) ∙ ap (λ (n : ℕ). sum_by length xs + n) one
 
-pub took_one : (p : Plan) (old mid new : Side) (count bytes : ℕ) (body : List ℕ) → TookSome p old mid count bytes → took new.seen ≡ took mid.seen ++ body ∷ [] → body ≡ message p old.key.channel count → length body < 65536 → TookSome p old new (count + 1) (bytes + length body)
+pub took_one : (p : Plan) (old mid new : InboxSide) (count bytes : ℕ) (body : List ℕ) → TookSome p old mid count bytes → took new.seen ≡ took mid.seen ++ body ∷ [] → body ≡ message p old.key.channel count → length body < 65536 → TookSome p old new (count + 1) (bytes + length body)
 took_one p old mid new count bytes body h more is short =
     let next : suc count ≡ count + 1 = omega arith in
     let c = old.key.channel in
@@ -54,7 +54,7 @@ took_one p old mid new count bytes body h more is short =
     } in
     subst (λ (k : ℕ). TookSome p old new k (bytes + length body)) next one
 
-pub took_all : (p : Plan) (old mid new : Side) (bytes : ℕ) (n : Taken) → TookSome p old mid p.messages bytes → took new.seen ≡ took mid.seen → n.messages ≡ p.messages → n.bytes ≡ bytes → TakesAll p old n new
+pub took_all : (p : Plan) (old mid new : InboxSide) (bytes : ℕ) (n : Taken) → TookSome p old mid p.messages bytes → took new.seen ≡ took mid.seen → n.messages ≡ p.messages → n.bytes ≡ bytes → TakesAll p old n new
 took_all p old mid new bytes n h same messages_is bytes_is = record {
   took_is = same ∙ h.took_is;
   messages_is = messages_is;
@@ -69,16 +69,16 @@ zip_more R zero (x ∷ xs) (y ∷ ys) d e below under all one = (one, tt)
 zip_more R (suc n) (x ∷ xs) (y ∷ ys) d e below under all one = (all.0, zip_more R n xs ys d e (omega (arith, below)) (omega (arith, under)) all.1 one)
 
 -- what ends that had taken nothing took in all, and what they counted
-pub record TookOut (p : Plan) (ends : ℕ) (all : List Taken) (sides : List Side) : Type 0 where
+pub record TookOut (p : Plan) (ends : ℕ) (all : List Taken) (sides : List InboxSide) : Type 0 where
   pub have : AllByRecursion (HasTaken p) sides
   pub messages : map messages_of all ≡ map messages_taken sides
   pub counts : map messages_of all ≡ replicate ends p.messages
   pub bytes : map bytes_of all ≡ map bytes_taken sides
 
-one_took : (p : Plan) (w v : Side) (n : Taken) → took w.seen ≡ [] → IsSameSide w v → TakesAll p w n v → HasTaken p v
+one_took : (p : Plan) (w v : InboxSide) (n : Taken) → took w.seen ≡ [] → IsSameSide w v → TakesAll p w n v → HasTaken p v
 one_took p w v n none same h = h.took_is ∙ (λ i. none i ++ due p (sym same.key i).channel)
 
-pub took_out : (p : Plan) (capacities : List ℕ) (lanes : List End) (incoming outgoing : List Side) (all : List Taken) (news : List Side) → AreNew capacities lanes incoming outgoing → AllZip IsSameSide outgoing news → EachGave (TakesAll p) outgoing (map Ok all) news → TookOut p (length lanes) all news
+pub took_out : (p : Plan) (capacities : List ℕ) (lanes : List End) (incoming outgoing : List InboxSide) (all : List Taken) (news : List InboxSide) → AreNew capacities lanes incoming outgoing → AllZip IsSameSide outgoing news → EachGave (TakesAll p) outgoing (map Ok all) news → TookOut p (length lanes) all news
 took_out p cs [] [] [] [] [] new same gave = record { have = tt; messages = refl; counts = refl; bytes = refl }
 took_out p cs [] [] [] [] (v ∷ news) new same gave = absurd gave
 took_out p cs [] [] [] (n ∷ all) news new same gave = absurd gave
@@ -89,7 +89,7 @@ took_out p cs (l ∷ lanes) (i ∷ incoming) [] all news new same gave = absurd 
 took_out p cs (l ∷ lanes) (i ∷ incoming) (w ∷ outgoing) [] news new same gave = absurd gave
 took_out p cs (l ∷ lanes) (i ∷ incoming) (w ∷ outgoing) (n ∷ all) [] new same gave = absurd gave
 took_out p cs (l ∷ lanes) (i ∷ incoming) (w ∷ outgoing) (n ∷ all) (v ∷ news) new same gave =
-    let none : took w.seen ≡ [] = ap (λ (s : Side). took s.seen) new.0.one ∙ ap took new.0.seen in
+    let none : took w.seen ≡ [] = ap (λ (s : InboxSide). took s.seen) new.0.one ∙ ap took new.0.seen in
     let here = one_took p w v n none same.0 gave.0 in
     let later = took_out p cs lanes incoming outgoing all news new.1 same.1 gave.1 in
     let count : messages_taken v ≡ p.messages = ap length here ∙ length_due p v.key.channel p.messages in

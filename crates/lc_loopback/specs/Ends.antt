@@ -1,5 +1,5 @@
 -- An end with its job, as a thread has it. It serves src/sending.rt and src/taking.rt.
-use Rattle.lc_inbox.specs.Sides.{Side, IsSameSide}
+use Rattle.lc_inbox.specs.Sides.{InboxSide, IsSameSide}
 use Rattle.lc_outbox.specs.Outbox.{OutboxState, IsSameOutbox}
 use Rattle.lc_loopback.specs.declared.exchange.Exchange.{Exchange}
 use Rattle.lc_loopback.specs.declared.sending.Sender.{Sender}
@@ -12,7 +12,7 @@ abbrev pub sender_with : Exchange → OutboxState → Sender
 sender_with x o = record { end = o; exchange = x }
 
 -- this receiving end with its job
-abbrev pub taker_with : Exchange → Side → Taker
+abbrev pub taker_with : Exchange → InboxSide → Taker
 taker_with x s = record { end = s; exchange = x }
 
 -- the end that has the job
@@ -20,7 +20,7 @@ abbrev pub end_of_sender : Sender → OutboxState
 end_of_sender s = s.end
 
 -- the end that has the job
-abbrev pub end_of_taker : Taker → Side
+abbrev pub end_of_taker : Taker → InboxSide
 end_of_taker t = t.end
 
 -- it is still the same sending end

@@ -6,7 +6,7 @@ use Rattle.lc_frame.specs.Channel.{channel_count}
 use Rattle.lc_frame.specs.Stream.{messages}
 use Rattle.lc_credit.specs.declared.balance.Balance.{Balance}
 use Rattle.lc_inbox.specs.History.{took}
-use Rattle.lc_inbox.specs.Sides.{Side}
+use Rattle.lc_inbox.specs.Sides.{InboxSide}
 use Rattle.lc_outbox.specs.Outbox.{OutboxState}
 use Rattle.lc_session.specs.declared.report.Report.{Report}
 use Rattle.lc_session.specs.Report.{SessionState}
@@ -20,12 +20,12 @@ use Rattle.lc_loopback.specs.declared.taken.Taken.{Taken}
 use Rattle.lc_loopback.specs.Plan.{due, config_of}
 
 -- what an end found: a message, which is taken and stands first in the buffer, or the end of the channel
-abbrev pub TakesNext : Option ℕ → List ℕ → Side → Side → Type 0
+abbrev pub TakesNext : Option ℕ → List ℕ → InboxSide → InboxSide → Type 0
 TakesNext None buffer old new = took new.seen ≡ took old.seen
 TakesNext (Some len) buffer old new = took new.seen ≡ took old.seen ++ take len buffer ∷ []
 
 -- an end took all messages that are due, after what it had taken: so many, of so many bytes
-pub record TakesAll (p : Plan) (old : Side) (n : Taken) (new : Side) : Type 0 where
+pub record TakesAll (p : Plan) (old : InboxSide) (n : Taken) (new : InboxSide) : Type 0 where
   pub took_is : took new.seen ≡ took old.seen ++ due p old.key.channel
   pub messages_is : n.messages ≡ p.messages
   pub bytes_is : n.bytes ≡ sum_by length (due p old.key.channel)
@@ -61,15 +61,15 @@ abbrev pub HasPut : Plan → OutboxState → Type 0
 HasPut p o = messages o.channel o.lane.put ≡ due p o.channel
 
 -- an end that began new took what is due on its channel, each message once and in order
-abbrev pub HasTaken : Plan → Side → Type 0
+abbrev pub HasTaken : Plan → InboxSide → Type 0
 HasTaken p side = took side.seen ≡ due p side.key.channel
 
 -- how many messages an end took
-abbrev pub messages_taken : Side → ℕ
+abbrev pub messages_taken : InboxSide → ℕ
 messages_taken side = length (took side.seen)
 
 -- how many bytes the messages have that an end took
-abbrev pub bytes_taken : Side → ℕ
+abbrev pub bytes_taken : InboxSide → ℕ
 bytes_taken side = sum_by length (took side.seen)
 
 -- a balance adds up, and so many bytes were spent

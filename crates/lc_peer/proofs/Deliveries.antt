@@ -11,11 +11,11 @@ use Rattle.lc_frame.specs.declared.frame.Frame.{Frame}
 use Rattle.lc_frame.specs.declared.frame_fault.FrameFault.{FrameFault}
 use Rattle.lc_frame.specs.declared.version.Version.{Version}
 use Rattle.lc_frame.specs.Encoding.{encoding, FrameStands}
-use Rattle.lc_frame.specs.Held.{Held, held_in, fed, before, front, IsValidIn, encoding_in, HasFrame, HasFault, IsUndecided, IsSettled}
+use Rattle.lc_frame.specs.Stored.{Stored, stored_in, fed, before, front, IsValidIn, encoding_in, HasFrame, HasFault, IsUndecided, IsSettled}
 use Rattle.lc_frame.specs.Splits.{frames_of, rest_of}
 use Rattle.lc_frame.proofs.Bytes.{IsBytes}
 use Rattle.lc_frame.proofs.Fronts.{bytes_from}
-use Rattle.lc_frame.proofs.Held.{fed_fed, fed_nothing, fed_settled, fed_short, fed_fits, each_fed, nothing_in, before_fed, before_append, has_fault_goes_on, has_never_both}
+use Rattle.lc_frame.proofs.Stored.{fed_fed, fed_nothing, fed_settled, fed_short, fed_fits, each_fed, nothing_in, before_fed, before_append, has_fault_goes_on, has_never_both}
 use Rattle.lc_frame.proofs.SplitLaws.{split_law}
 use Rattle.lc_frame.proofs.Frames.{computed_split, joined_law}
 use Rattle.lc_book.specs.declared.fault.Violation.{Violation}
@@ -40,20 +40,20 @@ front_fits v piece f used s e = omega (arith, e, ap length s.is, length-append (
 one_in : (version : Option Version) (f : Frame) → flat_map (encoding_in version) (f ∷ []) ≡ encoding_in version f
 one_in version f = flat_map-cons (encoding_in version) f [] ∙ append-nil (encoding_in version f)
 
-pub one_whole : (v : Version) (piece : List ℕ) (f : Frame) (used : ℕ) (h : Held) → h ≡ held_in v [] → FrameStands v f piece → used ≡ length (encoding v f) → fed h (take used piece) ≡ before (f ∷ []) h
+pub one_whole : (v : Version) (piece : List ℕ) (f : Frame) (used : ℕ) (h : Stored) → h ≡ stored_in v [] → FrameStands v f piece → used ≡ length (encoding v f) → fed h (take used piece) ≡ before (f ∷ []) h
 one_whole v piece f used h e s len =
-    let here : held_in v (take used piece) ≡ before (f ∷ []) (held_in v []) =
-    ap (λ (x : List ℕ). held_in v x) (front_of v piece f used s len ∙ sym (one_in (Some v) f) ∙ sym (append-nil (flat_map (encoding v) (f ∷ [])))) in
-    subst (λ (x : Held). fed x (take used piece) ≡ before (f ∷ []) x) (sym e) here
+    let here : stored_in v (take used piece) ≡ before (f ∷ []) (stored_in v []) =
+    ap (λ (x : List ℕ). stored_in v x) (front_of v piece f used s len ∙ sym (one_in (Some v) f) ∙ sym (append-nil (flat_map (encoding v) (f ∷ [])))) in
+    subst (λ (x : Stored). fed x (take used piece) ≡ before (f ∷ []) x) (sym e) here
 
 -- a frame that is all that is held
-pub one_held : (f : Frame) (h h' : Held) → h.bytes ≡ encoding_in h.version f → h' ≡ record { version = h.version; bytes = [] } → h ≡ before (f ∷ []) h'
+pub one_held : (f : Frame) (h h' : Stored) → h.bytes ≡ encoding_in h.version f → h' ≡ record { version = h.version; bytes = [] } → h ≡ before (f ∷ []) h'
 one_held f h h' whole cleared =
     let bytes : h.bytes ≡ flat_map (encoding_in h.version) (f ∷ []) ++ [] = whole ∙ sym (one_in h.version f) ∙ sym (append-nil (flat_map (encoding_in h.version) (f ∷ []))) in
     ap (λ (x : List ℕ). record { version = h.version; bytes = x }) bytes ∙ ap (before (f ∷ [])) (sym cleared)
 
 -- what a delivery has done so far
-pub record SoFar {T : Type 0} (arrives : T → Frame → T → Type 0) (p : T) (held : Held) (piece : List ℕ) (p' : T) (held' : Held) (taken frames : ℕ) : Type 0 where
+pub record SoFar {T : Type 0} (arrives : T → Frame → T → Type 0) (p : T) (held : Stored) (piece : List ℕ) (p' : T) (held' : Stored) (taken frames : ℕ) : Type 0 where
   pub fs : List Frame
   pub each : AllByRecursion (IsValidIn held'.version) fs
   pub arrived : AllArrive arrives p fs p'
@@ -63,7 +63,7 @@ pub record SoFar {T : Type 0} (arrives : T → Frame → T → Type 0) (p : T) (
   pub few : frames ≤ taken + 1
   pub emptied : 0 < frames + taken → held'.bytes ≡ []
 
-pub nothing_yet : {T : Type 0} (arrives : T → Frame → T → Type 0) (p : T) (held : Held) (piece : List ℕ) → IsSettled held → SoFar arrives p held piece p held 0 0
+pub nothing_yet : {T : Type 0} (arrives : T → Frame → T → Type 0) (p : T) (held : Stored) (piece : List ℕ) → IsSettled held → SoFar arrives p held piece p held 0 0
 nothing_yet arrives p held piece settled = record {
   fs = [];
   each = tt;
@@ -80,12 +80,12 @@ valid_push version [] f h v = (v, tt)
 valid_push version (g ∷ fs) f h v = (h.0, valid_push version fs f h.1 v)
 
 -- what is taken, one step further
-pub then_taken : (held : Held) (piece : List ℕ) (held' : Held) (fs : List Frame) (taken count : ℕ) → AllByRecursion (IsValidIn held'.version) fs → fed held (take taken piece) ≡ before fs held'
+pub then_taken : (held : Stored) (piece : List ℕ) (held' : Stored) (fs : List Frame) (taken count : ℕ) → AllByRecursion (IsValidIn held'.version) fs → fed held (take taken piece) ≡ before fs held'
     → fed held (take (taken + count) piece) ≡ before fs (fed held' (take count (drop taken piece)))
 then_taken held piece held' fs taken count each e =
     ap (fed held) (take-add taken count piece)
     ∙ sym (fed_fed held (take taken piece) (take count (drop taken piece)))
-    ∙ ap (λ (h : Held). fed h (take count (drop taken piece))) e
+    ∙ ap (λ (h : Stored). fed h (take count (drop taken piece))) e
     ∙ before_fed fs held' (take count (drop taken piece)) each
 
 valid_long : (version : Option Version) (f : Frame) → IsValidIn version f → 0 < length (encoding_in version f)
@@ -93,14 +93,14 @@ valid_long None f valid = absurd valid
 valid_long (Some v) f valid = omega arith
 
 -- a frame that came took a byte, or was held
-pub took_some : {T : Type 0} (arrives : T → Frame → T → Type 0) (p : T) (held : Held) (piece : List ℕ) (p' : T) (held' : Held) (count : ℕ) → FrameArrives arrives p held piece p' held' count → 0 < length held.bytes + count
+pub took_some : {T : Type 0} (arrives : T → Frame → T → Type 0) (p : T) (held : Stored) (piece : List ℕ) (p' : T) (held' : Stored) (count : ℕ) → FrameArrives arrives p held piece p' held' count → 0 < length held.bytes + count
 took_some arrives p held piece p' held' count a =
-    let size : length (fed held (take count piece)).bytes ≡ length (flat_map (encoding_in held'.version) (a.frame ∷ []) ++ held'.bytes) = ap (λ (h : Held). length h.bytes) a.whole in
+    let size : length (fed held (take count piece)).bytes ≡ length (flat_map (encoding_in held'.version) (a.frame ∷ []) ++ held'.bytes) = ap (λ (h : Stored). length h.bytes) a.whole in
     omega (arith, size, length-append (flat_map (encoding_in held'.version) (a.frame ∷ [])) held'.bytes, ap length (one_in held'.version a.frame), valid_long held'.version a.frame a.valid, fed_short held (take count piece), length-take-le count piece a.within)
 
-pub one_more : {T : Type 0} (arrives : T → Frame → T → Type 0) (p : T) (held : Held) (piece : List ℕ) (p1 : T) (h1 : Held) (taken frames : ℕ) (p2 : T) (h2 : Held) (count : ℕ) → SoFar arrives p held piece p1 h1 taken frames → FrameArrives arrives p1 h1 (drop taken piece) p2 h2 count → count ≤ length piece - taken → SoFar arrives p held piece p2 h2 (taken + count) (frames + 1)
+pub one_more : {T : Type 0} (arrives : T → Frame → T → Type 0) (p : T) (held : Stored) (piece : List ℕ) (p1 : T) (h1 : Stored) (taken frames : ℕ) (p2 : T) (h2 : Stored) (count : ℕ) → SoFar arrives p held piece p1 h1 taken frames → FrameArrives arrives p1 h1 (drop taken piece) p2 h2 count → count ≤ length piece - taken → SoFar arrives p held piece p2 h2 (taken + count) (frames + 1)
 one_more arrives p held piece p1 h1 taken frames p2 h2 count s a fits =
-    let version : (fed h1 (take count (drop taken piece))).version ≡ h2.version = ap (λ (h : Held). h.version) a.whole in
+    let version : (fed h1 (take count (drop taken piece))).version ≡ h2.version = ap (λ (h : Stored). h.version) a.whole in
     let each : AllByRecursion (IsValidIn h2.version) s.fs = subst (λ (o : Option Version). AllByRecursion (IsValidIn o) s.fs) version (each_fed s.fs h1 (take count (drop taken piece)) s.each) in
     record {
       fs = s.fs ++ a.frame ∷ [];
@@ -122,35 +122,35 @@ settled_in None bytes f valid = absurd valid
 settled_in (Some v) bytes f valid = refl
 
 -- where it ends
-module _ {T : Type 0} (arrives : T → Frame → T → Type 0) (violates : Violation → T → Frame → T → Type 0) (p : T) (held : Held) (piece : List ℕ) (p1 : T) (h1 : Held) (taken frames : ℕ) (s : SoFar arrives p held piece p1 h1 taken frames) where
+module _ {T : Type 0} (arrives : T → Frame → T → Type 0) (violates : Violation → T → Frame → T → Type 0) (p : T) (held : Stored) (piece : List ℕ) (p1 : T) (h1 : Stored) (taken frames : ℕ) (s : SoFar arrives p held piece p1 h1 taken frames) where
   -- the text is the frames that arrived, what is held and what is left of the piece
-  text : (h2 : Held) (count : ℕ) → h2 ≡ fed h1 (take count (drop taken piece)) → fed held piece ≡ before s.fs (fed h2 (drop count (drop taken piece)))
+  text : (h2 : Stored) (count : ℕ) → h2 ≡ fed h1 (take count (drop taken piece)) → fed held piece ≡ before s.fs (fed h2 (drop count (drop taken piece)))
   text h2 count e =
       ap (fed held) (sym (take-append-drop taken piece))
       ∙ sym (fed_fed held (take taken piece) (drop taken piece))
-      ∙ ap (λ (h : Held). fed h (drop taken piece)) s.bytes
+      ∙ ap (λ (h : Stored). fed h (drop taken piece)) s.bytes
       ∙ before_fed s.fs h1 (drop taken piece) s.each
       ∙ ap (before s.fs)
       (ap (fed h1) (sym (take-append-drop count (drop taken piece)))
       ∙ sym (fed_fed h1 (take count (drop taken piece)) (drop count (drop taken piece)))
-      ∙ ap (λ (h : Held). fed h (drop count (drop taken piece))) (sym e))
+      ∙ ap (λ (h : Stored). fed h (drop count (drop taken piece))) (sym e))
 
-  held_is : (h2 : Held) (count : ℕ) → h2 ≡ fed h1 (take count (drop taken piece)) → fed held (take (taken + count) piece) ≡ before s.fs h2
+  held_is : (h2 : Stored) (count : ℕ) → h2 ≡ fed h1 (take count (drop taken piece)) → fed held (take (taken + count) piece) ≡ before s.fs h2
   held_is h2 count e = then_taken held piece h1 s.fs taken count s.each s.bytes ∙ ap (before s.fs) (sym e)
 
-  each_later : (more : List ℕ) (h2 : Held) → h2 ≡ fed h1 more → AllByRecursion (IsValidIn h2.version) s.fs
-  each_later more h2 e = subst (λ (h : Held). AllByRecursion (IsValidIn h.version) s.fs) (sym e) (each_fed s.fs h1 more s.each)
+  each_later : (more : List ℕ) (h2 : Stored) → h2 ≡ fed h1 more → AllByRecursion (IsValidIn h2.version) s.fs
+  each_later more h2 e = subst (λ (h : Stored). AllByRecursion (IsValidIn h.version) s.fs) (sym e) (each_fed s.fs h1 more s.each)
 
   first_frames : (gs : List Frame) → frames_of (fed held piece) ≡ s.fs ++ gs → take frames (frames_of (fed held piece)) ≡ s.fs
   first_frames gs e = ap (λ (n : ℕ). take n (frames_of (fed held piece))) s.count ∙ (ap (take (length s.fs)) e ∙ take-append_seam s.fs gs)
 
   -- no frame stands at the front of the rest: all frames arrived
-  module _ (p2 : T) (rest : Held) (fits : IsBytes (fed held piece).bytes) (e : fed held piece ≡ before s.fs rest) (each : AllByRecursion (IsValidIn rest.version) s.fs) (none : (f : Frame) → ¬ HasFrame f rest) (same : p2 ≡ p1) where
+  module _ (p2 : T) (rest : Stored) (fits : IsBytes (fed held piece).bytes) (e : fed held piece ≡ before s.fs rest) (each : AllByRecursion (IsValidIn rest.version) s.fs) (none : (f : Frame) → ¬ HasFrame f rest) (same : p2 ≡ p1) where
     splits : (s.fs ≡ frames_of (fed held piece)) × (rest ≡ rest_of (fed held piece))
-    splits = subst (λ (h : Held). (s.fs ≡ frames_of h) × (rest ≡ rest_of h)) (sym e) at
+    splits = subst (λ (h : Stored). (s.fs ≡ frames_of h) × (rest ≡ rest_of h)) (sym e) at
       where
         both : (s.fs ≡ frames_of (before s.fs rest)) × (rest.bytes ≡ (rest_of (before s.fs rest)).bytes)
-        both = split_law rest.version s.fs (frames_of (before s.fs rest)) (before s.fs rest).bytes rest.bytes (rest_of (before s.fs rest)).bytes (record { whole = refl; each = each; partial = none }) (computed_split (before s.fs rest) (subst (λ (h : Held). IsBytes h.bytes) e fits))
+        both = split_law rest.version s.fs (frames_of (before s.fs rest)) (before s.fs rest).bytes rest.bytes (rest_of (before s.fs rest)).bytes (record { whole = refl; each = each; partial = none }) (computed_split (before s.fs rest) (subst (λ (h : Stored). IsBytes h.bytes) e fits))
 
         at : (s.fs ≡ frames_of (before s.fs rest)) × (rest ≡ rest_of (before s.fs rest))
         at = (both.0, ap (λ (x : List ℕ). record { version = rest.version; bytes = x }) both.1)
@@ -166,7 +166,7 @@ module _ {T : Type 0} (arrives : T → Frame → T → Type 0) (violates : Viola
     all_first : take frames (frames_of (fed held piece)) ≡ s.fs
     all_first = first_frames [] (sym splits.0 ∙ sym (append-nil s.fs))
 
-  pub ends_open : (p2 : T) (h2 : Held) (count : ℕ) → IsBytes (fed held piece).bytes → StaysOpen p1 h1 (drop taken piece) p2 h2 count → DeliversTo arrives violates p held piece p2 h2 (record { taken = taken + count; frames = frames; stop = None })
+  pub ends_open : (p2 : T) (h2 : Stored) (count : ℕ) → IsBytes (fed held piece).bytes → StaysOpen p1 h1 (drop taken piece) p2 h2 count → DeliversTo arrives violates p held piece p2 h2 (record { taken = taken + count; frames = frames; stop = None })
   ends_open p2 h2 count fits o =
       let left : count + taken ≡ length piece = omega (arith, o.all, length-drop taken piece, s.within) in
       let same : h2 ≡ fed h1 (take count (drop taken piece)) = o.grown ∙ ap (fed h1) (sym (take_all count (drop taken piece) (omega (arith, o.all)))) in
@@ -194,7 +194,7 @@ module _ {T : Type 0} (arrives : T → Frame → T → Type 0) (violates : Viola
       } in
       subst (λ (n : ℕ). DeliversTo arrives violates p held piece p1 h1 (record { taken = n; frames = frames; stop = None })) (omega arith) (ends_open p1 h1 0 fits still)
 
-  ends_in_fault : (fault : FrameFault) (p2 : T) (h2 : Held) (count : ℕ) → IsBytes (fed held piece).bytes → FaultComes fault p1 h1 (drop taken piece) p2 h2 count → DeliversTo arrives violates p held piece p2 h2 (record { taken = taken + count; frames = frames; stop = Some (Fault fault) })
+  ends_in_fault : (fault : FrameFault) (p2 : T) (h2 : Stored) (count : ℕ) → IsBytes (fed held piece).bytes → FaultComes fault p1 h1 (drop taken piece) p2 h2 count → DeliversTo arrives violates p held piece p2 h2 (record { taken = taken + count; frames = frames; stop = Some (Fault fault) })
   ends_in_fault fault p2 h2 count fits o =
       let empty : 0 < taken → h1.bytes ≡ [] = λ some. s.emptied (omega (arith, some)) in
       let more = drop count (drop taken piece) in
@@ -204,7 +204,7 @@ module _ {T : Type 0} (arrives : T → Frame → T → Type 0) (violates : Viola
       let e = text h2 count o.grown in
       let each : AllByRecursion (IsValidIn rest.version) s.fs = each_fed s.fs h2 more (each_later (take count (drop taken piece)) h2 o.grown) in
       let left : count ≤ length piece - taken = omega (arith, o.within, length-drop taken piece) in
-      let short : length h2.bytes ≤ length h1.bytes + count = omega (arith, ap (λ (h : Held). length h.bytes) o.grown, fed_short h1 (take count (drop taken piece)), length-take-le count (drop taken piece) o.within) in
+      let short : length h2.bytes ≤ length h1.bytes + count = omega (arith, ap (λ (h : Stored). length h.bytes) o.grown, fed_short h1 (take count (drop taken piece)), length-take-le count (drop taken piece) o.within) in
       let some : 0 < taken + count → (k : ℕ) → k < length h2.bytes → IsUndecided (front k h2) = shortest_of taken count h1 h2 short empty o.shortest in
       record {
         came = all_came p2 rest fits e each none o.same;
@@ -213,17 +213,17 @@ module _ {T : Type 0} (arrives : T → Frame → T → Type 0) (violates : Viola
         leaves = record { stands = subst (HasFault fault) (rest_is p2 rest fits e each none o.same) stands; known = o.known; shortest = some };
       }
     where
-      shortest_of : (taken count : ℕ) (h1 h2 : Held) → length h2.bytes ≤ length h1.bytes + count → (0 < taken → h1.bytes ≡ []) → (0 < count → (k : ℕ) → k < length h2.bytes → IsUndecided (front k h2)) → 0 < taken + count → (k : ℕ) → k < length h2.bytes → IsUndecided (front k h2)
+      shortest_of : (taken count : ℕ) (h1 h2 : Stored) → length h2.bytes ≤ length h1.bytes + count → (0 < taken → h1.bytes ≡ []) → (0 < count → (k : ℕ) → k < length h2.bytes → IsUndecided (front k h2)) → 0 < taken + count → (k : ℕ) → k < length h2.bytes → IsUndecided (front k h2)
       shortest_of taken zero h1 h2 short empty shortest some k less = absurd (let none : length h1.bytes ≡ 0 = ap length (empty (omega arith)) in omega (arith, short, none, less))
       shortest_of taken (suc n) h1 h2 short empty shortest some k less = shortest (omega arith) k less
 
-  ends_violated : (v : Violation) (p2 : T) (h2 : Held) (count : ℕ) → FrameViolates violates v p1 h1 (drop taken piece) p2 h2 count → DeliversTo arrives violates p held piece p2 h2 (record { taken = taken + count; frames = frames; stop = Some (Violated v) })
+  ends_violated : (v : Violation) (p2 : T) (h2 : Stored) (count : ℕ) → FrameViolates violates v p1 h1 (drop taken piece) p2 h2 count → DeliversTo arrives violates p held piece p2 h2 (record { taken = taken + count; frames = frames; stop = Some (Violated v) })
   ends_violated v p2 h2 count o =
       let more = drop count (drop taken piece) in
-      let empty : Held = record { version = h2.version; bytes = [] } in
+      let empty : Stored = record { version = h2.version; bytes = [] } in
       let one : h2 ≡ before (o.frame ∷ []) empty = one_held o.frame h2 empty o.whole refl in
       let valid : AllByRecursion (IsValidIn h2.version) (o.frame ∷ []) = (o.valid, tt) in
-      let behind : fed h2 more ≡ before (o.frame ∷ []) (fed empty more) = ap (λ (h : Held). fed h more) one ∙ before_fed (o.frame ∷ []) empty more valid in
+      let behind : fed h2 more ≡ before (o.frame ∷ []) (fed empty more) = ap (λ (h : Stored). fed h more) one ∙ before_fed (o.frame ∷ []) empty more valid in
       let e : fed held piece ≡ before s.fs (before (o.frame ∷ []) (fed empty more)) = text h2 count o.grown ∙ ap (before s.fs) behind in
       let each : AllByRecursion (IsValidIn (fed empty more).version) s.fs = each_fed s.fs empty more (each_later (take count (drop taken piece)) h2 o.grown) in
       let first : frames_of (before (o.frame ∷ []) (fed empty more)) ≡ o.frame ∷ frames_of (fed empty more) = (joined_law (o.frame ∷ []) (fed empty more) (each_fed (o.frame ∷ []) empty more valid)).0 in
@@ -239,7 +239,7 @@ module _ {T : Type 0} (arrives : T → Frame → T → Type 0) (violates : Viola
         leaves = ap (option_map (encoding_in h2.version)) next ∙ ap Some (sym o.whole);
       }
 
-  pub ends_stopped : (stop : Stop) (p2 : T) (h2 : Held) (count : ℕ) → IsBytes (fed held piece).bytes → Steps arrives violates (Stopped stop count) p1 h1 (drop taken piece) p2 h2 → DeliversTo arrives violates p held piece p2 h2 (record { taken = taken + count; frames = frames; stop = Some stop })
+  pub ends_stopped : (stop : Stop) (p2 : T) (h2 : Stored) (count : ℕ) → IsBytes (fed held piece).bytes → Steps arrives violates (Stopped stop count) p1 h1 (drop taken piece) p2 h2 → DeliversTo arrives violates p held piece p2 h2 (record { taken = taken + count; frames = frames; stop = Some stop })
   ends_stopped (Fault fault) p2 h2 count fits o = ends_in_fault fault p2 h2 count fits o
   ends_stopped (Violated v) p2 h2 count fits o = ends_violated v p2 h2 count o
 
@@ -247,11 +247,11 @@ module _ {T : Type 0} (arrives : T → Frame → T → Type 0) (violates : Viola
 pub all_bytes : (held piece : List ℕ) → All (λ b. b < 256) held → IsBytes piece → All (λ b. b < 256) (held ++ piece)
 all_bytes held piece h p = All-append (λ (b : ℕ). b < 256) held piece h (λ k d less. subst (λ (n : ℕ). n < 256) (get_or_default piece k 0 d less) (p k))
 
-pub fed_bytes : (held : Held) (piece : List ℕ) → All (λ b. b < 256) held.bytes → IsBytes piece → IsBytes (fed held piece).bytes
+pub fed_bytes : (held : Stored) (piece : List ℕ) → All (λ b. b < 256) held.bytes → IsBytes piece → IsBytes (fed held piece).bytes
 fed_bytes held piece h p = fed_fits held piece (bytes_from (held.bytes ++ piece) (all_bytes held.bytes piece h p))
 
 -- a delivery to a peer
-stops_by : (p q : PeerState) (text : Held) (piece : List ℕ) (held : Held) (taken n : ℕ) (stop : Option Stop) → ArriveUpTo Arrives Violates p (frames_of text) n (violation_of stop) q → Leaves stop text piece held taken n → StopsBy stop (record { count = n; peer = q; violation = violation_of stop }) text piece held taken
+stops_by : (p q : PeerState) (text : Stored) (piece : List ℕ) (held : Stored) (taken n : ℕ) (stop : Option Stop) → ArriveUpTo Arrives Violates p (frames_of text) n (violation_of stop) q → Leaves stop text piece held taken n → StopsBy stop (record { count = n; peer = q; violation = violation_of stop }) text piece held taken
 stops_by p q text piece held taken n None came h = record { lawful = refl; all = h.all; rest = h.rest; undecided = h.undecided }
 stops_by p q text piece held taken n (Some (Violated v)) came h =
     let next = came.next in
@@ -259,7 +259,7 @@ stops_by p q text piece held taken n (Some (Violated v)) came h =
     record { violates = refl; frame = next.0; next = next.1; whole = cc }
 stops_by p q text piece held taken n (Some (Fault fault)) came h = record { lawful = refl; stands = h.stands; known = h.known; shortest = h.shortest }
 
-pub delivers : (p q : PeerState) (held : Held) (piece : List ℕ) (held' : Held) (d : Delivery) → DeliversTo Arrives Violates p held piece q held' d → Delivers p held piece q held' d
+pub delivers : (p q : PeerState) (held : Stored) (piece : List ℕ) (held' : Stored) (d : Delivery) → DeliversTo Arrives Violates p held piece q held' d → Delivers p held piece q held' d
 delivers p q held piece held' d h =
     let e = came p q (frames_of (fed held piece)) d.frames (violation_of d.stop) h.came in
     record {

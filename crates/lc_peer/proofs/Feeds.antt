@@ -7,12 +7,12 @@ use Rattle.lc_frame.specs.declared.version.Version.{Version}
 use Rattle.lc_frame.specs.declared.frame.Frame.{Frame}
 use Rattle.lc_frame.specs.declared.frame_fault.FrameFault.{FrameFault}
 use Rattle.lc_frame.specs.Encoding.{encoding, FrameStands}
-use Rattle.lc_frame.specs.Held.{Held, held_in, fed, front, HasFrame, HasFault, IsUndecided, IsDecided}
+use Rattle.lc_frame.specs.Stored.{Stored, stored_in, fed, front, HasFrame, HasFault, IsUndecided, IsDecided}
 use Rattle.lc_frame.specs.Progress.{Feeds}
-use Rattle.lc_frame.proofs.Held.{fed_fed, fed_settled, has_frame_goes_on, has_fault_goes_on, has_one_frame, has_one_fault, has_never_both, one_more_front}
+use Rattle.lc_frame.proofs.Stored.{fed_fed, fed_settled, has_frame_goes_on, has_fault_goes_on, has_one_frame, has_one_fault, has_never_both, one_more_front}
 use Rattle.lc_frame.proofs.Openings.{undecided_not}
 
-known_goes_on : (h : Held) (ys : List ℕ) → IsDecided h → IsUndecided (fed h ys) → ⊥
+known_goes_on : (h : Stored) (ys : List ℕ) → IsDecided h → IsUndecided (fed h ys) → ⊥
 known_goes_on h ys (inl k) o = o.no_frame k.0 (has_frame_goes_on k.0 h ys k.1)
 known_goes_on h ys (inr k) o = o.no_fault k.0 (has_fault_goes_on k.0 h ys k.1)
 
@@ -25,9 +25,9 @@ last_of n piece some le = one (take 1 (drop (n - 1) piece)) (take (n - 1) piece)
     one (b ∷ []) front all e len = (b, e)
     one (b ∷ c ∷ xs) front all e len = absurd (omega (arith, len))
 
-module _ (old new : Held) (piece : List ℕ) (n : ℕ) (feeds : Feeds old new piece n) where
+module _ (old new : Stored) (piece : List ℕ) (n : ℕ) (feeds : Feeds old new piece n) where
   whole : fed new (drop n piece) ≡ fed old piece
-  whole = ap (λ (h : Held). fed h (drop n piece)) feeds.held ∙ fed_fed old (take n piece) (drop n piece) ∙ ap (fed old) (take-append-drop n piece)
+  whole = ap (λ (h : Stored). fed h (drop n piece)) feeds.held ∙ fed_fed old (take n piece) (drop n piece) ∙ ap (fed old) (take-append-drop n piece)
 
   pub ends : n ≡ length piece → new ≡ fed old piece
   ends e = feeds.held ∙ ap (fed old) (take_all n piece (omega arith))
@@ -65,11 +65,11 @@ module _ (old new : Held) (piece : List ℕ) (n : ℕ) (feeds : Feeds old new pi
       let last = last_of n piece some feeds.count in
       let before = fed old (take (n - 1) piece) in
       let is : new ≡ fed before (last.0 ∷ []) = feeds.held ∙ ap (fed old) last.1 ∙ sym (fed_fed old (take (n - 1) piece) (last.0 ∷ [])) in
-      subst (λ (h : Held). IsUndecided (front k h)) (sym is)
-      (one_more_front before last.0 k (fed_settled old (take (n - 1) piece)) (feeds.shortest (n - 1) (omega (arith, some))) (subst (λ (h : Held). k < length h.bytes) is less))
+      subst (λ (h : Stored). IsUndecided (front k h)) (sym is)
+      (one_more_front before last.0 k (fed_settled old (take (n - 1) piece)) (feeds.shortest (n - 1) (omega (arith, some))) (subst (λ (h : Stored). k < length h.bytes) is less))
 
 -- where nothing was held, a frame at the front is taken and nothing else
-module _ (v : Version) (new : Held) (piece : List ℕ) (n : ℕ) (feeds : Feeds (held_in v []) new piece n) (f : Frame) (stands : FrameStands v f piece) where
+module _ (v : Version) (new : Stored) (piece : List ℕ) (n : ℕ) (feeds : Feeds (stored_in v []) new piece n) (f : Frame) (stands : FrameStands v f piece) where
   fits : length (encoding v f) ≤ length piece
   fits = omega (arith, ap length stands.is, length-append (encoding v f) stands.rest)
 
@@ -79,18 +79,18 @@ module _ (v : Version) (new : Held) (piece : List ℕ) (n : ℕ) (feeds : Feeds 
   stands_alone : FrameStands v f (take (length (encoding v f)) piece)
   stands_alone = record { valid = stands.valid; rest = []; is = front_is ∙ sym (append-nil (encoding v f)) }
 
-  no_less_frame : (g : Frame) → HasFrame g (held_in v (take n piece)) → n < length (encoding v f) → ⊥
+  no_less_frame : (g : Frame) → HasFrame g (stored_in v (take n piece)) → n < length (encoding v f) → ⊥
   no_less_frame g k less =
-      let there : FrameStands v g piece = subst (λ (x : List ℕ). FrameStands v g x) (take-append-drop n piece) (has_frame_goes_on g (held_in v (take n piece)) (drop n piece) k) in
-      let same : g ≡ f = has_one_frame g f (held_in v piece) there stands in
+      let there : FrameStands v g piece = subst (λ (x : List ℕ). FrameStands v g x) (take-append-drop n piece) (has_frame_goes_on g (stored_in v (take n piece)) (drop n piece) k) in
+      let same : g ≡ f = has_one_frame g f (stored_in v piece) there stands in
       omega (arith, ap length k.is, length-append (encoding v g) k.rest, length-take-le n piece feeds.count, ap (λ (h : Frame). length (encoding v h)) same, less)
 
-  no_less_fault : (e : FrameFault) → HasFault e (held_in v (take n piece)) → ⊥
+  no_less_fault : (e : FrameFault) → HasFault e (stored_in v (take n piece)) → ⊥
   no_less_fault e k =
-      let there : HasFault e (held_in v piece) = subst (λ (x : List ℕ). HasFault e (held_in v x)) (take-append-drop n piece) (has_fault_goes_on e (held_in v (take n piece)) (drop n piece) k) in
-      has_never_both f e (held_in v piece) stands there
+      let there : HasFault e (stored_in v piece) = subst (λ (x : List ℕ). HasFault e (stored_in v x)) (take-append-drop n piece) (has_fault_goes_on e (stored_in v (take n piece)) (drop n piece) k) in
+      has_never_both f e (stored_in v piece) stands there
 
-  no_less : IsDecided (held_in v (take n piece)) → n < length (encoding v f) → ⊥
+  no_less : IsDecided (stored_in v (take n piece)) → n < length (encoding v f) → ⊥
   no_less (inl k) less = no_less_frame k.0 k.1 less
   no_less (inr k) less = no_less_fault k.0 k.1
 
@@ -103,9 +103,9 @@ module _ (v : Version) (new : Held) (piece : List ℕ) (n : ℕ) (feeds : Feeds 
     ]
   ]
 
-  pub holds_frame : new ≡ held_in v (encoding v f)
-  holds_frame = feeds.held ∙ ap (λ (x : List ℕ). held_in v x) (ap (λ (m : ℕ). take m piece) takes_frame ∙ front_is)
+  pub holds_frame : new ≡ stored_in v (encoding v f)
+  holds_frame = feeds.held ∙ ap (λ (x : List ℕ). stored_in v x) (ap (λ (m : ℕ). take m piece) takes_frame ∙ front_is)
 
 -- the same where what is held is so
-pub from_nothing : (v : Version) (old new : Held) (piece : List ℕ) (n : ℕ) → old ≡ held_in v [] → Feeds old new piece n → Feeds (held_in v []) new piece n
-from_nothing v old new piece n e feeds = subst (λ (h : Held). Feeds h new piece n) e feeds
+pub from_nothing : (v : Version) (old new : Stored) (piece : List ℕ) (n : ℕ) → old ≡ stored_in v [] → Feeds old new piece n → Feeds (stored_in v []) new piece n
+from_nothing v old new piece n e feeds = subst (λ (h : Stored). Feeds h new piece n) e feeds

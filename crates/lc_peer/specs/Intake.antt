@@ -1,7 +1,7 @@
 -- What an intake holds, and what the end of its stream means. These rules are this project's own.
 use Rattle.std.specs.Prelude.{◌≡◌, [], Option, Some, None}
 use Rattle.lc_frame.specs.declared.frame_fault.FrameFault.TheVariants.{Truncated}
-use Rattle.lc_frame.specs.Held.{Held, IsUndecided}
+use Rattle.lc_frame.specs.Stored.{Stored, IsUndecided}
 use Rattle.lc_frame.specs.StreamDecoder.{IsPart}
 use Rattle.lc_peer.specs.declared.delivery.Delivery.{Delivery}
 use Rattle.lc_peer.specs.declared.delivery.Stop.{Stop}
@@ -9,11 +9,11 @@ use Rattle.lc_peer.specs.declared.delivery.Stop.TheVariants.{Fault}
 
 -- what is held after the last frame that arrived, and why the stream was given up, if it was
 pub record IntakeState : Type 0 where
-  pub held : Held
+  pub held : Stored
   pub stop : Option Stop
 
 -- what every intake keeps: before a stop neither a frame nor a fault stands at the front of what is held
-abbrev pub IsOpenUnlessStopped : Held → Option Stop → Type 0
+abbrev pub IsOpenUnlessStopped : Stored → Option Stop → Type 0
 IsOpenUnlessStopped held stop = stop ≡ None → IsUndecided held
 
 -- a stream that was given up takes nothing, and answers the same for good
@@ -21,13 +21,13 @@ abbrev pub GivesUp : Stop → Delivery → Type 0
 GivesUp stop d = d ≡ record { taken = 0; frames = 0; stop = Some stop }
 
 -- the end of a stream that goes on: nothing between two frames, Truncated inside one or inside a greeting
-abbrev pub EndsHere : Option Stop → Held → Type 0
+abbrev pub EndsHere : Option Stop → Stored → Type 0
 EndsHere None held = held.bytes ≡ []
 EndsHere (Some (Fault Truncated)) held = IsPart held
 EndsHere end held = ⊥
 
 -- the end of a stream: why it was given up, if it was
-abbrev pub EndsAfter : Option Stop → Option Stop → Held → Type 0
+abbrev pub EndsAfter : Option Stop → Option Stop → Stored → Type 0
 EndsAfter (Some stop) end held = end ≡ Some stop
 EndsAfter None end held = EndsHere end held
 

@@ -2,14 +2,14 @@
 use Rattle.std.specs.Prelude.{◌≡◌, ℕ, ◌<◌, ◌≤◌, List, [], ◌∷◌, length, take}
 use Rattle.lc_frame.specs.declared.frame.Frame.{Frame}
 use Rattle.lc_frame.specs.declared.frame_fault.FrameFault.{FrameFault}
-use Rattle.lc_frame.specs.Held.{Held, fed, before, front, IsValidIn, encoding_in, HasFault, IsUndecided}
+use Rattle.lc_frame.specs.Stored.{Stored, fed, before, front, IsValidIn, encoding_in, HasFault, IsUndecided}
 use Rattle.lc_book.specs.declared.fault.Violation.{Violation}
 use Rattle.lc_peer.specs.declared.delivery.Stop.TheVariants.{Fault, Violated}
 use Rattle.lc_peer.specs.declared.delivery.Step.{Step}
 use Rattle.lc_peer.specs.declared.delivery.Step.TheVariants.{Arrived, Open, Stopped}
 
 -- a frame became whole and arrived
-pub record FrameArrives {T : Type 0} (arrives : T → Frame → T → Type 0) (p : T) (held : Held) (piece : List ℕ) (p' : T) (held' : Held) (taken : ℕ) : Type 0 where
+pub record FrameArrives {T : Type 0} (arrives : T → Frame → T → Type 0) (p : T) (held : Stored) (piece : List ℕ) (p' : T) (held' : Stored) (taken : ℕ) : Type 0 where
   pub frame : Frame
   pub valid : IsValidIn held'.version frame
   pub arrived : arrives p frame p'
@@ -18,14 +18,14 @@ pub record FrameArrives {T : Type 0} (arrives : T → Frame → T → Type 0) (p
   pub cleared : held'.bytes ≡ []
 
 -- no frame became whole
-pub record StaysOpen {T : Type 0} (p : T) (held : Held) (piece : List ℕ) (p' : T) (held' : Held) (taken : ℕ) : Type 0 where
+pub record StaysOpen {T : Type 0} (p : T) (held : Stored) (piece : List ℕ) (p' : T) (held' : Stored) (taken : ℕ) : Type 0 where
   pub same : p' ≡ p
   pub all : taken ≡ length piece
   pub grown : held' ≡ fed held piece
   pub undecided : IsUndecided held'
 
 -- a frame became whole that violates the rules
-pub record FrameViolates {T : Type 0} (violates : Violation → T → Frame → T → Type 0) (violation : Violation) (p : T) (held : Held) (piece : List ℕ) (p' : T) (held' : Held) (taken : ℕ) : Type 0 where
+pub record FrameViolates {T : Type 0} (violates : Violation → T → Frame → T → Type 0) (violation : Violation) (p : T) (held : Stored) (piece : List ℕ) (p' : T) (held' : Stored) (taken : ℕ) : Type 0 where
   pub frame : Frame
   pub valid : IsValidIn held'.version frame
   pub violated : violates violation p frame p'
@@ -34,7 +34,7 @@ pub record FrameViolates {T : Type 0} (violates : Violation → T → Frame → 
   pub whole : held'.bytes ≡ encoding_in held'.version frame
 
 -- a fault came to stand
-pub record FaultComes {T : Type 0} (fault : FrameFault) (p : T) (held : Held) (piece : List ℕ) (p' : T) (held' : Held) (taken : ℕ) : Type 0 where
+pub record FaultComes {T : Type 0} (fault : FrameFault) (p : T) (held : Stored) (piece : List ℕ) (p' : T) (held' : Stored) (taken : ℕ) : Type 0 where
   pub same : p' ≡ p
   pub within : taken ≤ length piece
   pub grown : held' ≡ fed held (take taken piece)
@@ -42,7 +42,7 @@ pub record FaultComes {T : Type 0} (fault : FrameFault) (p : T) (held : Held) (p
   pub shortest : 0 < taken → (k : ℕ) → k < length held'.bytes → IsUndecided (front k held')
 
 -- what a step of a delivery does, by its answer
-abbrev pub Steps : {T : Type 0} → (T → Frame → T → Type 0) → (Violation → T → Frame → T → Type 0) → Step → T → Held → List ℕ → T → Held → Type 0
+abbrev pub Steps : {T : Type 0} → (T → Frame → T → Type 0) → (Violation → T → Frame → T → Type 0) → Step → T → Stored → List ℕ → T → Stored → Type 0
 Steps arrives violates (Arrived taken) p held piece p' held' = FrameArrives arrives p held piece p' held' taken
 Steps arrives violates (Open taken) p held piece p' held' = StaysOpen p held piece p' held' taken
 Steps arrives violates (Stopped (Violated violation) taken) p held piece p' held' = FrameViolates violates violation p held piece p' held' taken

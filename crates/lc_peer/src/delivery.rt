@@ -1,6 +1,6 @@
 //! The bytes of a stream, delivered in pieces.
 ghost use Rattle.std.specs.Prelude.{◌≡◌, []};
-ghost use Rattle.lc_frame.specs.Held.{held_in};
+ghost use Rattle.lc_frame.specs.Stored.{stored_in};
 ghost use Rattle.lc_frame.specs.Progress.{Feeds};
 ghost use Rattle.lc_peer.specs.Deliveries.{Delivers, DeliversTo};
 ghost use Rattle.lc_peer.specs.Steps.{Steps};
@@ -56,7 +56,7 @@ fn step_in_piece<C, S: FrameSink<C>>(
     decoder: &mut StreamDecoder,
     piece: &[u8],
 ) -> Step
-    requires { decoder.old ≡ held_in version [] }
+    requires { decoder.old ≡ stored_in version [] }
     ensures { Steps S.arrived S.violated result sink.old decoder.old piece.now sink.new decoder.new }
 {
     match decoder.decode_or_take(version, piece) {
@@ -119,7 +119,7 @@ fn go_on<C, S: FrameSink<C>>(
     ensures { Steps S.arrived S.violated result sink.old decoder.old piece.now sink.new decoder.new }
 {
     match decoder.version() {
-        Some(version) if decoder.held() == 0 => {
+        Some(version) if decoder.stored() == 0 => {
             step_in_piece(sink, context, version, decoder, piece)
         }
         _ => step_in_decoder(sink, context, decoder, piece),
@@ -135,7 +135,7 @@ pub fn deliver_to<C, S: FrameSink<C>>(
 ) -> Delivery
     ensures { DeliversTo S.arrived S.violated sink.old decoder.old piece.now sink.new decoder.new result }
 {
-    let _held = decoder.held();
+    let _stored = decoder.stored();
     let mut taken = 0;
     let mut frames = 0;
     'frames: loop {

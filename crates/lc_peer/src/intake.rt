@@ -1,6 +1,6 @@
 //! The bytes of a stream on their way in.
 ghost use Rattle.std.specs.Prelude.{◌≡◌, ◌<◌, None, All, IfOk, IfSome};
-ghost use Rattle.lc_frame.specs.Held.{nothing_held, IsUndecided, IsSettled};
+ghost use Rattle.lc_frame.specs.Stored.{nothing_stored, IsUndecided, IsSettled};
 ghost use Rattle.lc_frame.specs.declared.fill.Filled.TheVariants.{Few};
 ghost use Rattle.lc_frame.specs.Fill.{FilledAs, LacksMore};
 ghost use Rattle.lc_peer.specs.Deliveries.{DeliversTo};
@@ -33,7 +33,7 @@ impl Intake {
     /// The start of a stream. It takes the memory for `MAX_FRAME` bytes here and none later; the
     /// error is want of it.
     pub fn new(alloc: Global) -> Result<Intake, AllocError>
-        ensures { IfOk result (λ intake. intake ≡ record { held = nothing_held; stop = None }) }
+        ensures { IfOk result (λ intake. intake ≡ record { held = nothing_stored; stop = None }) }
     {
         Ok(Intake {
             decoder: StreamDecoder::new(alloc)?,
@@ -48,7 +48,7 @@ impl Intake {
         ensures bytes { All (λ b. b < 256) self.now.held.bytes }
         ensures settled { IsSettled self.now.held }
     {
-        let _held = self.decoder.held();
+        let _stored = self.decoder.stored();
         self.stop
     }
 
@@ -101,7 +101,7 @@ impl Intake {
         ensures stop { self.new.stop ≡ self.old.stop }
     {
         let filled = self.decoder.fill(filler, source);
-        let _held = self.decoder.held();
+        let _stored = self.decoder.stored();
         filled
     }
 }

@@ -11,7 +11,7 @@ use Rattle.lc_frame.specs.Version.{greeting}
 use Rattle.lc_frame.specs.Frame.{IsValid}
 use Rattle.lc_frame.specs.Encoding.{encoding, FrameStands}
 use Rattle.lc_frame.specs.Decoded.{OnlyFrame}
-use Rattle.lc_frame.specs.Held.{held_in}
+use Rattle.lc_frame.specs.Stored.{stored_in}
 use Rattle.lc_frame.specs.Splits.{frames_of}
 use Rattle.lc_frame.proofs.Frames.{joined_law}
 use Rattle.lc_driver.proofs.Frames.{length-split, length-take-more, no_bytes_no_frames}
@@ -47,9 +47,9 @@ greeted Two = record { within = omega arith; whole = refl; valid = tt }
 
 module _ (version : Version) where
   -- the bytes of valid frames have these frames
-  pub frames_again : (fs : List Frame) → AllByRecursion (IsValid version) fs → frames_of (held_in version (flat_map (encoding version) fs)) ≡ fs
+  pub frames_again : (fs : List Frame) → AllByRecursion (IsValid version) fs → frames_of (stored_in version (flat_map (encoding version) fs)) ≡ fs
   frames_again fs each =
-      ap (λ (x : List ℕ). frames_of (held_in version x)) (sym (append-nil (flat_map (encoding version) fs))) ∙ (joined_law fs (held_in version []) each).0 ∙ append-nil fs
+      ap (λ (x : List ℕ). frames_of (stored_in version x)) (sym (append-nil (flat_map (encoding version) fs))) ∙ (joined_law fs (stored_in version []) each).0 ∙ append-nil fs
 
   each_drop : (n : ℕ) (fs : List Frame) → AllByRecursion (IsValid version) fs → AllByRecursion (IsValid version) (drop n fs)
   each_drop zero fs each = each
@@ -137,7 +137,7 @@ module _ (version : Version) where
       ∙ drop-append-le begun bytes (encoding version f) h.within
       ∙ ap (λ (xs : List ℕ). xs ++ encoding version f) h.whole
       ∙ flat_map_more (encoding version) [] ws f in
-      let is : waiting_in version begun more ≡ ws ++ f ∷ [] = ap (λ (x : List ℕ). frames_of (held_in version x)) behind ∙ frames_again (ws ++ f ∷ []) each in
+      let is : waiting_in version begun more ≡ ws ++ f ∷ [] = ap (λ (x : List ℕ). frames_of (stored_in version x)) behind ∙ frames_again (ws ++ f ∷ []) each in
       record {
         waiting = is;
         whole = record {
@@ -205,7 +205,7 @@ module _ (version : Version) where
       let front = up_to begun bytes gone end h at.end_is in
       let behind : drop left others ≡ flat_map (encoding version) (drop gone ws) =
       ap (λ (xs : List ℕ). drop left xs) e ∙ drop-drop left count bytes ∙ ap (λ (n : ℕ). drop n bytes) (sum ∙ at.end_is) ∙ behind_frames begun bytes gone h in
-      let is : waiting_in version left others ≡ drop gone ws = ap (λ (x : List ℕ). frames_of (held_in version x)) behind ∙ frames_again (drop gone ws) (each_drop gone ws h.valid) in
+      let is : waiting_in version left others ≡ drop gone ws = ap (λ (x : List ℕ). frames_of (stored_in version x)) behind ∙ frames_again (drop gone ws) (each_drop gone ws h.valid) in
       let text : take begun bytes ++ flat_map (encoding version) first ≡ take count bytes ++ take left others =
       sym front ∙ ap (λ (n : ℕ). take n bytes) (sym sum) ∙ take-add count left bytes ∙ ap (λ (xs : List ℕ). take count bytes ++ take left xs) (sym e) in
       let few : length (take count bytes) ≡ count = length-take-le count bytes within in

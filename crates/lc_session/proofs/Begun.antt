@@ -2,7 +2,7 @@
 use Rattle.std.proofs.Common.{◌≡◌, ℕ, ◌+◌, ◌<◌, List, [], ◌∷◌, None, length, map, take, drop, refl, sym, ap, ap₂, subst, ◌∙◌, arith}
 use Rattle.std.specs.List.{All, AllByRecursion, AllZip}
 use Rattle.std.proofs.lemmas.List.Elements.{All-cons, All-nil}
-use Rattle.lc_frame.specs.Held.{nothing_held}
+use Rattle.lc_frame.specs.Stored.{nothing_stored}
 use Rattle.lc_frame.specs.declared.version.Version.{Version}
 use Rattle.lc_frame.specs.declared.channel.Channel.{Channel}
 use Rattle.lc_frame.specs.Channel.{channel_count, number_of}
@@ -12,7 +12,7 @@ use Rattle.lc_peer.specs.Config.{config_fault}
 use Rattle.lc_queue.specs.Parts.{QueueId, End, Outlet, new_end, new_ends, new_outlet, slots_of}
 use Rattle.lc_credit.specs.Sides.{Incoming, Outgoing, new_outgoing}
 use Rattle.lc_credit.specs.Channels as credits
-use Rattle.lc_inbox.specs.Sides.{Side, IsNew}
+use Rattle.lc_inbox.specs.Sides.{InboxSide, IsNew}
 use Rattle.lc_inbox.specs.Inboxes as inboxes
 use Rattle.lc_outbox.specs.Outbox.{OutboxState, new_outbox}
 use Rattle.lc_peer.specs.Intake.{IntakeState}
@@ -94,22 +94,22 @@ module _ {W : Type 0} (q : QueueId) (v : Version) (zs : List ((End × Outgoing) 
 
 -- ---- the sides of the inboxes
 
-pub record AreInPlace (q : QueueId) (v : Version) (cs : List Channel) (incoming outgoing : List Side) : Type 0 where
+pub record AreInPlace (q : QueueId) (v : Version) (cs : List Channel) (incoming outgoing : List InboxSide) : Type 0 where
   pub reading : map channel_of_side incoming ≡ cs
   pub receiving : map channel_of_side outgoing ≡ cs
   pub serve : All (ServesOn q v) incoming
 
-channel_is : (q : QueueId) (v : Version) (c : Channel) (capacity : ℕ) (i o : Side) → IsNew capacity (new_end q v (channel_count + number_of c)) i o → i.key.channel ≡ c
+channel_is : (q : QueueId) (v : Version) (c : Channel) (capacity : ℕ) (i o : InboxSide) → IsNew capacity (new_end q v (channel_count + number_of c)) i o → i.key.channel ≡ c
 channel_is q v c capacity i o h = same_from_number _ _ (omega (arith, h.channel_is))
 
-serves : (q : QueueId) (v : Version) (c : Channel) (capacity : ℕ) (i o : Side) → IsNew capacity (new_end q v (channel_count + number_of c)) i o → ServesOn q v i
+serves : (q : QueueId) (v : Version) (c : Channel) (capacity : ℕ) (i o : InboxSide) → IsNew capacity (new_end q v (channel_count + number_of c)) i o → ServesOn q v i
 serves q v c capacity i o h = record {
   queue_is = sym (ap (λ (l : End). l.queue) h.lane_is);
   version_is = ap (λ (l : End). l.version) h.lane_is;
   lane_is = ap (λ (l : End). l.lane) h.lane_is ∙ h.channel_is;
 }
 
-in_place : (q : QueueId) (v : Version) (capacities : List ℕ) (cs : List Channel) (incoming outgoing : List Side) → inboxes.AreNew capacities (servers q v cs) incoming outgoing → AreInPlace q v cs incoming outgoing
+in_place : (q : QueueId) (v : Version) (capacities : List ℕ) (cs : List Channel) (incoming outgoing : List InboxSide) → inboxes.AreNew capacities (servers q v cs) incoming outgoing → AreInPlace q v cs incoming outgoing
 in_place q v capacities [] [] [] h = record { reading = refl; receiving = refl; serve = All-nil (ServesOn q v) }
 in_place q v capacities [] [] (o ∷ outgoing) h = absurd h
 in_place q v capacities [] (i ∷ incoming) outgoing h = absurd h
@@ -120,16 +120,16 @@ in_place q v capacities (c ∷ cs) (i ∷ incoming) (o ∷ outgoing) h =
     let here = channel_is q v c _ i o h.0 in
     record {
       reading = ap₂ (λ (d : Channel) (ds : List Channel). d ∷ ds) here rest.reading;
-      receiving = ap₂ (λ (d : Channel) (ds : List Channel). d ∷ ds) (ap (λ (s : Side). s.key.channel) h.0.one ∙ here) rest.receiving;
+      receiving = ap₂ (λ (d : Channel) (ds : List Channel). d ∷ ds) (ap (λ (s : InboxSide). s.key.channel) h.0.one ∙ here) rest.receiving;
       serve = All-cons (ServesOn q v) i incoming (serves q v c _ i o h.0) rest.serve;
     }
 
-pub sides_in_place : (q : QueueId) (v : Version) (ends : List End) (capacities : List ℕ) (incoming outgoing : List Side) → ends ≡ new_ends q v → inboxes.AreNew capacities (drop channel_count ends) incoming outgoing → AreInPlace q v channels incoming outgoing
+pub sides_in_place : (q : QueueId) (v : Version) (ends : List End) (capacities : List ℕ) (incoming outgoing : List InboxSide) → ends ≡ new_ends q v → inboxes.AreNew capacities (drop channel_count ends) incoming outgoing → AreInPlace q v channels incoming outgoing
 sides_in_place q v ends capacities incoming outgoing e h = in_place q v capacities channels incoming outgoing (subst (λ (ls : List End). inboxes.AreNew capacities (drop channel_count ls) incoming outgoing) e h)
 
 -- ---- all parts
 
-abbrev begun : QueueId → Version → List Incoming → List Outgoing → List Side → List Side → IntakeState → SessionState
+abbrev begun : QueueId → Version → List Incoming → List Outgoing → List InboxSide → List InboxSide → IntakeState → SessionState
 begun q v ins out incoming outgoing intake = record {
   sending = new_outboxes channels (take channel_count (new_ends q v)) out;
   receiving = outgoing;
@@ -137,9 +137,9 @@ begun q v ins out incoming outgoing intake = record {
   writing = new_pumping (new_outlet q v);
 }
 
-begun_is_new : (config : Config) (q : QueueId) (ins : List Incoming) (out : List Outgoing) (incoming outgoing : List Side) (intake : IntakeState)
+begun_is_new : (config : Config) (q : QueueId) (ins : List Incoming) (out : List Outgoing) (incoming outgoing : List InboxSide) (intake : IntakeState)
     → length out ≡ channel_count → credits.AreNew ins out → credits.AreMatched ins out → inboxes.AreNew config.capacities (drop channel_count (new_ends q config.version)) incoming outgoing → inboxes.AreMatched incoming outgoing
-    → intake ≡ record { held = nothing_held; stop = None } → slots_of q ≡ config.slots → config_fault config ≡ None
+    → intake ≡ record { held = nothing_stored; stop = None } → slots_of q ≡ config.slots → config_fault config ≡ None
     → IsNewSession config (begun q config.version ins out incoming outgoing intake)
 begun_is_new config q ins out incoming outgoing intake seven new matched sides pairs nothing slots lawful =
     let same = credits_of q config.version channels out seven in
@@ -162,11 +162,11 @@ begun_is_new config q ins out incoming outgoing intake seven new matched sides p
       slots_are = slots;
     }
 
-pub new_session : (config : Config) (s : SessionState) (drain : Outlet) (ends lanes : List End) (ins : List Incoming) (out : List Outgoing) (incoming outgoing : List Side) (intake : IntakeState)
+pub new_session : (config : Config) (s : SessionState) (drain : Outlet) (ends lanes : List End) (ins : List Incoming) (out : List Outgoing) (incoming outgoing : List InboxSide) (intake : IntakeState)
     → s.sending ≡ new_outboxes channels lanes out → s.receiving ≡ outgoing → s.reading ≡ record { side = record { credits = ins; inboxes = incoming }; intake = intake } → s.writing ≡ new_pumping drain
     → drain ≡ new_outlet drain.queue config.version → ends ≡ new_ends drain.queue config.version → lanes ≡ take channel_count ends
     → length out ≡ channel_count → credits.AreNew ins out → credits.AreMatched ins out → inboxes.AreNew config.capacities (drop channel_count ends) incoming outgoing → inboxes.AreMatched incoming outgoing
-    → intake ≡ record { held = nothing_held; stop = None } → slots_of drain.queue ≡ config.slots → config_fault config ≡ None
+    → intake ≡ record { held = nothing_stored; stop = None } → slots_of drain.queue ≡ config.slots → config_fault config ≡ None
     → IsNewSession config s
 new_session config s drain ends lanes ins out incoming outgoing intake sending receiving reading writing empty are first seven new matched sides pairs nothing slots lawful =
     subst (IsNewSession config)

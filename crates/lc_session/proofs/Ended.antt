@@ -11,7 +11,7 @@ use Rattle.lc_queue.specs.Parts.{QueueId, End, Outlet, IsSame, lane_of_end}
 use Rattle.lc_credit.specs.declared.balance.Balance.{Balance}
 use Rattle.lc_credit.specs.Sides.{Incoming, IsIdle, Outgoing}
 use Rattle.lc_credit.specs.Channels.{AreSettled}
-use Rattle.lc_inbox.specs.Sides.{Side}
+use Rattle.lc_inbox.specs.Sides.{InboxSide}
 use Rattle.lc_inbox.specs.Inboxes.{AreFinished}
 use Rattle.lc_outbox.specs.Outbox.{OutboxState, IsOutbox}
 use Rattle.lc_session.specs.Batch.{BatchState}
@@ -91,7 +91,7 @@ pub put_on_lanes : (o o' : Outlet) (xs : List OutboxState) (lanes : List End) �
 put_on_lanes o o' xs lanes e is all =
     subst (AllByRecursion (λ l. IsSame o'.queue l.queue)) (sym is) (subst (λ (d : Outlet). AllByRecursion (λ l. IsSame d.queue l.queue) (map lane_of_outbox xs)) e (put_on_each o.queue o.version xs (recursion_from_All (PutsOn o.queue o.version) xs all)))
 
-served : (q : QueueId) (v : Version) (incoming outgoing : List Side) (books : List Server) (lanes : List End) → AreFinished incoming outgoing books lanes → AllByRecursion (ServesOn q v) incoming → AllByRecursion (λ l. IsSame q l.queue) lanes
+served : (q : QueueId) (v : Version) (incoming outgoing : List InboxSide) (books : List Server) (lanes : List End) → AreFinished incoming outgoing books lanes → AllByRecursion (ServesOn q v) incoming → AllByRecursion (λ l. IsSame q l.queue) lanes
 served q v [] [] [] [] h each = tt
 served q v [] [] [] (l ∷ lanes) h each = absurd h
 served q v [] [] (b ∷ books) lanes h each = absurd h
@@ -102,7 +102,7 @@ served q v (i ∷ incoming) (o ∷ outgoing) (b ∷ books) [] h each = absurd h
 served q v (i ∷ incoming) (o ∷ outgoing) (b ∷ books) (l ∷ lanes) h each =
     (each.0.queue_is ∙ sym (ap (λ (x : End). x.queue) h.0.lane_is), served q v incoming outgoing books lanes h.1 each.1)
 
-pub served_lanes : (q q' : QueueId) (v : Version) (known incoming outgoing : List Side) (books : List Server) (lanes : List End) → q ≡ q' → known ≡ incoming → All (ServesOn q v) known → AreFinished incoming outgoing books lanes → AllByRecursion (λ l. IsSame q' l.queue) lanes
+pub served_lanes : (q q' : QueueId) (v : Version) (known incoming outgoing : List InboxSide) (books : List Server) (lanes : List End) → q ≡ q' → known ≡ incoming → All (ServesOn q v) known → AreFinished incoming outgoing books lanes → AllByRecursion (λ l. IsSame q' l.queue) lanes
 served_lanes q q' v known incoming outgoing books lanes e same serve h =
     subst (λ (r : QueueId). AllByRecursion (λ l. IsSame r l.queue) lanes) e (served q v incoming outgoing books lanes h (subst (AllByRecursion (ServesOn q v)) same (recursion_from_All (ServesOn q v) known serve)))
 
@@ -123,7 +123,7 @@ gave : (frames : List Frame) (xs : List OutboxState) → AllByRecursion IsOutbox
 gave frames [] kept each = tt
 gave frames (o ∷ xs) kept each = (ap (λ (n : ℕ). of_lane n frames) (sym kept.0.lane) ∙ each.0, gave frames xs kept.1 each.1)
 
-pub reported : (s : SessionState) (clients : List Balance) (servers : List Server) (left partly : ℕ) (drain0 drain1 drain2 drain3 : Outlet) (batch : BatchState) (ins : List Incoming) (out : List Outgoing) (incoming outgoing : List Side) (lanes : List End)
+pub reported : (s : SessionState) (clients : List Balance) (servers : List Server) (left partly : ℕ) (drain0 drain1 drain2 drain3 : Outlet) (batch : BatchState) (ins : List Incoming) (out : List Outgoing) (incoming outgoing : List InboxSide) (lanes : List End)
     → s.writing ≡ pumping_of drain0 batch
     → s.reading.side ≡ record { credits = ins; inboxes = incoming }
     → AllByRecursion IsOutbox s.sending
@@ -158,7 +158,7 @@ reported s clients servers left partly drain0 drain1 drain2 drain3 batch ins out
       clients_gave = All-from_recursion (GaveAll frames) s.sending (gave frames s.sending kept ours.these);
       settled = subst (λ (p : List Incoming × List Outgoing). AreSettled p.0 p.1 clients) (λ i. (ap (λ (r : ReadingSide). r.credits) (sym reading) i, out_is i)) settled;
       lanes = lanes;
-      finished = subst (λ (p : List Side × List Side). AreFinished p.0 p.1 servers lanes) (λ i. (ap (λ (r : ReadingSide). r.inboxes) (sym reading) i, outgoing_is i)) ended;
+      finished = subst (λ (p : List InboxSide × List InboxSide). AreFinished p.0 p.1 servers lanes) (λ i. (ap (λ (r : ReadingSide). r.inboxes) (sym reading) i, outgoing_is i)) ended;
       servers_gave = All-from_recursion (GaveAllOf frames) lanes theirs.these;
       left_is = pops.count_is ∙ ap (λ (p : Pumping). length p.waiting + length last) (sym writing);
       partly_is = partly_is ∙ ap (λ (p : Pumping). length p.begun) (sym writing);

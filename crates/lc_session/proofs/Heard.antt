@@ -4,7 +4,7 @@ use Rattle.std.specs.Prelude.{sum, slice_get, slice_set, IsSomeAnd, ◌==◌}
 use Rattle.std.specs.List.{filter_map, cons_option}
 use Rattle.std.proofs.lemmas.Bool.Decides.{nat_tests}
 use Rattle.std.proofs.lemmas.List.Elements.{filter-append}
-use Rattle.lc_frame.specs.Held.{fed}
+use Rattle.lc_frame.specs.Stored.{fed}
 use Rattle.lc_history.specs.Places.{ChangesAt}
 use Rattle.lc_history.proofs.Histories.{learned_same, made_one}
 use Rattle.lc_frame.specs.declared.channel.Channel.{Channel}
@@ -24,7 +24,7 @@ use Rattle.lc_credit.specs.declared.history.Entry.TheVariants.{Received, Used, R
 use Rattle.lc_credit.specs.History.{asked_of, targets_asked, is_incoming, MayFollow}
 use Rattle.lc_credit.specs.Sides.{Incoming, LoadsIn, IsAdded, IsNotAdded, IsLimited, IsPastLimit, IsAsked}
 use Rattle.lc_inbox.specs.History.{heard}
-use Rattle.lc_inbox.specs.Sides.{Side}
+use Rattle.lc_inbox.specs.Sides.{InboxSide}
 use Rattle.lc_driver.specs.Reading.{stop_of}
 use Rattle.lc_peer.specs.Deliveries.{violation_of}
 use Rattle.lc_peer.specs.Sinks.{AllArrive, IsNext}
@@ -191,9 +191,9 @@ SamePlace at old new = (slice_get new.inboxes at ≡ slice_get old.inboxes at) �
 
 credit_there : (c d : Channel) (old new : ReadingSide) (Changes : Incoming → Incoming → Type 0) → is_same d c ≡ false → ToCredit c Changes old new → SamePlace (number_of d) old new
 credit_there c d old new Changes apart change =
-    (ap (λ (xs : List Side). slice_get xs (number_of d)) change.1, changes_there Changes (number_of c) (number_of d) old.credits new.credits (apart_number c d apart) change.0)
+    (ap (λ (xs : List InboxSide). slice_get xs (number_of d)) change.1, changes_there Changes (number_of c) (number_of d) old.credits new.credits (apart_number c d apart) change.0)
 
-inbox_there : (c d : Channel) (old new : ReadingSide) (Changes : Side → Side → Type 0) → is_same d c ≡ false → ToInbox c Changes old new → SamePlace (number_of d) old new
+inbox_there : (c d : Channel) (old new : ReadingSide) (Changes : InboxSide → InboxSide → Type 0) → is_same d c ≡ false → ToInbox c Changes old new → SamePlace (number_of d) old new
 inbox_there c d old new Changes apart change =
     (changes_there Changes (number_of c) (number_of d) old.inboxes new.inboxes (apart_number c d apart) change.0, ap (λ (xs : List Incoming). slice_get xs (number_of d)) change.1)
 

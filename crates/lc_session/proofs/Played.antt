@@ -1,7 +1,7 @@
 -- Sessions that were played, once and again.
 use Rattle.std.specs.List.{AllZip}
 use Rattle.std.proofs.Common.{ℕ, zero, suc, List, [], ◌∷◌, get_or, set}
-use Rattle.lc_inbox.specs.Sides.{Side, IsSameSide}
+use Rattle.lc_inbox.specs.Sides.{InboxSide, IsSameSide}
 use Rattle.lc_outbox.specs.Outbox.{OutboxState, IsSameOutbox}
 use Rattle.lc_session.specs.Report.{SessionState}
 use Rattle.lc_session.specs.Same.{IsSameSession}
@@ -22,7 +22,7 @@ zip_set R same (x ∷ xs) (suc at) other now one = (same x, zip_set R same xs at
 pub outboxes_set : (ends : List OutboxState) (at : ℕ) (other now : OutboxState) → IsSameOutbox (get_or ends at other) now → AllZip IsSameOutbox ends (set ends at now)
 outboxes_set = zip_set IsSameOutbox outbox_itself
 
-pub sides_set : (sides : List Side) (at : ℕ) (other now : Side) → IsSameSide (get_or sides at other) now → AllZip IsSameSide sides (set sides at now)
+pub sides_set : (sides : List InboxSide) (at : ℕ) (other now : InboxSide) → IsSameSide (get_or sides at other) now → AllZip IsSameSide sides (set sides at now)
 sides_set = zip_set IsSameSide side_itself
 
 zip_then : {A : Type 0} (R : A → A → Type 0) → ((x y z : A) → R x y → R y z → R x z) → (xs ys zs : List A) → AllZip R xs ys → AllZip R ys zs → AllZip R xs zs

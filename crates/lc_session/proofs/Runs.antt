@@ -4,12 +4,12 @@ use Rattle.std.specs.Prelude.{All, IfSome}
 use Rattle.std.proofs.lemmas.List.{take-append-drop}
 use Rattle.std.proofs.lemmas.List.Elements.{All-append, All-tail}
 use Rattle.std.proofs.Math.Seq.{take-length}
-use Rattle.lc_frame.specs.Held.{Held, fed, before}
+use Rattle.lc_frame.specs.Stored.{Stored, fed, before}
 use Rattle.lc_frame.specs.declared.frame.Frame.{Frame}
 use Rattle.lc_frame.specs.Splits.{frames_of, rest_of}
 use Rattle.lc_frame.proofs.Fronts.{bytes_from}
 use Rattle.lc_frame.proofs.Frames.{computed_split, joined_law}
-use Rattle.lc_frame.proofs.Held.{fed_fed, fed_fits, before_fed, each_fed}
+use Rattle.lc_frame.proofs.Stored.{fed_fed, fed_fits, before_fed, each_fed}
 use Rattle.lc_peer.specs.declared.delivery.Stop.{Stop}
 use Rattle.lc_driver.specs.declared.reading.ReadEnd.{ReadEnd}
 use Rattle.lc_driver.specs.declared.reading.ReadEnd.TheVariants.{Clean, Truncated, Fault, Violated, ReadFailed, TurnsSpent}
@@ -30,7 +30,7 @@ hears_none r arrived all = subst (λ (fs : List Frame). HasHeardAll r fs) (sym (
 -- ---- one run
 
 -- where the stream was not given up in it every frame came
-all_came : (before after : Option (List ℕ)) (held : Held) (old : ReadingSide) (intake : IntakeState) (new : ReadingSide) (max_reads : ℕ) (end : ReadEnd) (run : ReadsInto Arrives Violates before after held old intake new max_reads end)
+all_came : (before after : Option (List ℕ)) (held : Stored) (old : ReadingSide) (intake : IntakeState) (new : ReadingSide) (max_reads : ℕ) (end : ReadEnd) (run : ReadsInto Arrives Violates before after held old intake new max_reads end)
     → intake.stop ≡ None → AllCame held run.read (take run.frames (frames_of (fed held run.read))) intake.held
 all_came before after held old intake new max_reads Clean run none = record {
   bytes = run.bytes;
@@ -102,16 +102,16 @@ hears_nothing r is = record {
 -- ---- one run after another
 
 -- what comes of more bytes, where the rest of those before was held
-further_frames : (held now : Held) (read more : List ℕ) (frames : List Frame) → AllCame held read frames now → (frames_of (fed held (read ++ more)) ≡ frames ++ frames_of (fed now more)) × (rest_of (fed held (read ++ more)) ≡ rest_of (fed now more))
+further_frames : (held now : Stored) (read more : List ℕ) (frames : List Frame) → AllCame held read frames now → (frames_of (fed held (read ++ more)) ≡ frames ++ frames_of (fed now more)) × (rest_of (fed held (read ++ more)) ≡ rest_of (fed now more))
 further_frames held now read more frames came =
     let text = fed held read in
     let left = rest_of text in
     let split = computed_split text (fed_fits held read (bytes_from (held.bytes ++ read) came.bytes)) in
     let whole : text ≡ before (frames_of text) left = ap (λ (bytes : List ℕ). record { version = text.version; bytes = bytes }) split.whole in
-    let parts : fed text more ≡ before (frames_of text) (fed left more) = ap (λ (x : Held). fed x more) whole ∙ before_fed (frames_of text) left more split.each in
+    let parts : fed text more ≡ before (frames_of text) (fed left more) = ap (λ (x : Stored). fed x more) whole ∙ before_fed (frames_of text) left more split.each in
     let law = joined_law (frames_of text) (fed left more) (each_fed (frames_of text) left more split.each) in
     let joined : fed held (read ++ more) ≡ fed text more = sym (fed_fed held read more) in
-    (ap frames_of (joined ∙ parts) ∙ law.0 ∙ (λ i. sym came.frames_are i ++ frames_of (fed (sym came.rest i) more)), ap rest_of (joined ∙ parts) ∙ law.1 ∙ ap (λ (x : Held). rest_of (fed x more)) (sym came.rest))
+    (ap frames_of (joined ∙ parts) ∙ law.0 ∙ (λ i. sym came.frames_are i ++ frames_of (fed (sym came.rest i) more)), ap rest_of (joined ∙ parts) ∙ law.1 ∙ ap (λ (x : Stored). rest_of (fed x more)) (sym came.rest))
 
 all_behind : (P : ℕ → Type 0) (xs ys : List ℕ) → All P (xs ++ ys) → All P ys
 all_behind P [] ys h = h

@@ -3,7 +3,7 @@ use Rattle.std.proofs.Common.{◌≡◌, ℕ, ◌+◌, List, [], ◌∷◌, map,
 use Rattle.std.specs.Prelude.{IfSome}
 use Rattle.std.specs.List.{All, AllZip}
 use Rattle.std.proofs.lemmas.List.Elements.{All-cons, All-head, All-nil, All-tail}
-use Rattle.lc_frame.specs.Held.{Held}
+use Rattle.lc_frame.specs.Stored.{Stored}
 use Rattle.lc_history.specs.Places.{ChangesAt}
 use Rattle.lc_frame.specs.declared.channel.Channel.{Channel}
 use Rattle.lc_frame.specs.declared.frame.Frame.{Frame}
@@ -18,7 +18,7 @@ use Rattle.lc_queue.specs.Parts.{Outlet}
 use Rattle.lc_credit.specs.Sides.{Incoming, IsAdded, IsNotAdded, IsLimited, IsPastLimit, IsAsked}
 use Rattle.lc_credit.specs.Channels.{credit_in, credit_out}
 use Rattle.lc_inbox.specs.declared.rule.Key.{Key}
-use Rattle.lc_inbox.specs.Sides.{InboxId, Side, IsSameSide}
+use Rattle.lc_inbox.specs.Sides.{InboxId, InboxSide, IsSameSide}
 use Rattle.lc_inbox.specs.Inboxes.{origin_of, AreSameSides}
 use Rattle.lc_inbox.proofs.Places.{matched_in, matched_out}
 use Rattle.lc_outbox.specs.Outbox.{OutboxState, IsSameOutbox}
@@ -39,10 +39,10 @@ outbox_itself o = record { channel = refl; lane = (refl, refl, refl); credit = r
 pub outbox_then : (a b c : OutboxState) → IsSameOutbox a b → IsSameOutbox b c → IsSameOutbox a c
 outbox_then a b c p q = record { channel = q.channel ∙ p.channel; lane = (q.lane.0 ∙ p.lane.0, q.lane.1 ∙ p.lane.1, q.lane.2 ∙ p.lane.2); credit = q.credit ∙ p.credit }
 
-pub side_itself : (s : Side) → IsSameSide s s
+pub side_itself : (s : InboxSide) → IsSameSide s s
 side_itself s = record { inbox = refl; key = refl }
 
-pub side_then : (a b c : Side) → IsSameSide a b → IsSameSide b c → IsSameSide a c
+pub side_then : (a b c : InboxSide) → IsSameSide a b → IsSameSide b c → IsSameSide a c
 side_then a b c p q = record { inbox = q.inbox ∙ p.inbox; key = q.key ∙ p.key }
 
 pub reading_itself : (r : ReadingSide) → IsSameReading r r
@@ -70,7 +70,7 @@ credit_same c Changes old new same change = record {
   inboxes = ap (map origin_of) change.1;
 }
 
-inbox_same : (c : Channel) (Changes : Side → Side → Type 0) (old new : ReadingSide) → ((was is : Side) → Changes was is → IsSameSide was is) → ToInbox c Changes old new → IsSameReading old new
+inbox_same : (c : Channel) (Changes : InboxSide → InboxSide → Type 0) (old new : ReadingSide) → ((was is : InboxSide) → Changes was is → IsSameSide was is) → ToInbox c Changes old new → IsSameReading old new
 inbox_same c Changes old new same change = record {
   credits = ap (map credit_in) change.1;
   inboxes = changes_keep origin_of Changes (number_of c) old.inboxes new.inboxes (λ was is made. let one = same was is made in (λ i. (one.inbox i, one.key i))) change.0;
@@ -118,12 +118,12 @@ next_same : (violation : Option Violation) (old new : ReadingSide) (frames : Lis
 next_same None old new frames count is = subst (IsSameReading old) (sym is.1) (reading_itself old)
 next_same (Some v) old new frames count is = violates_same v old new is.0 is.2
 
-read_same : (before after : Option (List ℕ)) (held : Held) (old : ReadingSide) (intake : IntakeState) (new : ReadingSide) (max_reads : ℕ) (end : ReadEnd) → ReadsInto Arrives Violates before after held old intake new max_reads end → IsSameReading old new
+read_same : (before after : Option (List ℕ)) (held : Stored) (old : ReadingSide) (intake : IntakeState) (new : ReadingSide) (max_reads : ℕ) (end : ReadEnd) → ReadsInto Arrives Violates before after held old intake new max_reads end → IsSameReading old new
 read_same before after held old intake new max_reads end run =
     reading_then old run.came.at new (all_same _ old run.came.at run.came.arrived) (next_same (violation_of (stop_of end)) run.came.at new _ run.frames run.came.next)
 
 -- a stream that was given up leaves all as it was
-pub run_same : {D : Type 0} (stop : Option Stop) (reader reader' : D) (before after : Option (List ℕ)) (held : Held) (old : ReadingSide) (was intake : IntakeState) (new : ReadingSide) (max_reads : ℕ) (end : ReadEnd)
+pub run_same : {D : Type 0} (stop : Option Stop) (reader reader' : D) (before after : Option (List ℕ)) (held : Stored) (old : ReadingSide) (was intake : IntakeState) (new : ReadingSide) (max_reads : ℕ) (end : ReadEnd)
     → IfSome stop (λ s. (end ≡ end_of s) × (new ≡ old) × (reader' ≡ reader) × (intake ≡ was)) → (stop ≡ None → ReadsInto Arrives Violates before after held old intake new max_reads end) → IsSameReading old new
 run_same None reader reader' before after held old was intake new max_reads end given reads = read_same before after held old intake new max_reads end (reads refl)
 run_same (Some s) reader reader' before after held old was intake new max_reads end given reads = subst (IsSameReading old) (sym given.1) (reading_itself old)
@@ -146,7 +146,7 @@ zip_all P Q R (x ∷ xs) [] step zip all = absurd zip
 zip_all P Q R (x ∷ xs) (y ∷ ys) step zip all = All-cons Q y ys (step x y zip.0 (All-head P x xs all)) (zip_all P Q R xs ys step zip.1 (All-tail P x xs all))
 
 -- sides that stay of their inboxes, place by place
-sides_zip : (old new : List Side) → AreSameSides old new → AllZip IsSameSide old new
+sides_zip : (old new : List InboxSide) → AreSameSides old new → AllZip IsSameSide old new
 sides_zip [] [] same = tt
 sides_zip [] (s ∷ new) same = absurd (cc)
 sides_zip (s ∷ old) [] same = absurd (cc)
@@ -154,7 +154,7 @@ sides_zip (s ∷ old) (t ∷ new) same =
     let both : origin_of t ≡ origin_of s = cc in
     (record { inbox = ap (λ (o : InboxId × Key). o.0) both; key = ap (λ (o : InboxId × Key). o.1) both }, sides_zip old new (cc))
 
-zip_sides : (old new : List Side) → AllZip IsSameSide old new → AreSameSides old new
+zip_sides : (old new : List InboxSide) → AllZip IsSameSide old new → AreSameSides old new
 zip_sides old new all = zip_keeps origin_of IsSameSide old new (λ s t one. (λ i. (one.inbox i, one.key i))) all
 
 credits_stay : (old new : List OutboxState) → AllZip IsSameOutbox old new → map credit_out (map credit_of_outbox new) ≡ map credit_out (map credit_of_outbox old)
@@ -169,7 +169,7 @@ still_puts p q same o n one puts = record {
   version_is = one.lane.2 ∙ puts.version_is ∙ sym same.1;
 }
 
-still_serves : (p q : Pumping) → IsSamePump p q → (s t : Side) → IsSameSide s t → ServesOn p.drain.queue p.drain.version s → ServesOn q.drain.queue q.drain.version t
+still_serves : (p q : Pumping) → IsSamePump p q → (s t : InboxSide) → IsSameSide s t → ServesOn p.drain.queue p.drain.version s → ServesOn q.drain.queue q.drain.version t
 still_serves p q same s t one serves = record {
   queue_is = same.0 ∙ serves.queue_is ∙ ap (λ (k : Key). k.lane.value.queue) (sym one.key);
   version_is = ap (λ (k : Key). k.lane.value.version) one.key ∙ serves.version_is ∙ sym same.1;

@@ -8,7 +8,7 @@ use Rattle.lc_frame.specs.Frame.{IsValid}
 use Rattle.lc_frame.specs.Encoding.{encoding}
 use Rattle.lc_frame.specs.Kind.{max_frame}
 use Rattle.lc_frame.specs.StreamEncoder.{EncoderState}
-use Rattle.lc_frame.specs.Held.{held_in}
+use Rattle.lc_frame.specs.Stored.{stored_in}
 use Rattle.lc_frame.specs.Splits.{frames_of}
 
 -- the version of the stream, the bytes that are left of the frame that was begun, or of the greeting, the frames of which no byte was written, and how many more bytes have room behind them
@@ -28,7 +28,7 @@ new_batch version = record { version = version; begun = greeting version; waitin
 
 -- of these bytes the first so many are left of what was begun, and the others are those of whole frames
 abbrev pub waiting_in : Version → ℕ → List ℕ → List Frame
-waiting_in version begun bytes = frames_of (held_in version (drop begun bytes))
+waiting_in version begun bytes = frames_of (stored_in version (drop begun bytes))
 
 -- the batch that a buffer with these bytes is
 abbrev pub batch_of : Version → ℕ → List ℕ → ℕ → BatchState

@@ -1,6 +1,6 @@
 -- What a reading side has heard, frame after frame and run after run. That a stream keeps its order is LCMUX's.
 use Rattle.std.specs.Prelude.{◌≡◌, ℕ, ◌<◌, List, [], ◌++◌, All, take, Option, None, IfSome}
-use Rattle.lc_frame.specs.Held.{Held, fed}
+use Rattle.lc_frame.specs.Stored.{Stored, fed}
 use Rattle.lc_frame.specs.declared.frame.Frame.{Frame}
 use Rattle.lc_frame.specs.Splits.{frames_of, rest_of}
 use Rattle.lc_peer.specs.declared.config.Config.{Config}
@@ -16,7 +16,7 @@ abbrev pub HearsOn : ReadingSide → List Frame → ReadingSide → Type 0
 HearsOn old frames new = (arrived : List Frame) → HasHeardAll old arrived → HasHeardAll new (arrived ++ frames)
 
 -- these are all frames of what was held and of the bytes that were read, and the rest is held now
-pub record AllCame (held : Held) (read : List ℕ) (frames : List Frame) (now : Held) : Type 0 where
+pub record AllCame (held : Stored) (read : List ℕ) (frames : List Frame) (now : Stored) : Type 0 where
   pub bytes : All (λ b. b < 256) (held.bytes ++ read)
   pub frames_are : frames ≡ frames_of (fed held read)
   pub rest : now ≡ rest_of (fed held read)
@@ -43,5 +43,5 @@ NewSessionsHeardNothing = (config : Config) (s : SessionState) → IsNewSession 
 
 -- the frames that arrive in a run of the reading pump are heard after those of the runs before it
 abbrev pub RunsAreHeard : Type 0
-RunsAreHeard = (before after : Option (List ℕ)) (held : Held) (old : ReadingSide) (intake : IntakeState) (new : ReadingSide) (max_reads : ℕ) (end : ReadEnd)
+RunsAreHeard = (before after : Option (List ℕ)) (held : Stored) (old : ReadingSide) (intake : IntakeState) (new : ReadingSide) (max_reads : ℕ) (end : ReadEnd)
     → (run : ReadsInto Arrives Violates before after held old intake new max_reads end) → HearsOn old (take run.frames (frames_of (fed held run.read))) new

@@ -13,7 +13,7 @@ use Rattle.lc_credit.specs.History.{targets_asked}
 use Rattle.lc_credit.specs.Sides.{Incoming, IsAdded, IsNotAdded, IsLimited, IsPastLimit, IsAsked}
 use Rattle.lc_credit.specs.Channels.{SameCredits}
 use Rattle.lc_inbox.specs.History.{heard}
-use Rattle.lc_inbox.specs.Sides.{Side, IsSameSide, HadOneTurn, IsHeard, IsViolated}
+use Rattle.lc_inbox.specs.Sides.{InboxSide, IsSameSide, HadOneTurn, IsHeard, IsViolated}
 use Rattle.lc_inbox.specs.Inboxes.{AreSameSides}
 use Rattle.lc_peer.specs.Intake.{IntakeState}
 use Rattle.lc_session.specs.Channels.{channels}
@@ -21,7 +21,7 @@ use Rattle.lc_session.specs.Channels.{channels}
 -- the reading side of each channel's credit and of each channel's inbox, by the channel's number
 pub record ReadingSide : Type 0 where
   pub credits : List Incoming
-  pub inboxes : List Side
+  pub inboxes : List InboxSide
 
 -- the reading pump: its side of the credits and inboxes, and what it holds of its stream
 pub record Reading : Type 0 where
@@ -29,7 +29,7 @@ pub record Reading : Type 0 where
   pub intake : IntakeState
 
 -- the channel of an inbox
-abbrev pub channel_of_side : Side → Channel
+abbrev pub channel_of_side : InboxSide → Channel
 channel_of_side side = side.key.channel
 
 -- what every reading side keeps: the inboxes are those of the channels, in order
@@ -37,13 +37,13 @@ abbrev pub IsReadingSide : ReadingSide → Type 0
 IsReadingSide r = map channel_of_side r.inboxes ≡ channels
 
 -- an inbox heard a frame, in one turn
-pub record Hears (f : Frame) (old new : Side) : Type 0 where
+pub record Hears (f : Frame) (old new : InboxSide) : Type 0 where
   pub heard : IsHeard f old new
   pub turn : HadOneTurn old new
   pub same : IsSameSide old new
 
 -- an inbox refused a frame, in one turn
-pub record Refuses (v : Violation) (f : Frame) (old new : Side) : Type 0 where
+pub record Refuses (v : Violation) (f : Frame) (old new : InboxSide) : Type 0 where
   pub violated : IsViolated v f old new
   pub turn : HadOneTurn old new
   pub same : IsSameSide old new
@@ -53,7 +53,7 @@ abbrev pub ToCredit : Channel → (Incoming → Incoming → Type 0) → Reading
 ToCredit c Changes old new = ChangesAt (number_of c) Changes old.credits new.credits × (new.inboxes ≡ old.inboxes)
 
 -- something comes to the inbox of a channel, and to nothing else
-abbrev pub ToInbox : Channel → (Side → Side → Type 0) → ReadingSide → ReadingSide → Type 0
+abbrev pub ToInbox : Channel → (InboxSide → InboxSide → Type 0) → ReadingSide → ReadingSide → Type 0
 ToInbox c Changes old new = ChangesAt (number_of c) Changes old.inboxes new.inboxes × (new.credits ≡ old.credits)
 
 -- a frame arrives: a server's at the credit of its channel, a client's at its inbox

@@ -11,7 +11,7 @@ use Rattle.lc_queue.specs.Parts.{QueueId, End, IsSame}
 use Rattle.lc_credit.specs.declared.balance.Balance.{Balance}
 use Rattle.lc_credit.specs.Sides.{Outgoing}
 use Rattle.lc_credit.specs.Channels as credits
-use Rattle.lc_inbox.specs.Sides.{Side}
+use Rattle.lc_inbox.specs.Sides.{InboxSide}
 use Rattle.lc_inbox.specs.Inboxes as inboxes
 use Rattle.lc_outbox.specs.Outbox.{OutboxState, IsOutbox}
 use Rattle.lc_session.specs.Channels.{channels}
@@ -21,7 +21,7 @@ use Rattle.lc_session.specs.Pumping.{Pumping}
 -- the parts of a session: the sending and the receiving ends, by channel, and both pumps
 pub record SessionState : Type 0 where
   pub sending : List OutboxState
-  pub receiving : List Side
+  pub receiving : List InboxSide
   pub reading : Reading
   pub writing : Pumping
 
@@ -43,7 +43,7 @@ pub record PutsOn (queue : QueueId) (version : Version) (o : OutboxState) : Type
   pub version_is : o.lane.version ≡ version
 
 -- the server of an inbox puts on this queue, in this version, on the lane of its channel
-pub record ServesOn (queue : QueueId) (version : Version) (side : Side) : Type 0 where
+pub record ServesOn (queue : QueueId) (version : Version) (side : InboxSide) : Type 0 where
   pub queue_is : IsSame queue side.key.lane.value.queue
   pub version_is : side.key.lane.value.version ≡ version
   pub lane_is : side.key.lane.value.lane ≡ channel_count + number_of side.key.channel

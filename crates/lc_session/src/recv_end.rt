@@ -26,9 +26,9 @@ pub struct RecvEnd {
 
 impl Model for RecvEnd {
     ghost use Rattle.std.specs.Prelude.{◌≡◌};
-    ghost use Rattle.lc_inbox.specs.Sides.{Side};
+    ghost use Rattle.lc_inbox.specs.Sides.{InboxSide};
 
-    ghost Value = { Side };
+    ghost Value = { InboxSide };
 
     ghost view = { λ e. e.inbox };
 

@@ -1,7 +1,7 @@
 -- Parts of a session of which some changed, and stay of it.
 use Rattle.std.proofs.Common.{◌≡◌, ℕ, zero, suc, ◌<◌, List, [], ◌∷◌, length, get_or, set, arith}
 use Rattle.std.specs.List.{AllZip}
-use Rattle.lc_inbox.specs.Sides.{Side, IsSameSide}
+use Rattle.lc_inbox.specs.Sides.{InboxSide, IsSameSide}
 use Rattle.lc_outbox.specs.Outbox.{OutboxState, IsSameOutbox}
 use Rattle.lc_session.specs.Pumping.{Pumping, IsSamePump}
 use Rattle.lc_session.specs.Reading.{Reading, IsSameReading}
@@ -21,7 +21,7 @@ zip_set R same (x ∷ xs) (suc at) other now one = (same x, zip_set R same xs at
 pub outboxes_set : (ends : List OutboxState) (at : ℕ) (other now : OutboxState) → IsSameOutbox (get_or ends at other) now → AllZip IsSameOutbox ends (set ends at now)
 outboxes_set = zip_set IsSameOutbox outbox_itself
 
-pub sides_set : (sides : List Side) (at : ℕ) (other now : Side) → IsSameSide (get_or sides at other) now → AllZip IsSameSide sides (set sides at now)
+pub sides_set : (sides : List InboxSide) (at : ℕ) (other now : InboxSide) → IsSameSide (get_or sides at other) now → AllZip IsSameSide sides (set sides at now)
 sides_set = zip_set IsSameSide side_itself
 
 -- where each place changed
@@ -35,7 +35,7 @@ zip_each R (x ∷ xs) (y ∷ ys) len each = (each zero x (omega arith), zip_each
 pub senders_stay : (s : SessionState) (new : List OutboxState) → AllZip IsSameOutbox s.sending new → AreOfOneSession s → AreOfOneSession (record s { sending = new })
 senders_stay s new same one = session_stays s (record s { sending = new }) one (record { sending = same; receiving = zip_itself IsSameSide side_itself s.receiving; reading = reading_itself s.reading.side; writing = pump_itself s.writing })
 
-pub receivers_stay : (s : SessionState) (new : List Side) → AllZip IsSameSide s.receiving new → AreOfOneSession s → AreOfOneSession (record s { receiving = new })
+pub receivers_stay : (s : SessionState) (new : List InboxSide) → AllZip IsSameSide s.receiving new → AreOfOneSession s → AreOfOneSession (record s { receiving = new })
 receivers_stay s new same one = session_stays s (record s { receiving = new }) one (record { sending = zip_itself IsSameOutbox outbox_itself s.sending; receiving = same; reading = reading_itself s.reading.side; writing = pump_itself s.writing })
 
 pub reader_stays : (s : SessionState) (new : Reading) → IsSameReading s.reading.side new.side → AreOfOneSession s → AreOfOneSession (record s { reading = new })

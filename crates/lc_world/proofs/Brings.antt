@@ -1,6 +1,6 @@
 -- What bytes in flight bring to the end where they are delivered.
 use Rattle.lc_frame.specs.declared.version.Version.{Version}
-use Rattle.lc_frame.specs.Held.{Held, fed, HasFault}
+use Rattle.lc_frame.specs.Stored.{Stored, fed, HasFault}
 use Rattle.std.proofs.Common.{◌≡◌, ℕ, ◌+◌, ◌<◌, ◌≤◌, List, [], ◌∷◌, ◌++◌, length, get_or, take, drop, Option, Some, None, refl, sym, ap, ap₂, ◌∙◌, subst, inl, inr, arith}
 use Rattle.std.specs.Prelude.{◌-◌, All}
 use Rattle.std.specs.List.{AllByRecursion}
@@ -32,7 +32,7 @@ use Rattle.lc_world.specs.declared.endpoint.Endpoint.{Endpoint}
 use Rattle.lc_world.specs.State.{Line, line, other, stream, keep_pleads, size, arrive_first, deliver_over, deliver_on}
 use Rattle.lc_world.specs.Sound.{AllFit, Sound, IsSound}
 use Rattle.lc_world.specs.Delivery.{text_of, delivered}
-use Rattle.lc_world.specs.Endpoint.{line_of, capacity_of, streams_of, of_lines, IsLine, AreEnds, AreInStep, Brings, held_of}
+use Rattle.lc_world.specs.Endpoint.{line_of, capacity_of, streams_of, of_lines, IsLine, AreEnds, AreInStep, Brings, stored_of}
 use Rattle.lc_world.proofs.Delivers.{deliver_keeps}
 use Rattle.lc_world.proofs.Streams.{stream-deliver, version-deliver}
 use Rattle.lc_world.proofs.Sound.{sound_delivers, sound_delivers_theirs}
@@ -175,13 +175,13 @@ module _ (k : ℕ) (mine theirs : Line) (me peer : Endpoint) (h : AreEnds k mine
       let left = left_is k mine theirs me peer h in
       (deliveries_add theirs h.their_line.order).counts count ∙ omega (arith, left, within)
 
-  fed_is : fed me.decoder piece ≡ fed (held_of theirs) (take count (drop (delivered theirs) (text_of theirs.version (stream theirs))))
+  fed_is : fed me.decoder piece ≡ fed (stored_of theirs) (take count (drop (delivered theirs) (text_of theirs.version (stream theirs))))
   fed_is = ap₂ fed h.my_end.held piece_of_text
 
   frames_is : frames_of (fed me.decoder piece) ≡ brought.came
   frames_is = ap frames_of fed_is ∙ frames_come theirs new h.their_line new_line (version-deliver count theirs) (stream-deliver count theirs) count counted all brought.came brought.arrived
 
-  rest_is : rest_of (fed me.decoder piece) ≡ held_of new
+  rest_is : rest_of (fed me.decoder piece) ≡ stored_of new
   rest_is = ap rest_of fed_is ∙ rest_held theirs new h.their_line new_line (version-deliver count theirs) (stream-deliver count theirs) count counted all
 
   abbrev Arrived : Arrival
@@ -191,10 +191,10 @@ module _ (k : ℕ) (mine theirs : Line) (me peer : Endpoint) (h : AreEnds k mine
   arrived_is = ap (arrivals me.peer) frames_is
 
   -- nothing stops it
-  pub no_violation_stops : (v : Violation) (held : Held) → MetViolation v Arrived (fed me.decoder piece) held → ⊥
+  pub no_violation_stops : (v : Violation) (held : Stored) → MetViolation v Arrived (fed me.decoder piece) held → ⊥
   no_violation_stops v held met = let none : None ≡ Some v = sym brought.lawful ∙ (sym (ap (λ (a : Arrival). a.violation) arrived_is) ∙ met.violates) in cc
 
-  pub no_fault_stops : (e : FrameFault) (held : Held) (taken : ℕ) → MetFault e Arrived (fed me.decoder piece) held taken → ⊥
+  pub no_fault_stops : (e : FrameFault) (held : Stored) (taken : ℕ) → MetFault e Arrived (fed me.decoder piece) held taken → ⊥
   no_fault_stops e held taken met = no_fault_held new new_line (subst (λ (x : List ℕ). All (λ b. b < 256) x) (sym same_text) all) e (subst (HasFault e) rest_is met.stands)
 
   -- and it leaves the ends of the lines after it
@@ -240,7 +240,7 @@ module _ (k : ℕ) (mine theirs : Line) (me peer : Endpoint) (h : AreEnds k mine
     frames_brought = ap length brought.arrived ∙ (length-append theirs.arrived brought.came ∙ ap (λ (n : ℕ). length theirs.arrived + n) (sym (ef ∙ (ap (λ (a : Arrival). a.count) arrived_is ∙ brought.count))))
 
 -- what the peer's delivery says of it
-module _ (me peer : Endpoint) (h : AreInStep me peer) (count : ℕ) (within : peer.delivered + count ≤ length peer.stream.items) (piece : List ℕ) (piece_is : piece ≡ take count (drop peer.delivered peer.stream.items)) (d : Delivery) (q : PeerState) (held : Held) (says : Delivers me.peer me.decoder piece q held d) where
+module _ (me peer : Endpoint) (h : AreInStep me peer) (count : ℕ) (within : peer.delivered + count ≤ length peer.stream.items) (piece : List ℕ) (piece_is : piece ≡ take count (drop peer.delivered peer.stream.items)) (d : Delivery) (q : PeerState) (held : Stored) (says : Delivers me.peer me.decoder piece q held d) where
   abbrev StopsAs : Option Stop → Type 0
   StopsAs o = StopsBy o (arrivals me.peer (frames_of (fed me.decoder piece))) (fed me.decoder piece) piece held d.taken
 

@@ -14,7 +14,7 @@ use Rattle.lc_frame.specs.Channel.{channel_count, number_of}
 use Rattle.lc_frame.specs.Frame.{channel_of, IsValid}
 use Rattle.lc_frame.specs.Version.{greeting}
 use Rattle.lc_frame.specs.Encoding.{encoding}
-use Rattle.lc_frame.specs.Held.{opened}
+use Rattle.lc_frame.specs.Stored.{opened}
 use Rattle.lc_frame.specs.Splits.{rest_of}
 use Rattle.lc_frame.proofs.Channels.{cases_same, same_is_same, number_below}
 use Rattle.lc_book.specs.declared.fault.Refusal.{Refusal}
@@ -33,7 +33,7 @@ use Rattle.lc_world.specs.declared.event.Answer.TheVariants.{Accepted, Absolved,
 use Rattle.lc_world.specs.State.{Line, stream, client_book, server_book, put_on, forget_on, size}
 use Rattle.lc_world.specs.Answers.{judged, honour_judged, honour_answer, frame_put, MayWantMemory, IsUnlessMemory, IsAnswerOf, put_any, mine_after, theirs_after}
 use Rattle.lc_world.specs.Delivery.{bytes_of, text_of, delivered, IsInOrder}
-use Rattle.lc_world.specs.Endpoint.{line_of, capacity_of, streams_of, of_lines, IsPeerBetween, IsEnd, IsLine, AreEnds, AreInStep, Acts, held_of}
+use Rattle.lc_world.specs.Endpoint.{line_of, capacity_of, streams_of, of_lines, IsPeerBetween, IsEnd, IsLine, AreEnds, AreInStep, Acts, stored_of}
 use Rattle.lc_world.specs.Calls.{with_next, own_channel, put_any_at, after_call, IsCallAnswer, Called}
 use Rattle.lc_world.proofs.Streams.{stream-put}
 use Rattle.lc_world.proofs.Steps.{sound_lines}
@@ -166,7 +166,7 @@ delivered_within l h =
     ]
 
 -- what is held of a line is so with a frame more
-held_put : (l : Line) (f : Frame) → IsInOrder l → held_of l ≡ held_of (put_on l f)
+held_put : (l : Line) (f : Frame) → IsInOrder l → stored_of l ≡ stored_of (put_on l f)
 held_put l f h =
     ap (λ (x : List ℕ). rest_of (opened x)) (sym (ap (take (delivered l)) (text_put l f) ∙ take-append-le (delivered l) (text_of l.version (stream l)) (encoding l.version f) (delivered_within l h)))
 
@@ -236,7 +236,7 @@ module _ (k : ℕ) (mine theirs : Line) where
   next_is (Finish c) Accepted d p e h r = ap (λ (fs : List Frame). slice_get (fs ++ frame.Finish c ∷ []) 0) h.none_waits
   next_is act answer d p e h r = ap (λ (fs : List Frame). slice_get fs 0) h.none_waits
 
-  held_same : (act : Act) (answer : Answer) (d : Channel) → own_channel act ≡ Some d → held_of theirs ≡ held_of (theirs_after mine theirs act answer)
+  held_same : (act : Act) (answer : Answer) (d : Channel) → own_channel act ≡ Some d → stored_of theirs ≡ stored_of (theirs_after mine theirs act answer)
   held_same Arrive answer d e = absurd (let f = e in cc)
   held_same (Deliver count) answer d e = absurd (let f = e in cc)
   held_same (Take c) answer d e = absurd (let f = e in cc)

@@ -1,5 +1,5 @@
 -- The answers to a delivery and to an arrival.
-use Rattle.lc_frame.specs.Held.{Held}
+use Rattle.lc_frame.specs.Stored.{Stored}
 use Rattle.std.proofs.Common.{◌≡◌, ℕ, zero, suc, ◌+◌, ◌<◌, ◌≤◌, List, [], ◌∷◌, ◌++◌, length, take, drop, Option, None, refl, sym, ap, ap₂, ◌∙◌, subst, inl, inr, arith}
 use Rattle.std.specs.Prelude.{◌-◌, ◌⊎◌, min, All}
 use Rattle.std.proofs.lemmas.List.{append_assoc, length-append, length-take, length-drop, take_all}
@@ -112,7 +112,7 @@ module _ (k : ℕ) (mine theirs : Line) (me peer : Endpoint) (h : AreEnds k mine
 
   -- the place by what the decoder holds
   held_is : (length me.decoder.bytes ≡ length (take theirs.begun (bytes_of v theirs.in_flight))) ⊎ ((length me.decoder.bytes ≡ length (take (delivered theirs) (text_of v (stream theirs)))) × (length (take (delivered theirs) (text_of v (stream theirs))) ≤ length (greeting v)))
-  held_is = subst (λ (x : Held). (length x.bytes ≡ length (take theirs.begun (bytes_of v theirs.in_flight))) ⊎ ((length x.bytes ≡ length (take (delivered theirs) (text_of v (stream theirs)))) × (length (take (delivered theirs) (text_of v (stream theirs))) ≤ length (greeting v)))) (sym h.my_end.held) (held_length theirs h.their_line all)
+  held_is = subst (λ (x : Stored). (length x.bytes ≡ length (take theirs.begun (bytes_of v theirs.in_flight))) ⊎ ((length x.bytes ≡ length (take (delivered theirs) (text_of v (stream theirs)))) × (length (take (delivered theirs) (text_of v (stream theirs))) ≤ length (greeting v)))) (sym h.my_end.held) (held_length theirs h.their_line all)
 
   all_delivered : length (take (delivered theirs) (text_of v (stream theirs))) ≡ peer.delivered
   all_delivered = omega (arith, length-take (delivered theirs) (text_of v (stream theirs)), h.their_end.count, whole, ap length h.their_end.bytes, delivered_is, begun_within v theirs.in_flight theirs.begun h.their_line.order.begun)

@@ -16,18 +16,18 @@ use Rattle.lc_frame.specs.Kind.{width_of}
 use Rattle.lc_frame.specs.Frame.{kind_of, channel_of, field_of, body_of}
 use Rattle.lc_frame.specs.Version.{greeting, version_of, IsGreetingPart}
 use Rattle.lc_frame.specs.Encoding.{tag_of, number_bytes, encoding, FaultStands}
-use Rattle.lc_frame.specs.Held.{Held, nothing_held, held_in, opened_as, opened, fed, before, HasFault}
+use Rattle.lc_frame.specs.Stored.{Stored, nothing_stored, stored_in, opened_as, opened, fed, before, HasFault}
 use Rattle.lc_frame.specs.Splits.{Splits, frames_of, rest_of}
 use Rattle.lc_frame.proofs.Bytes.{IsBytes}
 use Rattle.lc_frame.proofs.Channels.{number_below}
 use Rattle.lc_frame.proofs.Fronts.{bytes_from}
-use Rattle.lc_frame.proofs.Held.{opened_is, fed_fed, before_fed, each_fed, fed_fits}
+use Rattle.lc_frame.proofs.Stored.{opened_is, fed_fed, before_fed, each_fed, fed_fits}
 use Rattle.lc_frame.proofs.Openings.{nothing_is_part}
 use Rattle.lc_frame.proofs.Frames.{computed_split, joined_law}
 use Rattle.lc_frame.proofs.SplitLaws.{front_law}
 use Rattle.lc_world.specs.State.{Line, stream}
 use Rattle.lc_world.specs.Delivery.{bytes_of, text_of, delivered}
-use Rattle.lc_world.specs.Endpoint.{IsLine, held_of}
+use Rattle.lc_world.specs.Endpoint.{IsLine, stored_of}
 use Rattle.lc_world.proofs.Parts.{each_behind, part_splits, reads}
 
 -- a frame's first byte begins no greeting
@@ -68,10 +68,10 @@ frames_told : (v : Version) (x : List ℕ) → (version_of x ≡ Some v) ⊎ IsU
 frames_told v x (inl told) = ap frames_of (opened_is (Some v) x told)
 frames_told v x (inr untold) =
     let none : drop (length (greeting v)) x ≡ [] = nil_from_length (drop (length (greeting v)) x) (omega (arith, length-drop (length (greeting v)) x, untold.short)) in
-    ap frames_of (opened_is None x untold.none) ∙ sym (ap (λ (y : List ℕ). frames_of (held_in v y)) none)
+    ap frames_of (opened_is None x untold.none) ∙ sym (ap (λ (y : List ℕ). frames_of (stored_in v y)) none)
 
 -- more bytes behind the frames of what was held, and behind what is left of it
-module _ (h : Held) (fits : IsBytes h.bytes) (more : List ℕ) where
+module _ (h : Stored) (fits : IsBytes h.bytes) (more : List ℕ) where
   split : Splits h.version h.bytes (frames_of h) (rest_of h).bytes
   split = computed_split h fits
 
@@ -102,26 +102,26 @@ module _ (l new : Line) (h : IsLine l) (h' : IsLine new) (version : new.version 
 
   fed_now : fed (opened (take (delivered l) text)) piece ≡ opened (take (delivered new) (text_of new.version (stream new)))
   fed_now =
-      fed_fed nothing_held (take (delivered l) text) piece
+      fed_fed nothing_stored (take (delivered l) text) piece
       ∙ ap opened (sym (take-add (delivered l) count text) ∙ ap₂ (λ (n : ℕ) (x : List ℕ). take n x) (sym counted) (sym new_text))
 
   held_fits : IsBytes (opened (take (delivered l) text)).bytes
-  held_fits = fed_fits nothing_held (take (delivered l) text) (bytes_from (take (delivered l) text) (All-take (λ b. b < 256) (delivered l) text all))
+  held_fits = fed_fits nothing_stored (take (delivered l) text) (bytes_from (take (delivered l) text) (All-take (λ b. b < 256) (delivered l) text all))
 
   arrived_is : (m : Line) → IsLine m → All (λ b. b < 256) (text_of m.version (stream m)) → frames_of (opened (take (delivered m) (text_of m.version (stream m)))) ≡ m.arrived
   arrived_is m k fits = frames_told m.version _ (front_told m.version (stream m) (delivered m)) ∙ (reads m k fits).came
 
   -- its frames are those that arrive
-  pub frames_come : (came : List Frame) → new.arrived ≡ l.arrived ++ came → frames_of (fed (held_of l) piece) ≡ came
+  pub frames_come : (came : List Frame) → new.arrived ≡ l.arrived ++ came → frames_of (fed (stored_of l) piece) ≡ came
   frames_come came e =
-      append_cancel_left l.arrived (frames_of (fed (held_of l) piece)) came
-      (ap (λ (fs : List Frame). fs ++ frames_of (fed (held_of l) piece)) (sym (arrived_is l h all))
+      append_cancel_left l.arrived (frames_of (fed (stored_of l) piece)) came
+      (ap (λ (fs : List Frame). fs ++ frames_of (fed (stored_of l) piece)) (sym (arrived_is l h all))
       ∙ (sym (frames_behind (opened (take (delivered l) text)) held_fits piece)
       ∙ (ap frames_of fed_now
       ∙ (arrived_is new h' (subst (All (λ b. b < 256)) (sym new_text) all) ∙ e))))
 
   -- and what is left of it is held
-  pub rest_held : rest_of (fed (held_of l) piece) ≡ held_of new
+  pub rest_held : rest_of (fed (stored_of l) piece) ≡ stored_of new
   rest_held = sym (rest_behind (opened (take (delivered l) text)) held_fits piece) ∙ ap rest_of fed_now
 
 -- no fault stands in what the reader of a line holds
@@ -137,18 +137,18 @@ module _ (l : Line) (h : IsLine l) (all : All (λ b. b < 256) (text_of l.version
       let valid = each_behind l.version l.arrived l.in_flight h.valid in
       (front_law (Some l.version) l.in_flight [] (take l.begun coming) (drop l.begun coming) (take l.begun coming) valid (sym (take-append-drop l.begun coming)) (part_splits l.version [] l.in_flight l.begun tt valid h.order.begun)).no_fault e s
 
-  no_fault_as : (version_of came ≡ Some l.version) ⊎ IsUntold l.version came → (e : FrameFault) → HasFault e (held_of l) → ⊥
+  no_fault_as : (version_of came ≡ Some l.version) ⊎ IsUntold l.version came → (e : FrameFault) → HasFault e (stored_of l) → ⊥
   no_fault_as (inl told) e s =
-      begun_is_no_fault e (subst (FaultStands l.version e) (reads l h all).rest (subst (λ (x : Held). HasFault e (rest_of x)) (opened_is (Some l.version) came told) s))
-  no_fault_as (inr untold) e s = (subst (λ (x : Held). HasFault e (rest_of x)) (opened_is None came untold.none) s).1.no_part untold.part
+      begun_is_no_fault e (subst (FaultStands l.version e) (reads l h all).rest (subst (λ (x : Stored). HasFault e (rest_of x)) (opened_is (Some l.version) came told) s))
+  no_fault_as (inr untold) e s = (subst (λ (x : Stored). HasFault e (rest_of x)) (opened_is None came untold.none) s).1.no_part untold.part
 
-  pub no_fault_held : (e : FrameFault) → HasFault e (held_of l) → ⊥
+  pub no_fault_held : (e : FrameFault) → HasFault e (stored_of l) → ⊥
   no_fault_held e s = no_fault_as (front_told l.version (stream l) (delivered l)) e s
 
   -- how much of what was delivered stands behind the greeting and the frames that arrived
-  held_as : (version_of came ≡ Some l.version) ⊎ IsUntold l.version came → (length (held_of l).bytes ≡ length (take l.begun coming)) ⊎ ((length (held_of l).bytes ≡ length came) × (length came ≤ length (greeting l.version)))
-  held_as (inl told) = inl (ap (λ (x : Held). length (rest_of x).bytes) (opened_is (Some l.version) came told) ∙ ap length (reads l h all).rest)
-  held_as (inr untold) = inr (ap (λ (x : Held). length (rest_of x).bytes) (opened_is None came untold.none), untold.short)
+  stored_as : (version_of came ≡ Some l.version) ⊎ IsUntold l.version came → (length (stored_of l).bytes ≡ length (take l.begun coming)) ⊎ ((length (stored_of l).bytes ≡ length came) × (length came ≤ length (greeting l.version)))
+  stored_as (inl told) = inl (ap (λ (x : Stored). length (rest_of x).bytes) (opened_is (Some l.version) came told) ∙ ap length (reads l h all).rest)
+  stored_as (inr untold) = inr (ap (λ (x : Stored). length (rest_of x).bytes) (opened_is None came untold.none), untold.short)
 
-  pub held_length : (length (held_of l).bytes ≡ length (take l.begun coming)) ⊎ ((length (held_of l).bytes ≡ length came) × (length came ≤ length (greeting l.version)))
-  held_length = held_as (front_told l.version (stream l) (delivered l))
+  pub held_length : (length (stored_of l).bytes ≡ length (take l.begun coming)) ⊎ ((length (stored_of l).bytes ≡ length came) × (length came ≤ length (greeting l.version)))
+  held_length = stored_as (front_told l.version (stream l) (delivered l))

@@ -10,7 +10,7 @@ use Rattle.lc_frame.specs.declared.channel.Channel.{Channel}
 use Rattle.lc_frame.specs.declared.channel.Channel.TheVariants.{ReconciliationChannel, DataChannel, OverlapChannel, CapabilityChannel, AreaOfInterestChannel, PayloadRequestChannel, StaticTokenChannel}
 use Rattle.lc_frame.specs.Bounds.{IsCapacity}
 use Rattle.lc_frame.specs.Channel.{channel_count, number_of}
-use Rattle.lc_frame.specs.Held.{nothing_held}
+use Rattle.lc_frame.specs.Stored.{nothing_stored}
 use Rattle.lc_frame.specs.Version.{greeting}
 use Rattle.lc_peer.specs.declared.config.Config.{Config}
 use Rattle.lc_peer.specs.declared.config.PeerFault.TheVariants.{BadCapacity, BadSlots}
@@ -21,7 +21,7 @@ use Rattle.lc_peer.proofs.StreamsKept.{new_peers_are_of_streams}
 use Rattle.lc_world.specs.declared.endpoint.Endpoint.{Endpoint}
 use Rattle.lc_world.specs.State.{new_line, by_side}
 use Rattle.lc_world.specs.Calls.{IsNewEnd}
-use Rattle.lc_world.specs.Endpoint.{streams_of, held_of, IsEnd, IsLine, AreEnds, AreInStep}
+use Rattle.lc_world.specs.Endpoint.{streams_of, stored_of, IsEnd, IsLine, AreEnds, AreInStep}
 use Rattle.lc_world.proofs.Bytes.{order_new}
 use Rattle.lc_world.proofs.Pleads.{none_kept}
 use Rattle.lc_world.proofs.Sound.{none_taken}
@@ -53,7 +53,7 @@ greeting_bytes : (v : Version) → All (λ b. b < 256) (greeting v)
 greeting_bytes One = All-from_recursion (λ b. b < 256) [] tt
 greeting_bytes Two = All-from_recursion (λ b. b < 256) (greeting Two) (omega arith, (omega arith, (omega arith, (omega arith, tt))))
 
-held_new : (v : Version) → nothing_held ≡ held_of (new_line v)
+held_new : (v : Version) → nothing_stored ≡ stored_of (new_line v)
 held_new One = refl
 held_new Two = refl
 

@@ -6,7 +6,7 @@ use Rattle.std.proofs.lemmas.List.{length-append, length-take, length-drop, take
 use Rattle.std.proofs.lemmas.List.Elements.{All-take, All-drop}
 use Rattle.std.proofs.lemmas.List.Concat.{flat_map-cons}
 use Rattle.std.proofs.Math.Seq.{take-append-add, drop-append_seam}
-use Rattle.lc_frame.specs.Held.{held_in, opened_as}
+use Rattle.lc_frame.specs.Stored.{stored_in, opened_as}
 use Rattle.lc_frame.specs.declared.version.Version.{Version}
 use Rattle.lc_frame.specs.declared.frame.Frame.{Frame}
 use Rattle.lc_frame.specs.Version.{greeting}
@@ -53,8 +53,8 @@ module _ (v : Version) where
   part_splits came rest n each others h = record { whole = refl; each = each; partial = no_frame rest n others h }
 
   -- so the frames of the bytes are those
-  pub frames_are : (bytes : List ℕ) (frames : List Frame) (rest : List ℕ) → All (λ b. b < 256) bytes → Splits (Some v) bytes frames rest → (frames_of (held_in v bytes) ≡ frames) × ((rest_of (held_in v bytes)).bytes ≡ rest)
-  frames_are bytes frames rest all s = split_law (Some v) (frames_of (held_in v bytes)) frames bytes (rest_of (held_in v bytes)).bytes rest (computed_split (held_in v bytes) (bytes_from bytes all)) s
+  pub frames_are : (bytes : List ℕ) (frames : List Frame) (rest : List ℕ) → All (λ b. b < 256) bytes → Splits (Some v) bytes frames rest → (frames_of (stored_in v bytes) ≡ frames) × ((rest_of (stored_in v bytes)).bytes ≡ rest)
+  frames_are bytes frames rest all s = split_law (Some v) (frames_of (stored_in v bytes)) frames bytes (rest_of (stored_in v bytes)).bytes rest (computed_split (stored_in v bytes) (bytes_from bytes all)) s
 
 -- the greeting in front of them
 text_behind : (l : Line) (h : IsInOrder l) → drop (length (greeting l.version)) (take (delivered l) (text_of l.version (stream l))) ≡ bytes_of l.version l.arrived ++ take l.begun (bytes_of l.version l.in_flight)

@@ -1,6 +1,6 @@
 -- What an own event is to the peer of its side, for src/endpoint.rt and src/act.rt.
 use Rattle.std.specs.Prelude.{◌≡◌, ℕ, List, ◌++◌, replicate, Option, Some, None, IfSome, Result, Ok, Err}
-use Rattle.lc_frame.specs.Held.{nothing_held}
+use Rattle.lc_frame.specs.Stored.{nothing_stored}
 use Rattle.lc_frame.specs.declared.version.Version.{Version}
 use Rattle.lc_frame.specs.declared.channel.Channel.{Channel}
 use Rattle.lc_frame.specs.declared.frame.Frame.{Frame}
@@ -23,7 +23,7 @@ pub record IsNewEnd (version : Version) (capacity : ℕ) (e : Endpoint) : Type 0
   pub peer : e.peer ≡ new_peer (record { version = version; capacities = replicate channel_count capacity; slots = 1 })
   pub stream : e.stream.items ≡ greeting version
   pub delivered : e.delivered ≡ 0
-  pub decoder : e.decoder ≡ nothing_held
+  pub decoder : e.decoder ≡ nothing_stored
 
 -- a stream of bytes with a frame, if there is one, put last
 abbrev pub with_next : Version → Option Frame → List ℕ → List ℕ

@@ -1,7 +1,7 @@
 -- One end of a world as it is kept, the lines that two of them stand for, and what they keep. A device of the proofs: a world is seen as the lines alone.
 use Rattle.std.specs.Prelude.{◌≡◌, ℕ, ◌+◌, ◌-◌, ◌<◌, ◌≤◌, List, [], length, map, take, drop, All, Option, Some}
 use Rattle.std.specs.List.{AllByRecursion}
-use Rattle.lc_frame.specs.Held.{Held, opened_as, opened}
+use Rattle.lc_frame.specs.Stored.{Stored, opened_as, opened}
 use Rattle.lc_frame.specs.declared.version.Version.{Version}
 use Rattle.lc_frame.specs.Version.{greeting}
 use Rattle.lc_frame.specs.declared.channel.Channel.TheVariants.{ReconciliationChannel}
@@ -64,8 +64,8 @@ pub record IsPeerBetween (capacity : ℕ) (mine theirs : Line) (p : PeerState) :
   pub none_waits : p.waiting ≡ []
 
 -- what the reader of a line holds: of what was delivered the rest behind the frames
-abbrev pub held_of : Line → Held
-held_of l = rest_of (opened (take (delivered l) (text_of l.version (stream l))))
+abbrev pub stored_of : Line → Stored
+stored_of l = rest_of (opened (take (delivered l) (text_of l.version (stream l))))
 
 -- the end of two lines: its peer is theirs, its stream is the text of the first, and its decoder holds what the reader of the second does
 pub record IsEnd (capacity : ℕ) (mine theirs : Line) (e : Endpoint) : Type 0 where
@@ -73,7 +73,7 @@ pub record IsEnd (capacity : ℕ) (mine theirs : Line) (e : Endpoint) : Type 0 w
   pub bytes : e.stream.items ≡ text_of mine.version (stream mine)
   pub are_bytes : All (λ b. b < 256) e.stream.items
   pub count : e.delivered ≡ delivered mine
-  pub held : e.decoder ≡ held_of theirs
+  pub held : e.decoder ≡ stored_of theirs
 
 -- what every line keeps
 pub record IsLine (l : Line) : Type 0 where

@@ -145,11 +145,11 @@ fn first_place(me: &Endpoint, peer: &Endpoint) -> usize
     ensures { result ≡ length (text_of (line_of peer.now me.now).version (line_of peer.now me.now).arrived) }
 {
     let greeting = peer.peer.version().greeting().len();
-    let held = me.decoder.held();
-    if peer.delivered - held < greeting {
+    let stored = me.decoder.stored();
+    if peer.delivered - stored < greeting {
         greeting
     } else {
-        peer.delivered - held
+        peer.delivered - stored
     }
 }
 

@@ -20,7 +20,8 @@ ghost use Rattle.std.specs.Prelude.{◌≡◌, ◌↔◌, IfOk, IsOk, IsSome, If
 ghost use Rattle.std.specs.List.{zip};
 ghost use Rattle.lc_frame.specs.declared.version.Version.TheVariants.{One};
 ghost use Rattle.lc_frame.specs.Bounds.{IsCapacity};
-ghost use Rattle.lc_world.specs.State.{by_side, opening, client, server};
+ghost use Rattle.lc_world.specs.State.{by_side, opening, client, server, line, stream};
+ghost use Rattle.lc_world.specs.Delivery.{text_of, delivered};
 ghost use Rattle.lc_world.specs.Answers.{IsAnswer, after};
 ghost use Rattle.lc_world.specs.Histories.{IsHistory};
 ghost use Rattle.lc_world.specs.Guarantee.{KeepsGuarantees};
@@ -117,6 +118,26 @@ impl World {
         match side {
             Side::A => self.a.peer.server(channel),
             Side::B => self.b.peer.server(channel),
+        }
+    }
+
+    /// The bytes of a side's stream, its greeting and then its frames.
+    pub fn stream(&self, side: Side) -> &[u8]
+        ensures { result.now ≡ text_of (line self.now side).version (stream (line self.now side)) }
+    {
+        match side {
+            Side::A => self.a.stream.as_slice(),
+            Side::B => self.b.stream.as_slice(),
+        }
+    }
+
+    /// How many bytes of a side's stream were delivered to the other.
+    pub fn delivered(&self, side: Side) -> usize
+        ensures { result ≡ delivered (line self.now side) }
+    {
+        match side {
+            Side::A => self.a.delivered,
+            Side::B => self.b.delivered,
         }
     }
 }

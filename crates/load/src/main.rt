@@ -73,11 +73,11 @@ fn load_of(what: &str, rounds: u32) -> Load {
         // One slot: the pump waits for a frame, and who puts one for the slot.
         "pump" => (1 << 16, 1, 1, false),
         // Both, on all channels.
-        "both" => (4, 1, 7, false),
+        "both" => (4, 1, CHANNELS, false),
         // The same with room for several messages.
-        "slot" => (16, 1, 7, true),
+        "slot" => (16, 1, CHANNELS, true),
         // Many frames at a time.
-        _ => (64, 64, 7, true),
+        _ => (64, 64, CHANNELS, true),
     };
     Load {
         capacity,

@@ -2,7 +2,7 @@
 //! to its own reading pump, so that its ends are at both sides of the stream.
 ghost use Rattle.std.specs.Prelude.{◌≡◌, ℕ, ◌<◌, length, slice_index_or};
 ghost use Rattle.std.specs.List.{AllZip};
-ghost use Rattle.lc_inbox.specs.Sides.{Side, IsSameSide};
+ghost use Rattle.lc_inbox.specs.Sides.{InboxSide, IsSameSide};
 ghost use Rattle.lc_outbox.specs.Outbox.{OutboxState, IsSameOutbox};
 ghost use Rattle.lc_session.specs.Parts.{state_of};
 ghost use Rattle.lc_session.specs.Pumping.{IsSamePump};
@@ -162,18 +162,23 @@ fn send_each<R: Threads + Wait + Clock + Sync>(rt: &R, ends: &mut [SendEnd; CHAN
     ensures len { length ends.new ≡ length ends.old }
     ensures same { (k : ℕ) (d : OutboxState) → k < length ends.old → IsSameOutbox (slice_index_or ends.old k d) (slice_index_or ends.new k d) }
 {
-    thread::for_each_mut(rt, ends, 7, &|at, end| send_all(rt, end, load.job_on(at)));
+    thread::for_each_mut(
+        rt,
+        ends,
+        CHANNELS,
+        &|at, end| send_all(rt, end, load.job_on(at)),
+    );
 }
 
 // And each receiving end.
 fn take_each<R: Threads + Wait + Clock + Sync>(rt: &R, ends: &mut [RecvEnd; CHANNELS], load: Load)
     ensures len { length ends.new ≡ length ends.old }
-    ensures same { (k : ℕ) (d : Side) → k < length ends.old → IsSameSide (slice_index_or ends.old k d) (slice_index_or ends.new k d) }
+    ensures same { (k : ℕ) (d : InboxSide) → k < length ends.old → IsSameSide (slice_index_or ends.old k d) (slice_index_or ends.new k d) }
 {
     thread::for_each_mut(
         rt,
         ends,
-        7,
+        CHANNELS,
         &|at, end| { take_all(rt, end, load.capacity, load.job_on(at)) },
     );
 }

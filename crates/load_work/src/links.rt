@@ -1,6 +1,6 @@
 //! Two peers on one thread that send each other messages on all channels.
 use crate::digest::Digest;
-use crate::random::{Pool, Random};
+use crate::random::{LAST_CHANNEL, Pool, Random};
 use lc_driver::{Counted, Link, ReadEnd};
 use lc_frame::{CHANNELS, Channel, Version};
 use lc_peer::{Config, Take};
@@ -180,7 +180,7 @@ impl Side {
 }
 
 fn some_channel(random: &mut Random) -> Option<Channel> {
-    Channel::from_number(random.from_to(0, 6) as u8)
+    Channel::from_number(random.from_to(0, LAST_CHANNEL) as u8)
 }
 
 // Writes all that waits at one side, and reads it in at the other. Whether both went well.

@@ -1,7 +1,11 @@
 //! Numbers and bytes that look random.
 ghost use Rattle.std.specs.Prelude.{◌≤◌, ◌<◌, length};
 
+use lc_frame::CHANNELS;
 use std::alloc::{AllocError, Global};
+
+/// The greatest number of a channel.
+pub const LAST_CHANNEL: u32 = CHANNELS as u32 - 1;
 
 /// Numbers by the method SplitMix64.
 #[derive(Clone, Copy)]

@@ -1,6 +1,6 @@
 //! Scripts of events between two peers, replayed and drawn.
 use crate::digest::Digest;
-use crate::random::{Pool, Random};
+use crate::random::{LAST_CHANNEL, Pool, Random};
 use lc_chart::Command;
 use lc_frame::Version;
 use std::alloc::{AllocError, Global};
@@ -58,7 +58,7 @@ fn write_line(random: &mut Random, pool: &Pool, script: &mut Vec<u8>) -> Result<
     } else {
         b"B "
     };
-    let (channel, amount) = (random.from_to(0, 6), random.from_to(1, 1_000));
+    let (channel, amount) = (random.from_to(0, LAST_CHANNEL), random.from_to(1, 1_000));
     let (word, has_channel, has_amount): (&[u8], bool, bool) = match random.from_to(0, 31) {
         0..=9 => (b"send", true, false),
         10..=15 => (b"issue", true, true),

@@ -1,6 +1,6 @@
 //! Streams of frames, listed.
 use crate::digest::Digest;
-use crate::random::{Pool, Random};
+use crate::random::{LAST_CHANNEL, Pool, Random};
 use lc_frame::{Channel, FrameRef, Version};
 use std::alloc::{AllocError, Global};
 
@@ -17,7 +17,7 @@ fn append_frame(
     version: Version,
     stream: &mut Vec<u8>,
 ) -> Result<(), AllocError> {
-    let Some(channel) = Channel::from_number(random.from_to(0, 6) as u8) else {
+    let Some(channel) = Channel::from_number(random.from_to(0, LAST_CHANNEL) as u8) else {
         return Ok(());
     };
     let amount = random.from_to(0, 1_000_000);

@@ -59,7 +59,7 @@ fn step_in_decoder(peer: &mut Peer, decoder: &mut StreamDecoder, piece: &[u8]) -
 // One step: what stands at the front of what is held and of the piece is dealt with.
 fn go_on(peer: &mut Peer, decoder: &mut StreamDecoder, piece: &[u8]) -> Step {
     match decoder.version() {
-        Some(version) if decoder.held() == 0 => step_in_piece(peer, version, decoder, piece),
+        Some(version) if decoder.stored() == 0 => step_in_piece(peer, version, decoder, piece),
         _ => step_in_decoder(peer, decoder, piece),
     }
 }

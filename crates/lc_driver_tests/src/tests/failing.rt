@@ -1,5 +1,5 @@
 //! A session whose devices fail, stop short or move nothing at each of their calls in turn.
-use crate::tests::side::Side;
+use crate::tests::failing_link::FailingLink;
 use lc_driver::{Link, ReadEnd, WriteFault};
 use lc_frame::{Channel, Version};
 use lc_peer::Take;
@@ -25,7 +25,7 @@ struct Wire {
 
 impl Wire {
     // Writes all that waits, in as many calls as it takes.
-    fn write(mut self, from: &mut Side) -> Wire {
+    fn write(mut self, from: &mut FailingLink) -> Wire {
         for _ in 0..4 {
             let (answer, writer) = from.write(self.writing, self.pipe);
             self.writing = writer.plan;
@@ -40,7 +40,7 @@ impl Wire {
     }
 
     // Reads until the pipe is empty and says so.
-    fn read(mut self, to: &mut Side) -> Wire {
+    fn read(mut self, to: &mut FailingLink) -> Wire {
         for _ in 0..100 {
             let (end, reader) = to.read(self.reading, self.pipe, 3);
             self.reading = reader.plan;
@@ -94,7 +94,12 @@ fn take_all(rt: &impl Abort, link: &mut Link, next: u8) -> u8 {
 
 // Twenty messages go from one side to another, which issues as it takes, and all that was sent is
 // taken.
-fn messages_go(rt: &impl Abort, client: &mut Side, server: &mut Side, mut wire: Wire) -> Wire {
+fn messages_go(
+    rt: &impl Abort,
+    client: &mut FailingLink,
+    server: &mut FailingLink,
+    mut wire: Wire,
+) -> Wire {
     issue(rt, &mut server.link, 32);
     let mut taken = 0;
     for number in 0..MESSAGES {
@@ -116,8 +121,8 @@ fn session(
     kind: ErrorKind,
     (writing, reading): (Plan, Plan),
 ) -> Result<Wire, Fail> {
-    let mut client = Side::new(alloc, version, 32, 32)?;
-    let mut server = Side::new(alloc, version, 32, 32)?;
+    let mut client = FailingLink::new(alloc, version, 32, 32)?;
+    let mut server = FailingLink::new(alloc, version, 32, 32)?;
     client.kind = kind;
     server.kind = kind;
     let wire = Wire {

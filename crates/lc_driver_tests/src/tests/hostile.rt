@@ -1,6 +1,6 @@
 //! Streams of a hostile peer, whole and cut in two after each byte.
+use crate::tests::failing_link::FailingLink;
 use crate::tests::script::run;
-use crate::tests::side::Side;
 use lc_driver::Link;
 use lc_frame::{Channel, Version};
 use lc_peer::Take;
@@ -113,7 +113,7 @@ fn any_streams(rt: &impl Abort, alloc: Global, version: Version) -> Result<(), F
     let mut state = 1;
     for _ in 0..10_000 {
         let pipe = Pipe::of(any_stream(alloc, version, &mut state)?);
-        let mut side = Side::new(alloc, version, 8, 7)?;
+        let mut side = FailingLink::new(alloc, version, 8, 7)?;
         issue_all(rt, &mut side.link);
         let _ = side.read(Plan::whole(), pipe, 10);
         all_are_bounded(rt, &mut side.link);

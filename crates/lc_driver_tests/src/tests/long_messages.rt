@@ -3,7 +3,7 @@
 //!
 //! They go out as short ones do, with what stands before and behind them in one write: a rest by itself
 //! would wait, on a TCP connection that gathers short segments, until the first write is acknowledged.
-use crate::tests::side::Side;
+use crate::tests::failing_link::FailingLink;
 use lc_driver::WriteFault;
 use lc_frame::{Channel, FrameRef, Version};
 use std::alloc::Global;
@@ -51,9 +51,9 @@ const CUTS: [Cut; 10] = [
 ];
 
 // A side that wrote its greeting, at which the three messages wait.
-fn side(rt: &impl Abort, alloc: Global, long: &[u8]) -> Result<Side, Fail> {
+fn side(rt: &impl Abort, alloc: Global, long: &[u8]) -> Result<FailingLink, Fail> {
     let channel = Channel::DataChannel;
-    let mut side = Side::new(alloc, Version::Two, 32, 32)?;
+    let mut side = FailingLink::new(alloc, Version::Two, 32, 32)?;
     let (greeted, _) = side.write(Plan::whole(), Pipe::of(Vec::new(alloc)));
     let heard = side.link.peer.arrive(FrameRef::Issue {
         channel,
@@ -123,9 +123,14 @@ const WRITES: [(&[usize], u64, u64); 8] = [
 ];
 
 // A side at which messages of these lengths wait behind its greeting.
-fn waiting(rt: &impl Abort, alloc: Global, bytes: &[u8], lengths: &[usize]) -> Result<Side, Fail> {
+fn waiting(
+    rt: &impl Abort,
+    alloc: Global,
+    bytes: &[u8],
+    lengths: &[usize],
+) -> Result<FailingLink, Fail> {
     let channel = Channel::DataChannel;
-    let mut side = Side::new(alloc, Version::Two, 32, 32)?;
+    let mut side = FailingLink::new(alloc, Version::Two, 32, 32)?;
     let heard = side.link.peer.arrive(FrameRef::Issue {
         channel,
         amount: 1_048_576,

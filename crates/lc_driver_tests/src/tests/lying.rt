@@ -58,20 +58,20 @@ enum Reading {
 }
 
 #[derive(Drop)]
-struct Side {
+struct ReadingPeer {
     peer: Peer,
     reading: Reading,
 }
 
-impl Side {
-    fn new(alloc: Global, reading: Reading) -> Result<Side, Fail> {
+impl ReadingPeer {
+    fn new(alloc: Global, reading: Reading) -> Result<ReadingPeer, Fail> {
         let config = Config {
             version: Version::Two,
             capacities: [CAPACITY; CHANNELS],
             slots: 64,
         };
         let peer = Peer::new(alloc, config)?;
-        Ok(Side { peer, reading })
+        Ok(ReadingPeer { peer, reading })
     }
 
     fn read(&mut self, reader: &mut Counted<Lies<'_>>, max_reads: u64) -> ReadEnd {
@@ -128,7 +128,13 @@ struct Round {
 }
 
 // A message comes in, and is taken into the buffer. Its room is promised anew.
-fn hear(rt: &impl Abort, side: &mut Side, bytes: &[u8], round: Round, buffer: &mut [u8; LONGEST]) {
+fn hear(
+    rt: &impl Abort,
+    side: &mut ReadingPeer,
+    bytes: &[u8],
+    round: Round,
+    buffer: &mut [u8; LONGEST],
+) {
     let end = side.hear(bytes, round.most, round.max_reads);
     assert_eq!(rt; end, ReadEnd::Clean);
     let taken = side.take(buffer);
@@ -141,7 +147,7 @@ fn hear(rt: &impl Abort, side: &mut Side, bytes: &[u8], round: Round, buffer: &m
 fn compare(
     rt: &impl Abort,
     alloc: Global,
-    sides: &mut (Side, Side),
+    sides: &mut (ReadingPeer, ReadingPeer),
     round: Round,
 ) -> Result<(), Fail> {
     let bytes = frame(alloc, round.len, round.byte)?;
@@ -166,8 +172,8 @@ fn compare(
 
 // Both sides hear messages of all lengths, whose bytes tell one from another.
 fn compare_all(rt: &impl Abort, alloc: Global, max_reads: u64) -> Result<(), Fail> {
-    let now = Side::new(alloc, Reading::Now(Intake::new(alloc)?))?;
-    let before = Side::new(alloc, Reading::Before(Before::new(alloc)?))?;
+    let now = ReadingPeer::new(alloc, Reading::Now(Intake::new(alloc)?))?;
+    let before = ReadingPeer::new(alloc, Reading::Before(Before::new(alloc)?))?;
     let mut sides = (now, before);
     greet(rt, &mut sides.0);
     greet(rt, &mut sides.1);
@@ -188,7 +194,7 @@ fn compare_all(rt: &impl Abort, alloc: Global, max_reads: u64) -> Result<(), Fai
 }
 
 // A side promises room, and the greeting comes in.
-fn greet(rt: &impl Abort, side: &mut Side) {
+fn greet(rt: &impl Abort, side: &mut ReadingPeer) {
     let ends = (
         side.peer.issue(CHANNEL, CAPACITY),
         side.hear(b"LCM\x02", 512, 1),

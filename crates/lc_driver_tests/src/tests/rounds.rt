@@ -47,7 +47,7 @@ const CASES: [(usize, bool); 10] = [
 
 /// One side, and its connection.
 #[derive(Drop)]
-struct Side {
+struct ConnectedLink {
     link: Link,
     stream: Counted<TcpStream>,
 }
@@ -56,15 +56,15 @@ fn failed(what: &'static str) -> io::Error {
     io::Error::other(what)
 }
 
-impl Side {
-    fn new(alloc: Global, stream: TcpStream) -> io::Result<Side> {
+impl ConnectedLink {
+    fn new(alloc: Global, stream: TcpStream) -> io::Result<ConnectedLink> {
         let config = Config {
             version: Version::Two,
             capacities: [RING; CHANNELS],
             slots: 8,
         };
         let link = Link::new(alloc, config).map_err(|_| failed("no link"))?;
-        Ok(Side {
+        Ok(ConnectedLink {
             link,
             stream: Counted::new(stream),
         })
@@ -119,7 +119,7 @@ impl Side {
 }
 
 // One round of a message, and a short one behind it where that is wanted, and the answer.
-fn ask<R: Wait>(rt: &R, side: &mut Side, long: &mut [u8], behind: bool) -> io::Result<()> {
+fn ask<R: Wait>(rt: &R, side: &mut ConnectedLink, long: &mut [u8], behind: bool) -> io::Result<()> {
     side.hear(rt, long.len() + 3)?;
     if let Some(first) = long.first_mut() {
         *first = if behind { FIRST } else { LAST };
@@ -140,7 +140,7 @@ fn ask<R: Wait>(rt: &R, side: &mut Side, long: &mut [u8], behind: bool) -> io::R
 fn median<R: Wait + Clock>(
     rt: &R,
     alloc: Global,
-    side: &mut Side,
+    side: &mut ConnectedLink,
     case: (usize, bool),
 ) -> io::Result<Duration> {
     let (len, behind) = case;
@@ -158,7 +158,7 @@ fn median<R: Wait + Clock>(
 
 // The medians of all cases.
 fn ask_all<R: Wait + Clock>(rt: &R, alloc: Global, stream: TcpStream) -> io::Result<Vec<Duration>> {
-    let mut side = Side::new(alloc, stream)?;
+    let mut side = ConnectedLink::new(alloc, stream)?;
     side.issue(RING)?;
     let mut medians = Vec::new(alloc);
     for &case in &CASES {
@@ -169,7 +169,7 @@ fn ask_all<R: Wait + Clock>(rt: &R, alloc: Global, stream: TcpStream) -> io::Res
 
 // Takes a message, promises its room anew, and answers it where it is the last of a round. Whether there
 // was one.
-fn answer<R: Wait>(rt: &R, side: &mut Side, buffer: &mut [u8]) -> io::Result<bool> {
+fn answer<R: Wait>(rt: &R, side: &mut ConnectedLink, buffer: &mut [u8]) -> io::Result<bool> {
     let Some(len) = side.take(rt, buffer)? else {
         return Ok(false);
     };
@@ -181,7 +181,7 @@ fn answer<R: Wait>(rt: &R, side: &mut Side, buffer: &mut [u8]) -> io::Result<boo
     Ok(true)
 }
 
-fn answer_each<R: Wait>(rt: &R, side: &mut Side, buffer: &mut [u8]) -> io::Result<()> {
+fn answer_each<R: Wait>(rt: &R, side: &mut ConnectedLink, buffer: &mut [u8]) -> io::Result<()> {
     for _ in rt.forever() {
         if !answer(rt, side, buffer)? {
             return Ok(());
@@ -193,7 +193,7 @@ fn answer_each<R: Wait>(rt: &R, side: &mut Side, buffer: &mut [u8]) -> io::Resul
 // The side that answers, until the stream ends.
 fn answer_all<R: Wait>(rt: &R, alloc: Global, stream: TcpStream) -> io::Result<()> {
     let mut buffer = vec![in alloc; 0_u8; 1 << 20]?;
-    let mut side = Side::new(alloc, stream)?;
+    let mut side = ConnectedLink::new(alloc, stream)?;
     side.issue(RING)?;
     side.write()?;
     answer_each(rt, &mut side, &mut buffer)

@@ -86,14 +86,14 @@ enum Reading {
 
 // A side that reads a stream.
 #[derive(Drop)]
-struct Side<'a> {
+struct ReadingPeer<'a> {
     peer: Peer,
     reading: Reading,
     reader: Counted<Stream<'a>>,
 }
 
-impl<'a> Side<'a> {
-    fn new(alloc: Global, reading: Reading, stream: Stream<'a>) -> Result<Side<'a>, Fail> {
+impl<'a> ReadingPeer<'a> {
+    fn new(alloc: Global, reading: Reading, stream: Stream<'a>) -> Result<ReadingPeer<'a>, Fail> {
         let config = Config {
             version: Version::One,
             capacities: [CAPACITY; CHANNELS],
@@ -102,7 +102,7 @@ impl<'a> Side<'a> {
         let mut peer = Peer::new(alloc, config)?;
         let _issued = peer.issue(LAWFUL, CAPACITY);
         let reader = Counted::new(stream);
-        Ok(Side {
+        Ok(ReadingPeer {
             peer,
             reading,
             reader,
@@ -173,13 +173,18 @@ fn made_stream(alloc: Global, made: &mut Made) -> Result<Vec<u8>, AllocError> {
 }
 
 // How many reads were made, failed, and gave nothing.
-fn counts(side: &Side<'_>) -> [u64; 3] {
+fn counts(side: &ReadingPeer<'_>) -> [u64; 3] {
     let reader = &side.reader;
     [reader.calls(), reader.failures(), reader.ends()]
 }
 
 // Each call ends as it did, and counts what it did.
-fn compare_calls(rt: &impl Abort, now: &mut Side<'_>, before: &mut Side<'_>, made: &mut Made) {
+fn compare_calls(
+    rt: &impl Abort,
+    now: &mut ReadingPeer<'_>,
+    before: &mut ReadingPeer<'_>,
+    made: &mut Made,
+) {
     for _ in 0..400 {
         let max_reads = made.below(6) as u64;
         let (end, wanted) = (now.read(max_reads), before.read(max_reads));
@@ -193,7 +198,11 @@ fn compare_calls(rt: &impl Abort, now: &mut Side<'_>, before: &mut Side<'_>, mad
 }
 
 // The same messages arrived.
-fn compare_messages(rt: &impl Abort, now: &mut Side<'_>, before: &mut Side<'_>) -> u64 {
+fn compare_messages(
+    rt: &impl Abort,
+    now: &mut ReadingPeer<'_>,
+    before: &mut ReadingPeer<'_>,
+) -> u64 {
     let mut taken = 0u64;
     for _ in 0..20 {
         let (mut found, mut wanted) = ([7; LONGEST], [7; LONGEST]);
@@ -216,8 +225,8 @@ fn compare(rt: &impl Abort, alloc: Global, bytes: &[u8], made: &mut Made) -> Res
         most,
         asked,
     };
-    let mut now = Side::new(alloc, Reading::Now(Intake::new(alloc)?), stream())?;
-    let mut before = Side::new(alloc, Reading::Before(Before::new(alloc)?), stream())?;
+    let mut now = ReadingPeer::new(alloc, Reading::Now(Intake::new(alloc)?), stream())?;
+    let mut before = ReadingPeer::new(alloc, Reading::Before(Before::new(alloc)?), stream())?;
     compare_calls(rt, &mut now, &mut before, made);
     let taken = compare_messages(rt, &mut now, &mut before);
     let (now, before) = (now.reader.into_inner(), before.reader.into_inner());

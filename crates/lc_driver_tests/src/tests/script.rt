@@ -1,5 +1,5 @@
 //! Scripts of calls on one side of a session: a call a line, and after `=>` what it answers.
-use crate::tests::side::Side;
+use crate::tests::failing_link::FailingLink;
 use lc_driver::{Link, ReadEnd};
 use lc_frame::{Channel, Version};
 use lc_peer::{Peer, Take};
@@ -18,7 +18,7 @@ fn take(alloc: Global, link: &mut Link, at: Channel) -> Option<String> {
     }
 }
 
-fn write(alloc: Global, side: &mut Side, plan: &str) -> Option<String> {
+fn write(alloc: Global, side: &mut FailingLink, plan: &str) -> Option<String> {
     let (answer, writer) = side.write(plan_of(plan)?, Pipe::of(Vec::new(alloc)));
     let bytes = hex::encode(alloc, &writer.pipe.bytes).ok()?;
     let calls = writer.plan.calls;
@@ -50,7 +50,7 @@ fn on_channel(alloc: Global, link: &mut Link, verb: &str, rest: &str) -> Option<
 }
 
 // What the call of a line answers. The input is kept from one read to the next.
-fn answer(alloc: Global, side: &mut Side, input: &mut Pipe, call: &str) -> Option<String> {
+fn answer(alloc: Global, side: &mut FailingLink, input: &mut Pipe, call: &str) -> Option<String> {
     let (verb, rest) = call.split_once(' ').unwrap_or((call, ""));
     match verb {
         "write" => write(alloc, side, rest),
@@ -75,7 +75,7 @@ fn server(alloc: Global, peer: &Peer, at: Channel) -> Option<String> {
 // How a reading ends, and how many reads it made. What it leaves of the input stays there.
 fn read_on(
     alloc: Global,
-    side: &mut Side,
+    side: &mut FailingLink,
     input: &mut Pipe,
     plan: Plan,
     max_reads: u64,
@@ -88,7 +88,7 @@ fn read_on(
 
 fn read(
     alloc: Global,
-    side: &mut Side,
+    side: &mut FailingLink,
     input: &mut Pipe,
     verb: &str,
     rest: &str,
@@ -108,7 +108,7 @@ pub fn same(rt: &impl Abort, what: &str, found: Option<String>, wanted: &str) {
 }
 
 // Each call of a script, in turn, answers what stands after it.
-fn answers(rt: &impl Abort, alloc: Global, side: &mut Side, input: &mut Pipe, script: &str) {
+fn answers(rt: &impl Abort, alloc: Global, side: &mut FailingLink, input: &mut Pipe, script: &str) {
     for line in script.lines() {
         let line = line.trim();
         let (call, wanted) = line.split_once(" => ").unwrap_or((line, "an answer"));
@@ -119,7 +119,7 @@ fn answers(rt: &impl Abort, alloc: Global, side: &mut Side, input: &mut Pipe, sc
 /// A new side, whose input are the bytes of these digits, answers each line of a script as it says.
 pub fn run(rt: &impl Abort, alloc: Global, digits: &str, script: &str) -> Result<(), Fail> {
     let mut input = Pipe::of(hex::decode(alloc, digits)?);
-    let mut side = Side::new(alloc, Version::One, 8, 4)?;
+    let mut side = FailingLink::new(alloc, Version::One, 8, 4)?;
     answers(rt, alloc, &mut side, &mut input, script);
     Ok(())
 }
@@ -127,7 +127,7 @@ pub fn run(rt: &impl Abort, alloc: Global, digits: &str, script: &str) -> Result
 /// The same of a side that writes version Two, to which nothing comes.
 pub fn run_in_two(rt: &impl Abort, alloc: Global, script: &str) -> Result<(), Fail> {
     let mut input = Pipe::of(Vec::new(alloc));
-    let mut side = Side::new(alloc, Version::Two, 8, 4)?;
+    let mut side = FailingLink::new(alloc, Version::Two, 8, 4)?;
     answers(rt, alloc, &mut side, &mut input, script);
     Ok(())
 }

@@ -1,6 +1,6 @@
 //! Worked examples of writing and reading, and the counts of a device.
+use crate::tests::failing_link::{FailingLink, unflushed};
 use crate::tests::script::{run, run_in_two};
-use crate::tests::side::{Side, unflushed};
 use lc_driver::{Counted, CountedRead, CountedWrite, Failures, ReadEnd};
 use lc_frame::{Channel, Version};
 use std::alloc::Global;
@@ -289,7 +289,7 @@ fn a_device_counts(rt: HostRuntime) -> Result<(), Fail> {
 }
 
 // What waits goes out, and what comes arrives.
-fn moves(rt: &impl Abort, side: &mut Side, empty: Pipe, full: Pipe) {
+fn moves(rt: &impl Abort, side: &mut FailingLink, empty: Pipe, full: Pipe) {
     let issued = side.link.peer.issue(Channel::DataChannel, 5);
     let wrote = side.write(Plan::whole(), empty).0;
     let end = side.read(Plan::whole(), full, 10).0;
@@ -304,7 +304,7 @@ fn moves(rt: &impl Abort, side: &mut Side, empty: Pipe, full: Pipe) {
 fn memory_is_asked_for_where_they_are_made(rt: HostRuntime) -> Result<(), Fail> {
     let empty = Pipe::of(Vec::with_capacity(rt.alloc(), 32)?);
     let full = Pipe::holding(rt.alloc(), &[0x21, 0, 0, 0, 5])?;
-    let mut side = Side::new(rt.alloc(), Version::One, 8, 2)?;
+    let mut side = FailingLink::new(rt.alloc(), Version::One, 8, 2)?;
     moves(&rt, &mut side, empty, full);
     let _: Vec<u8> = Vec::with_capacity(rt.alloc(), 1)?;
     Ok(())

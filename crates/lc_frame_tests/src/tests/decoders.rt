@@ -167,7 +167,7 @@ fn drain_spared(
             return Some(());
         }
         let used = match decoder.version() {
-            Some(version) if decoder.held() == 0 => {
+            Some(version) if decoder.stored() == 0 => {
                 match decoder.decode_or_take(version, rest) {
                     Decoded::Whole { frame, used } => {
                         show(alloc, frame, seen)?;

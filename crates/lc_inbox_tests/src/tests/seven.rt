@@ -4,7 +4,7 @@ ghost use Rattle.lc_inbox.specs.Inboxes.{AreSameSides};
 
 use crate::tests::pair::text;
 use crate::tests::same;
-use lc_frame::Version;
+use lc_frame::{CHANNELS, Version};
 use lc_inbox::{FinishedInboxes, InboxOut, finish_all, share_all};
 use lc_peer::PeerFault;
 use lc_queue::lanes;
@@ -14,9 +14,9 @@ use std::test::Fail;
 
 /// Capacities, and what comes of them: the fault, or the lanes of the servers, and what is
 /// outstanding where each has issued as much as its ring has room for.
-const CAPACITIES: [([u32; 7], &str); 4] = [
+const CAPACITIES: [([u32; CHANNELS], &str); 4] = [
     (
-        [8; 7],
+        [8; CHANNELS],
         "Ok(([7, 8, 9, 10, 11, 12, 13], [8, 8, 8, 8, 8, 8, 8]))",
     ),
     (
@@ -34,10 +34,10 @@ const CAPACITIES: [([u32; 7], &str); 4] = [
 ];
 
 // Each side issues as much as its ring has room for.
-fn issue_each<R: Wait>(rt: &R, outgoing: &mut [InboxOut; 7])
+fn issue_each<R: Wait>(rt: &R, outgoing: &mut [InboxOut; CHANNELS])
     ensures { AreSameSides outgoing.old outgoing.new }
 {
-    for place in 0..7 {
+    for place in 0..CHANNELS {
         issue_room(rt, &mut outgoing[place]);
     }
 }
@@ -50,9 +50,9 @@ fn issue_room<R: Wait>(rt: &R, outgoing: &mut InboxOut)
     }
 }
 
-fn lanes_and_outstanding(finished: &FinishedInboxes) -> ([u8; 7], [u64; 7]) {
-    let (mut lanes, mut outstanding) = ([0; 7], [0; 7]);
-    for place in 0..7 {
+fn lanes_and_outstanding(finished: &FinishedInboxes) -> ([u8; CHANNELS], [u64; CHANNELS]) {
+    let (mut lanes, mut outstanding) = ([0; CHANNELS], [0; CHANNELS]);
+    for place in 0..CHANNELS {
         lanes[place] = finished.lanes[place].lane();
         outstanding[place] = finished.books[place].outstanding();
     }
@@ -62,8 +62,8 @@ fn lanes_and_outstanding(finished: &FinishedInboxes) -> ([u8; 7], [u64; 7]) {
 fn shared<R: Wait>(
     rt: &R,
     alloc: Global,
-    capacities: [u32; 7],
-) -> Option<Result<([u8; 7], [u64; 7]), PeerFault>> {
+    capacities: [u32; CHANNELS],
+) -> Option<Result<([u8; CHANNELS], [u64; CHANNELS]), PeerFault>> {
     let parts = lanes(alloc, 7, Version::One).ok()?;
     let ends = parts.ends;
     match share_all(alloc, capacities, ends) {

@@ -1,7 +1,7 @@
 //! Peers to which generated calls, frames and bytes come.
 ghost use Rattle.std.specs.Prelude.{◌<◌};
 
-use crate::tests::script::Side;
+use crate::tests::script::DecodingPeer;
 use lc_frame::{CHANNELS, Channel, FrameRef, Version};
 use lc_peer::{Peer, Take};
 use rand_core::utils::NextWord;
@@ -204,7 +204,7 @@ fn goes_on(rt: &impl Abort, rng: &mut Pcg32, peer: &mut Peer) {
 fn calls_and_frames(rt: HostRuntime) -> Result<(), Fail> {
     let mut rng = Pcg32::new(42, 54);
     for _ in 0..10_000 {
-        let mut side = Side::new(rt.alloc(), Version::Two, 4)?;
+        let mut side = DecodingPeer::new(rt.alloc(), Version::Two, 4)?;
         goes_on(&rt, &mut rng, &mut side.peer);
     }
     Ok(())
@@ -271,7 +271,7 @@ fn changed_messages(rng: &mut Pcg32, version: Version) -> [u8; 64] {
 // greeting comes first, where it has one.
 fn let_through(
     rt: &impl Abort,
-    side: &mut Side,
+    side: &mut DecodingPeer,
     version: Version,
     first: &[u8],
     rest: &[u8],
@@ -292,7 +292,7 @@ fn let_through(
 fn any_streams(rt: &impl Abort, alloc: Global, version: Version) -> Result<(), Fail> {
     let mut rng = Pcg32::new(42, 54);
     for number in 0..10_000 {
-        let mut side = Side::new(alloc, version, 7)?;
+        let mut side = DecodingPeer::new(alloc, version, 7)?;
         let bytes = any_bytes(&mut rng);
         let (first, rest) = bytes.split_at(number % 65);
         let _came = let_through(rt, &mut side, version, first, rest);
@@ -315,7 +315,7 @@ fn changed_streams(rt: &impl Abort, alloc: Global, version: Version) -> Result<u
     let mut rng = Pcg32::new(42, 54);
     let mut came = 0u64;
     for number in 0..10_000 {
-        let mut side = Side::new(alloc, version, 7)?;
+        let mut side = DecodingPeer::new(alloc, version, 7)?;
         let bytes = changed_messages(&mut rng, version);
         let (first, rest) = bytes.split_at(number % 65);
         came = came.saturating_add(let_through(rt, &mut side, version, first, rest));

@@ -43,19 +43,19 @@ pub enum Cut {
 
 /// A peer with the decoder of the stream that comes to it, and where such a stream is cut.
 #[derive(Drop)]
-pub struct Side {
+pub struct DecodingPeer {
     pub peer: Peer,
     pub decoder: StreamDecoder,
     cut: Cut,
 }
 
-impl Side {
+impl DecodingPeer {
     /// A new peer with rings of 8 bytes, which writes this version.
-    pub fn new(alloc: Global, version: Version, slots: u32) -> Result<Side, Fail> {
+    pub fn new(alloc: Global, version: Version, slots: u32) -> Result<DecodingPeer, Fail> {
         let decoder = StreamDecoder::new(alloc)?;
         let peer = peer_of(alloc, version, [8; CHANNELS], slots)?;
         let cut = Cut::Everywhere;
-        Ok(Side { peer, decoder, cut })
+        Ok(DecodingPeer { peer, decoder, cut })
     }
 }
 
@@ -90,7 +90,7 @@ const NOTHING: Delivery = Delivery {
 };
 
 // What deliveries did together with one piece more, which comes unless they stopped.
-fn and_then(did: Delivery, side: &mut Side, piece: &[u8]) -> Delivery {
+fn and_then(did: Delivery, side: &mut DecodingPeer, piece: &[u8]) -> Delivery {
     if did.stop.is_some() {
         return did;
     }
@@ -103,13 +103,13 @@ fn and_then(did: Delivery, side: &mut Side, piece: &[u8]) -> Delivery {
 }
 
 // What deliveries did, and how many bytes are held after them.
-fn delivered(alloc: Global, did: Delivery, side: &Side) -> Option<String> {
+fn delivered(alloc: Global, did: Delivery, side: &DecodingPeer) -> Option<String> {
     let (taken, frames, stop) = (did.taken, did.frames, did.stop);
-    let held = side.decoder.held();
+    let held = side.decoder.stored();
     format!(in alloc; "taken {taken} frames {frames} {stop:?} held {held}").ok()
 }
 
-fn deliver(alloc: Global, side: &mut Side, pieces: &str) -> Option<String> {
+fn deliver(alloc: Global, side: &mut DecodingPeer, pieces: &str) -> Option<String> {
     let mut did = NOTHING;
     for digits in pieces.split(' ') {
         did = and_then(did, side, &bytes(alloc, digits)?);
@@ -117,7 +117,7 @@ fn deliver(alloc: Global, side: &mut Side, pieces: &str) -> Option<String> {
     delivered(alloc, did, side)
 }
 
-fn stream(alloc: Global, side: &mut Side, digits: &str) -> Option<String> {
+fn stream(alloc: Global, side: &mut DecodingPeer, digits: &str) -> Option<String> {
     let bytes = bytes(alloc, digits)?;
     let mut did = NOTHING;
     match side.cut {
@@ -249,7 +249,7 @@ fn on_peer(alloc: Global, peer: &mut Peer, verb: &str, rest: &str) -> Option<Str
     }
 }
 
-impl Subject for Side {
+impl Subject for DecodingPeer {
     fn answer(&mut self, alloc: Global, call: &str) -> Option<String> {
         let (verb, rest) = call.split_once(' ').unwrap_or((call, ""));
         match verb {
@@ -274,14 +274,14 @@ pub fn run_in(
     slots: u32,
     script: &str,
 ) -> Result<(), Fail> {
-    let mut side = Side::new(alloc, version, slots)?;
+    let mut side = DecodingPeer::new(alloc, version, slots)?;
     answers(rt, alloc, &mut side, script);
     Ok(())
 }
 
 /// The same, and streams are cut so.
 pub fn run_cut(rt: &impl Abort, alloc: Global, cut: Cut, script: &str) -> Result<(), Fail> {
-    let mut side = Side::new(alloc, Version::One, 4)?;
+    let mut side = DecodingPeer::new(alloc, Version::One, 4)?;
     side.cut = cut;
     answers(rt, alloc, &mut side, script);
     Ok(())

@@ -15,7 +15,7 @@ ghost use Rattle.lc_session.specs.Pumping.{IsSamePump};
 use crate::tests::same;
 use crate::tests::ticks::Ticks;
 use lc_driver::Counted;
-use lc_frame::{Channel, Version};
+use lc_frame::{CHANNELS, Channel, Version};
 use lc_peer::{Config, Take};
 use lc_session::{Parts, ReadPump, RecvEnd, Report, SendEnd, Session, WritePump, finish};
 use std::alloc::Global;
@@ -40,7 +40,7 @@ pub fn new_desk(alloc: Global, version: Version, slots: u32, digits: &str) -> Op
 {
     let config = Config {
         version,
-        capacities: [8; 7],
+        capacities: [8; CHANNELS],
         slots,
     };
     let parts = Session::new(alloc, config).ok()?;
@@ -124,7 +124,7 @@ fn receive<R: Wait>(
 pub fn at_sender<R: Wait>(
     rt: &R,
     alloc: Global,
-    ends: &mut [SendEnd; 7],
+    ends: &mut [SendEnd; CHANNELS],
     at: Channel,
     verb: &str,
     word: &str,
@@ -139,7 +139,7 @@ pub fn at_sender<R: Wait>(
 pub fn at_receiver<R: Wait>(
     rt: &R,
     alloc: Global,
-    ends: &mut [RecvEnd; 7],
+    ends: &mut [RecvEnd; CHANNELS],
     at: Channel,
     verb: &str,
     word: &str,

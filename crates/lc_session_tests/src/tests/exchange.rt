@@ -12,7 +12,7 @@ ghost use Rattle.lc_session_tests.specs.Exchanges.{SameEnds, SamePumps, at_work}
 use crate::parted::{Ends, Pumps};
 use crate::tests::ends::{Load, send_all, take_all};
 use lc_driver::{Counted, ReadEnd};
-use lc_frame::Version;
+use lc_frame::{CHANNELS, Version};
 use lc_peer::{Config, PeerFault};
 use lc_session::{Parts, ReadPump, RecvEnd, Report, SendEnd, Session, WriteEnd, WritePump, finish};
 use std::alloc::{AllocError, Global};
@@ -54,23 +54,23 @@ pub fn session_as(
 {
     let config = Config {
         version,
-        capacities: [ring; 7],
+        capacities: [ring; CHANNELS],
         slots,
     };
     Session::new(alloc, config)
 }
 
 // Each sending end in a thread of its own.
-fn send_each<R>(rt: &R, ends: &mut [SendEnd; 7], load: Load)
+fn send_each<R>(rt: &R, ends: &mut [SendEnd; CHANNELS], load: Load)
 where
     R: Threads + Wait + Abort + Sync,
     ensures len { length ends.new ≡ length ends.old }
     ensures same { (k : ℕ) (d : OutboxState) → k < length ends.old → IsSameOutbox (slice_index_or ends.old k d) (slice_index_or ends.new k d) }
 {
-    thread::for_each_mut(rt, ends, 7, &|_, end| send_all(rt, end, load));
+    thread::for_each_mut(rt, ends, CHANNELS, &|_, end| send_all(rt, end, load));
 }
 
-fn use_senders<R>(rt: &R, mut ends: [SendEnd; 7], load: Load) -> [SendEnd; 7]
+fn use_senders<R>(rt: &R, mut ends: [SendEnd; CHANNELS], load: Load) -> [SendEnd; CHANNELS]
 where
     R: Threads + Wait + Abort + Sync,
     ensures { AllZip IsSameOutbox ends result }
@@ -80,16 +80,16 @@ where
 }
 
 // Each receiving end in a thread of its own.
-fn take_each<R>(rt: &R, ends: &mut [RecvEnd; 7], load: Load)
+fn take_each<R>(rt: &R, ends: &mut [RecvEnd; CHANNELS], load: Load)
 where
     R: Threads + Wait + Abort + Sync,
     ensures len { length ends.new ≡ length ends.old }
     ensures same { (k : ℕ) (d : Side) → k < length ends.old → IsSameSide (slice_index_or ends.old k d) (slice_index_or ends.new k d) }
 {
-    thread::for_each_mut(rt, ends, 7, &|_, end| take_all(rt, end, load));
+    thread::for_each_mut(rt, ends, CHANNELS, &|_, end| take_all(rt, end, load));
 }
 
-fn use_receivers<R>(rt: &R, mut ends: [RecvEnd; 7], load: Load) -> [RecvEnd; 7]
+fn use_receivers<R>(rt: &R, mut ends: [RecvEnd; CHANNELS], load: Load) -> [RecvEnd; CHANNELS]
 where
     R: Threads + Wait + Abort + Sync,
     ensures { AllZip IsSameSide ends result }
@@ -107,10 +107,10 @@ where
     let Ends { sending, receiving } = ends;
     let (sending, receiving) = join(
         rt,
-        || -> [SendEnd; 7]
+        || -> [SendEnd; CHANNELS]
             ensures { AllZip IsSameOutbox sending result }
         { use_senders(rt, sending, load) },
-        || -> [RecvEnd; 7]
+        || -> [RecvEnd; CHANNELS]
             ensures { AllZip IsSameSide receiving result }
         { use_receivers(rt, receiving, load) },
     );
@@ -328,7 +328,7 @@ where
 // held, or waived where the channels were finished.
 fn is_balanced(rt: &impl Abort, client: &Report, server: &Report, bytes: u64, finished: bool) {
     assert_eq!(rt; (client.left, client.partly), (0, 0));
-    for place in 0..7 {
+    for place in 0..CHANNELS {
         let balance = &client.clients[place];
         let book = &server.servers[place];
         let left = balance.received.saturating_sub(bytes);

@@ -10,7 +10,7 @@ use crate::tests::staged::{await_count, in_time};
 use crate::tests::ticks::Ticks;
 use lc_book::Refusal;
 use lc_driver::{Counted, ReadEnd};
-use lc_frame::{Channel, LANES, Lane};
+use lc_frame::{CHANNELS, Channel, LANES, Lane};
 use lc_session::{ReadPump, RecvEnd, SendEnd, Session, WriteEnd, WritePump};
 use std::alloc::{AllocError, Global};
 use std::io::{Read, Write};
@@ -138,18 +138,28 @@ fn wait_to_take<R: Wait>(rt: &R, end: &mut RecvEnd, hold: Hold, watch: &Watch) {
     watch.woken.fetch_add(1, Ordering::SeqCst);
 }
 
-fn wait_each_to_send<R>(rt: &R, ends: &mut [SendEnd; 7], hold: Hold, watch: &Watch)
+fn wait_each_to_send<R>(rt: &R, ends: &mut [SendEnd; CHANNELS], hold: Hold, watch: &Watch)
 where
     R: Threads + Wait + Sync,
 {
-    thread::for_each_mut(rt, ends, 7, &|_, end| wait_to_send(rt, end, hold, watch));
+    thread::for_each_mut(
+        rt,
+        ends,
+        CHANNELS,
+        &|_, end| wait_to_send(rt, end, hold, watch),
+    );
 }
 
-fn wait_each_to_take<R>(rt: &R, ends: &mut [RecvEnd; 7], hold: Hold, watch: &Watch)
+fn wait_each_to_take<R>(rt: &R, ends: &mut [RecvEnd; CHANNELS], hold: Hold, watch: &Watch)
 where
     R: Threads + Wait + Sync,
 {
-    thread::for_each_mut(rt, ends, 7, &|_, end| wait_to_take(rt, end, hold, watch));
+    thread::for_each_mut(
+        rt,
+        ends,
+        CHANNELS,
+        &|_, end| wait_to_take(rt, end, hold, watch),
+    );
 }
 
 // Each end waits once, in a thread of its own.
@@ -171,7 +181,7 @@ fn frames(alloc: Global, first: usize) -> Result<Vec<u8>, AllocError> {
     let mut bytes = Vec::new(alloc);
     for step in 0..LANES {
         let lane = (first % LANES + step) % LANES;
-        let channel = (lane % 7) as u8;
+        let channel = (lane % CHANNELS) as u8;
         if lane < 7 {
             bytes.extend_from_slice(&[0x20 | channel, 0, 0, 0, 1])?;
         } else {

@@ -9,6 +9,7 @@ ghost use Rattle.lc_session_tests.specs.Desks.{StaysOfOne};
 use crate::tests::exchange::session;
 use lc_book::Refusal;
 use lc_driver::{Counted, ReadEnd};
+use lc_frame::CHANNELS;
 use lc_session::{Parts, ReadPump, RecvEnd, SendEnd, WriteEnd, WritePump, finish};
 use std::process::Abort;
 use std::sync::Wait;
@@ -33,7 +34,7 @@ fn receive(rt: &(impl Wait + Abort), pump: &mut ReadPump)
 }
 
 // Whether a message is sent. A send that gets no memory changes nothing.
-fn sends(rt: &(impl Wait + Abort), ends: &mut [SendEnd; 7]) -> bool
+fn sends(rt: &(impl Wait + Abort), ends: &mut [SendEnd; CHANNELS]) -> bool
     ensures { AllZip IsSameOutbox ends.old ends.new }
 {
     let end = &mut ends[1];
@@ -47,7 +48,7 @@ fn sends(rt: &(impl Wait + Abort), ends: &mut [SendEnd; 7]) -> bool
     false
 }
 
-fn issue(rt: &(impl Wait + Abort), ends: &mut [RecvEnd; 7])
+fn issue(rt: &(impl Wait + Abort), ends: &mut [RecvEnd; CHANNELS])
     ensures { AllZip IsSameSide ends.old ends.new }
 {
     let end = &mut ends[1];

@@ -2,7 +2,7 @@
 //! read, and what wakes them comes while its own is read.
 use crate::tests::staged::in_time;
 use crate::tests::ticks::Ticks;
-use lc_frame::{Channel, Lane};
+use lc_frame::{CHANNELS, Channel, Lane};
 use lc_wake::{Found, Pump, PumpWaiter, Waiter, Wakers, Waking};
 use std::io;
 use std::process::Abort;
@@ -86,12 +86,12 @@ impl<R: Wait> Clock for Busy<'_, R> {
 #[derive(Drop)]
 struct Beside<'a, R> {
     ticks: Ticks<&'a R>,
-    others: &'a Mutex<[Waiter; 7]>,
+    others: &'a Mutex<[Waiter; CHANNELS]>,
     clock: Busy<'a, R>,
 }
 
 // The receiving end of channel 0 waits.
-fn wait_second<R: Wait>(rt: &R, others: &Mutex<[Waiter; 7]>, clock: &Busy<'_, R>) {
+fn wait_second<R: Wait>(rt: &R, others: &Mutex<[Waiter; CHANNELS]>, clock: &Busy<'_, R>) {
     let mut others = others.lock(rt);
     others[0].met_full_queue();
     others[0].wait_timeout(clock, Duration::from_micros(1));

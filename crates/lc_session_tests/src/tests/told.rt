@@ -1,6 +1,6 @@
 //! Many ends that sleep and are told of something all at once: each of them wakes.
 use crate::tests::staged::{await_count, in_time};
-use lc_frame::{Channel, Lane};
+use lc_frame::{CHANNELS, Channel, Lane};
 use lc_wake::{PumpWaiter, Waiter, Wakers, Waking};
 use std::sync::Wait;
 use std::sync::atomic::{AtomicU64, Ordering};
@@ -67,8 +67,13 @@ fn tell_in_rounds<R: Wait>(rt: &R, pump: &mut PumpWaiter, wakers: &Wakers, round
     }
 }
 
-fn wait_each<R: Threads + Wait + Sync>(rt: &R, ends: &mut [Waiter; 7], rounds: &Rounds) {
-    thread::for_each_mut(rt, ends, 7, &|_, end| wait_in_rounds(rt, end, rounds));
+fn wait_each<R: Threads + Wait + Sync>(rt: &R, ends: &mut [Waiter; CHANNELS], rounds: &Rounds) {
+    thread::for_each_mut(
+        rt,
+        ends,
+        CHANNELS,
+        &|_, end| wait_in_rounds(rt, end, rounds),
+    );
 }
 
 // All ends wait in threads of their own, beside the one that tells them.

@@ -4,7 +4,7 @@ use crate::tests::ends::{await_end, issue, send, take};
 use crate::tests::exchange::{connection, run_both, session, taken_apart, wires};
 use crate::tests::staged::{await_count, in_time};
 use lc_driver::{Counted, ReadEnd};
-use lc_frame::Channel;
+use lc_frame::{CHANNELS, Channel};
 use lc_session::{ReadPump, RecvEnd, SendEnd, Session, WriteEnd, WritePump};
 use lc_wake::Wake;
 use std::alloc::Global;
@@ -33,8 +33,8 @@ const ROUNDS: u32 = 1000;
 // Sends the messages of all rounds on a channel and takes as many, the one that leads first.
 fn bounce<R: Wait + Abort>(
     rt: &R,
-    sending: &mut [SendEnd; 7],
-    receiving: &mut [RecvEnd; 7],
+    sending: &mut [SendEnd; CHANNELS],
+    receiving: &mut [RecvEnd; CHANNELS],
     leads: bool,
 ) {
     let sending = &mut sending[0];
@@ -77,7 +77,7 @@ fn await_absolving<R: Wait + Abort>(rt: &R, receiving: &mut RecvEnd) {
 }
 
 // Honours a plead in each round, and sends no more then.
-fn give_back<R: Wait + Abort>(rt: &R, sending: &mut [SendEnd; 7]) {
+fn give_back<R: Wait + Abort>(rt: &R, sending: &mut [SendEnd; CHANNELS]) {
     let sending = &mut sending[0];
     for _ in 0..ROUNDS {
         honour(rt, sending);
@@ -86,7 +86,7 @@ fn give_back<R: Wait + Abort>(rt: &R, sending: &mut [SendEnd; 7]) {
 }
 
 // Issues and pleads in each round.
-fn ask_back<R: Wait + Abort>(rt: &R, receiving: &mut [RecvEnd; 7]) {
+fn ask_back<R: Wait + Abort>(rt: &R, receiving: &mut [RecvEnd; CHANNELS]) {
     let receiving = &mut receiving[0];
     for _ in 0..ROUNDS {
         issue(rt, receiving, 4);
@@ -179,7 +179,7 @@ fn a_clone_stops_a_pump_that_sleeps(rt: HostRuntime) -> Result<(), Fail> {
 }
 
 // Issues on a channel as soon as there is a slot.
-fn issue_at<R: Wait + Abort>(rt: &R, ends: &mut [RecvEnd; 7], at: Channel, n: u32) {
+fn issue_at<R: Wait + Abort>(rt: &R, ends: &mut [RecvEnd; CHANNELS], at: Channel, n: u32) {
     let end = &mut ends[at.index()];
     issue(rt, end, n);
 }
@@ -232,14 +232,24 @@ fn sleep_receiving<R: Wait>(rt: &R, end: &mut RecvEnd, waits: &AtomicU64) {
     }
 }
 
-fn sleep_each_sending<R: Threads + Wait + Sync>(rt: &R, mut ends: [SendEnd; 7]) {
+fn sleep_each_sending<R: Threads + Wait + Sync>(rt: &R, mut ends: [SendEnd; CHANNELS]) {
     let waits = AtomicU64::new(0);
-    thread::for_each_mut(rt, &mut ends, 7, &|_, end| sleep_sending(rt, end, &waits));
+    thread::for_each_mut(
+        rt,
+        &mut ends,
+        CHANNELS,
+        &|_, end| sleep_sending(rt, end, &waits),
+    );
 }
 
-fn sleep_each_receiving<R: Threads + Wait + Sync>(rt: &R, mut ends: [RecvEnd; 7]) {
+fn sleep_each_receiving<R: Threads + Wait + Sync>(rt: &R, mut ends: [RecvEnd; CHANNELS]) {
     let waits = AtomicU64::new(0);
-    thread::for_each_mut(rt, &mut ends, 7, &|_, end| sleep_receiving(rt, end, &waits));
+    thread::for_each_mut(
+        rt,
+        &mut ends,
+        CHANNELS,
+        &|_, end| sleep_receiving(rt, end, &waits),
+    );
 }
 
 // All ends wait, each in a thread of its own.
@@ -288,12 +298,20 @@ fn wait_each<R: Wait + Clock>(rt: &R, ends: &mut Ends, timeout: Duration) -> (Wa
     )
 }
 
-fn wait_to_send<R: Wait + Clock>(rt: &R, ends: &mut [SendEnd; 7], timeout: Duration) -> Wake {
+fn wait_to_send<R: Wait + Clock>(
+    rt: &R,
+    ends: &mut [SendEnd; CHANNELS],
+    timeout: Duration,
+) -> Wake {
     let end = &mut ends[0];
     end.wait_timeout(rt, timeout)
 }
 
-fn wait_to_take<R: Wait + Clock>(rt: &R, ends: &mut [RecvEnd; 7], timeout: Duration) -> Wake {
+fn wait_to_take<R: Wait + Clock>(
+    rt: &R,
+    ends: &mut [RecvEnd; CHANNELS],
+    timeout: Duration,
+) -> Wake {
     let end = &mut ends[0];
     end.wait_timeout(rt, timeout)
 }

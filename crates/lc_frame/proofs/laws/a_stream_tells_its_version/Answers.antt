@@ -1,4 +1,4 @@
-use Rattle.lc_frame.proofs.Held.{stream_told, greeted_told}
+use Rattle.lc_frame.proofs.Stored.{stream_told, greeted_told}
 use Rattle.lc_frame.proofs.laws.a_stream_tells_its_version.Goals as goal
 
 pub returns-clause-framed : goal.returns-clause-framed

@@ -1,4 +1,4 @@
-use Rattle.lc_frame.proofs.Held.{fed_fed}
+use Rattle.lc_frame.proofs.Stored.{fed_fed}
 use Rattle.lc_frame.proofs.laws.pieces_add_up.Goals as goal
 
 pub returns : goal.returns

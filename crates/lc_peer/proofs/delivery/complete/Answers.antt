@@ -1,9 +1,9 @@
 use Rattle.std.proofs.Common.{Option, refl, sym, ap, subst, ◌∙◌}
 use Rattle.lc_frame.specs.declared.version.Version.{Version}
 use Rattle.lc_frame.specs.FrameRef.{frame_of}
-use Rattle.lc_frame.specs.Held.{Held, IsValidIn, IsUndecided}
+use Rattle.lc_frame.specs.Stored.{Stored, IsValidIn, IsUndecided}
 use Rattle.lc_peer.proofs.Feeds.{all_open, ends, shortest_fault}
-use Rattle.lc_frame.proofs.Held.{whole_has}
+use Rattle.lc_frame.proofs.Stored.{whole_has}
 use Rattle.lc_peer.proofs.Deliveries.{one_held}
 use Rattle.lc_peer.proofs.delivery.complete.Goals as goal
 
@@ -15,11 +15,11 @@ returns-in-Ok g c =
     let cleared = c.clear.ensures.whole f (whole_has f c.feed-taken.new.decoder found) in
     record {
       frame = f;
-      valid = subst (λ (o : Option Version). IsValidIn o f) (sym (ap (λ (h : Held). h.version) cleared)) found.0;
+      valid = subst (λ (o : Option Version). IsValidIn o f) (sym (ap (λ (h : Stored). h.version) cleared)) found.0;
       arrived = c.in-Ok.ensures.ok;
       within = feed.count;
       whole = sym feed.held ∙ one_held f c.feed-taken.new.decoder c.clear.new.self found.1 cleared;
-      cleared = ap (λ (h : Held). h.bytes) cleared;
+      cleared = ap (λ (h : Stored). h.bytes) cleared;
     }
 
 pub returns-in-Some-fault : goal.returns-in-Some-fault

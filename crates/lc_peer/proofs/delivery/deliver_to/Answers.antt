@@ -9,7 +9,7 @@ use Rattle.lc_peer.proofs.delivery.deliver_to.Goals.{in-Arrived-2, in-Open, in-S
 use Rattle.lc_peer.proofs.delivery.deliver_to.Goals as goal
 
 pub frames-init : goal.frames-init
-frames-init g c = nothing_yet g.S.FrameSink.arrived c.args.sink.now c.args.decoder.now c.args.piece.now c.held-held.ensures.settled
+frames-init g c = nothing_yet g.S.FrameSink.arrived c.args.sink.now c.args.decoder.now c.args.piece.now c.stored-stored.ensures.settled
 
 pub frames-smaller : goal.frames-smaller
 frames-smaller g c =
@@ -24,7 +24,7 @@ frames-preserved g c =
 
 pub returns-in-frames : goal.returns-in-frames
 returns-in-frames g c =
-    let fits = fed_bytes c.args.decoder.now c.args.piece.now c.held-held.ensures.bytes (λ i. omega (arith, c.type_inv.piece i)) in
+    let fits = fed_bytes c.args.decoder.now c.args.piece.now c.stored-stored.ensures.bytes (λ i. omega (arith, c.type_inv.piece i)) in
     let Ends : (ℕ × Option Stop) × ℕ → Type 0 = λ p. DeliversTo g.S.FrameSink.arrived g.S.FrameSink.violated c.args.sink.now c.args.decoder.now c.args.piece.now c.go_on.new.sink c.go_on.new.decoder (record { taken = c.frames.taken + p.0.0; frames = p.1; stop = p.0.1 }) in
     elim c.match-go_on.branch [
       | in-Arrived-2 w ↦

@@ -1,6 +1,6 @@
 use Rattle.std.proofs.Common.{◌≡◌, [], ◌∷◌, take, refl, sym, ap, subst, ◌∙◌, arith}
 use Rattle.lc_frame.specs.FrameRef.{frame_of}
-use Rattle.lc_frame.specs.Held.{Held, held_in, fed, before, IsValidIn, encoding_in, IsUndecided}
+use Rattle.lc_frame.specs.Stored.{Stored, stored_in, fed, before, IsValidIn, encoding_in, IsUndecided}
 use Rattle.lc_frame.proofs.Openings.{undecided_of}
 use Rattle.lc_peer.proofs.Feeds.{from_nothing, holds_fault, shortest_fault, holds_frame}
 use Rattle.lc_peer.proofs.Deliveries.{front_fits, one_whole}
@@ -14,11 +14,11 @@ returns-in-Ok g c =
     let still = c.in-Whole.ensures.held in
     record {
       frame = f;
-      valid = subst (λ (h : Held). IsValidIn h.version f) (sym (still ∙ c.requires)) found.0.stands.valid;
+      valid = subst (λ (h : Stored). IsValidIn h.version f) (sym (still ∙ c.requires)) found.0.stands.valid;
       arrived = c.in-Ok.ensures.ok;
       within = front_fits v c.args.piece.now f c.in-Whole.used found.0.stands found.1;
-      whole = one_whole v c.args.piece.now f c.in-Whole.used c.args.decoder.now c.requires found.0.stands found.1 ∙ ap (λ (h : Held). before (f ∷ []) h) (sym still);
-      cleared = ap (λ (h : Held). h.bytes) (still ∙ c.requires);
+      whole = one_whole v c.args.piece.now f c.in-Whole.used c.args.decoder.now c.requires found.0.stands found.1 ∙ ap (λ (h : Stored). before (f ∷ []) h) (sym still);
+      cleared = ap (λ (h : Stored). h.bytes) (still ∙ c.requires);
     }
 
 pub returns-in-Err : goal.returns-in-Err
@@ -31,11 +31,11 @@ returns-in-Err g c =
     let is = holds_frame v c.feed.new.decoder c.args.piece.now c.feed.result feeds f found.0.stands in
     record {
       frame = f;
-      valid = subst (λ (h : Held). IsValidIn h.version f) (sym is) found.0.stands.valid;
+      valid = subst (λ (h : Stored). IsValidIn h.version f) (sym is) found.0.stands.valid;
       violated = c.in-Err.ensures.err;
       within = feeds.count;
-      grown = c.feed.ensures.held ∙ ap (λ (h : Held). fed h (take c.feed.result c.args.piece.now)) still;
-      whole = subst (λ (h : Held). h.bytes ≡ encoding_in h.version f) (sym is) refl;
+      grown = c.feed.ensures.held ∙ ap (λ (h : Stored). fed h (take c.feed.result c.args.piece.now)) still;
+      whole = subst (λ (h : Stored). h.bytes ≡ encoding_in h.version f) (sym is) refl;
     }
 
 pub returns-in-More : goal.returns-in-More
@@ -47,7 +47,7 @@ returns-in-More g c =
       same = refl;
       all = omega arith;
       grown = grown;
-      undecided = subst IsUndecided (sym (grown ∙ ap (λ (h : Held). fed h c.args.piece.now) c.requires)) undecided;
+      undecided = subst IsUndecided (sym (grown ∙ ap (λ (h : Stored). fed h c.args.piece.now) c.requires)) undecided;
     }
 
 pub returns-in-Fault : goal.returns-in-Fault
@@ -58,7 +58,7 @@ returns-in-Fault g c =
     record {
       same = refl;
       within = feeds.count;
-      grown = c.feed-in-Fault.ensures.held ∙ ap (λ (h : Held). fed h (take c.feed-in-Fault.result c.args.piece.now)) still;
-      known = holds_fault (held_in v []) c.feed-in-Fault.new.decoder c.args.piece.now c.feed-in-Fault.result feeds c.in-Fault.fault c.in-Fault.ensures.decodes.stands;
-      shortest = shortest_fault (held_in v []) c.feed-in-Fault.new.decoder c.args.piece.now c.feed-in-Fault.result feeds;
+      grown = c.feed-in-Fault.ensures.held ∙ ap (λ (h : Stored). fed h (take c.feed-in-Fault.result c.args.piece.now)) still;
+      known = holds_fault (stored_in v []) c.feed-in-Fault.new.decoder c.args.piece.now c.feed-in-Fault.result feeds c.in-Fault.fault c.in-Fault.ensures.decodes.stands;
+      shortest = shortest_fault (stored_in v []) c.feed-in-Fault.new.decoder c.args.piece.now c.feed-in-Fault.result feeds;
     }

@@ -12,13 +12,13 @@ use Rattle.std.proofs.Crossing as heap
 use Rattle.std_alloc.proofs.SendSync.{quiet, lies}
 use Rattle.std_heap.proofs.Global.TheSendSync as handle
 use Rattle.lc_c.specs.Handle.{handle_owns}
-use Rattle.lc_c.specs.contracts.side.Side as Side
-use Rattle.lc_c.proofs.side.Side.TheSendSync.{the_send as side}
+use Rattle.lc_c.specs.contracts.c_peer.CPeer as CPeer
+use Rattle.lc_c.proofs.c_peer.CPeer.TheSendSync.{the_send as side}
 use Rattle.lc_c.specs.contracts.handle.Slot.{the_row, the_type}
 
-owned_keyless : (alloc : Global) (p : Ptr) (held : Option Side.the_row.Denot) → Keyless (handle_owns alloc p held)
+owned_keyless : (alloc : Global) (p : Ptr) (held : Option CPeer.the_row.Denot) → Keyless (handle_owns alloc p held)
 owned_keyless alloc p None = tt
-owned_keyless alloc p (Some v) = (lies Side.the_row side p v, heap.frees.frees alloc (raw (lone Side.the_row.mir)) p)
+owned_keyless alloc p (Some v) = (lies CPeer.the_row side p v, heap.frees.frees alloc (raw (lone CPeer.the_row.mir)) p)
 
 pub send : IsSend the_row
 send =

@@ -1,6 +1,6 @@
 use Rattle.std.proofs.Common.{None, subst, sym}
-use Rattle.lc_frame.specs.Held.{IsUndecided}
-use Rattle.lc_frame.proofs.Held.{nothing_in}
+use Rattle.lc_frame.specs.Stored.{IsUndecided}
+use Rattle.lc_frame.proofs.Stored.{nothing_in}
 use Rattle.lc_cli.proofs.listing.Listing.new.Goals as goal
 
 pub returns-clause-open : goal.returns-clause-open

@@ -1,6 +1,6 @@
 use Rattle.std.proofs.Common.{sym, subst}
-use Rattle.lc_frame.specs.Held.{IsUndecided}
-use Rattle.lc_frame.proofs.Held.{part_undecided}
+use Rattle.lc_frame.specs.Stored.{IsUndecided}
+use Rattle.lc_frame.proofs.Stored.{part_undecided}
 use Rattle.lc_frame.proofs.Openings.{nothing_is_part}
 use Rattle.lc_peer.proofs.intake.Intake.new.Goals as goal
 
