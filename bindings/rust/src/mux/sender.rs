@@ -71,7 +71,10 @@ impl Future for Sending<'_> {
 
 impl Drop for Sending<'_> {
     fn drop(&mut self) {
-        self.give_up();
+        if let (false, Ask::Permit(len)) = (self.give_up(), self.call.ask) {
+            // It was given to a thread that a panic took away.
+            self.shared.with(|state| state.give_back(self.channel, len));
+        }
     }
 }
 
@@ -318,5 +321,38 @@ impl Drop for Permit<'_> {
 impl fmt::Debug for Permit<'_> {
     fn fmt(&self, f: &mut Formatter<'_>) -> fmt::Result {
         f.debug_struct("Permit").field("len", &self.len).finish()
+    }
+}
+
+#[cfg(test)]
+mod tests {
+    use super::*;
+    use crate::{Channel::Data, Config, Mux};
+    use std::task::Wake;
+
+    struct Noop;
+
+    impl Wake for Noop {
+        fn wake(self: Arc<Noop>) {}
+    }
+
+    // As it is where a panic unwinds a thread that waits.
+    #[test]
+    fn a_permit_that_was_given_to_who_is_gone_is_given_back() {
+        let (mut mux, _driver) = Mux::new(Config::new([64; 7], 8)).unwrap();
+        let sender = mux.sender(Data).unwrap();
+        let mut call = sender.sending(Ask::Permit(5), true);
+        let waker = Arc::new(Noop).into();
+        let polled = Pin::new(&mut call).poll(&mut Context::from_waker(&waker));
+        assert!(polled.is_pending());
+        let came = sender.shared.with(|state| {
+            state.pull(&mut [0; 64], &waker);
+            state.deliver(b"\x21\0\0\0\x08")
+        });
+        assert_eq!(came, Ok((5, 1)));
+        assert_eq!(sender.held(), 3);
+        drop(call);
+        assert_eq!(sender.held(), 8);
+        assert!(sender.try_reserve(8).is_ok());
     }
 }

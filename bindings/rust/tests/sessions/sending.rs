@@ -3,6 +3,8 @@ use crate::hand::{Call, Hand};
 use crate::*;
 use lcmux::Channel::{Data, Overlap};
 use lcmux::{Needs, Refusal, SendError, SendTimeoutError, TrySendError};
+use std::sync::{mpsc, Arc, Mutex};
+use std::task::{Context, Wake, Waker};
 use std::thread;
 use std::time::{Duration, Instant};
 
@@ -442,6 +444,50 @@ fn timeouts_leave_no_call_behind() {
         sender.stats().waited_for_guarantees,
         waited.waited_for_guarantees
     );
+}
+
+/// A task that is woken only once it is told.
+struct Slow(Mutex<mpsc::Receiver<()>>);
+
+impl Wake for Slow {
+    fn wake(self: Arc<Slow>) {
+        self.0.lock().unwrap().recv().unwrap();
+    }
+}
+
+// What a call answers whose time is over before its thread is woken, and whether its message was sent by then.
+fn sent_at_the_deadline() -> (Result<(), SendTimeoutError>, bool) {
+    let mut hand = Hand::started(narrow());
+    let sender = hand.mux.sender(Data).unwrap();
+    let mut receiver = hand.mux.receiver(Overlap).unwrap();
+    let (tell, told) = mpsc::channel();
+    let slow = Waker::from(Arc::new(Slow(Mutex::new(told))));
+    let first = receiver.poll_recv(&mut Context::from_waker(&slow));
+    assert!(first.is_pending());
+    let sent = thread::scope(|scope| {
+        let thread = scope.spawn(|| {
+            let sent = sender.send_timeout(b"hello", Duration::from_millis(100));
+            tell.send(()).unwrap();
+            sent
+        });
+        while sender.stats().waited_for_guarantees == Duration::ZERO {
+            thread::yield_now();
+        }
+        hand.feed(&greeted("send 2 78, issue 1 5"));
+        thread.join().unwrap()
+    });
+    (sent, hand.written() == frames("send 1 68656c6c6f"))
+}
+
+/// Where the machine is so busy that nothing came in time, it is tried again.
+#[test]
+fn a_thread_whose_time_is_over_looks_whether_its_message_was_sent() {
+    let is_seen = (0..50).any(|_| {
+        let (sent, went) = sent_at_the_deadline();
+        assert_eq!(sent.is_ok(), went);
+        went
+    });
+    assert!(is_seen);
 }
 
 #[test]
