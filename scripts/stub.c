@@ -1,0 +1,59 @@
+// Preloaded into a program, stands in for what the system answers. CLOCK has the milliseconds that go by before
+// each look at the clock, in turn and from the first again behind the last. FAILS says what fails each time: a
+// write to a `pipe`, or a socket's word that it does not wait with short pieces, `nodelay`.
+#define _GNU_SOURCE
+#include <dlfcn.h>
+#include <errno.h>
+#include <netinet/in.h>
+#include <netinet/tcp.h>
+#include <stdatomic.h>
+#include <stdlib.h>
+#include <string.h>
+#include <sys/socket.h>
+#include <sys/stat.h>
+#include <time.h>
+#include <unistd.h>
+
+enum { MOST = 64 };
+
+static ssize_t (*write_to)(int, const void *, size_t);
+static int (*set)(int, int, int, const void *, socklen_t);
+static int (*look)(clockid_t, struct timespec *);
+static int fails_at_pipes, fails_to_hurry, count;
+static long steps[MOST];
+static _Atomic long looks, now;
+
+static int is_pipe(int file) {
+    struct stat about;
+    return fstat(file, &about) == 0 && S_ISFIFO(about.st_mode);
+}
+
+ssize_t write(int file, const void *bytes, size_t length) {
+    if (!fails_at_pipes || file <= 2 || !is_pipe(file)) return write_to(file, bytes, length);
+    errno = EPIPE;
+    return -1;
+}
+
+int setsockopt(int socket, int level, int name, const void *value, socklen_t length) {
+    if (!fails_to_hurry || level != IPPROTO_TCP || name != TCP_NODELAY) return set(socket, level, name, value, length);
+    errno = ENOBUFS;
+    return -1;
+}
+
+int clock_gettime(clockid_t clock, struct timespec *at) {
+    if (!count) return look(clock, at);
+    long passed = now += steps[looks++ % count];
+    at->tv_sec = 1000 + passed / 1000;
+    at->tv_nsec = passed % 1000 * 1000000;
+    return 0;
+}
+
+__attribute__((constructor)) static void begin(void) {
+    const char *fails = getenv("FAILS"), *clock = getenv("CLOCK");
+    *(void **)&write_to = dlsym(RTLD_NEXT, "write");
+    *(void **)&set = dlsym(RTLD_NEXT, "setsockopt");
+    *(void **)&look = dlsym(RTLD_NEXT, "clock_gettime");
+    fails_at_pipes = fails && strcmp(fails, "pipe") == 0;
+    fails_to_hurry = fails && strcmp(fails, "nodelay") == 0;
+    for (char *end; clock && *clock && count < MOST; clock = end) steps[count++] = strtol(clock, &end, 10);
+}
