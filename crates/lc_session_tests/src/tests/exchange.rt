@@ -6,7 +6,7 @@ ghost use Rattle.lc_session.specs.Reading.{IsSameReading};
 ghost use Rattle.std.specs.List.{AllZip};
 ghost use Rattle.lc_session.specs.Pumping.{IsSamePump};
 ghost use Rattle.lc_outbox.specs.Outbox.{OutboxState, IsSameOutbox};
-ghost use Rattle.lc_inbox.specs.Sides.{Side, IsSameSide};
+ghost use Rattle.lc_inbox.specs.Sides.{InboxSide, IsSameSide};
 ghost use Rattle.lc_session_tests.specs.Exchanges.{SameEnds, SamePumps, at_work};
 
 use crate::parted::{Ends, Pumps};
@@ -84,7 +84,7 @@ fn take_each<R>(rt: &R, ends: &mut [RecvEnd; CHANNELS], load: Load)
 where
     R: Threads + Wait + Abort + Sync,
     ensures len { length ends.new ≡ length ends.old }
-    ensures same { (k : ℕ) (d : Side) → k < length ends.old → IsSameSide (slice_index_or ends.old k d) (slice_index_or ends.new k d) }
+    ensures same { (k : ℕ) (d : InboxSide) → k < length ends.old → IsSameSide (slice_index_or ends.old k d) (slice_index_or ends.new k d) }
 {
     thread::for_each_mut(rt, ends, CHANNELS, &|_, end| take_all(rt, end, load));
 }
