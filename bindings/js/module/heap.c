@@ -89,9 +89,8 @@ static void *take(struct block *it, size_t len) {
 }
 
 struct lcmux_tried lcmux_alloc(size_t size, size_t align) {
-    (void)align; /* at most 16, as each block is */
     struct block *it = NULL;
-    if (size < MOST) {
+    if (size < MOST && align <= GRAIN) {
         size_t len = HEAD + rounded(size, GRAIN);
         it = find(len);
         if (!it && grow(len))

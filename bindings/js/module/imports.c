@@ -5,10 +5,13 @@
 #define IMPORT(name) __asm__("import " #name " from lcmux")
 
 struct lcmux_tried heap_alloc(size_t size, size_t align) IMPORT(heap_alloc);
-void heap_dealloc(void *at) IMPORT(heap_dealloc);
+void heap_dealloc(void *at, size_t size, size_t align) IMPORT(heap_dealloc);
 
 struct lcmux_tried heap_alloc(size_t size, size_t align) { return lcmux_alloc(size, align); }
-void heap_dealloc(void *at) { lcmux_dealloc(at); }
+void heap_dealloc(void *at, size_t size, size_t align) {
+    (void)size, (void)align; /* a block knows its length */
+    lcmux_dealloc(at);
+}
 
 /* Each export of the library enters and leaves. One that is entered while another has not left traps: that
  * other one called back, or trapped itself. */

@@ -38,5 +38,5 @@ void __wrap_lcmux_dealloc(void *at) {
 
 /* The heap's calls, with numbers of 32 bits: an address, or 0 where there is no memory. */
 static uint32_t address(struct lcmux_tried tried) { return tried.ok ? (uint32_t)(size_t)tried.at : 0; }
-uint32_t EXPORT(heap_alloc)(uint32_t size) { return address(lcmux_alloc(size, 16)); }
+uint32_t EXPORT(heap_alloc)(uint32_t size, uint32_t align) { return address(lcmux_alloc(size, align)); }
 void EXPORT(heap_free)(uint32_t at) { lcmux_dealloc((void *)(size_t)at); }

@@ -159,7 +159,7 @@ class Blocks {
     const block = this.#blocks[turn];
     const length = this.#size;
     if (block === undefined) {
-      const at = this.#exports.heap_alloc(length);
+      const at = this.#exports.heap_alloc(length, 16);
       assert.ok(at > 0 && at % 16 === 0);
       this.#blocks[turn] = this.#fill(at, length);
     } else {
@@ -189,11 +189,11 @@ test('the heap gives each block bytes of its own, and joins what is free', async
   // All is one free block again: nearly the whole memory can be had at once, without any more of it.
   const size = exports.memory.buffer.byteLength;
   const data = 2 ** 20 + 2 ** 17;
-  const at = exports.heap_alloc(size - data - 2 ** 16);
+  const at = exports.heap_alloc(size - data - 2 ** 16, 16);
   assert.ok(at > 0);
   assert.equal(exports.memory.buffer.byteLength, size);
-  assert.equal(exports.heap_alloc(2 ** 31), 0);
-  assert.equal(exports.heap_alloc(2 ** 32 - 1), 0);
+  // What the memory never has, and a wider alignment than a block's.
+  assert.deepEqual([[2 ** 31, 1], [2 ** 32 - 1, 1], [1, 32]].map(it => exports.heap_alloc(...it)), [0, 0, 0]);
   exports.heap_free(at);
   assert.equal(exports.blocks(), 0);
 });
