@@ -1,0 +1,8 @@
+// Seven logical channels each way between two peers, over one ordered byte stream each way.
+export { CHANNELS, Channel } from './channel.js';
+export { Code, LcmuxError } from './codes.js';
+export { load, open } from './library.js';
+export { VERSION } from './module.js';
+export { ENDED, Peer } from './peer.js';
+export { Session, SessionChannel, SessionClosed } from './session.js';
+export { fromWebSocket } from './websocket.js';

@@ -1,0 +1,57 @@
+import { Module } from './module.js';
+import { Peer } from './peer.js';
+import { startSession } from './session.js';
+
+/** Where the package has the module. */
+const OWN = new URL('../out/lcmux.wasm', import.meta.url);
+
+/** An instance of the module: its peers share a memory, and end together where one of its calls traps. */
+class Library {
+  #module;
+
+  constructor(module) {
+    this.#module = module;
+  }
+
+  get version() {
+    return this.#module.version;
+  }
+
+  get hasTrapped() {
+    return this.#module.hasTrapped;
+  }
+
+  text(code) {
+    return this.#module.text(code);
+  }
+
+  peer(config) {
+    return new Peer(this.#module, config);
+  }
+
+  open(streams, config) {
+    return startSession(wider => this.peer(wider), streams, config);
+  }
+}
+
+/** The module is compiled and has its memory. */
+export async function load(source = OWN) {
+  return new Library(await Module.from(source));
+}
+
+// What `open` uses, loaded by its first call, and anew where that failed or a call trapped.
+let shared = null;
+
+async function sharedLibrary() {
+  const loading = (shared ??= load());
+  const library = await loading.catch(() => null);
+  if ((library === null || library.hasTrapped) && shared === loading) {
+    shared = load();
+  }
+  return shared;
+}
+
+/** A session over two streams of bytes, with the package's own module. */
+export async function open(streams, config) {
+  return (await sharedLibrary()).open(streams, config);
+}

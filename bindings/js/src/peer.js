@@ -1,0 +1,347 @@
+import { CHANNELS } from './channel.js';
+import { Code, LcmuxError } from './codes.js';
+import { boundOf, bytesOf, channelOf, lengthOf, u32 } from './judge.js';
+
+/** In place of a message: none waits, and none will come. */
+export const ENDED = Symbol('ended');
+
+/** The bytes that go in or out by one call of the module. */
+const PIECE = 65_536;
+
+/** The bytes of a chunk, at most. */
+const CHUNK = 16_384;
+
+/** In place of a limit, or of the target of a plead, where there is none. */
+const NONE = 2n ** 64n - 1n;
+
+/** Where the struct begins behind what goes with a code, and how long one of a channel's `ready` is. */
+const STRUCT = 2;
+const READY = 5;
+
+const DEFAULTS = { version: 1, slots: 16, capacities: 65_536 };
+
+const NEEDS = {
+  nothing: Object.freeze({ kind: 'nothing' }),
+  slot: Object.freeze({ kind: 'slot' }),
+  never: Object.freeze({ kind: 'never' }),
+};
+
+const unlessNone = long => (long === NONE ? null : long);
+
+/** The words of an lcmux_config. */
+function wordsOf(config) {
+  const { version, slots, capacities } = { ...DEFAULTS, ...config };
+  const rings = Array.isArray(capacities) ? capacities : CHANNELS.map(() => capacities);
+  if (rings.length !== CHANNELS.length) {
+    throw new RangeError(`there are ${CHANNELS.length} capacities, and not ${rings.length}`);
+  }
+  return [u32(version, 'the version'), u32(slots, 'slots'), ...rings.map(ring => u32(ring, 'a capacity'))];
+}
+
+/** One side of a session: bytes in by `deliver`, bytes out by `write`. A call that is refused throws. */
+export class Peer {
+  #module;
+  #handle;
+  #version;
+  // What was written out as a chunk and not advanced over yet.
+  #unsent = new Uint8Array(0);
+
+  /** Made by `peer` of what `load` gives. */
+  constructor(module, config) {
+    const words = wordsOf(config);
+    this.#module = module;
+    this.#version = words[0];
+    this.#handle = module.handleFor(this, handle => {
+      module.putWords(words);
+      module.done('peer_new', handle);
+    });
+  }
+
+  get version() {
+    return this.#version;
+  }
+
+  get #there() {
+    if (this.#handle === 0) {
+      throw new LcmuxError(Code.NoPeer);
+    }
+    return this.#handle;
+  }
+
+  // The code of a call that is made on this peer.
+  #ask(name, a, b) {
+    return this.#module.call(name, this.#there, a, b);
+  }
+
+  #do(name, a, b) {
+    const code = this.#ask(name, a, b);
+    if (code !== 0) {
+      throw this.#module.error(code);
+    }
+  }
+
+  #number(name, a) {
+    this.#do(name, a);
+    return this.#module.number;
+  }
+
+  #refusal(name, a, b) {
+    const code = this.#ask(name, a, b);
+    return code === 0 ? null : this.#module.error(code);
+  }
+
+  send(channel, body) {
+    const number = channelOf(channel);
+    const { length } = bytesOf(body, 'the body');
+    if (length > this.#module.room) {
+      throw this.wouldSend(channel, length);
+    }
+    this.#module.put(body);
+    this.#do('peer_send', number, length);
+  }
+
+  issue(channel, amount) {
+    this.#do('peer_issue', channelOf(channel), u32(amount, 'the amount'));
+  }
+
+  absolve(channel, amount) {
+    this.#do('peer_absolve', channelOf(channel), u32(amount, 'the amount'));
+  }
+
+  plead(channel, target) {
+    this.#do('peer_plead', channelOf(channel), u32(target, 'the target'));
+  }
+
+  honour(channel) {
+    return this.#number('peer_honour', channelOf(channel));
+  }
+
+  limitSending(channel, bound) {
+    this.#do('peer_limit_sending', channelOf(channel), boundOf(bound));
+  }
+
+  limitReceiving(channel, bound) {
+    this.#do('peer_limit_receiving', channelOf(channel), boundOf(bound));
+  }
+
+  finish(channel) {
+    this.#do('peer_finish', channelOf(channel));
+  }
+
+  wouldSend(channel, length) {
+    return this.#refusal('peer_would_send', channelOf(channel), lengthOf(length));
+  }
+
+  wouldIssue(channel, amount) {
+    return this.#refusal('peer_would_issue', channelOf(channel), u32(amount, 'the amount'));
+  }
+
+  wouldAbsolve(channel, amount) {
+    return this.#refusal('peer_would_absolve', channelOf(channel), u32(amount, 'the amount'));
+  }
+
+  wouldPlead(channel, target) {
+    return this.#refusal('peer_would_plead', channelOf(channel), u32(target, 'the target'));
+  }
+
+  wouldHonour(channel) {
+    return this.#refusal('peer_would_honour', channelOf(channel)) ?? this.#module.number;
+  }
+
+  wouldLimitSending(channel, bound) {
+    return this.#refusal('peer_would_limit_sending', channelOf(channel), boundOf(bound));
+  }
+
+  wouldLimitReceiving(channel, bound) {
+    return this.#refusal('peer_would_limit_receiving', channelOf(channel), boundOf(bound));
+  }
+
+  wouldFinish(channel) {
+    return this.#refusal('peer_would_finish', channelOf(channel));
+  }
+
+  needs(channel, length) {
+    const code = this.#ask('peer_needs', channelOf(channel), lengthOf(length));
+    switch (code) {
+      case 0:
+        return NEEDS.nothing;
+      case Code.NoGuarantee:
+        return { kind: 'guarantees', missing: this.#module.number };
+      case Code.QueueFull:
+        return NEEDS.slot;
+      case Code.Never:
+        return NEEDS.never;
+      default:
+        throw this.#module.error(code);
+    }
+  }
+
+  slotsLeft() {
+    return this.#number('peer_slots_left');
+  }
+
+  wantsWrite() {
+    return this.#number('peer_wants_write') !== 0 || this.#unsent.length > 0;
+  }
+
+  ready() {
+    this.#do('peer_ready');
+    return CHANNELS.map(channel => {
+      const [message, ended, plead, finished, finishedThere] = this.#longs(READY * channel, READY).map(Boolean);
+      return { message, ended, plead, finished, finishedThere };
+    });
+  }
+
+  deliver(bytes) {
+    const { length } = bytesOf(bytes, 'what is delivered');
+    let [taken, frames] = [0, 0];
+    do {
+      const piece = bytes.subarray(taken, taken + PIECE);
+      this.#module.put(piece);
+      const code = this.#ask('peer_deliver', piece.length);
+      taken += this.#module.number;
+      frames += this.#module.short(1);
+      if (code !== 0) {
+        throw Object.assign(new LcmuxError(code), { taken, frames });
+      }
+    } while (taken < length);
+    return frames;
+  }
+
+  end() {
+    this.#do('peer_end');
+  }
+
+  pending() {
+    return this.#number('peer_pending') + this.#unsent.length;
+  }
+
+  writeInto(buffer) {
+    const { length } = bytesOf(buffer, 'the buffer');
+    const unsent = this.#unsent.subarray(0, length);
+    buffer.set(unsent);
+    let count = unsent.length;
+    while (count < length) {
+      const piece = Math.min(PIECE, length - count);
+      const wrote = this.#number('peer_write', piece);
+      buffer.set(this.#module.lent(wrote), count);
+      count += wrote;
+      if (wrote < piece) {
+        break;
+      }
+    }
+    this.#unsent = this.#unsent.subarray(unsent.length);
+    return count;
+  }
+
+  write(most = Infinity) {
+    const bytes = new Uint8Array(Math.min(this.pending(), most === Infinity ? most : u32(most, 'the most')));
+    this.writeInto(bytes);
+    return bytes;
+  }
+
+  chunk() {
+    if (this.#there && this.#unsent.length === 0) {
+      this.#unsent = this.write(CHUNK);
+    }
+    return this.#unsent.slice();
+  }
+
+  advance(count) {
+    const offered = this.#there && this.#unsent.length;
+    if (u32(count, 'the count') > offered) {
+      throw new RangeError(`${count} bytes went out, and ${offered} were offered`);
+    }
+    this.#unsent = this.#unsent.subarray(count);
+  }
+
+  frontLength(channel) {
+    return this.#took(this.#ask('peer_front_len', channelOf(channel)), length => length);
+  }
+
+  front(channel) {
+    return this.#took(this.#ask('peer_front', channelOf(channel)), () => [this.#piece(0), this.#piece(2)]);
+  }
+
+  // A piece of the message that the last call lent: its address and its length.
+  #piece(from) {
+    return this.#module.view(this.#module.short(STRUCT + from), this.#module.short(STRUCT + from + 1));
+  }
+
+  pop(channel) {
+    return this.#took(this.#ask('peer_pop', channelOf(channel)), length => length);
+  }
+
+  take(channel) {
+    const code = this.#ask('peer_take', channelOf(channel), this.#module.room);
+    return this.#took(code, length => this.#module.lent(length).slice());
+  }
+
+  takeInto(channel, buffer) {
+    const number = channelOf(channel);
+    const room = Math.min(bytesOf(buffer, 'the buffer').length, this.#module.room);
+    return this.#took(this.#ask('peer_take', number, room), length => {
+      buffer.set(this.#module.lent(length));
+      return length;
+    });
+  }
+
+  // What a take answers.
+  #took(code, answer) {
+    switch (code) {
+      case 0:
+        return answer(this.#module.number);
+      case Code.Empty:
+        return null;
+      case Code.Ended:
+        return ENDED;
+      default:
+        throw this.#module.error(code);
+    }
+  }
+
+  // So many u64 of the struct that went with the last call, from one on.
+  #longs(from, count) {
+    return Array.from({ length: count }, (_, at) => this.#module.long(STRUCT + from + at));
+  }
+
+  client(channel) {
+    this.#do('peer_client', channelOf(channel));
+    const [held, received, spent, absolved, waived, sendLeft, receiveLeft, asked, finished] = this.#longs(0, 9);
+    return {
+      held: Number(held),
+      received,
+      spent,
+      absolved,
+      waived,
+      sendLeft: unlessNone(sendLeft),
+      receiveLeft: unlessNone(receiveLeft),
+      asked: asked === NONE ? null : Number(asked),
+      finished: finished !== 0n,
+    };
+  }
+
+  server(channel) {
+    this.#do('peer_server', channelOf(channel));
+    const [capacity, issued, outstanding, buffered, room, waived, sendLeft, receiveLeft, finished] = this.#longs(0, 9);
+    return {
+      capacity: Number(capacity),
+      issued,
+      outstanding: Number(outstanding),
+      buffered: Number(buffered),
+      room: Number(room),
+      waived,
+      sendLeft: unlessNone(sendLeft),
+      receiveLeft: unlessNone(receiveLeft),
+      finished: finished !== 0n,
+    };
+  }
+
+  free() {
+    const handle = this.#handle;
+    if (handle !== 0) {
+      this.#handle = 0;
+      this.#module.free(this, handle);
+    }
+  }
+}

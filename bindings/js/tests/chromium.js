@@ -1,0 +1,112 @@
+// A browser without a window, driven by the pipe that Chromium has for its developer tools.
+import { spawn } from 'node:child_process';
+import { once } from 'node:events';
+import { mkdtemp, rm } from 'node:fs/promises';
+import { tmpdir } from 'node:os';
+import { join } from 'node:path';
+
+const FLAGS = ['--headless=new', '--no-sandbox', '--disable-gpu', '--disable-dev-shm-usage', '--no-first-run', '--remote-debugging-pipe'];
+
+/** A tab, on which functions can be called. */
+class Tab {
+  #browser;
+  #target;
+  #session;
+
+  constructor(browser, target, session) {
+    this.#browser = browser;
+    this.#target = target;
+    this.#session = session;
+  }
+
+  /** What an expression is, once the promise that it may be has its value. */
+  async evaluate(expression) {
+    const words = { expression, awaitPromise: true, returnByValue: true };
+    const { result, exceptionDetails } = await this.#browser.ask('Runtime.evaluate', words, this.#session);
+    if (exceptionDetails) {
+      throw new Error(exceptionDetails.exception?.description ?? exceptionDetails.text);
+    }
+    return result.value;
+  }
+
+  /** The page at an address is there. */
+  async go(url) {
+    await this.#browser.ask('Page.enable', {}, this.#session);
+    const loaded = this.#browser.told('Page.loadEventFired', this.#session);
+    await this.#browser.ask('Page.navigate', { url }, this.#session);
+    await loaded;
+  }
+
+  async close() {
+    await this.#browser.ask('Target.closeTarget', { targetId: this.#target });
+  }
+}
+
+export class Chromium {
+  #process;
+  #folder;
+  #last = 0;
+  #asked = new Map();
+  #awaited = [];
+  #rest = Buffer.alloc(0);
+
+  constructor(process, folder) {
+    this.#process = process;
+    this.#folder = folder;
+    process.stdio[4].on('data', bytes => this.#hear(bytes));
+    process.once('exit', () => this.#asked.forEach(({ reject }) => reject(new Error('the browser has ended'))));
+  }
+
+  static async start() {
+    const folder = await mkdtemp(join(tmpdir(), 'chromium-'));
+    const stdio = ['ignore', 'ignore', 'ignore', 'pipe', 'pipe'];
+    const process = spawn('chromium', [...FLAGS, `--user-data-dir=${folder}`, 'about:blank'], { stdio });
+    await once(process, 'spawn');
+    return new Chromium(process, folder);
+  }
+
+  // Messages are JSON, each with a zero byte behind it.
+  #hear(bytes) {
+    this.#rest = Buffer.concat([this.#rest, bytes]);
+    for (let end; (end = this.#rest.indexOf(0)) >= 0; ) {
+      this.#answer(JSON.parse(this.#rest.subarray(0, end).toString()));
+      this.#rest = this.#rest.subarray(end + 1);
+    }
+  }
+
+  #answer({ id, result, error, method, sessionId }) {
+    const asked = this.#asked.get(id);
+    this.#asked.delete(id);
+    if (asked !== undefined) {
+      error ? asked.reject(new Error(error.message)) : asked.resolve(result);
+    }
+    this.#awaited.filter(it => it.method === method && it.sessionId === sessionId).forEach(it => it.resolve());
+  }
+
+  ask(method, params = {}, sessionId = undefined) {
+    const id = (this.#last += 1);
+    return new Promise((resolve, reject) => {
+      this.#asked.set(id, { resolve, reject });
+      this.#process.stdio[3].write(`${JSON.stringify({ id, method, params, sessionId })}\0`);
+    });
+  }
+
+  told(method, sessionId) {
+    return new Promise(resolve => this.#awaited.push({ method, sessionId, resolve }));
+  }
+
+  async tab(url) {
+    const { targetId } = await this.ask('Target.createTarget', { url: 'about:blank' });
+    const { sessionId } = await this.ask('Target.attachToTarget', { targetId, flatten: true });
+    const tab = new Tab(this, targetId, sessionId);
+    await tab.go(url);
+    return tab;
+  }
+
+  async stop() {
+    const ended = once(this.#process, 'exit');
+    this.ask('Browser.close').catch(() => {});
+    await ended;
+    await rm(this.#folder, { recursive: true, force: true, maxRetries: 5 });
+  }
+}

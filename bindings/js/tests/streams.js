@@ -1,0 +1,59 @@
+// Streams for the tests of sessions.
+import { Peer } from '../src/peer.js';
+import { startSession } from '../src/session.js';
+import { refusingModule } from './module.js';
+
+/** Two pipes: the streams of one side, and those of the other. */
+export function pipes() {
+  const [there, back] = [new TransformStream(), new TransformStream()];
+  return [
+    { readable: back.readable, writable: there.writable },
+    { readable: there.readable, writable: back.writable },
+  ];
+}
+
+/** All that can go on without more from outside does. */
+export async function settled() {
+  for (let turn = 0; turn < 10; turn += 1) {
+    await new Promise(resolve => setImmediate(resolve));
+  }
+}
+
+/** What becomes of a promise: its value, its reason, or null while it waits. */
+export async function fate(promise) {
+  let told = null;
+  promise.then(
+    value => (told = { value }),
+    reason => (told = { reason }),
+  );
+  await settled();
+  return told;
+}
+
+/**
+ * A session whose other side is a bare peer, by which the test writes what comes and reads what went. While `hold` is
+ * a promise, a write waits for it.
+ */
+export async function alone(config, otherConfig) {
+  const { module, exports, told, peer } = await refusingModule();
+  const there = { hold: undefined, writes: [], exports, told, module };
+  const readable = new ReadableStream({
+    start: controller => (there.comes = controller),
+    cancel: reason => (there.cancelled = reason),
+  });
+  const writable = new WritableStream({
+    start: controller => (there.goes = controller),
+    write: bytes => {
+      there.writes.push(bytes);
+      return there.hold;
+    },
+    close: () => (there.isClosed = true),
+    abort: reason => (there.aborted = reason),
+  });
+  there.session = startSession(wider => new Peer(module, wider), { readable, writable }, config);
+  there.other = peer({ slots: 1000, ...otherConfig });
+  there.put = () => there.comes.enqueue(there.other.write());
+  there.get = () => there.writes.splice(0).map(bytes => there.other.deliver(bytes));
+  await settled();
+  return there;
+}

@@ -1,0 +1,34 @@
+import assert from 'node:assert/strict';
+import { spawnSync } from 'node:child_process';
+import { mkdtempSync, readFileSync, rmSync, writeFileSync } from 'node:fs';
+import { test } from 'node:test';
+import { fileURLToPath } from 'node:url';
+
+const folder = fileURLToPath(new URL('types', import.meta.url));
+
+const compile = at => {
+  const { status, stdout, stderr, error } = spawnSync('tsc', ['--project', at], { encoding: 'utf8' });
+  assert.ifError(error);
+  return { status, said: stdout + stderr };
+};
+
+test('right uses compile, and wrong ones do not', () => {
+  assert.deepEqual(compile(folder), { status: 0, said: '' });
+  assert.ok(readFileSync(`${folder}/wrong.ts`, 'utf8').match(/@ts-expect-error/g).length > 25);
+});
+
+test('an error that is expected and not there is seen', () => {
+  const place = mkdtempSync(`${folder}/planted-`);
+  try {
+    for (const name of ['tsconfig.json', 'right.ts', 'wrong.ts']) {
+      const text = readFileSync(`${folder}/${name}`, 'utf8').replaceAll('"../../', '"../../../');
+      writeFileSync(`${place}/${name}`, name === 'wrong.ts' ? text.replace('peer.send(7, body)', 'peer.send(6, body)') : text);
+    }
+    const { status, said } = compile(place);
+    assert.notEqual(status, 0);
+    assert.match(said, /wrong\.ts\(\d+,\d+\): error TS2578: Unused '@ts-expect-error' directive\.\n$/);
+    assert.equal(said.trim().split('\n').length, 1);
+  } finally {
+    rmSync(place, { recursive: true });
+  }
+});

@@ -1,0 +1,75 @@
+// What a program may write, and what it then has.
+import { CHANNELS, Channel, Code, ENDED, LcmuxError, Peer, Session, SessionChannel, SessionClosed, VERSION, fromWebSocket, load, open } from 'lcmux';
+import type { ClientBook, Config, Kind, Library, Needs, Ready, ServerBook, Streams, Take } from 'lcmux';
+import { fromSocket } from 'lcmux/node';
+
+/** Whether two types are one. */
+type Same<A, B> = (<T>() => T extends A ? 1 : 2) extends <T>() => T extends B ? 1 : 2 ? true : false;
+const same = <A, B>(_: Same<A, B>): void => undefined;
+
+export async function peers(): Promise<void> {
+  const lcmux: Library = await load();
+  await load(new URL('https://example.org/lcmux.wasm'));
+  await load(fetch('lcmux.wasm'));
+  await load(new Uint8Array(1));
+  const config: Config = { version: 2, slots: 4, capacities: [1, 2, 3, 4, 5, 6, 7] };
+  const peer: Peer = lcmux.peer(config);
+  const body = new Uint8Array(1);
+  for (const channel of CHANNELS) {
+    peer.send(channel, body);
+  }
+  peer.send(6, body);
+  peer.issue(Channel.Data, 1);
+  peer.limitSending(Channel.Data, 2n ** 62n);
+  peer.limitReceiving(Channel.Data, 5);
+  same<ReturnType<Peer['take']>, Uint8Array | null | typeof ENDED>(true);
+  same<Take<number>, ReturnType<Peer['takeInto']>>(true);
+  same<Take<number>, ReturnType<Peer['pop']>>(true);
+  same<Take<readonly [Uint8Array, Uint8Array]>, ReturnType<Peer['front']>>(true);
+  same<ReturnType<Peer['honour']>, number>(true);
+  same<ReturnType<Peer['wouldSend']>, LcmuxError | null>(true);
+  same<ReturnType<Peer['wouldHonour']>, LcmuxError | number>(true);
+  const message = peer.take(Channel.Data);
+  if (message !== null && message !== ENDED) {
+    same<typeof message, Uint8Array>(true);
+  }
+  const needs: Needs = peer.needs(Channel.Data, 5);
+  if (needs.kind === 'guarantees') {
+    same<typeof needs.missing, number>(true);
+  }
+  const ready: Ready[] = peer.ready();
+  const client: ClientBook = peer.client(0);
+  const server: ServerBook = peer.server(0);
+  same<typeof client.received, bigint>(true);
+  same<typeof client.held, number>(true);
+  same<typeof server.sendLeft, bigint | null>(true);
+  same<typeof server.room, number>(true);
+  console.log(ready, VERSION, lcmux.version, lcmux.hasTrapped, lcmux.text(Code.NoGuarantee), peer.version, peer.write(5).length);
+}
+
+export function errors(error: unknown): Kind | undefined {
+  if (error instanceof LcmuxError) {
+    same<typeof error.number, number | bigint | undefined>(true);
+    return error.code === Code.NoGuarantee && !error.isStop ? error.kind : undefined;
+  }
+  return undefined;
+}
+
+export async function sessions(socket: WebSocket, tcp: object): Promise<void> {
+  const streams: Streams = await fromWebSocket(socket);
+  const session: Session = await open(streams, { version: 2 });
+  await open(fromSocket(tcp));
+  await open({ readable: new ReadableStream<Uint8Array>(), writable: new WritableStream<Uint8Array>() });
+  const data: SessionChannel = session.channel(Channel.Data);
+  await data.send(new Uint8Array(1), { signal: new AbortController().signal });
+  for await (const message of data) {
+    same<typeof message, Uint8Array>(true);
+  }
+  same<Awaited<ReturnType<SessionChannel['receive']>>, Uint8Array | null>(true);
+  await data.finish();
+  session.abort(new Error('enough'));
+  if (session.reason instanceof SessionClosed) {
+    await session.close();
+  }
+  await session.closed;
+}
