@@ -1,5 +1,5 @@
 use super::block::block_on;
-use super::frames::{Direction, Frame, Scanner};
+use super::frames::{Cutter, Direction, Frame, Scanner};
 use super::io::{poll_uninterrupted, Blocking, PollRead, PollWrite, WriteHalf};
 use super::shared::Shared;
 use super::state::{Pulled, State};
@@ -52,7 +52,10 @@ pub struct Driver {
 
 struct Reading {
     shared: Arc<Shared>,
+    // At its front, what was read of a message that is cut, and is not delivered yet: so many bytes.
     piece: Vec<u8>,
+    held: usize,
+    cutter: Cutter,
     scanner: Scanner,
     result: Option<Result<(), Closed>>,
 }
@@ -74,6 +77,8 @@ impl Driver {
             reading: Reading {
                 shared: Arc::clone(shared),
                 piece: Vec::new(),
+                held: 0,
+                cutter: Cutter::default(),
                 scanner: Scanner::new(Direction::In),
                 result: None,
             },
@@ -230,8 +235,8 @@ impl Driver {
     }
 
     /// Reads what is there and writes what the transport takes. It is ready once both directions ended, or
-    /// the session failed, and answers the same from then on. Polls may be given up: what was read was
-    /// delivered, and what was pulled and not written stays in the driver.
+    /// the session failed, and answers the same from then on. Polls may be given up: what was read is
+    /// delivered or stays in the driver, and what was pulled and not written stays there.
     pub fn poll(
         &mut self,
         cx: &mut Context<'_>,
@@ -250,7 +255,8 @@ impl Driver {
     }
 
     /// The reading half alone: it is ready once the other side ended its direction, or the session failed.
-    /// What was read was delivered, so no call that is given up loses a byte.
+    /// What was read is delivered, or stays in the driver until the rest of its message is read, so no call that
+    /// is given up loses a byte.
     pub fn poll_read(
         &mut self,
         cx: &mut Context<'_>,
@@ -313,23 +319,40 @@ impl Reading {
         grow(&mut self.piece, 0);
         self.shared.with(|state| state.wait_to_read(cx.waker()))?;
         for _ in 0..PIECES {
-            let count = ready!(poll_uninterrupted(|| reader.poll_read(cx, &mut self.piece)))?;
+            let offered = &mut self.piece[self.held..];
+            let count = ready!(poll_uninterrupted(|| reader.poll_read(cx, offered)))?;
             if count == 0 {
+                self.deliver(self.held)?;
                 let ended = self.shared.with(|state| state.input_ended());
                 return Poll::Ready(ended);
             }
-            let offered = self.piece.len();
-            let bytes = self.piece.get(..count).ok_or(Overrun {
-                claimed: count,
-                offered,
-            });
-            let bytes = bytes.map_err(io::Error::from)?;
-            let (taken, frames) = self.shared.with(|state| state.deliver(bytes))?;
-            self.scanner.scan(&bytes[..taken], frames);
-            grow(&mut self.piece, count);
+            let (claimed, offered) = (count, offered.len());
+            if claimed > offered {
+                return Poll::Ready(Err(io::Error::from(Overrun { claimed, offered }).into()));
+            }
+            self.take_in(self.held + count)?;
         }
         cx.waker().wake_by_ref();
         Poll::Pending
+    }
+
+    // Delivers what is there up to this place, but for a message that is cut there.
+    fn take_in(&mut self, end: usize) -> Result<(), Closed> {
+        let whole = self.cutter.cut(&self.piece[..end], PIECE);
+        if whole > 0 {
+            self.deliver(whole)?;
+        }
+        self.piece.copy_within(whole..end, 0);
+        self.held = end - whole;
+        grow(&mut self.piece, end);
+        Ok(())
+    }
+
+    fn deliver(&mut self, count: usize) -> Result<(), Closed> {
+        let bytes = &self.piece[..count];
+        let (taken, frames) = self.shared.with(|state| state.deliver(bytes))?;
+        self.scanner.scan(&bytes[..taken], frames);
+        Ok(())
     }
 }
 

@@ -90,12 +90,7 @@ const GREETING: (u8, usize) = (0x4c, 4);
 pub(crate) struct Scanner {
     direction: Direction,
     hook: Option<Hook>,
-    is_version_two: bool,
-    /// The tag and the number, as far as they came.
-    head: [u8; 9],
-    have: usize,
-    /// What is missing of a message whose head is whole.
-    body: usize,
+    heads: Heads,
 }
 
 impl Scanner {
@@ -103,10 +98,7 @@ impl Scanner {
         Scanner {
             direction,
             hook: None,
-            is_version_two: false,
-            head: [0; 9],
-            have: 0,
-            body: 0,
+            heads: Heads::default(),
         }
     }
 
@@ -120,33 +112,74 @@ impl Scanner {
             return;
         };
         let mut told = 0;
-        while let Some(frame) = self.next(&mut bytes) {
+        while self.heads.pass(&mut bytes) {
+            let Some(frame) = self.heads.frame(self.direction) else {
+                return;
+            };
             if told < most {
                 hook(&frame);
             }
             told += 1;
         }
     }
+}
 
-    fn next(&mut self, bytes: &mut &[u8]) -> Option<Frame> {
-        if self.body == 0 {
-            self.take_head(bytes)?;
+/// Says how much of what came is to be delivered now. A message that is cut waits for its rest, so that it goes from
+/// there to its ring, and not over what the peer holds of a frame. It judges nothing: all bytes are delivered, in
+/// their order.
+#[derive(Default)]
+pub(crate) struct Cutter {
+    heads: Heads,
+}
+
+impl Cutter {
+    /// How many of these bytes, which come behind those that were delivered, are delivered now: all, or those
+    /// before the message that is cut, where that has at most so many bytes.
+    pub fn cut(&mut self, bytes: &[u8], most: usize) -> usize {
+        let (mut rest, mut start) = (bytes, self.heads);
+        let mut left = rest.len();
+        while self.heads.pass(&mut rest) {
+            (start, left) = (self.heads, rest.len());
+        }
+        if start.is_between() && self.heads.is_in_body() && self.heads.size() <= most {
+            self.heads = start;
+            return bytes.len() - left;
+        }
+        bytes.len()
+    }
+}
+
+/// The tag and the number of a frame, as far as they came, and how much of it is missing.
+#[derive(Clone, Copy, Default)]
+struct Heads {
+    is_version_two: bool,
+    head: [u8; 9],
+    have: usize,
+    /// What is missing of a message whose head is whole.
+    body: usize,
+}
+
+impl Heads {
+    // Goes past one frame, or else past all bytes. Whether it came to its end.
+    fn pass(&mut self, bytes: &mut &[u8]) -> bool {
+        if self.is_whole() {
+            self.have = 0;
+        }
+        if self.body == 0 && !self.take_head(bytes) {
+            return false;
         }
         let count = self.body.min(bytes.len());
         *bytes = &bytes[count..];
         self.body -= count;
-        if self.body > 0 {
-            return None;
-        }
-        let frame = self.frame();
-        self.have = 0;
-        frame
+        self.body == 0
     }
 
-    // The tag and the number. Those of a greeting are of no frame.
-    fn take_head(&mut self, bytes: &mut &[u8]) -> Option<()> {
+    // The tag and the number, and whether they are whole. Those of a greeting are of no frame.
+    fn take_head(&mut self, bytes: &mut &[u8]) -> bool {
         while self.have < self.head_len() {
-            let (byte, rest) = bytes.split_first()?;
+            let Some((byte, rest)) = bytes.split_first() else {
+                return false;
+            };
             self.head[self.have] = *byte;
             self.have += 1;
             *bytes = rest;
@@ -155,10 +188,10 @@ impl Scanner {
                 self.have = 0;
             }
         }
-        if self.head[0] >> 4 == 1 {
+        if self.is_message() {
             self.body = self.number() as usize;
         }
-        Some(())
+        true
     }
 
     fn head_len(&self) -> usize {
@@ -172,12 +205,43 @@ impl Scanner {
         }
     }
 
+    fn is_message(&self) -> bool {
+        self.head[0] >> 4 == 1
+    }
+
+    fn is_whole(&self) -> bool {
+        self.have == self.head_len() && self.body == 0
+    }
+
+    // Whether what came ends where a frame does.
+    fn is_between(&self) -> bool {
+        self.have == 0 || self.is_whole()
+    }
+
+    // Whether the head of a message came, and not all of its body.
+    fn is_in_body(&self) -> bool {
+        self.body > 0 && self.channel().is_some()
+    }
+
     fn number(&self) -> u64 {
         let bytes = self.head[1..self.have].iter();
         bytes.fold(0, |number, byte| number << 8 | u64::from(*byte))
     }
 
-    fn frame(&self) -> Option<Frame> {
+    fn channel(&self) -> Option<Channel> {
+        Channel::from_number(self.head[0] & 15)
+    }
+
+    // How many bytes the frame has whose head is whole.
+    fn size(&self) -> usize {
+        match self.is_message() {
+            true => self.have + self.number() as usize,
+            false => self.have,
+        }
+    }
+
+    // The frame, once it is whole, unless its tag is of none.
+    fn frame(&self, direction: Direction) -> Option<Frame> {
         let kind = match self.head[0] >> 4 {
             1 => FrameKind::Send,
             2 => FrameKind::Issue,
@@ -188,17 +252,67 @@ impl Scanner {
             7 => FrameKind::Finish,
             _ => return None,
         };
-        let number = self.number();
-        let body = match kind {
-            FrameKind::Send => number as usize,
-            _ => 0,
-        };
         Some(Frame {
-            direction: self.direction,
+            direction,
             kind,
-            channel: Channel::from_number(self.head[0] & 15)?,
-            number,
-            size: self.have + body,
+            channel: self.channel()?,
+            number: self.number(),
+            size: self.size(),
         })
+    }
+}
+
+#[cfg(test)]
+mod tests {
+    use super::*;
+
+    // Reads in hexadecimal, and what is delivered by each, where a message of up to nine bytes waits for its rest.
+    const CUTS: [(&str, &str); 18] = [
+        ("1100026869", "1100026869"),
+        ("11000268 69", " 1100026869"),
+        ("110002 6869", " 1100026869"),
+        ("11000368 69 6a", "  11000368696a"),
+        ("2100000005110002 6869", "2100000005 1100026869"),
+        ("110001aa110002bb cc110001dd", "110001aa 110002bbcc110001dd"),
+        ("110002aa bb110002cc dd", " 110002aabb 110002ccdd"),
+        ("160002aa bb", " 160002aabb"),
+        // The peer holds the first bytes already, so it gets the others, too.
+        ("1100 02aa bb", "1100 02aa bb"),
+        ("1100 02aa bb110002cc dd", "1100 02aa bb 110002ccdd"),
+        ("21000000 05", "21000000 05"),
+        (
+            "5100000000000000 09110002 aabb",
+            "5100000000000000 09 110002aabb",
+        ),
+        // No frame: its channel is above 6.
+        ("170002aa bb", "170002aa bb"),
+        ("110006010203 040506", " 110006010203040506"),
+        ("110007010203 04050607", "110007010203 04050607"),
+        ("4c434d02 1100000002aa bb", "4c434d02  1100000002aabb"),
+        ("4c43 4d0271 1100000002 aabb", "4c43 4d0271  1100000002aabb"),
+        ("4c434d02 1100 000002aa bb", "4c434d02 1100 000002aa bb"),
+    ];
+
+    fn bytes(hex: &str) -> Vec<u8> {
+        let byte = |at| u8::from_str_radix(&hex[at..at + 2], 16).unwrap();
+        (0..hex.len()).step_by(2).map(byte).collect()
+    }
+
+    fn delivered(reads: &str) -> String {
+        let (mut cutter, mut held) = (Cutter::default(), Vec::new());
+        let pieces = reads.split(' ').map(|read| {
+            held.extend(bytes(read));
+            let whole = cutter.cut(&held, 9);
+            let piece = held.drain(..whole);
+            piece.map(|byte| format!("{byte:02x}")).collect()
+        });
+        pieces.collect::<Vec<String>>().join(" ")
+    }
+
+    #[test]
+    fn a_message_that_is_cut_waits_for_its_rest() {
+        for (reads, due) in CUTS {
+            assert_eq!(delivered(reads), due, "{reads}");
+        }
     }
 }
