@@ -339,9 +339,7 @@ impl Reading {
     // Delivers what is there up to this place, but for a message that is cut there.
     fn take_in(&mut self, end: usize) -> Result<(), Closed> {
         let whole = self.cutter.cut(&self.piece[..end], PIECE);
-        if whole > 0 {
-            self.deliver(whole)?;
-        }
+        self.deliver(whole)?;
         self.piece.copy_within(whole..end, 0);
         self.held = end - whole;
         grow(&mut self.piece, end);
