@@ -89,6 +89,11 @@ fn ends() -> Vec<(End, Closed, &'static str)> {
             "F4: the stream ends within a frame or a greeting",
         ),
         (
+            |hand| read(hand, b"\x11\0\x02h"),
+            Closed::Fault(Fault::Truncated),
+            "F4: the stream ends within a frame or a greeting",
+        ),
+        (
             |hand| read(hand, b"\x31\0\0\0\xff"),
             Closed::Violated(Violation::AbsolvedTooMuch),
             "V3: more guarantees absolved than are outstanding",
@@ -620,4 +625,24 @@ fn a_reason_is_an_error_of_a_device() {
     }
     let refused = SendError::Refused(Refusal::EmptyBody);
     assert_eq!(refused.to_string(), "the message is empty");
+}
+
+/// Aborts its session while it reads the front of a message.
+struct Aborts<'a>(&'a Mux, u32);
+
+impl PollRead for Aborts<'_> {
+    fn poll_read(&mut self, cx: &mut Context<'_>, buffer: &mut [u8]) -> Poll<io::Result<usize>> {
+        self.0.abort();
+        self.1 += 1;
+        (&b"\x11\0\x02h"[..]).poll_read(cx, buffer)
+    }
+}
+
+#[test]
+fn a_session_that_is_over_reads_no_rest_of_a_message() {
+    let (mux, mut driver) = Mux::new(narrow()).unwrap();
+    let mut reader = Aborts(&mux, 0);
+    let waker = Waker::from(std::sync::Arc::new(crate::hand::Count::default()));
+    let read = driver.poll_read(&mut Context::from_waker(&waker), &mut reader);
+    assert_eq!((read, reader.1), (Poll::Ready(Err(Closed::Aborted)), 1));
 }

@@ -2,10 +2,11 @@
 use crate::hand::{Call, Count, Hand};
 use crate::*;
 use lcmux::Channel::{Data, Overlap};
-use lcmux::{Receiver, RecvTimeoutError, TryRecvError};
+use lcmux::{PollRead, Receiver, RecvTimeoutError, TryRecvError};
 use std::future::Future;
+use std::io;
 use std::sync::Arc;
-use std::task::{Context, Wake, Waker};
+use std::task::{Context, Poll, Wake, Waker};
 use std::thread;
 use std::time::{Duration, Instant};
 
@@ -23,6 +24,56 @@ fn a_message_wakes_the_receiver_of_its_channel_alone() {
     assert_eq!(receiver.try_recv(), Err(TryRecvError::Empty));
     let stats = receiver.stats();
     assert_eq!((stats.messages_received, stats.bytes_received), (1, 2));
+}
+
+// Reads of at most so many bytes. What is asked for is never nothing.
+struct Reads<'a>(&'a [u8], usize);
+
+impl PollRead for Reads<'_> {
+    fn poll_read(&mut self, cx: &mut Context<'_>, buffer: &mut [u8]) -> Poll<io::Result<usize>> {
+        assert!(!buffer.is_empty());
+        let most = buffer.len().min(self.1);
+        match self.0.is_empty() {
+            true => Poll::Pending,
+            false => self.0.poll_read(cx, &mut buffer[..most]),
+        }
+    }
+}
+
+/// On both sides of what a read asks for at first, and at most.
+const LENGTHS: [usize; 9] = [
+    4_090, 4_091, 4_092, 8_187, 61_440, 131_067, 131_068, 262_144, 1_048_576,
+];
+
+#[test]
+fn messages_of_any_length_come_however_they_are_cut() {
+    for most in [1_000, 65_536, 70_001, usize::MAX] {
+        let mut config = Config::new([1 << 22; 7], 16);
+        config.version = Version::Two;
+        let mut hand = Hand::started(config);
+        let mut receiver = hand.mux.receiver(Data).unwrap();
+        let mut stream = GREETING.to_vec();
+        for len in LENGTHS {
+            stream.extend([&[0x11], &(len as u32).to_be_bytes()[..]].concat());
+            stream.extend((0..len).map(|at| (at % 251) as u8));
+            stream.extend(b"\x11\0\0\0\x02hi");
+        }
+        let mut reads = Reads(&stream, most);
+        while !reads.0.is_empty() {
+            assert_eq!(hand.read(&mut reads), Poll::Pending);
+        }
+        for len in LENGTHS {
+            let long = receiver.try_recv().unwrap().unwrap();
+            assert!(
+                long.len() == len
+                    && long
+                        .iter()
+                        .zip(0..)
+                        .all(|(byte, at)| *byte as usize == at % 251)
+            );
+            assert_eq!(receiver.try_recv(), Ok(Some(b"hi".to_vec())));
+        }
+    }
 }
 
 #[test]
