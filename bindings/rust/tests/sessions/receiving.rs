@@ -40,6 +40,36 @@ impl PollRead for Reads<'_> {
     }
 }
 
+#[test]
+fn a_read_that_was_filled_by_short_messages_is_followed_by_one_of_twice_as_many_bytes() {
+    let mut hand = Hand::started(Config::new([1 << 20; 7], 16));
+    let stream = b"\x11\0\x02hi".repeat(100_000);
+    let mut asked = Vec::new();
+    let mut rest = &stream[..];
+    while !rest.is_empty() {
+        let mut reads = Asked(&mut rest, &mut asked);
+        assert_eq!(hand.read(&mut reads), Poll::Pending);
+    }
+    let full = [4_096, 8_192, 16_384, 32_768, 65_536, 131_072];
+    let near = |(asked, full): (&usize, &usize)| (full - 5..=*full).contains(asked);
+    assert!(asked.iter().zip(&full).all(near), "{asked:?}");
+}
+
+/// Notes how many bytes each read asks for.
+struct Asked<'a, 'b>(&'a mut &'b [u8], &'a mut Vec<usize>);
+
+impl PollRead for Asked<'_, '_> {
+    fn poll_read(&mut self, cx: &mut Context<'_>, buffer: &mut [u8]) -> Poll<io::Result<usize>> {
+        match self.0.is_empty() {
+            true => Poll::Pending,
+            false => {
+                self.1.push(buffer.len());
+                self.0.poll_read(cx, buffer)
+            }
+        }
+    }
+}
+
 /// On both sides of what a read asks for at first, and at most.
 const LENGTHS: [usize; 9] = [
     4_090, 4_091, 4_092, 8_187, 61_440, 131_067, 131_068, 262_144, 1_048_576,
