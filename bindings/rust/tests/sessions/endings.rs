@@ -112,6 +112,17 @@ fn ends() -> Vec<(End, Closed, &'static str)> {
             "the transport failed: 4097 bytes are claimed, where there were 4096",
         ),
         (
+            |hand| {
+                hand.feed(b"\x11\0\x02h");
+                assert!(hand.read(&mut Bad::Claims).is_ready());
+            },
+            transport(
+                ErrorKind::InvalidData,
+                "4093 bytes are claimed, where there were 4092",
+            ),
+            "the transport failed: 4093 bytes are claimed, where there were 4092",
+        ),
+        (
             |hand| assert!(hand.write(&mut Bad::Fails).is_ready()),
             transport(ErrorKind::ConnectionReset, cut),
             "the transport failed: the cable is cut",
