@@ -38,6 +38,34 @@ begins old f next begun none first gone is =
       intake = refl;
     }
 
+-- the bytes of the next frame, and then those behind it, where nothing is left of one before it
+next_first : (old : CPeer) (f : Frame) → old.pending.bytes ≡ [] → Some f ≡ slice_get old.peer.waiting 0 → text old ≡ encoding old.peer.version f ++ flat_map (encoding old.peer.version) (drop 1 old.peer.waiting)
+next_first old f nothing first =
+    ap (λ (x : List ℕ). x ++ flat_map (encoding old.peer.version) old.peer.waiting) nothing
+    ∙ ap (λ (ws : List Frame). flat_map (encoding old.peer.version) ws) (first_of old.peer.waiting f first)
+    ∙ flat_map-cons (encoding old.peer.version) f (drop 1 old.peer.waiting)
+
+-- the next frame leaves the peer whole
+pub gives_whole : (n : ℕ) (old : CPeer) (f : Frame) (next : PeerState) → length old.pending.bytes ≤ 0 → Some f ≡ slice_get old.peer.waiting 0 → next ≡ without_next old.peer → n ≡ length (encoding old.peer.version f) → GivesOut n old (record { peer = next; intake = old.intake; pending = old.pending })
+gives_whole n old f next none first gone is =
+    let nothing : old.pending.bytes ≡ [] = nil_from_length old.pending.bytes (omega (arith, none)) in
+    let behind : List ℕ = flat_map (encoding old.peer.version) (drop 1 old.peer.waiting) in
+    let whole : text old ≡ encoding old.peer.version f ++ behind = next_first old f nothing first in
+    record {
+      within = omega (arith, is, ap length whole, length-append (encoding old.peer.version f) behind);
+      rest = ap (λ (p : PeerState). old.pending.bytes ++ flat_map (encoding p.version) p.waiting) gone
+          ∙ ap (λ (x : List ℕ). x ++ behind) nothing
+          ∙ sym (drop_at (encoding old.peer.version f) behind n (sym is))
+          ∙ sym (ap (λ (x : List ℕ). drop n x) whole);
+      gone = 1;
+      peer = gone;
+      begun = λ k h.
+          let zero : k ≡ 0 = omega (arith, h) in
+          let none_before : length (old.pending.bytes ++ flat_map (encoding old.peer.version) (take k old.peer.waiting)) ≡ length (old.pending.bytes ++ []) = ap (λ (i : ℕ). length (old.pending.bytes ++ flat_map (encoding old.peer.version) (take i old.peer.waiting))) zero in
+          omega (arith, none_before, length-append old.pending.bytes [], none, some_bytes old.peer.version f, is);
+      intake = refl;
+    }
+
 -- where nothing was given, there is nothing to give
 pub none_left : (n room : ℕ) (a b c : CPeer) → Begins a b → n ≡ min (length b.pending.bytes) room → 0 < room → GivesOut n a c → n ≡ 0 → text c ≡ []
 none_left n room a b c begun count some gives zero =
