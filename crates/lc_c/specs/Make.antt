@@ -1,5 +1,5 @@
 -- What makes a peer behind a handle, and why there is none. That the format has two versions is this project's own, and so are all bounds.
-use Rattle.std.specs.Prelude.{◌≡◌, ◌==◌, ◌⊎◌, Bool, true, false, ℕ, if◌then◌else◌, Option, Some, None}
+use Rattle.std.specs.Prelude.{◌≡◌, ◌==◌, ◌⊎◌, Bool, true, false, ℕ, if◌then◌else◌, [], Option, Some, None}
 use Rattle.std.specs.Option.{option_map}
 use Rattle.lc_frame.specs.declared.version.Version.{Version}
 use Rattle.lc_frame.specs.declared.version.Version.TheVariants.{One, Two}
@@ -32,7 +32,7 @@ config_in config version = record { version = version; capacities = config.capac
 
 -- nothing has happened, and no byte came or went: the greeting of the stream is to go out
 abbrev pub new_c_peer : Config → CPeer
-new_c_peer config = record { peer = new_peer config; intake = record { held = nothing_stored; stop = None }; pending = record { bytes = greeting config.version } }
+new_c_peer config = record { peer = new_peer config; intake = record { held = nothing_stored; stop = None; rings = [] }; pending = record { bytes = greeting config.version } }
 
 -- what the making of a peer answers, by what is wrong with its configuration
 abbrev pub fault_or_done : Option PeerFault → LcmuxAnswer

@@ -3,11 +3,12 @@ ghost use Rattle.std.specs.Prelude.{◌≡◌, ℕ, IfErr};
 ghost use Rattle.lc_frame.specs.declared.version.Version.{Version};
 ghost use Rattle.lc_chart.specs.Fault.{chart_status};
 
+use crate::drawing::events_of;
 use crate::fault::ChartFault;
 use crate::picture::draw_session;
-use crate::session::{MAX_EVENTS, Session};
+use crate::session::Session;
 use crate::stream::{Survey, draw_stream};
-use lc_cli::{Fault, Status, buffered, parse_capacity, parse_script, parse_version, read_all};
+use lc_cli::{Fault, Status, buffered, parse_capacity, parse_version, read_all};
 use lc_frame::Version;
 use lc_world::Event;
 use std::alloc::Global;
@@ -101,10 +102,7 @@ fn chart_session<R: Read, W: Write>(
     ensures { IfErr result (λ fault. chart_status fault ≡ Status.Bad → out.new ≡ out.old) }
 {
     let script = read_all(alloc, input)?;
-    let events = parse_script(alloc, script.as_slice())?;
-    if events.len() > usize::from(MAX_EVENTS) {
-        return Err(ChartFault::TooManyEvents);
-    }
+    let events = events_of(alloc, script.as_slice())?;
     let session = Session::new(alloc, capacity, version, events.as_slice())?;
     print_session(alloc, &session, events.as_slice(), out)
 }

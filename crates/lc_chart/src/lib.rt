@@ -3,6 +3,7 @@
 #![tactic(auto)]
 
 mod command;
+mod drawing;
 mod fault;
 mod page;
 mod picture;
@@ -12,6 +13,8 @@ mod stream;
 mod words;
 
 pub use command::{Command, chart, run};
+pub use drawing::{draw_bytes, draw_script};
 pub use fault::ChartFault;
 pub use session::MAX_EVENTS;
+pub use stream::{Frames, Placed};
 pub use words::Told;

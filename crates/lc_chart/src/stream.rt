@@ -53,23 +53,25 @@ impl Survey {
     }
 }
 
-// A frame, and the place of its first byte in the stream.
+/// A frame, and the places of its first byte in the stream and behind its last.
 #[derive(Clone, Copy)]
-struct Placed<'a> {
-    frame: FrameRef<'a>,
-    offset: usize,
+pub struct Placed<'a> {
+    pub frame: FrameRef<'a>,
+    pub offset: usize,
+    pub end: usize,
 }
 
-// The frames of a stream that are not read yet.
+/// The frames of a stream that are not read yet.
 #[derive(Clone, Copy)]
-struct Frames<'a> {
+pub struct Frames<'a> {
     version: Version,
     rest: &'a [u8],
     offset: usize,
 }
 
 impl<'a> Frames<'a> {
-    fn new(bytes: &'a [u8]) -> Frames<'a> {
+    /// All frames of a stream of either version.
+    pub fn new(bytes: &'a [u8]) -> Frames<'a> {
         match bytes.strip_prefix(GREETING.as_slice()) {
             Some(rest) => Frames {
                 version: Version::Two,
@@ -84,7 +86,8 @@ impl<'a> Frames<'a> {
         }
     }
 
-    fn next_frame(&mut self) -> Result<Option<Placed<'a>>, Fault> {
+    /// The next frame, `None` at the end of the stream; or the fault that stands there.
+    pub fn next_frame(&mut self) -> Result<Option<Placed<'a>>, Fault> {
         let (rest, offset) = (self.rest, self.offset);
         if rest.is_empty() {
             return Ok(None);
@@ -95,9 +98,10 @@ impl<'a> Frames<'a> {
         }
         match decode(self.version, rest) {
             Decoded::Whole { frame, used } => {
+                let end = offset.saturating_add(used);
                 self.rest = rest.split_at(used).1;
-                self.offset = offset.saturating_add(used);
-                Ok(Some(Placed { frame, offset }))
+                self.offset = end;
+                Ok(Some(Placed { frame, offset, end }))
             }
             Decoded::More => Err(fault_at(FrameFault::Truncated, offset)),
             Decoded::Fault(fault) => Err(fault_at(fault, offset)),
@@ -157,7 +161,7 @@ pub(crate) fn draw_stream<W: Write>(bytes: &[u8], survey: Survey, out: &mut W) -
 fn describe<W: Write>(bytes: &[u8], survey: Survey, out: &mut W) -> io::Result<()> {
     let mut frames = Frames::new(bytes);
     for number in 1..=survey.frames {
-        let Ok(Some(Placed { frame, offset })) = frames.next_frame() else {
+        let Ok(Some(Placed { frame, offset, .. })) = frames.next_frame() else {
             return Ok(());
         };
         let (kind, channel) = (Kind(frame), frame.channel().number());
@@ -181,7 +185,7 @@ fn draw_frames<W: Write>(bytes: &[u8], survey: Survey, out: &mut W) -> io::Resul
 }
 
 fn draw_frame<W: Write>(number: u16, placed: Placed<'_>, out: &mut W) -> io::Result<()> {
-    let Placed { frame, offset } = placed;
+    let Placed { frame, offset, .. } = placed;
     let (at, channel) = (on_line(number), frame.channel());
     let tip = Point::new(TIP, at.y);
     line(out, Paint::of("arrow", channel), at, tip)?;

@@ -9,7 +9,9 @@
 //! copies off again. Between calls it holds the rest of the greeting or of one frame at most.
 //! `Intake` is a `StreamDecoder` and why the stream was given up, if it was. `read_in` reads into
 //! 512 bytes of its own and hands them to `deliver_to`; inside a frame that lacks more it reads to
-//! where the decoder holds that.
+//! where the decoder holds that. `RingIntake` (both are an `IntakeFor` a sink) knows the rings of its
+//! sink, and keeps no message that is longer than its ring: that breaks the rules whatever happens
+//! until its end. A `Link` has one.
 //!
 //! Each of the three loops stands once, for a peer and for who has bytes, or a sink of frames, of
 //! its own: `write_all` (in `writing.rt`) writes bytes until all are written, `deliver_to` (in

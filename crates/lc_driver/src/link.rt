@@ -4,25 +4,28 @@ ghost use Rattle.std.specs.Result.{result_err};
 ghost use Rattle.lc_frame.specs.Kind.{max_frame};
 ghost use Rattle.lc_frame.specs.Stored.{nothing_stored};
 ghost use Rattle.lc_peer.specs.Config.{IsNewAnswer, new_peer};
+ghost use Rattle.lc_peer.specs.Longer.{FitsGreatest};
 ghost use Rattle.lc_driver.specs.Outgo.{new_outgo};
 ghost use Rattle.lc_driver.specs.Writing.{Writes, CountsWrites, written_in};
 ghost use Rattle.lc_driver.specs.Reading.{Reads, CountsReads, CountsAll, EndsInput, end_of};
 
 use crate::counted::{CountedRead, CountedWrite};
 use crate::outgo::Outgo;
-use crate::reading::{ReadEnd, read_in};
+use crate::reading::{ReadEnd, read_by};
 use crate::writing::{WriteFault, write_out};
-use lc_peer::{Config, Intake, Peer, PeerFault, Stop};
+use lc_peer::{Config, Peer, PeerFault, RingIntake, Stop};
 use std::alloc::Global;
 
 /// A peer with its outgoing and its incoming stream as one value. The peer's own calls are made on
-/// `peer`; the invariant keeps that what goes out is written in the peer's version.
+/// `peer`; the invariants keep that what goes out is written in the peer's version, and that of what
+/// comes no message longer than its ring is kept.
 #[derive(Debug)]
 pub struct Link {
     pub peer: Peer,
     outgo: Outgo,
-    intake: Intake,
+    intake: RingIntake,
     ghost one_version: { outgo.version ≡ peer.version },
+    ghost own_rings: { peer.capacities ≡ intake.rings },
 }
 
 // One call, wherever a link is dropped.
@@ -43,13 +46,13 @@ impl Link {
         ensures answer { IsNewAnswer config (result_err result) }
         ensures peer { IfOk result (λ link. link.peer ≡ new_peer config) }
         ensures outgo { IfOk result (λ link. link.outgo ≡ new_outgo config.version) }
-        ensures intake { IfOk result (λ link. link.intake ≡ record { held = nothing_stored; stop = None }) }
+        ensures intake { IfOk result (λ link. link.intake ≡ record { held = nothing_stored; stop = None; rings = config.capacities }) }
     {
         let peer = Peer::new(alloc, config)?;
         let Ok(outgo) = Outgo::new(alloc, config.version) else {
             return Err(PeerFault::OutOfMemory);
         };
-        let Ok(intake) = Intake::new(alloc) else {
+        let Ok(intake) = RingIntake::new(alloc, config.capacities) else {
             return Err(PeerFault::OutOfMemory);
         };
         Ok(Link {
@@ -97,7 +100,15 @@ impl Link {
         ensures spent { CountsAll result max_reads (R.counts reader.old) (R.counts reader.new) }
         ensures outgo { self.new.outgo ≡ self.old.outgo }
     {
-        read_in(&mut self.peer, reader, &mut self.intake, max_reads)
+        read_by(&mut self.peer, reader, &mut self.intake, max_reads)
+    }
+
+    /// How many bytes of the incoming stream are kept, which are no whole frame yet: never more than
+    /// the greatest of the peer's rings has, and the 9 bytes of the longest tag and number.
+    pub fn kept(&self) -> usize
+        ensures { FitsGreatest self.now.intake.rings result }
+    {
+        self.intake.kept()
     }
 
     /// Why the incoming stream was given up, `None` while it goes on.

@@ -1,10 +1,11 @@
 //! Reading what comes to a peer, or to another sink.
 ghost use Rattle.std.specs.Prelude.{◌≡◌, ◌+◌, ◌<◌, ◌≤◌, length, All, None, IfSome};
+ghost use Rattle.lc_peer.specs.Intake.{IntakeState, IntakeEnds};
 ghost use Rattle.lc_driver.specs.Reading.{EndsHere, Reads, ReadsInto, CountsReads, CountsAll, EndsInput, end_of};
 
 use crate::counted::CountedRead;
 use lc_frame::{Fill, Filled, FrameFault};
-use lc_peer::{FrameSink, Intake, Peer, Stop, Violation};
+use lc_peer::{FrameSink, Intake, IntakeFor, Peer, Stop, Violation};
 
 /// The bytes asked for per read.
 const READ_LEN: usize = 512;
@@ -60,31 +61,33 @@ impl<R: CountedRead> Fill<R> for ByReads {
     }
 }
 
-// What it means that the input ends here.
-fn input_end(intake: &Intake) -> ReadEnd
-    requires { intake.now.stop ≡ None }
-    ensures { EndsHere result intake.now.held }
+// What it means that the input ends, by what that means to an intake.
+fn input_end(end: Option<Stop>) -> ReadEnd
+    ensures { (intake : IntakeState) → intake.stop ≡ None → IntakeEnds end intake → EndsHere result intake.held }
 {
-    match intake.end() {
+    match end {
         None => ReadEnd::Clean,
         Some(_) => ReadEnd::Truncated,
     }
 }
 
-/// What `read_in` does, at any sink.
-pub fn read_into<C, S: FrameSink<C>, R: CountedRead>(
+/// What `read_in` does, at any sink and by any intake that suits it.
+pub fn read_into<C, S: FrameSink<C>, I: IntakeFor<C, S>, R: CountedRead>(
     sink: &mut S,
     context: &C,
     reader: &mut R,
-    intake: &mut Intake,
+    intake: &mut I,
     max_reads: u64,
 ) -> ReadEnd
-    ensures given_up { IfSome intake.old.stop (λ stop. (result ≡ end_of stop) × (sink.new ≡ sink.old) × (reader.new ≡ reader.old) × (intake.new ≡ intake.old)) }
-    ensures reads { intake.old.stop ≡ None → ReadsInto S.arrived S.violated (R.remaining reader.old) (R.remaining reader.new) intake.old.held sink.old intake.new sink.new max_reads result }
+    requires { I.suits (I.state intake.old).rings sink.old }
+    ensures given_up { IfSome (I.state intake.old).stop (λ stop. (result ≡ end_of stop) × (sink.new ≡ sink.old) × (reader.new ≡ reader.old) × (intake.new ≡ intake.old)) }
+    ensures reads { (I.state intake.old).stop ≡ None → ReadsInto S.arrived S.violated (R.remaining reader.old) (R.remaining reader.new) (I.state intake.old).held sink.old (I.state intake.new) sink.new max_reads result }
     ensures at_end { EndsInput result (R.remaining reader.new) }
     ensures counts { CountsReads result (R.counts reader.old) (R.counts reader.new) }
     ensures calls { (R.counts reader.new).calls ≤ (R.counts reader.old).calls + max_reads }
     ensures spent { CountsAll result max_reads (R.counts reader.old) (R.counts reader.new) }
+    ensures suits { I.suits (I.state intake.new).rings sink.new }
+    ensures rings { (I.state intake.new).rings ≡ (I.state intake.old).rings }
 {
     match intake.stop() {
         Some(stop) => return ReadEnd::from(stop),
@@ -95,13 +98,13 @@ pub fn read_into<C, S: FrameSink<C>, R: CountedRead>(
     let mut buffer = [0; READ_LEN];
     'reads: for _ in 0..max_reads {
         match intake.fill(&ByReads, reader) {
-            Filled::Took(0) => return input_end(intake),
+            Filled::Took(0) => return input_end(intake.end()),
             Filled::Took(_) => continue 'reads,
             Filled::Failed => return ReadEnd::ReadFailed,
             Filled::Few => {}
         }
         match reader.read_counted(&mut buffer) {
-            Ok(0) => return input_end(intake),
+            Ok(0) => return input_end(intake.end()),
             Ok(n) => match intake.deliver(sink, context, buffer.split_at(n).0).stop {
                 Some(stop) => return ReadEnd::from(stop),
                 None => {}
@@ -112,11 +115,35 @@ pub fn read_into<C, S: FrameSink<C>, R: CountedRead>(
     ReadEnd::TurnsSpent
 }
 
+// What `read_in` does, by any intake that suits the peer.
+pub(crate) fn read_by<I: IntakeFor<(), Peer>, R: CountedRead>(
+    peer: &mut Peer,
+    reader: &mut R,
+    intake: &mut I,
+    max_reads: u64,
+) -> ReadEnd
+    requires { I.suits (I.state intake.old).rings peer.old }
+    ensures given_up { IfSome (I.state intake.old).stop (λ stop. (result ≡ end_of stop) × (peer.new ≡ peer.old) × (reader.new ≡ reader.old) × (intake.new ≡ intake.old)) }
+    ensures reads { (I.state intake.old).stop ≡ None → Reads (R.remaining reader.old) (R.remaining reader.new) (I.state intake.old).held peer.old (I.state intake.new) peer.new max_reads result }
+    ensures version { peer.new.version ≡ peer.old.version }
+    ensures at_end { EndsInput result (R.remaining reader.new) }
+    ensures counts { CountsReads result (R.counts reader.old) (R.counts reader.new) }
+    ensures calls { (R.counts reader.new).calls ≤ (R.counts reader.old).calls + max_reads }
+    ensures spent { CountsAll result max_reads (R.counts reader.old) (R.counts reader.new) }
+    ensures suits { I.suits (I.state intake.new).rings peer.new }
+    ensures rings { (I.state intake.new).rings ≡ (I.state intake.old).rings }
+{
+    read_into(peer, &(), reader, intake, max_reads)
+}
+
 /// Reads up to `max_reads` times, at most 512 bytes for each, and lets each whole frame arrive.
 ///
 /// After `Fault` and `Violated` the stream is given up: the bytes that follow are lost, every further
 /// call answers the same without a read, and the peer may still be taken from. After every other
 /// answer a further call goes on with the next byte. A failed read is not tried again.
+///
+/// The intake keeps what came of a frame, up to 1 MiB of it, since another call may bring it to a
+/// peer with larger rings. A [`Link`](crate::Link) keeps no message that is longer than its ring.
 pub fn read_in<R: CountedRead>(
     peer: &mut Peer,
     reader: &mut R,
@@ -131,5 +158,5 @@ pub fn read_in<R: CountedRead>(
     ensures calls { (R.counts reader.new).calls ≤ (R.counts reader.old).calls + max_reads }
     ensures spent { CountsAll result max_reads (R.counts reader.old) (R.counts reader.new) }
 {
-    read_into(peer, &(), reader, intake, max_reads)
+    read_by(peer, reader, intake, max_reads)
 }

@@ -7,6 +7,7 @@ mod failing_link;
 mod hostile;
 mod interrupted;
 mod long_messages;
+mod longer;
 mod lying;
 mod rounds;
 mod same_reading;

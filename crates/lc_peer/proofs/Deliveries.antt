@@ -26,7 +26,8 @@ use Rattle.lc_peer.specs.declared.delivery.Delivery.{Delivery}
 use Rattle.lc_peer.specs.declared.delivery.Step.TheVariants.{Stopped}
 use Rattle.lc_peer.specs.declared.delivery.Stop.{Stop}
 use Rattle.lc_peer.specs.declared.delivery.Stop.TheVariants.{Fault, Violated}
-use Rattle.lc_peer.specs.Steps.{Steps, FrameArrives, StaysOpen, FrameViolates, FaultComes}
+use Rattle.lc_peer.specs.Steps.{Steps, FrameArrives, StaysOpen, FrameViolates, FaultComes, SoFar}
+use Rattle.lc_peer.specs.Rings.{Leads}
 use Rattle.lc_peer.specs.Deliveries.{StopsBy, Delivers, violation_of, Leaves, DeliversTo}
 use Rattle.lc_peer.proofs.Sinks.{all_push, up_to_all, get_behind, up_to_violated, came}
 
@@ -52,28 +53,23 @@ one_held f h h' whole cleared =
     let bytes : h.bytes ≡ flat_map (encoding_in h.version) (f ∷ []) ++ [] = whole ∙ sym (one_in h.version f) ∙ sym (append-nil (flat_map (encoding_in h.version) (f ∷ []))) in
     ap (λ (x : List ℕ). record { version = h.version; bytes = x }) bytes ∙ ap (before (f ∷ [])) (sym cleared)
 
--- what a delivery has done so far
-pub record SoFar {T : Type 0} (arrives : T → Frame → T → Type 0) (p : T) (held : Stored) (piece : List ℕ) (p' : T) (held' : Stored) (taken frames : ℕ) : Type 0 where
-  pub fs : List Frame
-  pub each : AllByRecursion (IsValidIn held'.version) fs
-  pub arrived : AllArrive arrives p fs p'
-  pub count : frames ≡ length fs
-  pub bytes : fed held (take taken piece) ≡ before fs held'
-  pub within : taken ≤ length piece
-  pub few : frames ≤ taken + 1
-  pub emptied : 0 < frames + taken → held'.bytes ≡ []
-
-pub nothing_yet : {T : Type 0} (arrives : T → Frame → T → Type 0) (p : T) (held : Stored) (piece : List ℕ) → IsSettled held → SoFar arrives p held piece p held 0 0
-nothing_yet arrives p held piece settled = record {
+-- where it begins, with bytes that led up to a frame
+pub begins_so : {T : Type 0} (arrives : T → Frame → T → Type 0) (p : T) (held : Stored) (piece : List ℕ) (held' : Stored) (taken : ℕ) → Leads held held' piece taken → SoFar arrives p held piece p held' taken 0
+begins_so arrives p held piece held' taken led = record {
   fs = [];
   each = tt;
   arrived = refl;
   count = refl;
-  bytes = fed_nothing held settled;
-  within = omega arith;
+  bytes = sym led.grown;
+  within = led.within;
   few = omega arith;
-  emptied = λ some. absurd (omega arith);
+  settled = subst IsSettled (sym led.grown) (fed_settled held (take taken piece));
+  emptied = λ some. absurd (omega (arith, some));
+  shortest = led.shortest;
 }
+
+pub nothing_led : (held : Stored) (piece : List ℕ) → IsSettled held → Leads held held piece 0
+nothing_led held piece settled = record { within = omega arith; grown = sym (fed_nothing held settled); shortest = λ some. absurd (omega (arith, some)) }
 
 valid_push : (version : Option Version) (fs : List Frame) (f : Frame) → AllByRecursion (IsValidIn version) fs → IsValidIn version f → AllByRecursion (IsValidIn version) (fs ++ f ∷ [])
 valid_push version [] f h v = (v, tt)
@@ -98,6 +94,10 @@ took_some arrives p held piece p' held' count a =
     let size : length (fed held (take count piece)).bytes ≡ length (flat_map (encoding_in held'.version) (a.frame ∷ []) ++ held'.bytes) = ap (λ (h : Stored). length h.bytes) a.whole in
     omega (arith, size, length-append (flat_map (encoding_in held'.version) (a.frame ∷ [])) held'.bytes, ap length (one_in held'.version a.frame), valid_long held'.version a.frame a.valid, fed_short held (take count piece), length-take-le count piece a.within)
 
+settled_in : (version : Option Version) (bytes : List ℕ) (f : Frame) → IsValidIn version f → IsSettled (record { version = version; bytes = bytes })
+settled_in None bytes f valid = absurd valid
+settled_in (Some v) bytes f valid = refl
+
 pub one_more : {T : Type 0} (arrives : T → Frame → T → Type 0) (p : T) (held : Stored) (piece : List ℕ) (p1 : T) (h1 : Stored) (taken frames : ℕ) (p2 : T) (h2 : Stored) (count : ℕ) → SoFar arrives p held piece p1 h1 taken frames → FrameArrives arrives p1 h1 (drop taken piece) p2 h2 count → count ≤ length piece - taken → SoFar arrives p held piece p2 h2 (taken + count) (frames + 1)
 one_more arrives p held piece p1 h1 taken frames p2 h2 count s a fits =
     let version : (fed h1 (take count (drop taken piece))).version ≡ h2.version = ap (λ (h : Stored). h.version) a.whole in
@@ -109,17 +109,15 @@ one_more arrives p held piece p1 h1 taken frames p2 h2 count s a fits =
       count = omega (arith, s.count, length-append s.fs (a.frame ∷ []));
       bytes = then_taken held piece h1 s.fs taken count s.each s.bytes ∙ ap (before s.fs) a.whole ∙ sym (before_append s.fs (a.frame ∷ []) h2);
       within = omega (arith, s.within, fits);
-      few = few_more frames taken count (length h1.bytes) s.few (λ some. ap length (s.emptied (omega (arith, some)))) (took_some arrives p1 h1 (drop taken piece) p2 h2 count a);
+      few = few_more frames taken count (length h1.bytes) s.few (λ some. ap length (s.emptied some)) (took_some arrives p1 h1 (drop taken piece) p2 h2 count a);
+      settled = settled_in h2.version h2.bytes a.frame a.valid;
       emptied = λ some. a.cleared;
+      shortest = λ some k less. absurd (omega (arith, less, ap length a.cleared));
     }
   where
     few_more : (frames taken count held : ℕ) → frames ≤ taken + 1 → (0 < frames → held ≡ 0) → 0 < held + count → frames + 1 ≤ taken + count + 1
     few_more zero taken count held le none some = omega arith
     few_more (suc n) taken count held le none some = let none : held ≡ 0 = none (omega arith) in omega arith
-
-settled_in : (version : Option Version) (bytes : List ℕ) (f : Frame) → IsValidIn version f → IsSettled (record { version = version; bytes = bytes })
-settled_in None bytes f valid = absurd valid
-settled_in (Some v) bytes f valid = refl
 
 -- where it ends
 module _ {T : Type 0} (arrives : T → Frame → T → Type 0) (violates : Violation → T → Frame → T → Type 0) (p : T) (held : Stored) (piece : List ℕ) (p1 : T) (h1 : Stored) (taken frames : ℕ) (s : SoFar arrives p held piece p1 h1 taken frames) where
@@ -196,7 +194,7 @@ module _ {T : Type 0} (arrives : T → Frame → T → Type 0) (violates : Viola
 
   ends_in_fault : (fault : FrameFault) (p2 : T) (h2 : Stored) (count : ℕ) → IsBytes (fed held piece).bytes → FaultComes fault p1 h1 (drop taken piece) p2 h2 count → DeliversTo arrives violates p held piece p2 h2 (record { taken = taken + count; frames = frames; stop = Some (Fault fault) })
   ends_in_fault fault p2 h2 count fits o =
-      let empty : 0 < taken → h1.bytes ≡ [] = λ some. s.emptied (omega (arith, some)) in
+      let still : count ≡ 0 → h2 ≡ h1 = λ none. o.grown ∙ ap (λ (n : ℕ). fed h1 (take n (drop taken piece))) none ∙ fed_nothing h1 s.settled in
       let more = drop count (drop taken piece) in
       let rest = fed h2 more in
       let stands : HasFault fault rest = has_fault_goes_on fault h2 more o.known in
@@ -204,8 +202,7 @@ module _ {T : Type 0} (arrives : T → Frame → T → Type 0) (violates : Viola
       let e = text h2 count o.grown in
       let each : AllByRecursion (IsValidIn rest.version) s.fs = each_fed s.fs h2 more (each_later (take count (drop taken piece)) h2 o.grown) in
       let left : count ≤ length piece - taken = omega (arith, o.within, length-drop taken piece) in
-      let short : length h2.bytes ≤ length h1.bytes + count = omega (arith, ap (λ (h : Stored). length h.bytes) o.grown, fed_short h1 (take count (drop taken piece)), length-take-le count (drop taken piece) o.within) in
-      let some : 0 < taken + count → (k : ℕ) → k < length h2.bytes → IsUndecided (front k h2) = shortest_of taken count h1 h2 short empty o.shortest in
+      let some : 0 < taken + count → (k : ℕ) → k < length h2.bytes → IsUndecided (front k h2) = shortest_of taken count h1 h2 still s.shortest o.shortest in
       record {
         came = all_came p2 rest fits e each none o.same;
         within = omega (arith, left, s.within);
@@ -213,9 +210,9 @@ module _ {T : Type 0} (arrives : T → Frame → T → Type 0) (violates : Viola
         leaves = record { stands = subst (HasFault fault) (rest_is p2 rest fits e each none o.same) stands; known = o.known; shortest = some };
       }
     where
-      shortest_of : (taken count : ℕ) (h1 h2 : Stored) → length h2.bytes ≤ length h1.bytes + count → (0 < taken → h1.bytes ≡ []) → (0 < count → (k : ℕ) → k < length h2.bytes → IsUndecided (front k h2)) → 0 < taken + count → (k : ℕ) → k < length h2.bytes → IsUndecided (front k h2)
-      shortest_of taken zero h1 h2 short empty shortest some k less = absurd (let none : length h1.bytes ≡ 0 = ap length (empty (omega arith)) in omega (arith, short, none, less))
-      shortest_of taken (suc n) h1 h2 short empty shortest some k less = shortest (omega arith) k less
+      shortest_of : (taken count : ℕ) (h1 h2 : Stored) → (count ≡ 0 → h2 ≡ h1) → (0 < taken → (k : ℕ) → k < length h1.bytes → IsUndecided (front k h1)) → (0 < count → (k : ℕ) → k < length h2.bytes → IsUndecided (front k h2)) → 0 < taken + count → (k : ℕ) → k < length h2.bytes → IsUndecided (front k h2)
+      shortest_of taken zero h1 h2 still before after some = subst (λ (h : Stored). (k : ℕ) → k < length h.bytes → IsUndecided (front k h)) (sym (still refl)) (before (omega (arith, some)))
+      shortest_of taken (suc n) h1 h2 still before after some = after (omega arith)
 
   ends_violated : (v : Violation) (p2 : T) (h2 : Stored) (count : ℕ) → FrameViolates violates v p1 h1 (drop taken piece) p2 h2 count → DeliversTo arrives violates p held piece p2 h2 (record { taken = taken + count; frames = frames; stop = Some (Violated v) })
   ends_violated v p2 h2 count o =

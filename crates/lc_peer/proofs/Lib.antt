@@ -1,10 +1,15 @@
 pub mod Mapped
 pub mod Versions
+pub mod Rings
+pub mod Begun
 pub mod Feeds
 pub mod Sinks
 pub mod Deliveries
+pub mod Kept
+pub mod Longer
 pub mod Bounded
 pub mod Stops
 pub mod Intakes
+pub mod Gone
 pub mod Channels
 pub mod StreamsKept

@@ -88,6 +88,7 @@ pub record TakesOn (c : Channel) (take : Take) (old new : PeerState) : Type 0 wh
   pub version : new.version ≡ old.version
   pub waiting : new.waiting ≡ old.waiting
   pub slots : new.slots ≡ old.slots
+  pub capacities : new.capacities ≡ old.capacities
 
 -- the frame that goes out next, where one waits
 abbrev pub next : PeerState → Option Frame

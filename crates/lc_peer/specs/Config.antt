@@ -28,4 +28,4 @@ IsNewAnswer config answer = (answer ≡ config_fault config) ⊎ ((config_fault 
 
 -- the peer of a configuration: nothing has happened on any channel, and no frame waits
 abbrev pub new_peer : Config → PeerState
-new_peer config = record { version = config.version; channels = map (new_channel config.version) config.capacities; waiting = []; slots = config.slots }
+new_peer config = record { version = config.version; channels = map (new_channel config.version) config.capacities; waiting = []; slots = config.slots; capacities = config.capacities }

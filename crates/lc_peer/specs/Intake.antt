@@ -1,5 +1,5 @@
 -- What an intake holds, and what the end of its stream means. These rules are this project's own.
-use Rattle.std.specs.Prelude.{◌≡◌, [], Option, Some, None}
+use Rattle.std.specs.Prelude.{◌≡◌, ℕ, List, [], Option, Some, None}
 use Rattle.lc_frame.specs.declared.frame_fault.FrameFault.TheVariants.{Truncated}
 use Rattle.lc_frame.specs.Stored.{Stored, IsUndecided}
 use Rattle.lc_frame.specs.StreamDecoder.{IsPart}
@@ -7,10 +7,11 @@ use Rattle.lc_peer.specs.declared.delivery.Delivery.{Delivery}
 use Rattle.lc_peer.specs.declared.delivery.Stop.{Stop}
 use Rattle.lc_peer.specs.declared.delivery.Stop.TheVariants.{Fault}
 
--- what is held after the last frame that arrived, and why the stream was given up, if it was
+-- what is held after the last frame that arrived, why the stream was given up, if it was, and the bytes of the channels' rings, none where they are not known
 pub record IntakeState : Type 0 where
   pub held : Stored
   pub stop : Option Stop
+  pub rings : List ℕ
 
 -- what every intake keeps: before a stop neither a frame nor a fault stands at the front of what is held
 abbrev pub IsOpenUnlessStopped : Stored → Option Stop → Type 0

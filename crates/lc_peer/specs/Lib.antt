@@ -10,3 +10,7 @@ pub mod Sinks
 pub mod Deliveries
 pub mod Intake
 pub mod Steps
+pub mod Longer
+pub mod RingIntake
+pub mod Skips
+pub mod Rings

@@ -12,12 +12,13 @@ use Rattle.lc_book.specs.Server.{Server}
 use Rattle.lc_peer.specs.declared.channel_state.ChannelState.{ChannelState}
 use Rattle.lc_peer.specs.Inbox.{InboxState, IsInbox, new_inbox}
 
--- the version of the stream that the peer writes, the channels by their numbers, the frames that wait to go out, the first first, and how many there may be
+-- the version of the stream that the peer writes, the channels by their numbers, the frames that wait to go out, the first first, how many there may be, and the bytes of each channel's receiving ring, which never change
 pub record PeerState : Type 0 where
   pub version : Version
   pub channels : List ChannelState
   pub waiting : List Frame
   pub slots : ℕ
+  pub capacities : List ℕ
 
 -- a channel on which nothing has happened
 abbrev pub new_channel : Version → ℕ → ChannelState

@@ -1,9 +1,11 @@
 -- What one step of a delivery does, for src/delivery.rt. A device of the proofs: what a delivery does is in Deliveries.antt, without it.
-use Rattle.std.specs.Prelude.{◌≡◌, ℕ, ◌<◌, ◌≤◌, List, [], ◌∷◌, length, take}
+use Rattle.std.specs.Prelude.{◌≡◌, ℕ, ◌+◌, ◌<◌, ◌≤◌, List, [], ◌∷◌, length, take}
+use Rattle.std.specs.List.{AllByRecursion}
 use Rattle.lc_frame.specs.declared.frame.Frame.{Frame}
 use Rattle.lc_frame.specs.declared.frame_fault.FrameFault.{FrameFault}
-use Rattle.lc_frame.specs.Stored.{Stored, fed, before, front, IsValidIn, encoding_in, HasFault, IsUndecided}
+use Rattle.lc_frame.specs.Stored.{Stored, fed, before, front, IsSettled, IsValidIn, encoding_in, HasFault, IsUndecided}
 use Rattle.lc_book.specs.declared.fault.Violation.{Violation}
+use Rattle.lc_peer.specs.Sinks.{AllArrive}
 use Rattle.lc_peer.specs.declared.delivery.Stop.TheVariants.{Fault, Violated}
 use Rattle.lc_peer.specs.declared.delivery.Step.{Step}
 use Rattle.lc_peer.specs.declared.delivery.Step.TheVariants.{Arrived, Open, Stopped}
@@ -47,3 +49,16 @@ Steps arrives violates (Arrived taken) p held piece p' held' = FrameArrives arri
 Steps arrives violates (Open taken) p held piece p' held' = StaysOpen p held piece p' held' taken
 Steps arrives violates (Stopped (Violated violation) taken) p held piece p' held' = FrameViolates violates violation p held piece p' held' taken
 Steps arrives violates (Stopped (Fault fault) taken) p held piece p' held' = FaultComes fault p held piece p' held' taken
+
+-- what a delivery has done so far: these frames arrived, and what is held then has no whole frame and no fault in a front of it
+pub record SoFar {T : Type 0} (arrives : T → Frame → T → Type 0) (p : T) (held : Stored) (piece : List ℕ) (p' : T) (held' : Stored) (taken frames : ℕ) : Type 0 where
+  pub fs : List Frame
+  pub each : AllByRecursion (IsValidIn held'.version) fs
+  pub arrived : AllArrive arrives p fs p'
+  pub count : frames ≡ length fs
+  pub bytes : fed held (take taken piece) ≡ before fs held'
+  pub within : taken ≤ length piece
+  pub few : frames ≤ taken + 1
+  pub settled : IsSettled held'
+  pub emptied : 0 < frames → held'.bytes ≡ []
+  pub shortest : 0 < taken → (k : ℕ) → k < length held'.bytes → IsUndecided (front k held')

@@ -1,10 +1,13 @@
 //! The bytes of a stream, delivered in pieces.
-ghost use Rattle.std.specs.Prelude.{◌≡◌, []};
+ghost use Rattle.std.specs.Prelude.{◌≡◌, [], drop};
 ghost use Rattle.lc_frame.specs.Stored.{stored_in};
 ghost use Rattle.lc_frame.specs.Progress.{Feeds};
 ghost use Rattle.lc_peer.specs.Deliveries.{Delivers, DeliversTo};
 ghost use Rattle.lc_peer.specs.Steps.{Steps};
+ghost use Rattle.lc_peer.specs.Longer.{KeepsFew};
+ghost use Rattle.lc_peer.specs.Rings.{ReachesBy, Leads, GoesFrom, KeepsBy};
 
+use crate::outgrown::{Outgrown, find_outgrown, lead_in};
 use crate::peer::Peer;
 use crate::sink::FrameSink;
 use lc_book::Violation;
@@ -126,20 +129,41 @@ fn go_on<C, S: FrameSink<C>>(
     }
 }
 
-/// What `Peer::deliver` does, at any sink.
-pub fn deliver_to<C, S: FrameSink<C>>(
+/// How far a delivery went: the first Send that is longer than its ring, if it came to one.
+#[derive(Clone, Copy)]
+pub(crate) struct Reached {
+    pub delivery: Delivery,
+    pub outgrown: Option<Outgrown>,
+}
+
+/// Delivers a piece up to the first Send that is longer than its channel's ring, where the bytes of
+/// the rings are named: of that no byte behind its header is taken.
+pub(crate) fn deliver_up_to<C, S: FrameSink<C>>(
     sink: &mut S,
     context: &C,
     decoder: &mut StreamDecoder,
+    rings: &[u32],
     piece: &[u8],
-) -> Delivery
-    ensures { DeliversTo S.arrived S.violated sink.old decoder.old piece.now sink.new decoder.new result }
+) -> Reached
+    ensures reaches { ReachesBy result.outgrown S.arrived S.violated rings.now sink.old decoder.old piece.now sink.new decoder.new result.delivery }
+    ensures kept { KeepsFew rings.now decoder.old → KeepsBy result.outgrown rings.now decoder.new }
 {
     let _stored = decoder.stored();
-    let mut taken = 0;
+    let mut taken = lead(rings, decoder, piece);
     let mut frames = 0;
     'frames: loop {
         let rest = piece.split_at(taken).1;
+        let _held = decoder.stored();
+        if let Some(outgrown) = find_outgrown(rings, decoder, rest) {
+            return Reached {
+                delivery: Delivery {
+                    taken,
+                    frames,
+                    stop: None,
+                },
+                outgrown: Some(outgrown),
+            };
+        }
         let (count, stop) = match go_on(sink, context, decoder, rest) {
             Step::Arrived(count) if taken + count < piece.len() => {
                 taken += count;
@@ -154,12 +178,40 @@ pub fn deliver_to<C, S: FrameSink<C>>(
             Step::Stopped(stop, count) => (count, Some(stop)),
         };
         taken += count;
-        return Delivery {
-            taken,
-            frames,
-            stop,
+        return Reached {
+            delivery: Delivery {
+                taken,
+                frames,
+                stop,
+            },
+            outgrown: None,
         };
     }
+}
+
+// Where no rings are named, nothing has to be known of a header before the rest is taken.
+fn lead(rings: &[u32], decoder: &mut StreamDecoder, piece: &[u8]) -> usize
+    ensures leads { Leads decoder.old decoder.new piece.now result }
+    ensures goes { KeepsFew rings.now decoder.old → GoesFrom rings.now decoder.new (drop result piece.now) }
+{
+    let _stored = decoder.stored();
+    if rings.is_empty() {
+        return 0;
+    }
+    lead_in(decoder, piece)
+}
+
+/// What `Peer::deliver` does, at any sink.
+pub fn deliver_to<C, S: FrameSink<C>>(
+    sink: &mut S,
+    context: &C,
+    decoder: &mut StreamDecoder,
+    piece: &[u8],
+) -> Delivery
+    ensures { DeliversTo S.arrived S.violated sink.old decoder.old piece.now sink.new decoder.new result }
+{
+    let reached = deliver_up_to(sink, context, decoder, &[], piece);
+    reached.delivery
 }
 
 impl Peer {

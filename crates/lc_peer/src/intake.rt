@@ -1,5 +1,5 @@
 //! The bytes of a stream on their way in.
-ghost use Rattle.std.specs.Prelude.{◌≡◌, ◌<◌, None, All, IfOk, IfSome};
+ghost use Rattle.std.specs.Prelude.{◌≡◌, ◌<◌, [], None, All, IfOk, IfSome};
 ghost use Rattle.lc_frame.specs.Stored.{nothing_stored, IsUndecided, IsSettled};
 ghost use Rattle.lc_frame.specs.declared.fill.Filled.TheVariants.{Few};
 ghost use Rattle.lc_frame.specs.Fill.{FilledAs, LacksMore};
@@ -20,11 +20,12 @@ pub struct Intake {
 }
 
 impl Model for Intake {
+    ghost use Rattle.std.specs.Prelude.{[]};
     ghost use Rattle.lc_peer.specs.Intake.{IntakeState, IsOpenUnlessStopped};
 
     ghost Value = { IntakeState };
 
-    ghost view = { λ intake. record { held = intake.decoder; stop = intake.stop } };
+    ghost view = { λ intake. record { held = intake.decoder; stop = intake.stop; rings = [] } };
 
     ghost invariant = { λ intake. IsOpenUnlessStopped intake.decoder intake.stop };
 }
@@ -33,7 +34,7 @@ impl Intake {
     /// The start of a stream. It takes the memory for `MAX_FRAME` bytes here and none later; the
     /// error is want of it.
     pub fn new(alloc: Global) -> Result<Intake, AllocError>
-        ensures { IfOk result (λ intake. intake ≡ record { held = nothing_stored; stop = None }) }
+        ensures { IfOk result (λ intake. intake ≡ record { held = nothing_stored; stop = None; rings = [] }) }
     {
         Ok(Intake {
             decoder: StreamDecoder::new(alloc)?,
@@ -77,6 +78,7 @@ impl Intake {
         ensures given_up { IfSome self.old.stop (λ stop. GivesUp stop result × (sink.new ≡ sink.old) × (self.new ≡ self.old)) }
         ensures delivers { self.old.stop ≡ None → DeliversTo S.arrived S.violated sink.old self.old.held piece.now sink.new self.new.held result }
         ensures stop { self.new.stop ≡ result.stop }
+        ensures rings { self.new.rings ≡ self.old.rings }
         ensures bytes { All (λ b. b < 256) piece.now }
     {
         if let Some(stop) = self.stop {
@@ -99,6 +101,7 @@ impl Intake {
         ensures few { result ≡ Few → ¬ LacksMore self.old.held }
         ensures bytes { All (λ b. b < 256) self.new.held.bytes }
         ensures stop { self.new.stop ≡ self.old.stop }
+        ensures rings { self.new.rings ≡ self.old.rings }
     {
         let filled = self.decoder.fill(filler, source);
         let _stored = self.decoder.stored();

@@ -7,12 +7,13 @@
 //! alone (`channel_state.rt`). An `Inbox` is the server's book with the ring: where the book
 //! allows a message, the ring has room for it, since outstanding and buffered bytes fit the
 //! capacity. It is what a thread that receives will hold by itself.
-ghost use Rattle.std.specs.Prelude.{◌≡◌, ◌≤◌, ◌<◌, ◌↔◌, ◌-◌, ◌++◌, [], ◌∷◌, length, if◌then◌else◌, is_ok, nat_lt, IfOk, OnOk, IfErr, IsSome, IfSome, slice_get, Some, None};
+ghost use Rattle.std.specs.Prelude.{◌≡◌, ◌≤◌, ◌<◌, ◌↔◌, ◌-◌, ◌++◌, [], ◌∷◌, length, if◌then◌else◌, is_ok, nat_lt, IfOk, OnOk, IfErr, IsSome, IfSome, slice_get, slice_index, Some, None};
 ghost use Rattle.circular_buffer.specs.Buffer.{buffer};
 ghost use Rattle.lc_book.specs.declared.fault.Refusal.TheVariants.{QueueFull};
 ghost use Rattle.std.specs.Option.{option_map};
 ghost use Rattle.std.specs.Result.{result_err};
 ghost use Rattle.lc_frame.specs.Bounds.{max_slots};
+ghost use Rattle.lc_frame.specs.Channel.{number_of};
 ghost use Rattle.lc_frame.specs.declared.frame.Frame.TheVariants.{Send, Issue, Absolve, Plead, LimitSending, LimitReceiving, Finish};
 ghost use Rattle.lc_frame.specs.FrameRef.{frame_of};
 ghost use Rattle.lc_frame.specs.declared.version.Version.TheVariants.{Two};
@@ -41,6 +42,7 @@ pub struct Peer {
     version: Version,
     channels: [ChannelState; CHANNELS],
     waiting: HeapCircularBuffer<Frame>,
+    capacities: [u32; CHANNELS],
 }
 
 // One call, wherever a peer is dropped.
@@ -51,6 +53,7 @@ impl Drop for Peer {
             version: _,
             channels: _,
             waiting: _,
+            capacities: _,
         } = self;
     }
 }
@@ -62,9 +65,9 @@ impl Model for Peer {
 
     ghost Value = { PeerState };
 
-    ghost view = { λ peer. record { version = peer.version; channels = peer.channels; waiting = peer.waiting.items; slots = peer.waiting.capacity } };
+    ghost view = { λ peer. record { version = peer.version; channels = peer.channels; waiting = peer.waiting.items; slots = peer.waiting.capacity; capacities = peer.capacities } };
 
-    ghost invariant = { λ peer. ArePeerFields peer.version peer.channels peer.waiting };
+    ghost invariant = { λ peer. ArePeerFields peer.version peer.channels peer.waiting peer.capacities };
 }
 
 // Whether one frame more may wait.
@@ -120,6 +123,7 @@ impl Peer {
             version: config.version,
             channels,
             waiting,
+            capacities: config.capacities,
         })
     }
 
@@ -274,6 +278,7 @@ impl Peer {
         requires { IsValid Two (frame_of frame) }
         ensures answer { result_err result ≡ (arrivals self.old (frame_of frame.entry ∷ [])).violation }
         ensures after { self.new ≡ (arrivals self.old (frame_of frame.entry ∷ [])).peer }
+        ensures rings { self.new.capacities ≡ self.old.capacities }
     {
         let at = frame.channel().index();
         self.channels[at].arrive(frame)
@@ -362,6 +367,15 @@ impl Peer {
             Some(frame) => Some(frame.view()),
             None => None,
         }
+    }
+
+    /// How many bytes the receiving ring of a channel has.
+    #[inline]
+    pub fn capacity(&self, channel: Channel) -> u32
+        ensures value { result ≡ slice_index self.now.capacities (number_of channel) }
+        ensures ring { result ≡ (server self.now channel).capacity }
+    {
+        self.capacities[channel.index()]
     }
 
     /// The book of a channel as client.

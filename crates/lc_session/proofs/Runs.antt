@@ -88,7 +88,7 @@ run_hears reader reader' before after old was intake new max_reads end given rea
 
 -- ---- a pump that did not run yet
 
-pub hears_nothing : (r : Reading) → r.intake ≡ record { held = record { version = None; bytes = [] }; stop = None } → HearsMore r r
+pub hears_nothing : (r : Reading) → r.intake ≡ record { held = record { version = None; bytes = [] }; stop = None; rings = [] } → HearsMore r r
 hears_nothing r is = record {
   same = reading_itself r.side;
   read = [];

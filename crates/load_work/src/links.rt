@@ -14,8 +14,12 @@ pub struct Traffic {
     version: Version,
     /// The bytes of each ring.
     capacity: u32,
+    /// The bytes that stay in each ring, where a taker leaves some.
+    keeps: u64,
     /// How many messages a side tries to send in a turn.
     messages: u32,
+    /// The shortest message.
+    shortest: u32,
     /// The longest message of six in ten, of three more, and of the last.
     lengths: [u32; 3],
     /// The most bytes that a read gives.
@@ -27,7 +31,9 @@ impl Traffic {
     pub const SMALL: Traffic = Traffic {
         version: Version::One,
         capacity: 65_536,
+        keeps: 0,
         messages: 16,
+        shortest: 1,
         lengths: [64, 512, 4_096],
         piece: 65_536,
     };
@@ -36,7 +42,9 @@ impl Traffic {
     pub const BULK: Traffic = Traffic {
         version: Version::Two,
         capacity: 1_048_576,
+        keeps: 0,
         messages: 6,
+        shortest: 1,
         lengths: [16_384, 65_535, 524_288],
         piece: 65_536,
     };
@@ -45,9 +53,22 @@ impl Traffic {
     pub const CRUMBS: Traffic = Traffic {
         version: Version::Two,
         capacity: 64,
+        keeps: 0,
         messages: 16,
+        shortest: 1,
         lengths: [2, 4, 8],
         piece: 8,
+    };
+
+    /// Messages of all lengths through rings that never get empty.
+    pub const UNEVEN: Traffic = Traffic {
+        version: Version::Two,
+        capacity: 262_144,
+        keeps: 65_536,
+        messages: 16,
+        shortest: 16,
+        lengths: [256, 8_192, 102_400],
+        piece: 65_536,
     };
 
     fn longest(&self) -> usize {
@@ -62,7 +83,7 @@ impl Traffic {
             6..=8 => middle,
             _ => long,
         };
-        random.from_to(1, most.max(1)) as usize
+        random.from_to(self.shortest, most.max(self.shortest)) as usize
     }
 
     fn link(&self, alloc: Global) -> Option<Link> {
@@ -143,15 +164,23 @@ impl Side {
         digest.add(u64::from(answer.is_ok()));
     }
 
-    // Takes all that came, grants what was asked, and promises again what room there is.
-    fn take(&mut self, buffer: &mut [u8], digest: &mut Digest) {
-        for channel in Channel::ALL {
-            for _ in 0..u64::MAX {
-                let Ok(Take::Took(len)) = self.link.peer.take_into(channel, buffer) else {
-                    break;
-                };
-                digest.add_bytes(buffer.get(..len).unwrap_or(&[]));
+    // Takes the messages of a channel, or all above what is to stay in its ring.
+    fn take_from(&mut self, channel: Channel, keeps: u64, buffer: &mut [u8], digest: &mut Digest) {
+        for _ in 0..u64::MAX {
+            if keeps > 0 && self.link.peer.server(channel).buffered() <= keeps {
+                return;
             }
+            let Ok(Take::Took(len)) = self.link.peer.take_into(channel, buffer) else {
+                return;
+            };
+            digest.add_bytes(buffer.get(..len).unwrap_or(&[]));
+        }
+    }
+
+    // Takes what came, grants what was asked, and promises again what room there is.
+    fn take(&mut self, traffic: &Traffic, buffer: &mut [u8], digest: &mut Digest) {
+        for channel in Channel::ALL {
+            self.take_from(channel, traffic.keeps, buffer, digest);
             if let Ok(Some(amount)) = self.link.peer.honour(channel) {
                 digest.add(u64::from(amount));
             }
@@ -214,12 +243,12 @@ pub fn exchange(alloc: Global, traffic: Traffic, random: Random, turns: u32) -> 
     let mut one = Side::new(alloc, &traffic)?;
     let mut other = Side::new(alloc, &traffic)?;
     for _ in 0..turns {
-        one.take(&mut buffer, &mut digest);
+        one.take(&traffic, &mut buffer, &mut digest);
         one.send(&traffic, &pool, &mut random, &mut digest);
         if !carry(&mut one.link, &mut other.link, &mut wire, &traffic, random) {
             return None;
         }
-        other.take(&mut buffer, &mut digest);
+        other.take(&traffic, &mut buffer, &mut digest);
         other.send(&traffic, &pool, &mut random, &mut digest);
         if !carry(&mut other.link, &mut one.link, &mut wire, &traffic, random) {
             return None;

@@ -4,11 +4,15 @@
 //!
 //! Between two peers on one thread, over streams in memory: `small` sends messages of up to 4 KiB on all
 //! channels, `bulk` ones of up to 512 KiB, and `crumbs` ones of up to 8 bytes, whose streams come in
-//! pieces of up to 8 bytes. `session` sends messages between the ends of a session in threads, over a
-//! pipe of the system. `replay` replays scripts, `chart` draws them, and `frames` lists streams.
+//! pieces of up to 8 bytes; `uneven` sends messages of 16 to 102,400 bytes through rings that never get
+//! empty. `session` sends messages between the ends of a session in threads, over a pipe of the system, and
+//! `latency` over TCP, so many on one channel, one each millisecond, while six carry bulk: within how many
+//! microseconds half of these and 99 in a hundred came goes to standard error. `replay` replays scripts,
+//! `chart` draws them, and `frames` lists streams.
 #![tactic(auto)]
 
 mod digest;
+mod latency;
 mod links;
 mod random;
 mod scripts;
@@ -16,31 +20,63 @@ mod sessions;
 mod streams;
 
 use digest::Digest;
+use latency::Latency;
 use links::Traffic;
 use random::Random;
 use std::alloc::Global;
 use std::fs::Files;
+use std::net::{Net, TcpListener, TcpStream};
 use std::sync::Wait;
 use std::thread::Threads;
+use std::time::Clock;
 use std::{env, io};
 
+// What came of some work: a digest of it, and what it measured besides.
+#[derive(Drop)]
+struct Outcome {
+    digest: Digest,
+    latency: Option<Latency>,
+}
+
+impl Outcome {
+    fn of(latency: Latency) -> Outcome {
+        Outcome {
+            digest: latency.digest,
+            latency: Some(latency),
+        }
+    }
+
+    fn plain(digest: Digest) -> Outcome {
+        Outcome {
+            digest,
+            latency: None,
+        }
+    }
+}
+
 // Does so much work of a kind. `None` where there is no such kind, or where it failed.
-fn work<R, F>(rt: R, files: &F, alloc: Global, kind: &str, seed: u32, count: u32) -> Option<Digest>
+fn work<R, H>(rt: R, host: &H, alloc: Global, kind: &str, seed: u32, count: u32) -> Option<Outcome>
 where
-    R: Threads + Wait + Copy + Send + Sync + 'static,
-    F: Files,
+    R: Threads + Wait + Clock + Copy + Send + Sync + 'static,
+    H: Files + Net<Listener = TcpListener, Stream = TcpStream>,
 {
     let random = Random::new(seed);
-    match kind {
+    let digest = match kind {
         "small" => links::exchange(alloc, Traffic::SMALL, random, count),
         "bulk" => links::exchange(alloc, Traffic::BULK, random, count),
         "crumbs" => links::exchange(alloc, Traffic::CRUMBS, random, count),
-        "session" => sessions::exchange(&rt, files, alloc, random, count),
+        "uneven" => links::exchange(alloc, Traffic::UNEVEN, random, count),
+        "session" => sessions::exchange(&rt, host, alloc, random, count),
         "replay" => scripts::replay_all(alloc, random, count),
         "chart" => scripts::chart_all(alloc, random, count),
         "frames" => streams::list_all(alloc, random, count),
+        "latency" => {
+            let latency = latency::measure(&rt, host, alloc, random, count)?;
+            return Some(Outcome::of(latency));
+        }
         _ => None,
-    }
+    };
+    Some(Outcome::plain(digest?))
 }
 
 fn number(word: &str) -> u32 {
@@ -51,9 +87,13 @@ fn main(rt: HostRuntime) -> io::Result<()> {
     let mut words = env::args(&rt)?.skip(1);
     while let (Some(kind), Some(seed), Some(count)) = (words.next(), words.next(), words.next()) {
         let (seed, count) = (number(seed.as_str()), number(count.as_str()));
-        match work(rt, &rt, rt.alloc(), kind.as_str(), seed, count) {
-            Some(digest) => println!(rt; "{kind} {:016x}", digest.value())?,
-            None => println!(rt; "{kind} failed")?,
+        let Some(outcome) = work(rt, &rt, rt.alloc(), kind.as_str(), seed, count) else {
+            println!(rt; "{kind} failed")?;
+            continue;
+        };
+        println!(rt; "{kind} {:016x}", outcome.digest.value())?;
+        if let Some(latency) = &outcome.latency {
+            eprintln!(rt; "median {}\np99 {}", latency.within(50), latency.within(99))?;
         }
     }
     Ok(())

@@ -10,7 +10,7 @@ use lc_session::{Parts, ReadPump, RecvEnd, SendEnd, Session, WritePump};
 use lc_wake::Wake;
 use std::alloc::Global;
 use std::fs::Files;
-use std::io::{BufReader, PipeReader, PipeWriter, pipe};
+use std::io::{BufReader, Read, Write, pipe};
 use std::sync::Wait;
 use std::thread;
 use std::thread::{Threads, join};
@@ -53,8 +53,8 @@ fn len_of(random: &mut Random) -> usize {
     random.from_to(1, most.max(1)) as usize
 }
 
-// Sends a message as soon as there are guarantees and a slot for it. Whether it did.
-fn send<R: Wait>(rt: &R, end: &mut SendEnd, body: &[u8]) -> bool {
+/// Sends a message as soon as there are guarantees and a slot for it. Whether it did.
+pub fn send<R: Wait>(rt: &R, end: &mut SendEnd, body: &[u8]) -> bool {
     for _ in rt.forever() {
         match end.send(rt, body) {
             Ok(()) => return true,
@@ -78,8 +78,8 @@ fn send_all<R: Wait>(rt: &R, end: &mut SendEnd, pool: &Pool, job: Job) {
     }
 }
 
-// Issues so much, as soon as a slot is free. Whether it did.
-fn issue<R: Wait>(rt: &R, end: &mut RecvEnd, amount: u32) -> bool {
+/// Issues so much, as soon as a slot is free. Whether it did.
+pub fn issue<R: Wait>(rt: &R, end: &mut RecvEnd, amount: u32) -> bool {
     for _ in rt.forever() {
         match end.issue(rt, amount) {
             Ok(()) => return true,
@@ -93,8 +93,8 @@ fn issue<R: Wait>(rt: &R, end: &mut RecvEnd, amount: u32) -> bool {
     unreachable!()
 }
 
-// Takes a message as soon as one comes. How long it is.
-fn take<R: Wait>(rt: &R, end: &mut RecvEnd, buffer: &mut [u8]) -> Option<usize> {
+/// Takes a message as soon as one comes. How long it is.
+pub fn take<R: Wait>(rt: &R, end: &mut RecvEnd, buffer: &mut [u8]) -> Option<usize> {
     for _ in rt.forever() {
         match end.take_into(rt, buffer) {
             Ok(Take::Took(len)) => return Some(len),
@@ -169,13 +169,13 @@ fn take_each<R: Threads + Wait + Sync>(
     );
 }
 
-// Writes until the session is stopped. The writer goes then, which ends the stream.
-fn write_all_out<R: Wait>(rt: &R, mut pump: WritePump, writer: PipeWriter) {
+/// Writes until the session is stopped. The writer goes then, which ends the stream.
+pub fn write_all_out<R: Wait, W: Write + Drop>(rt: &R, mut pump: WritePump, writer: W) {
     let _end = pump.run(rt, &mut Counted::new(writer));
 }
 
-// Reads until the stream ends.
-fn read_all<R: Wait>(rt: &R, mut pump: ReadPump, reader: BufReader<PipeReader>) {
+/// Reads until the stream ends.
+pub fn read_all<R: Wait, D: Read + Drop>(rt: &R, mut pump: ReadPump, reader: D) {
     let _end = pump.run(rt, &mut Counted::new(reader), u64::MAX);
 }
 

@@ -24,13 +24,13 @@ const BARRED: Channel = Channel::PayloadRequestChannel;
 /// Lengths about which messages are made: those of reads, and of several.
 const LENGTHS: [usize; 8] = [1, 100, 500, 512, 1_012, 1_524, 2_036, 4_000];
 
-// Numbers that look random.
+/// Numbers that look random.
 #[derive(Clone, Copy)]
-struct Made(u64);
+pub struct Made(pub u64);
 
 impl Made {
-    // The next of many numbers below this one.
-    fn below(&mut self, most: usize) -> usize {
+    /// The next of many numbers below this one.
+    pub fn below(&mut self, most: usize) -> usize {
         self.0 = self
             .0
             .wrapping_mul(6_364_136_223_846_793_005)
@@ -38,7 +38,8 @@ impl Made {
         (self.0 >> 33) as usize % most.max(1)
     }
 
-    fn one_in(&mut self, most: usize) -> bool {
+    /// Whether one of so many comes.
+    pub fn one_in(&mut self, most: usize) -> bool {
         self.below(most) == 0
     }
 }
@@ -127,8 +128,8 @@ impl<'a> ReadingPeer<'a> {
     }
 }
 
-// Appends the frame, if it is one of this version.
-fn append(version: Version, frame: FrameRef<'_>, out: &mut Vec<u8>) -> Result<(), AllocError> {
+/// Appends the frame, if it is one of this version.
+pub fn append(version: Version, frame: FrameRef<'_>, out: &mut Vec<u8>) -> Result<(), AllocError> {
     if frame.is_valid(version) {
         frame.encode_into(version, out)?;
     }

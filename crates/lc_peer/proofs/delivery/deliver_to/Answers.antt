@@ -1,41 +1,6 @@
-use Rattle.std.proofs.Common.{ℕ, ◌+◌, ◌≤◌, List, length, drop, subst, sym, ap, arith, Option}
-use Rattle.std.proofs.lemmas.List.{length-drop}
-use Rattle.lc_peer.specs.declared.delivery.Step.TheVariants.{Stopped}
-use Rattle.lc_peer.specs.declared.delivery.Stop.{Stop}
-use Rattle.lc_peer.specs.Deliveries.{DeliversTo}
-use Rattle.lc_peer.specs.Steps.{Steps, FrameArrives, StaysOpen}
-use Rattle.lc_peer.proofs.Deliveries.{nothing_yet, took_some, one_more, ends_open, ends_whole, ends_stopped, fed_bytes}
-use Rattle.lc_peer.proofs.delivery.deliver_to.Goals.{in-Arrived-2, in-Open, in-Stopped}
+use Rattle.std.proofs.Common.{refl}
+use Rattle.lc_peer.proofs.Longer.{goes_through}
 use Rattle.lc_peer.proofs.delivery.deliver_to.Goals as goal
 
-pub frames-init : goal.frames-init
-frames-init g c = nothing_yet g.S.FrameSink.arrived c.args.sink.now c.args.decoder.now c.args.piece.now c.stored-stored.ensures.settled
-
-pub frames-smaller : goal.frames-smaller
-frames-smaller g c =
-    let a = subst (λ (xs : List ℕ). FrameArrives g.S.FrameSink.arrived c.frames.sink c.frames.decoder xs c.go_on.new.sink c.go_on.new.decoder c.in-Arrived.count) c.split_at.ensures.back c.in-Arrived.ensures in
-    let some = took_some g.S.FrameSink.arrived c.frames.sink c.frames.decoder (drop c.frames.taken c.args.piece.now) c.go_on.new.sink c.go_on.new.decoder c.in-Arrived.count a in
-    omega (arith, some, ap length a.cleared, a.within, length-drop c.frames.taken c.args.piece.now, c.frames.invariant.within)
-
-pub frames-preserved : goal.frames-preserved
-frames-preserved g c =
-    let a = subst (λ (xs : List ℕ). FrameArrives g.S.FrameSink.arrived c.frames.sink c.frames.decoder xs c.go_on.new.sink c.go_on.new.decoder c.in-Arrived.count) c.split_at.ensures.back c.in-Arrived.ensures in
-    one_more g.S.FrameSink.arrived c.args.sink.now c.args.decoder.now c.args.piece.now c.frames.sink c.frames.decoder c.frames.taken c.frames.frames c.go_on.new.sink c.go_on.new.decoder c.in-Arrived.count c.frames.invariant a (omega (arith, a.within, length-drop c.frames.taken c.args.piece.now))
-
-pub returns-in-frames : goal.returns-in-frames
-returns-in-frames g c =
-    let fits = fed_bytes c.args.decoder.now c.args.piece.now c.stored-stored.ensures.bytes (λ i. omega (arith, c.type_inv.piece i)) in
-    let Ends : (ℕ × Option Stop) × ℕ → Type 0 = λ p. DeliversTo g.S.FrameSink.arrived g.S.FrameSink.violated c.args.sink.now c.args.decoder.now c.args.piece.now c.go_on.new.sink c.go_on.new.decoder (record { taken = c.frames.taken + p.0.0; frames = p.1; stop = p.0.1 }) in
-    elim c.match-go_on.branch [
-      | in-Arrived-2 w ↦
-          let a = subst (λ (xs : List ℕ). FrameArrives g.S.FrameSink.arrived c.frames.sink c.frames.decoder xs c.go_on.new.sink c.go_on.new.decoder w.in-Arrived.count) c.split_at.ensures.back w.in-Arrived.ensures in
-          let within : c.frames.taken + w.in-Arrived.count ≤ length c.args.piece.now = omega (arith, a.within, length-drop c.frames.taken c.args.piece.now, c.frames.invariant.within) in
-          let soFar = one_more g.S.FrameSink.arrived c.args.sink.now c.args.decoder.now c.args.piece.now c.frames.sink c.frames.decoder c.frames.taken c.frames.frames c.go_on.new.sink c.go_on.new.decoder w.in-Arrived.count c.frames.invariant a (omega (arith, a.within, length-drop c.frames.taken c.args.piece.now)) in
-          subst Ends (λ i. (sym w.count-is i, sym w.frames-is i)) (ends_whole g.S.FrameSink.arrived g.S.FrameSink.violated c.args.sink.now c.args.decoder.now c.args.piece.now c.go_on.new.sink c.go_on.new.decoder (c.frames.taken + w.in-Arrived.count) (c.frames.frames + 1) soFar a.frame a.valid a.cleared (omega (arith, w.if-taken-count.false, within)) fits)
-      | in-Open w ↦
-          let o = subst (λ (xs : List ℕ). StaysOpen c.frames.sink c.frames.decoder xs c.go_on.new.sink c.go_on.new.decoder w.in-Open.count) c.split_at.ensures.back w.in-Open.ensures in
-          subst Ends (λ i. (sym w.count-is i, sym w.frames-is i)) (ends_open g.S.FrameSink.arrived g.S.FrameSink.violated c.args.sink.now c.args.decoder.now c.args.piece.now c.frames.sink c.frames.decoder c.frames.taken c.frames.frames c.frames.invariant c.go_on.new.sink c.go_on.new.decoder w.in-Open.count fits o)
-      | in-Stopped w ↦
-          let o = subst (λ (xs : List ℕ). Steps g.S.FrameSink.arrived g.S.FrameSink.violated (Stopped w.in-Stopped.stop w.in-Stopped.count) c.frames.sink c.frames.decoder xs c.go_on.new.sink c.go_on.new.decoder) c.split_at.ensures.back w.in-Stopped.ensures in
-          subst Ends (λ i. (sym w.count-is i, sym w.frames-is i)) (ends_stopped g.S.FrameSink.arrived g.S.FrameSink.violated c.args.sink.now c.args.decoder.now c.args.piece.now c.frames.sink c.frames.decoder c.frames.taken c.frames.frames c.frames.invariant w.in-Stopped.stop c.go_on.new.sink c.go_on.new.decoder w.in-Stopped.count fits o)
-    ]
+pub returns : goal.returns
+returns g c = goes_through _ _ _ _ _ _ _ _ _ _ refl c.deliver_up_to-reached.ensures.reaches

@@ -1,0 +1,166 @@
+// The channels: of each, both directions, with the calls of either side.
+
+import { element, numberOf, say } from './dom.js';
+import { RingBar } from './rings.js';
+import { bodyOf, otherSide } from './script.js';
+import { CHANNELS } from './words.js';
+
+// Each call: its word in a script, what its button says, and what it takes.
+const OF_SENDER = [
+  ['send', 'Send', 'message'],
+  ['honour', 'Honour the plead', null],
+  ['absolve', 'Absolve', 1],
+  ['limit-sending', 'Limit sending to', 0],
+  ['finish', 'Finish', null],
+];
+const OF_RECEIVER = [
+  ['issue', 'Issue', 5],
+  ['take', 'Take', null],
+  ['plead', 'Plead to hold', 0],
+  ['limit-receiving', 'Limit issuing to', 0],
+];
+const MOST = { issue: 4294967295, absolve: 4294967295, plead: 4294967295 };
+
+/** The field beside a call's button, for a message or a number; null where the call takes neither. */
+function fieldOf(side, channel, [act, title, takes]) {
+  if (takes === null) {
+    return null;
+  }
+  if (takes === 'message') {
+    return element('input', { className: 'message', value: 'hi', 'aria-label': `Message of ${side} on channel ${channel}` });
+  }
+  const most = MOST[act] ?? Number.MAX_SAFE_INTEGER;
+  return element('input', { type: 'number', min: 0, max: most, value: takes, required: true, 'aria-label': `${title}: bytes, ${side}, channel ${channel}` });
+}
+
+/** A button that appends a line, beside the field that the line takes. */
+function callRow(side, channel, call, append) {
+  const [act, title] = call;
+  const field = fieldOf(side, channel, call);
+  const button = element('button', { type: 'button', 'aria-label': `${title}, ${side}, channel ${channel}` }, title);
+  // How its line begins, the line, or null where the field has no lawful number, and what fills the field for a line.
+  button.act = `${side} ${act} ${channel}`;
+  button.line = () => {
+    if (field === null) {
+      return button.act;
+    }
+    const value = field.type === 'number' ? numberOf(field) : bodyOf(field.value);
+    return value === null ? null : `${button.act} ${value}`;
+  };
+  button.fillIn = line => {
+    if (field?.type === 'number') {
+      field.value = line.split(' ').at(-1);
+    }
+  };
+  button.addEventListener('click', () => {
+    const line = button.line();
+    if (line === null) {
+      field.reportValidity();
+    } else {
+      append(line);
+    }
+  });
+  return element('div', { className: 'row' }, button, ...(field === null ? [] : [field]));
+}
+
+const bound = (text, words) => (text === '-' ? [] : [words(text)]);
+
+/** What bounds a direction, a line for each. */
+function factsOf(ring, from, to) {
+  return [
+    ...(ring.asked === '-' ? [] : [`${to} pleads: hold at most ${ring.asked}. ${from} keeps the plead until it honours it.`]),
+    ...bound(ring.maySend, left => `${from} has limited itself: ${left} bytes more may be sent.`),
+    ...bound(ring.mayIssue, left => `${to} has limited itself: ${left} guarantees more may be issued.`),
+    ...(ring.isFinished ? [`${from} has finished the channel.`] : []),
+    ...(ring.isEnded && ring.buffered === 0 ? [`The channel has ended at ${to}: takes answer “ended”.`] : []),
+  ];
+}
+
+class Direction {
+  #bar;
+  #facts = element('ul', { className: 'facts' });
+  #from;
+  #to;
+
+  constructor(from, channel, append) {
+    this.#from = from;
+    this.#to = otherSide(from);
+    this.#bar = new RingBar(from, this.#to, channel);
+    const calls = (side, title, rows) => {
+      const buttons = element('div', { className: 'calls' }, ...rows.map(row => callRow(side, channel, row, append)));
+      return element('div', { role: 'group', 'aria-label': `${side}, channel ${channel}` }, element('h4', {}, title), buttons);
+    };
+    this.element = element(
+      'section',
+      { className: `direction c${channel}`, 'aria-label': `From ${from} to ${this.#to} on channel ${channel}` },
+      element('h4', {}, `From ${from} to ${this.#to}: the ring of ${this.#to}`),
+      this.#bar.element,
+      this.#facts,
+      calls(from, `${from} sends`, OF_SENDER),
+      calls(this.#to, `${this.#to} receives`, OF_RECEIVER),
+    );
+  }
+
+  show(ring) {
+    this.#bar.show(ring);
+    const facts = factsOf(ring, this.#from, this.#to);
+    if (facts.join('\n') !== Array.from(this.#facts.children, it => it.textContent).join('\n')) {
+      this.#facts.replaceChildren(...facts.map(fact => element('li', {}, fact)));
+    }
+  }
+}
+
+const summaryOf = ({ held, wire, buffered, room }, from, to) => (held + wire + buffered === 0 ? '' : `${from} to ${to}: held ${held}, wire ${wire}, buffered ${buffered}, free ${room}`);
+
+/** The seven channels, of which one is open. */
+export class Channels {
+  #open = 1;
+  #rows;
+  #standing = null;
+
+  constructor(at, append) {
+    this.#rows = CHANNELS.map((name, channel) => {
+      const summary = element('span', { className: 'summary' });
+      const disc = element('span', { className: 'disc', 'aria-hidden': 'true' }, String(channel));
+      const head = element('button', { type: 'button', 'aria-controls': `channel-${channel}` }, disc, element('span', {}, `${channel} ${name}`), summary);
+      const body = element('div', { className: 'directions', id: `channel-${channel}` });
+      head.addEventListener('click', () => this.open(this.#open === channel ? null : channel));
+      at.append(element('div', { className: `channel c${channel}` }, element('h3', {}, head), body));
+      return { channel, head, summary, body, directions: null, append };
+    });
+  }
+
+  /** Opens a channel, and closes the others. */
+  open(channel) {
+    this.#open = channel;
+    this.#showAll();
+  }
+
+  show(standing) {
+    this.#standing = standing;
+    this.#showAll();
+  }
+
+  #showAll() {
+    this.#rows.forEach(row => this.#showRow(row));
+  }
+
+  #showRow(row) {
+    const { channel, head, summary, body, append } = row;
+    const isOpen = channel === this.#open;
+    head.setAttribute('aria-expanded', String(isOpen));
+    body.hidden = !isOpen;
+    if (isOpen && row.directions === null) {
+      row.directions = { A: new Direction('A', channel, append), B: new Direction('B', channel, append) };
+      body.append(row.directions.A.element, row.directions.B.element);
+    }
+    if (this.#standing !== null) {
+      const [fromA, fromB] = ['A', 'B'].map(side => this.#standing.rings[side + channel]);
+      say(summary, [summaryOf(fromA, 'A', 'B'), summaryOf(fromB, 'B', 'A')].filter(text => text !== '').join('; '));
+      if (isOpen) {
+        row.directions.A.show(fromA);
+        row.directions.B.show(fromB);
+      }
+    }
+  }
+}

@@ -1,0 +1,68 @@
+// The two streams, with the frames that are on their way, as the library tells them.
+
+import { element, fill, say } from './dom.js';
+import { otherSide } from './script.js';
+import { bytesIn, frameInWords } from './words.js';
+
+const SHOWN = 40;
+
+class Lane {
+  #from;
+  #to;
+  #title = element('p');
+  #chips = element('ol', { className: 'chips' });
+  #more = element('p', { className: 'soft' });
+  #all;
+  #buttons;
+  #bytes = 0;
+
+  constructor(from, append) {
+    [this.#from, this.#to] = [from, otherSide(from)];
+    const to = this.#to;
+    const button = (title, line) => {
+      const made = element('button', { type: 'button' }, title);
+      made.addEventListener('click', () => append(line()));
+      made.line = line;
+      made.act = line();
+      return made;
+    };
+    this.#all = button('Deliver all', () => `${to} deliver ${this.#bytes}`);
+    this.#buttons = [button(`Deliver a frame to ${to}`, () => `${to} arrive`), button('Deliver a byte', () => `${to} deliver 1`), this.#all];
+    this.#chips.setAttribute('aria-label', `Frames on their way from ${from} to ${to}`);
+    this.element = element('div', { className: 'lane' }, this.#title, this.#chips, this.#more, element('div', { className: 'row', role: 'group', 'aria-label': `To ${to}` }, ...this.#buttons));
+  }
+
+  show({ version, bytes, delivered, frames }) {
+    this.#bytes = bytes - delivered;
+    const words = `${this.#from} to ${this.#to}, version ${version === 2 ? 'Two' : 'One'}: ${bytesIn(bytes)} put, of which ${delivered} have come.`;
+    say(this.#title, frames.length === 0 ? `${words} Nothing is on the wire.` : words);
+    fill(this.#chips, Math.min(frames.length, SHOWN), () => element('li', { className: 'chip' }), (chip, at) => this.#showChip(chip, frames[at], delivered));
+    say(this.#more, frames.length > SHOWN ? `and ${frames.length - SHOWN} frames more` : '');
+    say(this.#all, `Deliver all (${bytesIn(this.#bytes)})`);
+    this.#buttons.forEach(it => (it.disabled = this.#bytes === 0));
+  }
+
+  #showChip(chip, { offset, end, line }, delivered) {
+    const { channel, words } = frameInWords(line);
+    const part = delivered > offset ? `, ${delivered - offset} of them have come` : '';
+    const text = `${words} · ${bytesIn(end - offset)}${part}`;
+    chip.className = channel === null ? 'chip plain' : `chip c${channel}`;
+    const disc = channel === null ? [] : [element('span', { className: 'disc', 'aria-label': `channel ${channel}`, role: 'img' }, String(channel)), ' '];
+    chip.replaceChildren(...disc, text);
+    chip.title = `bytes ${offset} to ${end - 1} of the stream of ${this.#from}`;
+  }
+}
+
+export class Wire {
+  #lanes;
+
+  constructor(at, append) {
+    this.#lanes = { A: new Lane('A', append), B: new Lane('B', append) };
+    at.append(this.#lanes.A.element, this.#lanes.B.element);
+  }
+
+  show({ streams }) {
+    this.#lanes.A.show(streams.A);
+    this.#lanes.B.show(streams.B);
+  }
+}

@@ -1,0 +1,77 @@
+// A tab of a browser without a window, with a page in it, a size and a setting of light or dark.
+import { writeFile } from 'node:fs/promises';
+import { Chromium } from '../../js/tests/chromium.js';
+
+export class Tab {
+  #browser;
+  #target;
+  #session;
+
+  static async open(browser, url, { width = 1280, height = 900, dark = false } = {}) {
+    const { targetId } = await browser.ask('Target.createTarget', { url: 'about:blank' });
+    const { sessionId } = await browser.ask('Target.attachToTarget', { targetId, flatten: true });
+    const tab = new Tab(browser, targetId, sessionId);
+    await tab.ask('Page.enable');
+    await tab.ask('Emulation.setDeviceMetricsOverride', { width, height, deviceScaleFactor: 1, mobile: width < 600 });
+    await tab.ask('Emulation.setEmulatedMedia', { features: [{ name: 'prefers-color-scheme', value: dark ? 'dark' : 'light' }] });
+    await tab.go(url);
+    return tab;
+  }
+
+  constructor(browser, target, session) {
+    [this.#browser, this.#target, this.#session] = [browser, target, session];
+  }
+
+  close() {
+    return this.#browser.ask('Target.closeTarget', { targetId: this.#target });
+  }
+
+  ask(method, params = {}) {
+    return this.#browser.ask(method, params, this.#session);
+  }
+
+  async go(url) {
+    const loaded = this.#browser.told('Page.loadEventFired', this.#session);
+    await this.ask('Page.navigate', { url });
+    await loaded;
+    await this.until(() => document.getElementById('tour-title').textContent !== '' || document.getElementById('tour').hidden || !document.getElementById('failure').hidden);
+  }
+
+  /** What a function makes of these words in the page. */
+  async run(run, ...words) {
+    const expression = `(${run})(...${JSON.stringify(words)})`;
+    const { result, exceptionDetails } = await this.ask('Runtime.evaluate', { expression, awaitPromise: true, returnByValue: true, userGesture: true });
+    if (exceptionDetails) {
+      throw new Error(exceptionDetails.exception?.description ?? exceptionDetails.text);
+    }
+    return result.value;
+  }
+
+  /** The function answers something true in the page, some time within ten seconds. */
+  async until(run, ...words) {
+    for (let left = 400; left > 0; left -= 1) {
+      if (await this.run(run, ...words)) {
+        return;
+      }
+      await new Promise(resolve => setTimeout(resolve, 25));
+    }
+    throw new Error(`it did not come about: ${run}`);
+  }
+
+  /** A key is pressed, as on a keyboard. */
+  async press(key, { shift = false } = {}) {
+    const codes = { Tab: 9, Enter: 13, ' ': 32, ArrowLeft: 37, ArrowRight: 39, Home: 36, End: 35 };
+    const text = { Enter: '\r', ' ': ' ' }[key];
+    const it = { key, code: key === ' ' ? 'Space' : key, windowsVirtualKeyCode: codes[key], modifiers: shift ? 8 : 0 };
+    await this.ask('Input.dispatchKeyEvent', { type: text === undefined ? 'rawKeyDown' : 'keyDown', text, ...it });
+    await this.ask('Input.dispatchKeyEvent', { type: 'keyUp', ...it });
+  }
+
+  /** A picture of the whole page goes to a file. */
+  async shoot(file) {
+    const { data } = await this.ask('Page.captureScreenshot', { format: 'png', captureBeyondViewport: true });
+    await writeFile(file, Buffer.from(data, 'base64'));
+  }
+}
+
+export const start = () => Chromium.start();

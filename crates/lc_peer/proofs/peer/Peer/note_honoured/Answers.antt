@@ -1,0 +1,14 @@
+use Rattle.std.proofs.Common.{◌∙◌, refl, arith}
+use Rattle.std.proofs.lemmas.Grind.{common_steps}
+use Rattle.std.proofs.Math.Seq.{map-set_same}
+use Rattle.lc_peer.specs.PeerFields.{ring_of}
+use Rattle.lc_peer.proofs.peer.Peer.note_honoured.Goals as goal
+
+pub invariant_of-self : goal.invariant_of-self
+invariant_of-self c = record {
+  places = grind (arith, common_steps);
+  versions = grind (arith, common_steps);
+  rings = map-set_same ring_of c.self.inside.channels c.index-at.result _ c.index-self-at.result (refl) ∙ c.self.invariant.rings;
+  slots = grind (arith, common_steps);
+  each = grind (arith, common_steps);
+}

@@ -1,0 +1,16 @@
+use Rattle.std.proofs.Common.{get_or, ap, ◌∙◌, arith}
+use Rattle.std.proofs.lemmas.Grind.{common_steps}
+use Rattle.std.proofs.Math.Seq.{map-set_same}
+use Rattle.lc_peer.specs.PeerFields.{ring_of}
+use Rattle.lc_peer.proofs.Rings.{ring_put}
+use Rattle.lc_frame.specs.FrameRef.{frame_of}
+use Rattle.lc_peer.proofs.peer.Peer.place.Goals as goal
+
+pub invariant_of-self : goal.invariant_of-self
+invariant_of-self c = record {
+  places = grind (arith, common_steps);
+  versions = grind (arith, common_steps);
+  rings = map-set_same ring_of c.self.inside.channels c.index-at.result _ c.index-self-at.result (ap ring_of c.put.ensures ∙ ring_put (frame_of c.view.result) (get_or c.self.inside.channels c.index-at.result c.index-self-at.result)) ∙ c.self.invariant.rings;
+  slots = grind (arith, common_steps);
+  each = grind (arith, common_steps);
+}

@@ -1,0 +1,247 @@
+//! The bytes of a stream on their way to a sink whose rings have known sizes.
+ghost use Rattle.std.specs.Prelude.{◌≡◌, ◌<◌, ℕ, List, [], None, All, IfOk, IfSome, IsSome};
+ghost use Rattle.lc_frame.specs.Stored.{nothing_stored, IsUndecided, IsSettled};
+ghost use Rattle.lc_frame.specs.Fill.{FilledAs};
+ghost use Rattle.lc_peer.specs.Deliveries.{DeliversTo};
+ghost use Rattle.lc_peer.specs.Intake.{IntakeEnds, GivesUp};
+ghost use Rattle.lc_peer.specs.Longer.{FitsGreatest, KeepsFew};
+ghost use Rattle.lc_peer.specs.Skips.{stop_by, Goes};
+ghost use Rattle.lc_peer.specs.RingIntake.{IsSkip, KeepsWith, held_of};
+
+use crate::delivery::{Delivery, Reached, Stop, deliver_up_to};
+use crate::outgrown::{Outgrown, head_len};
+use crate::ring_sink::RingSink;
+use crate::skip::{Skip, Skipped, skip_on};
+use crate::unkept::Unkept;
+use lc_book::Violation;
+use lc_frame::{CHANNELS, Fill, Filled, FrameFault, StreamDecoder};
+use std::alloc::{AllocError, Global};
+use std::marker::Model;
+
+/// What [`Intake`](crate::Intake) is, for one sink whose rings keep their sizes. It answers the same,
+/// and of a Send that is longer than its ring it keeps the tag and the length, and no byte of the
+/// message: it counts them to their end. So it never keeps more than the greatest ring has, and the
+/// 9 bytes of the longest tag and number.
+#[derive(Debug, Drop)]
+pub struct RingIntake {
+    decoder: StreamDecoder,
+    rings: [u32; CHANNELS],
+    skip: Option<Skip>,
+    stop: Option<Stop>,
+}
+
+impl Model for RingIntake {
+    ghost use Rattle.lc_peer.specs.Intake.{IntakeState};
+    ghost use Rattle.lc_peer.specs.RingIntake.{IsRingIntake, held_with};
+
+    ghost Value = { IntakeState };
+
+    ghost view = { λ i. record { held = held_with i.decoder i.skip; stop = i.stop; rings = i.rings } };
+
+    ghost invariant = { λ i. IsRingIntake i.decoder i.rings i.skip i.stop };
+}
+
+// What a delivery did, and what is not kept of a Send, if it came to one that is longer than its ring.
+#[derive(Drop)]
+struct Went {
+    delivery: Delivery,
+    skip: Option<Skip>,
+}
+
+// Why a delivery stopped, by the violation that it met.
+fn stop_by(violation: Option<Violation>) -> Option<Stop>
+    ensures { result ≡ stop_by violation }
+{
+    match violation {
+        Some(violation) => Some(Stop::Violated(violation)),
+        None => None,
+    }
+}
+
+// Where no message is on its way that is not kept.
+fn deliver_kept<C, S: RingSink<C>>(
+    sink: &mut S,
+    context: &C,
+    decoder: &mut StreamDecoder,
+    rings: &[u32; CHANNELS],
+    piece: &[u8],
+) -> Went
+    requires rings { S.rings sink.old ≡ rings.now }
+    requires kept { KeepsFew rings.now decoder.old }
+    ensures goes { Goes S.FrameSink.arrived S.FrameSink.violated rings.now sink.old decoder.old piece.now sink.new decoder.new result.skip result.delivery }
+    ensures kept { KeepsWith rings.now result.skip decoder.new }
+{
+    let _stored = decoder.stored();
+    let Reached { delivery, outgrown } = deliver_up_to(sink, context, decoder, rings, piece);
+    match outgrown {
+        None => Went {
+            delivery,
+            skip: None,
+        },
+        Some(found) => {
+            let rest = piece.split_at(delivery.taken).1.split_at(found.behind).1;
+            let Skipped {
+                skip,
+                count,
+                violation,
+            } = skip_on(sink, context, begun(found), rest);
+            Went {
+                delivery: Delivery {
+                    taken: delivery.taken + (found.behind + count),
+                    frames: delivery.frames,
+                    stop: stop_by(violation),
+                },
+                skip: Some(skip),
+            }
+        }
+    }
+}
+
+// A Send of whose message nothing came yet.
+fn begun(found: Outgrown) -> Skip
+    ensures fields { (result.version ≡ found.version) × (result.channel ≡ found.channel) × (result.len ≡ found.len) × (result.missing ≡ found.len) }
+    ensures body { result.body.bytes ≡ [] }
+{
+    Skip {
+        version: found.version,
+        channel: found.channel,
+        len: found.len,
+        missing: found.len,
+        body: Unkept::none(),
+    }
+}
+
+// Where bytes of a message come that is not kept.
+fn deliver_unkept<C, S: RingSink<C>>(sink: &mut S, context: &C, skip: Skip, piece: &[u8]) -> Went
+    requires skip { IsSkip (S.rings sink.old) skip }
+    requires missing { 0 < skip.missing }
+    ensures goes { Goes S.FrameSink.arrived S.FrameSink.violated (S.rings sink.old) sink.old (held_of skip) piece.now sink.new nothing_stored result.skip result.delivery }
+    ensures some { IsSome result.skip }
+{
+    let Skipped {
+        skip,
+        count,
+        violation,
+    } = skip_on(sink, context, skip, piece);
+    Went {
+        delivery: Delivery {
+            taken: count,
+            frames: 0,
+            stop: stop_by(violation),
+        },
+        skip: Some(skip),
+    }
+}
+
+// Inside a Send that is begun, bytes of its message come to where they are held.
+fn fill_begun<R, F: Fill<R>>(decoder: &mut StreamDecoder, filler: &F, source: &mut R) -> Filled
+    ensures held { FilledAs F.fills result source.old source.new decoder.old decoder.new }
+    ensures kept { (rings : List ℕ) → KeepsFew rings decoder.old → KeepsFew rings decoder.new }
+    ensures bytes { All (λ b. b < 256) decoder.new.bytes }
+{
+    let stored = decoder.stored();
+    match decoder.version() {
+        Some(version) if stored >= head_len(version) => {
+            let filled = decoder.fill(filler, source);
+            let _stored = decoder.stored();
+            filled
+        }
+        _ => Filled::Few,
+    }
+}
+
+impl RingIntake {
+    /// The start of a stream, to a sink whose rings have so many bytes. It takes the memory for
+    /// `MAX_FRAME` bytes here and none later; the error is want of it.
+    pub fn new(alloc: Global, rings: [u32; CHANNELS]) -> Result<RingIntake, AllocError>
+        ensures { IfOk result (λ intake. intake ≡ record { held = nothing_stored; stop = None; rings = rings }) }
+    {
+        Ok(RingIntake {
+            decoder: StreamDecoder::new(alloc)?,
+            rings,
+            skip: None,
+            stop: None,
+        })
+    }
+
+    /// Why the stream was given up, `None` while it goes on.
+    pub fn stop(&self) -> Option<Stop>
+        ensures value { result ≡ self.now.stop }
+        ensures undecided { result ≡ None → IsUndecided self.now.held }
+        ensures bytes { All (λ b. b < 256) self.now.held.bytes }
+        ensures settled { IsSettled self.now.held }
+    {
+        let _stored = self.decoder.stored();
+        self.stop
+    }
+
+    /// How many bytes of the stream are kept in memory.
+    pub fn kept(&self) -> usize
+        ensures { FitsGreatest self.now.rings result }
+    {
+        self.decoder.stored()
+    }
+
+    /// What it means that the stream ends here, as [`Intake::end`](crate::Intake::end) has it.
+    pub fn end(&self) -> Option<Stop>
+        ensures { IntakeEnds result self.now }
+    {
+        match (self.stop, &self.skip) {
+            (Some(stop), _) => Some(stop),
+            (None, Some(_)) => Some(Stop::Fault(FrameFault::Truncated)),
+            (None, None) => match self.decoder.end() {
+                Ok(()) => None,
+                Err(fault) => Some(Stop::Fault(fault)),
+            },
+        }
+    }
+
+    /// The next bytes of the stream arrive at the sink, as [`Intake::deliver`](crate::Intake::deliver)
+    /// has it.
+    pub fn deliver<C, S: RingSink<C>>(
+        &mut self,
+        sink: &mut S,
+        context: &C,
+        piece: &[u8],
+    ) -> Delivery
+        requires rings { S.rings sink.old ≡ self.old.rings }
+        ensures given_up { IfSome self.old.stop (λ stop. GivesUp stop result × (sink.new ≡ sink.old) × (self.new ≡ self.old)) }
+        ensures delivers { self.old.stop ≡ None → DeliversTo S.FrameSink.arrived S.FrameSink.violated sink.old self.old.held piece.now sink.new self.new.held result }
+        ensures stop { self.new.stop ≡ result.stop }
+        ensures bytes { All (λ b. b < 256) piece.now }
+        ensures same { self.new.rings ≡ self.old.rings }
+        ensures rings { S.rings sink.new ≡ S.rings sink.old }
+    {
+        if let Some(stop) = self.stop {
+            return Delivery {
+                taken: 0,
+                frames: 0,
+                stop: Some(stop),
+            };
+        }
+        let went = match self.skip.take() {
+            Some(skip) => deliver_unkept(sink, context, skip, piece),
+            None => deliver_kept(sink, context, &mut self.decoder, &self.rings, piece),
+        };
+        let Went { delivery, skip } = went;
+        self.skip = skip;
+        self.stop = delivery.stop;
+        delivery
+    }
+
+    /// Inside a Send that is begun and fits its ring, has the memory where its message is to be held
+    /// filled with the next bytes of the stream, as [`Intake::fill`](crate::Intake::fill) does; else it
+    /// does nothing.
+    #[inline]
+    pub fn fill<R, F: Fill<R>>(&mut self, filler: &F, source: &mut R) -> Filled
+        ensures held { FilledAs F.fills result source.old source.new self.old.held self.new.held }
+        ensures bytes { All (λ b. b < 256) self.new.held.bytes }
+        ensures stop { self.new.stop ≡ self.old.stop }
+        ensures rings { self.new.rings ≡ self.old.rings }
+    {
+        match &self.skip {
+            Some(_) => Filled::Few,
+            None => fill_begun(&mut self.decoder, filler, source),
+        }
+    }
+}
