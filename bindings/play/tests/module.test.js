@@ -91,6 +91,15 @@ test('random streams, whole, cut and broken', () => {
   }
 });
 
+test('a long stream', () => {
+  const bytes = Uint8Array.from({ length: 100000 }, (_, at) => [0x21, 0, 0, 0, 5][at % 5]);
+  const { status, shown } = library.frames(bytes);
+  assert.deepEqual([status, shown.length > 1 << 16], [0, true]);
+  assert.equal(shown, programs.frames(bytes).shown);
+  assert.equal(library.places(bytes).shown, framesOf(bytes).lines.join(''));
+  assert.deepEqual(library.stream(bytes), programs.stream(bytes));
+});
+
 test('a megabyte of garbage', () => {
   const roll = dice(3);
   const garbage = Uint8Array.from({ length: 1 << 20 }, () => roll(256));

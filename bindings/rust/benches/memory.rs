@@ -20,7 +20,12 @@ const SLOTS: u32 = 64;
 const MESSAGE: usize = 1_024;
 
 const SIDES: [&str; 2] = ["peer", "mux"];
-const RINGS: [(&str, u32); 3] = [("64k", 65_536), ("256k", 262_144), ("16m", 1 << 24)];
+const RINGS: [(&str, u32); 4] = [
+    ("1k", 1_024),
+    ("64k", 65_536),
+    ("256k", 262_144),
+    ("16m", 1 << 24),
+];
 const STATES: [&str; 3] = ["idle", "full", "hostile"];
 
 /// A frame of 1,048,576 bytes that begins after a greeting, and does not end.

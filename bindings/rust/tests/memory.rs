@@ -1,6 +1,9 @@
 //! How much of the machine's memory a peer takes up that has written and read.
-use lcmux::{Channel::Data, Config, Peer, Take, Version};
+use lcmux::{Channel::Data, Config, Peer, Stop, Take, Version, Violation};
 use std::fs;
+
+/// Bytes of a hostile message. They are not on the heap, where what they leave would be a later peer's.
+const PIECE: [u8; 1_024] = [7; 1_024];
 
 /// The bytes of this process that are in memory, by all lines `Rss:  4 kB`.
 fn resident() -> usize {
@@ -48,9 +51,21 @@ fn carry(peers: &mut [Peer; 2]) {
     }
 }
 
+/// A peer to which all came of a message of 1 MiB, which its rings of this size can't hold, but for its last byte.
+fn besieged(ring: u32) -> Peer {
+    let mut peer = Peer::new(&Config::new([ring; 7], 4)).unwrap();
+    let header = peer.deliver(b"LCM\x02\x11\x00\x10\x00\x00");
+    assert_eq!((header.taken, header.stop), (9, None));
+    for _ in 1..(1 << 20) / PIECE.len() {
+        assert_eq!(peer.deliver(&PIECE).stop, None);
+    }
+    assert_eq!(peer.deliver(&PIECE[1..]).stop, None);
+    peer
+}
+
 /// One test, since what runs beside it would be counted too.
 #[test]
-fn a_peer_takes_up_less_than_80_kib_and_more_after_a_long_message() {
+fn what_a_peer_takes_up_with_short_long_and_hostile_messages() {
     const PAIRS: usize = 50;
     let _first = used(8);
     let before = resident();
@@ -62,4 +77,19 @@ fn a_peer_takes_up_less_than_80_kib_and_more_after_a_long_message() {
     let long = used(1 << 20);
     assert!(resident() - before > 4 << 20);
     drop((short, long));
+
+    for ring in [1_024, 65_536] {
+        drop(besieged(ring));
+        let before = resident();
+        let peers: Vec<_> = (0..PAIRS).map(|_| besieged(ring)).collect();
+        let each = (resident() - before) / PAIRS;
+        let most = 72 * 1024 + ring as usize;
+        assert!((4_096..most).contains(&each), "{each} bytes");
+        for mut peer in peers {
+            assert_eq!(
+                peer.deliver(&PIECE[..1]).stop,
+                Some(Stop::Violated(Violation::NotGuaranteed))
+            );
+        }
+    }
 }

@@ -8,10 +8,10 @@ use Rattle.lc_peer.specs.Sinks.{Arrives, Violates}
 use Rattle.lc_peer.specs.Deliveries.{DeliversTo}
 use Rattle.lc_peer.specs.Intake.{IntakeState, GivesUp}
 use Rattle.lc_peer.proofs.Deliveries.{delivers}
-use Rattle.lc_c.specs.declared.c_peer.CPeer.{CPeer}
+use Rattle.lc_c.specs.Side.{Side}
 use Rattle.lc_c.specs.Streams.{DeliversAt}
 
-pub delivered : (stop : Option Stop) (piece : List ℕ) (old : CPeer) (p : PeerState) (i : IntakeState) (d : Delivery)
+pub delivered : (stop : Option Stop) (piece : List ℕ) (old : Side) (p : PeerState) (i : IntakeState) (d : Delivery)
     → IfSome stop (λ s. GivesUp s d × (p ≡ old.peer) × (i ≡ old.intake))
     → (stop ≡ None → DeliversTo Arrives Violates old.peer old.intake.held piece p i.held d)
     → i.stop ≡ d.stop

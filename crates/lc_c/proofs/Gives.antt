@@ -9,16 +9,16 @@ use Rattle.lc_frame.specs.declared.frame.Frame.{Frame}
 use Rattle.lc_frame.specs.Encoding.{encoding}
 use Rattle.lc_peer.specs.Peer.{PeerState}
 use Rattle.lc_peer.specs.Calls.{without_next}
-use Rattle.lc_c.specs.declared.c_peer.CPeer.{CPeer}
+use Rattle.lc_c.specs.Side.{Side}
 use Rattle.lc_c.specs.Pending.{PendingState}
 use Rattle.lc_c.specs.Streams.{text, GivesOut, Begins}
 use Rattle.lc_c.proofs.Waiting.{some_bytes, first_of, length-split, length-take-more}
 
-length-text : (s : CPeer) → length (text s) ≡ length s.pending.bytes + length (flat_map (encoding s.peer.version) s.peer.waiting)
+length-text : (s : Side) → length (text s) ≡ length s.pending.bytes + length (flat_map (encoding s.peer.version) s.peer.waiting)
 length-text s = length-append s.pending.bytes (flat_map (encoding s.peer.version) s.peer.waiting)
 
 -- the next frame is begun
-pub begins : (old : CPeer) (f : Frame) (next : PeerState) (begun : PendingState) → length old.pending.bytes ≤ 0 → Some f ≡ slice_get old.peer.waiting 0 → next ≡ without_next old.peer → begun.bytes ≡ encoding old.peer.version f → Begins old (record { peer = next; intake = old.intake; pending = begun })
+pub begins : (old : Side) (f : Frame) (next : PeerState) (begun : PendingState) → length old.pending.bytes ≤ 0 → Some f ≡ slice_get old.peer.waiting 0 → next ≡ without_next old.peer → begun.bytes ≡ encoding old.peer.version f → Begins old (record { peer = next; intake = old.intake; pending = begun })
 begins old f next begun none first gone is =
     let nothing : old.pending.bytes ≡ [] = nil_from_length old.pending.bytes (omega (arith, none)) in
     let there : flat_map (encoding old.peer.version) old.peer.waiting ≡ encoding old.peer.version f ++ flat_map (encoding old.peer.version) (drop 1 old.peer.waiting) = ap (λ (ws : List Frame). flat_map (encoding old.peer.version) ws) (first_of old.peer.waiting f first) ∙ flat_map-cons (encoding old.peer.version) f (drop 1 old.peer.waiting) in
@@ -39,14 +39,14 @@ begins old f next begun none first gone is =
     }
 
 -- the bytes of the next frame, and then those behind it, where nothing is left of one before it
-next_first : (old : CPeer) (f : Frame) → old.pending.bytes ≡ [] → Some f ≡ slice_get old.peer.waiting 0 → text old ≡ encoding old.peer.version f ++ flat_map (encoding old.peer.version) (drop 1 old.peer.waiting)
+next_first : (old : Side) (f : Frame) → old.pending.bytes ≡ [] → Some f ≡ slice_get old.peer.waiting 0 → text old ≡ encoding old.peer.version f ++ flat_map (encoding old.peer.version) (drop 1 old.peer.waiting)
 next_first old f nothing first =
     ap (λ (x : List ℕ). x ++ flat_map (encoding old.peer.version) old.peer.waiting) nothing
     ∙ ap (λ (ws : List Frame). flat_map (encoding old.peer.version) ws) (first_of old.peer.waiting f first)
     ∙ flat_map-cons (encoding old.peer.version) f (drop 1 old.peer.waiting)
 
 -- the next frame leaves the peer whole
-pub gives_whole : (n : ℕ) (old : CPeer) (f : Frame) (next : PeerState) → length old.pending.bytes ≤ 0 → Some f ≡ slice_get old.peer.waiting 0 → next ≡ without_next old.peer → n ≡ length (encoding old.peer.version f) → GivesOut n old (record { peer = next; intake = old.intake; pending = old.pending })
+pub gives_whole : (n : ℕ) (old : Side) (f : Frame) (next : PeerState) → length old.pending.bytes ≤ 0 → Some f ≡ slice_get old.peer.waiting 0 → next ≡ without_next old.peer → n ≡ length (encoding old.peer.version f) → GivesOut n old (record { peer = next; intake = old.intake; pending = old.pending })
 gives_whole n old f next none first gone is =
     let nothing : old.pending.bytes ≡ [] = nil_from_length old.pending.bytes (omega (arith, none)) in
     let behind : List ℕ = flat_map (encoding old.peer.version) (drop 1 old.peer.waiting) in
@@ -67,7 +67,7 @@ gives_whole n old f next none first gone is =
     }
 
 -- where nothing was given, there is nothing to give
-pub none_left : (n room : ℕ) (a b c : CPeer) → Begins a b → n ≡ min (length b.pending.bytes) room → 0 < room → GivesOut n a c → n ≡ 0 → text c ≡ []
+pub none_left : (n room : ℕ) (a b c : Side) → Begins a b → n ≡ min (length b.pending.bytes) room → 0 < room → GivesOut n a c → n ≡ 0 → text c ≡ []
 none_left n room a b c begun count some gives zero =
     let nothing : b.pending.bytes ≡ [] = nil_from_length b.pending.bytes (omega (arith, count, some, zero)) in
     gives.rest ∙ ap (λ (i : ℕ). drop i (text a)) zero ∙ sym begun.same ∙ begun.ready nothing
@@ -75,16 +75,16 @@ none_left n room a b c begun count some gives zero =
 gone_then : (n m : ℕ) (p q r : PeerState) → q ≡ record p { waiting = drop n p.waiting } → r ≡ record q { waiting = drop m q.waiting } → r ≡ record p { waiting = drop (n + m) p.waiting }
 gone_then n m p q r e f = f ∙ ap (λ (s : PeerState). record s { waiting = drop m s.waiting }) e ∙ ap (λ (ws : List Frame). record p { waiting = ws }) (drop-drop m n p.waiting)
 
-left_after : {n : ℕ} {a b : CPeer} → GivesOut n a b → length (text b) ≡ length (text a) - n
+left_after : {n : ℕ} {a b : Side} → GivesOut n a b → length (text b) ≡ length (text a) - n
 left_after {n} {a} {b} g = ap length g.rest ∙ length-drop n (text a)
 
 -- the frames that left first have as many bytes as were given beyond those that were pending
-gone_bytes : {n : ℕ} {a b : CPeer} (g : GivesOut n a b) → length a.pending.bytes + length (flat_map (encoding a.peer.version) (take g.gone a.peer.waiting)) ≡ n + length b.pending.bytes
+gone_bytes : {n : ℕ} {a b : Side} (g : GivesOut n a b) → length a.pending.bytes + length (flat_map (encoding a.peer.version) (take g.gone a.peer.waiting)) ≡ n + length b.pending.bytes
 gone_bytes {n} {a} {b} g =
     let behind : length (flat_map (encoding b.peer.version) b.peer.waiting) ≡ length (flat_map (encoding a.peer.version) (drop g.gone a.peer.waiting)) = ap (λ (p : PeerState). length (flat_map (encoding p.version) p.waiting)) g.peer in
     omega (arith, left_after g, g.within, length-text a, length-text b, length-split a.peer.version g.gone a.peer.waiting, behind)
 
-begun_then : {n m : ℕ} {a b c : CPeer} (s : GivesOut n a b) (t : GivesOut m b c) (k : ℕ) → k < s.gone + t.gone → length (a.pending.bytes ++ flat_map (encoding a.peer.version) (take k a.peer.waiting)) < n + m
+begun_then : {n m : ℕ} {a b c : Side} (s : GivesOut n a b) (t : GivesOut m b c) (k : ℕ) → k < s.gone + t.gone → length (a.pending.bytes ++ flat_map (encoding a.peer.version) (take k a.peer.waiting)) < n + m
 begun_then {n} {m} {a} {b} {c} s t k h =
     elim (cases_lt k s.gone) [
       | inl first ↦ omega (arith, s.begun k first)
@@ -97,7 +97,7 @@ begun_then {n} {m} {a} {b} {c} s t k h =
           omega (arith, later, same, both, gone_bytes s, length-take-more a.peer.version s.gone j a.peer.waiting, length-append a.pending.bytes (flat_map (encoding a.peer.version) (take k a.peer.waiting)), length-append b.pending.bytes (flat_map (encoding b.peer.version) (take j b.peer.waiting)))
     ]
 
-pub gives_then : {n m : ℕ} {a b c : CPeer} → GivesOut n a b → GivesOut m b c → GivesOut (n + m) a c
+pub gives_then : {n m : ℕ} {a b c : Side} → GivesOut n a b → GivesOut m b c → GivesOut (n + m) a c
 gives_then {n} {m} {a} {b} {c} s t = record {
   within = omega (arith, s.within, t.within, left_after s);
   rest = t.rest ∙ ap (λ (x : List ℕ). drop m x) s.rest ∙ drop-drop m n (text a);
@@ -108,7 +108,7 @@ gives_then {n} {m} {a} {b} {c} s t = record {
 }
 
 -- more bytes are written after those that were
-pub written_then : (n m : ℕ) {a b : CPeer} (whole out front back new : List ℕ) → GivesOut n a b → out ≡ take n (text a) ++ drop n whole → front ≡ take n out → back ≡ drop n out → new ≡ take m (text b) ++ drop m back → front ++ new ≡ take (n + m) (text a) ++ drop (n + m) whole
+pub written_then : (n m : ℕ) {a b : Side} (whole out front back new : List ℕ) → GivesOut n a b → out ≡ take n (text a) ++ drop n whole → front ≡ take n out → back ≡ drop n out → new ≡ take m (text b) ++ drop m back → front ++ new ≡ take (n + m) (text a) ++ drop (n + m) whole
 written_then n m {a} {b} whole out front back new g is before behind more =
     let long : length (take n (text a)) ≡ n = omega (arith, length-take n (text a), g.within) in
     let first : front ≡ take n (text a) = before ∙ ap (λ (x : List ℕ). take n x) is ∙ take_at (take n (text a)) (drop n whole) n long in

@@ -10,7 +10,7 @@ use Rattle.lc_peer.specs.Questions.{send_refusal, ready_on}
 use Rattle.lc_c.specs.declared.answer.LcmuxAnswer.{LcmuxAnswer}
 use Rattle.lc_c.specs.declared.asking.LcmuxChannelReady.{LcmuxChannelReady}
 use Rattle.lc_c.specs.declared.asking.LcmuxReady.{LcmuxReady}
-use Rattle.lc_c.specs.declared.c_peer.CPeer.{CPeer}
+use Rattle.lc_c.specs.Side.{Side}
 use Rattle.lc_c.specs.Answers.{done, only, no_peer, never, refusal_answer, answer_of}
 use Rattle.lc_c.specs.Balances.{flag}
 use Rattle.lc_c.specs.Reach.{answered}
@@ -20,7 +20,7 @@ abbrev pub told : ℕ → LcmuxAnswer
 told number = record { code = done; number = number }
 
 -- what a send of so many bytes would answer, whatever they are
-abbrev pub would_send_answer : Option CPeer → Option Channel → ℕ → LcmuxAnswer
+abbrev pub would_send_answer : Option Side → Option Channel → ℕ → LcmuxAnswer
 would_send_answer held channel len = answered held channel (λ side c. answer_of (send_refusal side.peer c len))
 
 -- what a message needs: the number of code 4 is here how many guarantees are missing
@@ -31,12 +31,12 @@ needs_shown Slot = refusal_answer QueueFull
 needs_shown Never = only never
 
 -- how many frames more may wait
-abbrev pub slots_answer : Option CPeer → LcmuxAnswer
+abbrev pub slots_answer : Option Side → LcmuxAnswer
 slots_answer None = only no_peer
 slots_answer (Some side) = told (side.peer.slots - length side.peer.waiting)
 
 -- 1 where anything is pending or waits, else 0
-abbrev pub wants_answer : Option CPeer → LcmuxAnswer
+abbrev pub wants_answer : Option Side → LcmuxAnswer
 wants_answer None = only no_peer
 wants_answer (Some side) = told (flag (nat_lt 0 (length side.pending.bytes + length side.peer.waiting)))
 
@@ -45,6 +45,6 @@ abbrev pub ready_shown : Ready → LcmuxChannelReady
 ready_shown r = record { message = flag r.message; ended = flag r.ended; plead = flag r.plead; finished = flag r.finished; finished_there = flag r.finished_there }
 
 -- what there is to do on these channels behind a handle; an empty one says nothing
-abbrev pub ReadyBehind : List Channel → Option CPeer → LcmuxReady → LcmuxReady → LcmuxAnswer → Type 0
+abbrev pub ReadyBehind : List Channel → Option Side → LcmuxReady → LcmuxReady → LcmuxAnswer → Type 0
 ReadyBehind channels None old new answer = (new ≡ old) × (answer ≡ only no_peer)
 ReadyBehind channels (Some side) old new answer = (new.channels ≡ map ready_shown (map (ready_on side.peer) channels)) × (answer ≡ only done)

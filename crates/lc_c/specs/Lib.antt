@@ -1,4 +1,5 @@
 pub mod Pending
+pub mod Side
 pub mod Answers
 pub mod Handle
 pub mod Reach

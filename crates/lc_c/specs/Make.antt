@@ -1,5 +1,5 @@
 -- What makes a peer behind a handle, and why there is none. That the format has two versions is this project's own, and so are all bounds.
-use Rattle.std.specs.Prelude.{◌≡◌, ◌==◌, ◌⊎◌, Bool, true, false, ℕ, if◌then◌else◌, [], Option, Some, None}
+use Rattle.std.specs.Prelude.{◌≡◌, ◌==◌, ◌⊎◌, Bool, true, false, ℕ, if◌then◌else◌, Option, Some, None}
 use Rattle.std.specs.Option.{option_map}
 use Rattle.lc_frame.specs.declared.version.Version.{Version}
 use Rattle.lc_frame.specs.declared.version.Version.TheVariants.{One, Two}
@@ -13,7 +13,7 @@ use Rattle.lc_peer.specs.declared.config.PeerFault.TheVariants.{BadCapacity, Bad
 use Rattle.lc_peer.specs.Config.{config_fault, new_peer}
 use Rattle.lc_c.specs.declared.answer.LcmuxAnswer.{LcmuxAnswer}
 use Rattle.lc_c.specs.declared.make.LcmuxConfig.{LcmuxConfig}
-use Rattle.lc_c.specs.declared.c_peer.CPeer.{CPeer}
+use Rattle.lc_c.specs.Side.{Side}
 use Rattle.lc_c.specs.Answers.{done, only, has_peer, bad_version, bad_capacity, bad_slots, refusal_answer}
 
 -- why there is no peer; the number that goes with a bad capacity is its channel's
@@ -31,8 +31,8 @@ abbrev pub config_in : LcmuxConfig → Version → Config
 config_in config version = record { version = version; capacities = config.capacities; slots = config.slots }
 
 -- nothing has happened, and no byte came or went: the greeting of the stream is to go out
-abbrev pub new_c_peer : Config → CPeer
-new_c_peer config = record { peer = new_peer config; intake = record { held = nothing_stored; stop = None; rings = [] }; pending = record { bytes = greeting config.version } }
+abbrev pub new_c_peer : Config → Side
+new_c_peer config = record { peer = new_peer config; intake = record { held = nothing_stored; stop = None; rings = config.capacities }; pending = record { bytes = greeting config.version } }
 
 -- what the making of a peer answers, by what is wrong with its configuration
 abbrev pub fault_or_done : Option PeerFault → LcmuxAnswer
@@ -45,15 +45,15 @@ bounds_answer None = only bad_version
 bounds_answer (Some config) = fault_or_done (config_fault config)
 
 -- what the making of a peer answers where there is memory: a full handle comes first, then the version, then the bounds
-abbrev pub make_answer : Option CPeer → LcmuxConfig → LcmuxAnswer
+abbrev pub make_answer : Option Side → LcmuxConfig → LcmuxAnswer
 make_answer (Some side) config = only has_peer
 make_answer None config = bounds_answer (option_map (config_in config) (version_at config.version))
 
 -- what the making of a peer answers: that, or want of memory where nothing else is wrong
-abbrev pub MakeAnswers : Option CPeer → LcmuxConfig → LcmuxAnswer → Type 0
+abbrev pub MakeAnswers : Option Side → LcmuxConfig → LcmuxAnswer → Type 0
 MakeAnswers held config answer = (answer ≡ make_answer held config) ⊎ ((make_answer held config ≡ only done) × (answer ≡ fault_answer OutOfMemory))
 
 -- what stands behind the handle then: a new peer where it was made, else what stood there
-abbrev pub made : Bool → Option CPeer → LcmuxConfig → Option CPeer
+abbrev pub made : Bool → Option Side → LcmuxConfig → Option Side
 made true held config = option_map (λ version. new_c_peer (config_in config version)) (version_at config.version)
 made false held config = held

@@ -11,15 +11,15 @@ use Rattle.lc_peer.specs.Deliveries.{Delivers}
 use Rattle.lc_peer.specs.Intake.{IntakeState, GivesUp, IntakeEnds}
 use Rattle.lc_c.specs.declared.answer.LcmuxAnswer.{LcmuxAnswer}
 use Rattle.lc_c.specs.declared.wire.LcmuxDelivery.{LcmuxDelivery}
-use Rattle.lc_c.specs.declared.c_peer.CPeer.{CPeer}
+use Rattle.lc_c.specs.Side.{Side}
 use Rattle.lc_c.specs.Answers.{done, only, no_peer}
 
 -- the bytes that are to go out: the rest of the greeting or of the frame that was begun, and then those of the frames that wait, in the peer's version
-abbrev pub text : CPeer → List ℕ
+abbrev pub text : Side → List ℕ
 text side = side.pending.bytes ++ flat_map (encoding side.peer.version) side.peer.waiting
 
 -- a side gave out the first so many of them; a frame leaves the peer with its first byte, and nothing else changes
-pub record GivesOut (n : ℕ) (old new : CPeer) : Type 0 where
+pub record GivesOut (n : ℕ) (old new : Side) : Type 0 where
   pub within : n ≤ length (text old)
   pub rest : text new ≡ drop n (text old)
   pub gone : ℕ
@@ -28,7 +28,7 @@ pub record GivesOut (n : ℕ) (old new : CPeer) : Type 0 where
   pub intake : new.intake ≡ old.intake
 
 -- where nothing is left of a greeting or a frame, the next one is begun, if one waits
-pub record Begins (old new : CPeer) : Type 0 where
+pub record Begins (old new : Side) : Type 0 where
   pub same : text new ≡ text old
   pub gone : ℕ
   pub peer : new.peer ≡ record old.peer { waiting = drop gone old.peer.waiting }
@@ -39,18 +39,18 @@ pub record Begins (old new : CPeer) : Type 0 where
   pub intake : new.intake ≡ old.intake
 
 -- a piece is delivered to a side whose stream was not given up
-pub record Brings (piece : List ℕ) (old new : CPeer) (d : Delivery) : Type 0 where
+pub record Brings (piece : List ℕ) (old new : Side) (d : Delivery) : Type 0 where
   pub delivers : Delivers old.peer old.intake.held piece new.peer new.intake.held d
   pub stop : new.intake.stop ≡ d.stop
   pub pending : new.pending ≡ old.pending
 
 -- where its stream was given up nothing is taken, and the answer is the same for good
-pub record StaysStopped (stop : Stop) (old new : CPeer) (d : Delivery) : Type 0 where
+pub record StaysStopped (stop : Stop) (old new : Side) (d : Delivery) : Type 0 where
   pub delivery : GivesUp stop d
   pub same : new ≡ old
 
 -- a piece is delivered to a side, unless its stream was given up
-abbrev pub DeliversAt : Option Stop → List ℕ → CPeer → CPeer → Delivery → Type 0
+abbrev pub DeliversAt : Option Stop → List ℕ → Side → Side → Delivery → Type 0
 DeliversAt None piece old new d = Brings piece old new d
 DeliversAt (Some stop) piece old new d = StaysStopped stop old new d
 
@@ -65,26 +65,26 @@ abbrev pub shown : Delivery → LcmuxDelivery
 shown d = record { code = stop_code d.stop; taken = d.taken; frames = d.frames }
 
 -- a piece is delivered behind a handle that has a side, which answers this
-pub record DeliversTo (side : CPeer) (piece : List ℕ) (after : Option CPeer) (answer : LcmuxDelivery) : Type 0 where
-  pub new : CPeer
+pub record DeliversTo (side : Side) (piece : List ℕ) (after : Option Side) (answer : LcmuxDelivery) : Type 0 where
+  pub new : Side
   pub stands : after ≡ Some new
   pub delivery : Delivery
   pub is : answer ≡ shown delivery
   pub delivers : DeliversAt side.intake.stop piece side new delivery
 
 -- an empty handle takes nothing of a piece, and says so
-pub record DeliversNowhere (after : Option CPeer) (answer : LcmuxDelivery) : Type 0 where
+pub record DeliversNowhere (after : Option Side) (answer : LcmuxDelivery) : Type 0 where
   pub is : answer ≡ record { code = no_peer; taken = 0; frames = 0 }
   pub stays : after ≡ None
 
 -- a piece is delivered behind a handle
-abbrev pub DeliversBehind : Option CPeer → List ℕ → Option CPeer → LcmuxDelivery → Type 0
+abbrev pub DeliversBehind : Option Side → List ℕ → Option Side → LcmuxDelivery → Type 0
 DeliversBehind None piece after answer = DeliversNowhere after answer
 DeliversBehind (Some side) piece after answer = DeliversTo side piece after answer
 
 -- what goes out of a side behind a handle: the number is how many bytes were written, as many as there are and have room
-pub record WritesOut (side : CPeer) (buffer : List ℕ) (after : Option CPeer) (buffer' : List ℕ) (answer : LcmuxAnswer) : Type 0 where
-  pub new : CPeer
+pub record WritesOut (side : Side) (buffer : List ℕ) (after : Option Side) (buffer' : List ℕ) (answer : LcmuxAnswer) : Type 0 where
+  pub new : Side
   pub stands : after ≡ Some new
   pub code : answer.code ≡ done
   pub count : answer.number ≡ min (length (text side)) (length buffer)
@@ -92,18 +92,18 @@ pub record WritesOut (side : CPeer) (buffer : List ℕ) (after : Option CPeer) (
   pub gives : GivesOut answer.number side new
 
 -- an empty handle gives out nothing, and says so
-pub record WritesNothing (buffer : List ℕ) (after : Option CPeer) (buffer' : List ℕ) (answer : LcmuxAnswer) : Type 0 where
+pub record WritesNothing (buffer : List ℕ) (after : Option Side) (buffer' : List ℕ) (answer : LcmuxAnswer) : Type 0 where
   pub is : answer ≡ only no_peer
   pub stays : after ≡ None
   pub same : buffer' ≡ buffer
 
 -- as many bytes go out behind a handle as there are and have room
-abbrev pub WritesBehind : Option CPeer → List ℕ → Option CPeer → List ℕ → LcmuxAnswer → Type 0
+abbrev pub WritesBehind : Option Side → List ℕ → Option Side → List ℕ → LcmuxAnswer → Type 0
 WritesBehind None buffer after buffer' answer = WritesNothing buffer after buffer' answer
 WritesBehind (Some side) buffer after buffer' answer = WritesOut side buffer after buffer' answer
 
 -- how many bytes a write would give that has room
-abbrev pub pending_answer : Option CPeer → LcmuxAnswer
+abbrev pub pending_answer : Option Side → LcmuxAnswer
 pending_answer None = only no_peer
 pending_answer (Some side) = record { code = done; number = length (text side) }
 
@@ -114,6 +114,6 @@ pub record EndsWith (intake : IntakeState) (code : ℕ) : Type 0 where
   pub is : code ≡ stop_code end
 
 -- what the end of the stream means behind a handle
-abbrev pub EndsBehind : Option CPeer → LcmuxAnswer → Type 0
+abbrev pub EndsBehind : Option Side → LcmuxAnswer → Type 0
 EndsBehind None answer = answer ≡ only no_peer
 EndsBehind (Some side) answer = EndsWith side.intake answer.code × (answer.number ≡ 0)

@@ -10,7 +10,7 @@ use Rattle.lc_peer.specs.Inbox.{take_refusal}
 use Rattle.lc_peer.specs.Peer.{PeerState, inbox}
 use Rattle.lc_peer.specs.Calls.{take_on}
 use Rattle.lc_c.specs.declared.answer.LcmuxAnswer.{LcmuxAnswer}
-use Rattle.lc_c.specs.declared.c_peer.CPeer.{CPeer}
+use Rattle.lc_c.specs.Side.{Side}
 use Rattle.lc_c.specs.Answers.{done, only, empty, ended, refusal_answer}
 use Rattle.lc_c.specs.Reach.{answered, changed, given}
 
@@ -26,20 +26,20 @@ take_unless None take = take_shown take
 take_unless (Some refusal) take = refusal_answer refusal
 
 -- what a take into a buffer of so many bytes answers
-abbrev pub take_answer : Option CPeer → Option Channel → ℕ → LcmuxAnswer
+abbrev pub take_answer : Option Side → Option Channel → ℕ → LcmuxAnswer
 take_answer held channel room = answered held channel (λ side c. take_unless (take_refusal (inbox side.peer c) room) (inboxes.take_answer (inbox side.peer c)))
 
 -- the side that a take leaves: one that is refused changes nothing
-abbrev pub taken_where : Option Refusal → CPeer → Channel → CPeer
+abbrev pub taken_where : Option Refusal → Side → Channel → Side
 taken_where None side c = record side { peer = take_on side.peer c }
 taken_where (Some refusal) side c = side
 
 -- what a take leaves behind the handle
-abbrev pub take_after : Option CPeer → Option Channel → ℕ → Option CPeer
+abbrev pub take_after : Option Side → Option Channel → ℕ → Option Side
 take_after held channel room = changed held channel (λ side c. taken_where (take_refusal (inbox side.peer c) room) side c)
 
 -- what a pop leaves behind the handle
-abbrev pub pop_after : Option CPeer → Option Channel → Option CPeer
+abbrev pub pop_after : Option Side → Option Channel → Option Side
 pop_after held channel = changed held channel (taken_where None)
 
 -- the buffer when a message stands at its front, which is else as it was
@@ -48,7 +48,7 @@ filled_where None message buffer = with_front message buffer
 filled_where (Some refusal) message buffer = buffer
 
 -- the buffer that a take leaves
-abbrev pub filled : Option CPeer → Option Channel → List ℕ → List ℕ
+abbrev pub filled : Option Side → Option Channel → List ℕ → List ℕ
 filled held channel buffer = given held channel (λ side c. filled_where (take_refusal (inbox side.peer c) (length buffer)) (front (inbox side.peer c).ring) buffer) buffer
 
 -- what a take would answer that has room

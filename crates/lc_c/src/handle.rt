@@ -1,6 +1,6 @@
 //! A box as a pointer that C may keep.
 ghost use Rattle.std.specs.Prelude.{◌≡◌, Option, Some, None, IsSome};
-ghost use Rattle.lc_c.specs.declared.c_peer.CPeer.{CPeer as CPeerState};
+ghost use Rattle.lc_c.specs.Side.{Side};
 ghost use Rattle.lc_c.specs.Handle.{handle_owns, held_coded};
 
 use crate::c_peer::CPeer;
@@ -14,7 +14,7 @@ use std::ptr;
 pub struct Slot {
     at: *mut (),
     alloc: Global,
-    pub ghost held: { Option CPeerState } by { held_coded },
+    pub ghost held: { Option Side } by { held_coded },
 }
 
 impl Model for Slot {

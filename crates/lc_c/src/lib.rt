@@ -10,11 +10,14 @@
 //! message by its address, are the only ones that are proved by hand, and the contracts of all others see which side, if any, a handle holds.
 //! `open` takes it out, and `reach` where there is a channel too.
 //!
-//! A `CPeer` is a peer, the `Intake` of its stream, and `Pending`, what is left of the greeting or of
-//! the frame that was begun to go out. Bytes come in by `Intake::deliver`. They go out by `give` (in `streams.rt`): what is pending, then frame by frame
-//! what waits, each encoded into the buffer of `Pending` and copied as far as there is room. So a
-//! call writes exactly as many bytes as there are and have room, which `Outgo` can't promise: it
-//! hands its bytes to a writer, of which nothing is known.
+//! A `CPeer` is a peer, the `RingIntake` of its stream, and `Pending`, what is left of the greeting
+//! or of the frame that was begun to go out; contracts see it as a `Side`. The intake knows the sizes
+//! of the peer's rings, which never change: that is the invariant of a `CPeer`, and why no message
+//! is kept that is longer than its ring. Bytes come in by `RingIntake::deliver`. They go out by
+//! `give` (in `streams.rt`): what is pending, then frame by frame what waits, each encoded into the
+//! buffer of `Pending` and copied as far as there is room. So a call writes exactly as many bytes as
+//! there are and have room, which `Outgo` can't promise: it hands its bytes to a writer, of which
+//! nothing is known.
 //!
 //! Codes are 0, the numbers of refusals, 32 to 49 for handles, configurations and takes, 100 more
 //! than the number of a violation and 200 more than that of a fault.

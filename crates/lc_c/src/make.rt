@@ -13,7 +13,7 @@ use crate::peer::{LcmuxPeer, open};
 use crate::pending::Pending;
 use lc_book::Refusal;
 use lc_frame::{CHANNELS, Version};
-use lc_peer::{Config, Intake, Peer, PeerFault};
+use lc_peer::{Config, Peer, PeerFault, RingIntake};
 use std::alloc::Global;
 
 /// The bounds of a peer.
@@ -59,7 +59,7 @@ fn new_c_peer(alloc: Global, config: Config) -> Result<Box<CPeer>, PeerFault>
     ensures value { IfOk result (λ side. side.value ≡ new_c_peer config) }
 {
     let peer = Peer::new(alloc, config)?;
-    let Ok(intake) = Intake::new(alloc) else {
+    let Ok(intake) = RingIntake::new(alloc, config.capacities) else {
         return Err(PeerFault::OutOfMemory);
     };
     let Ok(pending) = Pending::new(alloc, config.version) else {

@@ -1,9 +1,11 @@
 -- What a call does to a side, from what it did to the inbox.
-use Rattle.std.proofs.Common.{◌≡◌, ℕ, ◌+◌, Bool, true, false, List, [], ◌∷◌, ◌++◌, take, Option, Some, None, refl, sym, ◌∙◌, ap, subst, append-nil}
+use Rattle.std.proofs.Common.{◌≡◌, ℕ, ◌+◌, ◌<◌, Bool, true, false, List, [], ◌∷◌, ◌++◌, length, take, Option, Some, None, refl, sym, ◌∙◌, ap, subst, append-nil, arith}
 use Rattle.std.specs.Prelude.{IfSome}
 use Rattle.lc_history.specs.History.{IsHistory, Knows, Learns, Makes}
 use Rattle.lc_history.proofs.Histories.{history-push, known_same, learned_same, made_one}
 use Rattle.lc_frame.specs.declared.frame.Frame.{Frame}
+use Rattle.lc_frame.specs.declared.frame.Frame.TheVariants.{Send}
+use Rattle.lc_frame.specs.declared.channel.Channel.{Channel}
 use Rattle.lc_frame.specs.Channel.{number_of}
 use Rattle.lc_frame.specs.Frame.{lane_of}
 use Rattle.lc_book.specs.declared.fault.Violation.{Violation}
@@ -12,7 +14,7 @@ use Rattle.lc_peer.specs.Inbox.{take_answer, take_first}
 use Rattle.lc_peer.specs.declared.inbox.Take.{Take}
 use Rattle.lc_peer.specs.declared.inbox.Take.TheVariants.{Took as TookMessage, Empty as NoneWaits, Ended as NoneComes}
 use Rattle.lc_queue.specs.Parts.{End}
-use Rattle.lc_book.specs.Server.{Server}
+use Rattle.lc_book.specs.Server.{Server, message_violation}
 use Rattle.lc_inbox.specs.declared.history.Entry.{Entry}
 use Rattle.lc_inbox.specs.declared.history.Entry.TheVariants.{Heard, Refused, Put, Took}
 use Rattle.lc_inbox.specs.declared.rule.Key.{Key}
@@ -121,6 +123,14 @@ puts old new log held after f side_is knows left on p is =
 
 pub wrong_as : (key : Key) (log : List Entry) (held : Held) (f : Frame) (v : Violation) → IsLeftBy key held log → Some v ≡ violation_of f held.inbox.book → violation_of f (book_after key log) ≡ Some v
 wrong_as key log held f v left wrong = ap (λ (h : Held). violation_of f h.inbox.book) (sym left.is) ∙ sym wrong
+
+-- what is longer than the ring that an inbox was made of is longer than its book's
+pub left_capacity : (key : Key) (log : List Entry) (held : Held) (len : ℕ) → IsLeftBy key held log → key.capacity < len → held.inbox.book.capacity < len
+left_capacity key log held len left longer = omega (arith, longer, ap (λ (h : Held). h.inbox.book.capacity) left.is)
+
+-- a message is judged by its length
+pub wrong_length : (c : Channel) (body : List ℕ) (book : Server) (len : ℕ) (v : Violation) → length body ≡ len → message_violation book len ≡ Some v → Some v ≡ violation_of (Send c body) book
+wrong_length c body book len v all wrong = sym (ap (message_violation book) all ∙ wrong)
 
 takes_one : (old new : Half) (log : List Entry) (held : Held) (body : List ℕ) → old.side ≡ false → Knows (is_of old.side) old.seen log → IsLeftBy old.key held log → front held.inbox.ring ≡ Some body → new ≡ record old { seen = log ++ Took body ∷ []; turns = old.turns + 1; lent = None } → IsTaken body (side_of old) (side_of new)
 unfolding makes_one

@@ -5,7 +5,8 @@ ghost use Rattle.lc_frame.specs.declared.version.Version.TheVariants.{Two};
 ghost use Rattle.lc_frame.specs.Channel.{channel_count, number_of, channel_at};
 ghost use Rattle.lc_frame.specs.Frame.{IsValid, lane_of, channel_of};
 ghost use Rattle.lc_frame.specs.FrameRef.{frame_of};
-ghost use Rattle.lc_book.specs.Server.{buffered};
+ghost use Rattle.lc_frame.specs.Kind.{max_body};
+ghost use Rattle.lc_book.specs.Server.{buffered, message_violation};
 ghost use Rattle.lc_book.specs.Sums.{server_after_put};
 ghost use Rattle.lc_ring.specs.Ring.{front, with_front};
 ghost use Rattle.lc_peer.specs.Inbox.{new_inbox, IsInbox, IsTake, take_answer, take_first, take_refusal};
@@ -115,6 +116,20 @@ impl InboxEnd {
             FrameRef::LimitSending { bound, .. } => self.inbox.sending_limited(bound),
             FrameRef::Finish { .. } => self.inbox.finished(),
             _ => unreachable!(),
+        }
+    }
+
+    /// What is wrong with a message of so many bytes, which are more than the ring has: V9 or V1, as
+    /// the inbox's book has them.
+    pub(crate) fn refuse(&self, len: usize) -> Violation
+        requires longer { self.now.inbox.book.capacity < len }
+        requires most { len ≤ max_body Two }
+        ensures { message_violation self.now.inbox.book len ≡ Some result }
+    {
+        let mut book = self.book();
+        match book.message(len as u32) {
+            Err(violation) => violation,
+            Ok(()) => unreachable!(),
         }
     }
 

@@ -1,6 +1,8 @@
 //! The reading side of a shared inbox.
-ghost use Rattle.std.specs.Prelude.{◌≡◌, [], ◌∷◌, ◌++◌, OnOk, IfErr, IfSome, true, None, Some};
+ghost use Rattle.std.specs.Prelude.{◌≡◌, ◌<◌, ◌≤◌, [], ◌∷◌, ◌++◌, length, OnOk, IfErr, IfSome, true, None, Some};
 ghost use Rattle.lc_frame.specs.declared.version.Version.TheVariants.{Two};
+ghost use Rattle.lc_frame.specs.declared.frame.Frame.TheVariants.{Send};
+ghost use Rattle.lc_frame.specs.Kind.{max_body};
 ghost use Rattle.lc_frame.specs.Channel.{number_of};
 ghost use Rattle.lc_frame.specs.Frame.{IsValid, lane_of};
 ghost use Rattle.lc_frame.specs.FrameRef.{frame_of};
@@ -11,6 +13,7 @@ ghost use Rattle.lc_inbox.specs.Sides.{IsIdle, side_of, IsSameSide, HadOneTurn, 
 use crate::half::{Half, Turn};
 use lc_book::Violation;
 use lc_frame::{Channel, FrameRef};
+use lc_peer::Unkept;
 use std::alloc::Global;
 use std::marker::{Brand, Model};
 use std::sync::{Arc, Mutex, Wait};
@@ -52,6 +55,15 @@ fn give_refused(half: &mut Half, turn: Turn<'_>, frame: FrameRef<'_>)
     half.give::<Brand, FrameRef<'_>>(turn, &frame);
 }
 
+// Gives the inbox back, where a message was refused that nothing kept.
+fn give_unkept(half: &mut Half, turn: Turn<'_>, channel: Channel, body: &Unkept)
+    requires side { half.old.side ≡ true }
+    requires fits { (loan : Loan) × (half.old.lent ≡ Some loan) × IsLeftBy half.old.key loan.held (loan.history ++ Refused (Send channel body.now.bytes) ∷ []) }
+    ensures { IfSome half.old.lent (λ loan. half.new ≡ record half.old { seen = loan.history ++ Refused (Send channel body.now.bytes) ∷ []; lent = None }) }
+{
+    half.give::<Brand, (Channel, &Unkept)>(turn, &(channel, body));
+}
+
 // A frame arrives at the inbox.
 fn arrive<R: Wait>(
     half: &mut Half,
@@ -81,6 +93,31 @@ fn arrive<R: Wait>(
     }
 }
 
+// A message came that is longer than the ring.
+fn refuse<R: Wait>(
+    half: &mut Half,
+    turns: &Mutex<()>,
+    rt: &R,
+    channel: Channel,
+    len: usize,
+    body: &Unkept,
+) -> Violation
+    requires idle { IsIdle true half.old }
+    requires channel { half.old.key.channel ≡ channel }
+    requires longer { half.old.key.capacity < len }
+    requires all { length body.now.bytes ≡ len }
+    requires most { len ≤ max_body Two }
+    ensures idle { IsIdle true half.new }
+    ensures same { IsSameSide (side_of half.old) (side_of half.new) }
+    ensures turn { HadOneTurn (side_of half.old) (side_of half.new) }
+    ensures refused { IsViolated result (Send channel body.now.bytes) (side_of half.old) (side_of half.new) }
+{
+    let turn = half.take(rt, turns);
+    let violation = half.inbox().refuse(len);
+    give_unkept(half, turn, channel, body);
+    violation
+}
+
 impl InboxIn {
     /// The channel.
     pub fn channel(&self) -> Channel
@@ -100,5 +137,18 @@ impl InboxIn {
         ensures same { IsSameSide self.old self.new }
     {
         arrive(&mut self.half, &self.turns, rt, frame)
+    }
+
+    /// A message came of which nothing kept the `len` bytes, since it is longer than the ring: the
+    /// violation that it is, V9 or V1, as [`arrive`](InboxIn::arrive) has it.
+    pub fn refuse<R: Wait>(&mut self, rt: &R, len: usize, body: &Unkept) -> Violation
+        requires longer { self.old.key.capacity < len }
+        requires all { length body.now.bytes ≡ len }
+        requires most { len ≤ max_body Two }
+        ensures refused { IsViolated result (Send self.old.key.channel body.now.bytes) self.old self.new }
+        ensures turn { HadOneTurn self.old self.new }
+        ensures same { IsSameSide self.old self.new }
+    {
+        refuse(&mut self.half, &self.turns, rt, self.channel, len, body)
     }
 }

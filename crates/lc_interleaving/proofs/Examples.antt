@@ -110,7 +110,7 @@ module _ (id : TableId) (base : InboxSide) where
     receiving = listed (λ c. side v c []) (side v DataChannel receives);
     reading = record {
       side = record { credits = listed (λ c. new_incoming id) i; inboxes = listed (λ c. side v c []) (side v DataChannel reads) };
-      intake = record { held = nothing_stored; stop = None; rings = [] };
+      intake = record { held = nothing_stored; stop = None; rings = listed (λ c. 6) 6 };
     };
     writing = new_pumping (new_outlet id v);
   }

@@ -1,5 +1,6 @@
 -- A new session: what its parts are made of makes them parts of one session.
-use Rattle.std.proofs.Common.{◌≡◌, ℕ, ◌+◌, ◌<◌, List, [], ◌∷◌, None, length, map, take, drop, refl, sym, ap, ap₂, subst, ◌∙◌, arith}
+use Rattle.std.specs.Prelude.{slice_index}
+use Rattle.std.proofs.Common.{◌≡◌, ℕ, ◌+◌, ◌-◌, ◌<◌, List, [], ◌∷◌, None, length, map, take, drop, refl, sym, ap, ap₂, subst, ◌∙◌, arith}
 use Rattle.std.specs.List.{All, AllByRecursion, AllZip}
 use Rattle.std.proofs.lemmas.List.Elements.{All-cons, All-nil}
 use Rattle.lc_frame.specs.Stored.{nothing_stored}
@@ -17,7 +18,7 @@ use Rattle.lc_inbox.specs.Inboxes as inboxes
 use Rattle.lc_outbox.specs.Outbox.{OutboxState, new_outbox}
 use Rattle.lc_peer.specs.Intake.{IntakeState}
 use Rattle.lc_session.specs.Channels.{channels}
-use Rattle.lc_session.specs.Reading.{channel_of_side}
+use Rattle.lc_session.specs.Reading.{channel_of_side, ring_of_side}
 use Rattle.lc_session.specs.Pumping.{new_pumping}
 use Rattle.lc_session.specs.Report.{SessionState, channel_of_outbox, credit_of_outbox, PutsOn, ServesOn}
 use Rattle.lc_session.specs.Session.{new_outboxes, IsNewSession}
@@ -127,6 +128,33 @@ in_place q v capacities (c ∷ cs) (i ∷ incoming) (o ∷ outgoing) h =
 pub sides_in_place : (q : QueueId) (v : Version) (ends : List End) (capacities : List ℕ) (incoming outgoing : List InboxSide) → ends ≡ new_ends q v → inboxes.AreNew capacities (drop channel_count ends) incoming outgoing → AreInPlace q v channels incoming outgoing
 sides_in_place q v ends capacities incoming outgoing e h = in_place q v capacities channels incoming outgoing (subst (λ (ls : List End). inboxes.AreNew capacities (drop channel_count ls) incoming outgoing) e h)
 
+-- the rings have the bytes that were asked for
+ring_is : (capacities : List ℕ) (q : QueueId) (v : Version) (c : Channel) (i o : InboxSide) → IsNew (slice_index capacities ((channel_count + number_of c) - channel_count)) (new_end q v (channel_count + number_of c)) i o → ring_of_side i ≡ slice_index capacities (number_of c)
+ring_is capacities q v c i o h = let same : (channel_count + number_of c) - channel_count ≡ number_of c = omega arith in h.capacity_is ∙ ap (slice_index capacities) same
+
+rings_at : (q : QueueId) (v : Version) (capacities : List ℕ) (cs : List Channel) (incoming outgoing : List InboxSide) → inboxes.AreNew capacities (servers q v cs) incoming outgoing → map ring_of_side incoming ≡ map (λ c. slice_index capacities (number_of c)) cs
+rings_at q v capacities [] [] [] h = refl
+rings_at q v capacities [] [] (o ∷ outgoing) h = absurd h
+rings_at q v capacities [] (i ∷ incoming) outgoing h = absurd h
+rings_at q v capacities (c ∷ cs) [] outgoing h = absurd h
+rings_at q v capacities (c ∷ cs) (i ∷ incoming) [] h = absurd h
+rings_at q v capacities (c ∷ cs) (i ∷ incoming) (o ∷ outgoing) h = ap₂ (λ (n : ℕ) (ns : List ℕ). n ∷ ns) (ring_is capacities q v c i o h.0) (rings_at q v capacities cs incoming outgoing h.1)
+
+-- seven numbers, place by place
+seven_of : (ns : List ℕ) → length ns ≡ channel_count → map (λ c. slice_index ns (number_of c)) channels ≡ ns
+seven_of [] e = absurd (omega (arith, e))
+seven_of (a ∷ []) e = absurd (omega (arith, e))
+seven_of (a ∷ b ∷ []) e = absurd (omega (arith, e))
+seven_of (a ∷ b ∷ c ∷ []) e = absurd (omega (arith, e))
+seven_of (a ∷ b ∷ c ∷ d ∷ []) e = absurd (omega (arith, e))
+seven_of (a ∷ b ∷ c ∷ d ∷ f ∷ []) e = absurd (omega (arith, e))
+seven_of (a ∷ b ∷ c ∷ d ∷ f ∷ g ∷ []) e = absurd (omega (arith, e))
+seven_of (a ∷ b ∷ c ∷ d ∷ f ∷ g ∷ h ∷ []) e = refl
+seven_of (a ∷ b ∷ c ∷ d ∷ f ∷ g ∷ h ∷ i ∷ ns) e = absurd (omega (arith, e))
+
+pub rings_in_place : (q : QueueId) (v : Version) (ends : List End) (capacities : List ℕ) (incoming outgoing : List InboxSide) → length capacities ≡ channel_count → ends ≡ new_ends q v → inboxes.AreNew capacities (drop channel_count ends) incoming outgoing → map ring_of_side incoming ≡ capacities
+rings_in_place q v ends capacities incoming outgoing seven e h = rings_at q v capacities channels incoming outgoing (subst (λ (ls : List End). inboxes.AreNew capacities (drop channel_count ls) incoming outgoing) e h) ∙ seven_of capacities seven
+
 -- ---- all parts
 
 abbrev begun : QueueId → Version → List Incoming → List Outgoing → List InboxSide → List InboxSide → IntakeState → SessionState
@@ -139,7 +167,7 @@ begun q v ins out incoming outgoing intake = record {
 
 begun_is_new : (config : Config) (q : QueueId) (ins : List Incoming) (out : List Outgoing) (incoming outgoing : List InboxSide) (intake : IntakeState)
     → length out ≡ channel_count → credits.AreNew ins out → credits.AreMatched ins out → inboxes.AreNew config.capacities (drop channel_count (new_ends q config.version)) incoming outgoing → inboxes.AreMatched incoming outgoing
-    → intake ≡ record { held = nothing_stored; stop = None; rings = [] } → slots_of q ≡ config.slots → config_fault config ≡ None
+    → intake ≡ record { held = nothing_stored; stop = None; rings = config.capacities } → slots_of q ≡ config.slots → config_fault config ≡ None
     → IsNewSession config (begun q config.version ins out incoming outgoing intake)
 begun_is_new config q ins out incoming outgoing intake seven new matched sides pairs nothing slots lawful =
     let same = credits_of q config.version channels out seven in
@@ -166,7 +194,7 @@ pub new_session : (config : Config) (s : SessionState) (drain : Outlet) (ends la
     → s.sending ≡ new_outboxes channels lanes out → s.receiving ≡ outgoing → s.reading ≡ record { side = record { credits = ins; inboxes = incoming }; intake = intake } → s.writing ≡ new_pumping drain
     → drain ≡ new_outlet drain.queue config.version → ends ≡ new_ends drain.queue config.version → lanes ≡ take channel_count ends
     → length out ≡ channel_count → credits.AreNew ins out → credits.AreMatched ins out → inboxes.AreNew config.capacities (drop channel_count ends) incoming outgoing → inboxes.AreMatched incoming outgoing
-    → intake ≡ record { held = nothing_stored; stop = None; rings = [] } → slots_of drain.queue ≡ config.slots → config_fault config ≡ None
+    → intake ≡ record { held = nothing_stored; stop = None; rings = config.capacities } → slots_of drain.queue ≡ config.slots → config_fault config ≡ None
     → IsNewSession config s
 new_session config s drain ends lanes ins out incoming outgoing intake sending receiving reading writing empty are first seven new matched sides pairs nothing slots lawful =
     subst (IsNewSession config)

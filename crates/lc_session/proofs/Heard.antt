@@ -30,7 +30,7 @@ use Rattle.lc_peer.specs.Deliveries.{violation_of}
 use Rattle.lc_peer.specs.Sinks.{AllArrive, IsNext}
 use Rattle.lc_session.specs.Reading.{ReadingSide, ToCredit, ToInbox, Hears, Refuses, Arrives, Violates, HasHeard, HasHeardAll}
 use Rattle.lc_session.specs.Heard.{RunsAreHeard}
-use Rattle.lc_session.proofs.Places.{some_map}
+use Rattle.lc_session.specs.Keeps.{some_map}
 
 -- ---- a place of a list
 

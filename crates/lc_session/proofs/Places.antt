@@ -1,12 +1,15 @@
 -- What is kept for each channel, at the place of its number.
-use Rattle.std.proofs.Common.{◌≡◌, ℕ, zero, suc, List, [], ◌∷◌, map, get_or, set, Option, Some, None, refl, sym, ap, ◌∙◌}
-use Rattle.std.specs.Prelude.{slice_get, slice_set, IsSomeAnd}
+use Rattle.std.proofs.Common.{◌≡◌, ◌<◌, subst, ℕ, zero, suc, List, [], ◌∷◌, map, get_or, set, refl, sym, ap, ◌∙◌}
+use Rattle.std.specs.Prelude.{slice_get, IsSomeAnd}
 use Rattle.std.proofs.Math.ListN.{get_or-map}
 use Rattle.std.proofs.lemmas.List.{map-set}
 use Rattle.lc_frame.specs.declared.channel.Channel.{Channel}
 use Rattle.lc_frame.specs.declared.channel.Channel.TheVariants.{ReconciliationChannel, DataChannel, OverlapChannel, CapabilityChannel, AreaOfInterestChannel, PayloadRequestChannel, StaticTokenChannel}
 use Rattle.lc_frame.specs.Channel.{number_of}
+use Rattle.lc_inbox.specs.Sides.{InboxSide}
+use Rattle.lc_peer.specs.Longer.{IsLonger}
 use Rattle.lc_session.specs.Channels.{channels}
+use Rattle.lc_session.specs.Reading.{ring_of_side}
 
 channel_there : (c d : Channel) → get_or channels (number_of c) d ≡ c
 channel_there ReconciliationChannel d = refl
@@ -35,14 +38,13 @@ pub channels_kept : {A : Type 0} (f : A → Channel) (c : Channel) (xs : List A)
 channels_kept f c xs i y places e same =
     map-set f xs i y ∙ ap (λ (cs : List Channel). set cs i (f y)) places ∙ ap (λ (n : ℕ). set channels n (f y)) e ∙ ap (λ (d : Channel). set channels (number_of c) d) same ∙ channel_set c
 
--- ---- any place that changes
+-- ---- the ring of a channel
 
-pub some_map : {A : Type 0} (P Q : A → Type 0) (o : Option A) → ((a : A) → P a → Q a) → IsSomeAnd o P → IsSomeAnd o Q
-some_map P Q None f p = p
-some_map P Q (Some a) f p = f a p
+longer_at : (len at : ℕ) (sides : List InboxSide) (d : InboxSide) → IsSomeAnd (slice_get (map ring_of_side sides) at) (λ ring. ring < len) → (get_or sides at d).key.capacity < len
+longer_at len at [] d h = absurd h
+longer_at len zero (s ∷ sides) d h = h
+longer_at len (suc at) (s ∷ sides) d h = longer_at len at sides d h
 
--- where f of it stays, f of all does
-pub set_keeps : {A B : Type 0} (f : A → B) (xs : List A) (at : ℕ) (y : A) → IsSomeAnd (slice_get xs at) (λ was. f y ≡ f was) → map f (slice_set xs at y) ≡ map f xs
-set_keeps f [] at y h = refl
-set_keeps f (x ∷ xs) zero y h = ap (λ bs. bs ∷ map f xs) h
-set_keeps f (x ∷ xs) (suc at) y h = ap (λ bs. f x ∷ bs) (set_keeps f xs at y h)
+-- a message that is longer than the ring of its channel is longer than that of the inbox at its place
+pub longer_here : (c : Channel) (len : ℕ) (sides : List InboxSide) (i : ℕ) (d : InboxSide) → IsLonger (map ring_of_side sides) c len → i ≡ number_of c → (get_or sides i d).key.capacity < len
+longer_here c len sides i d longer e = longer_at len i sides d (subst (λ (n : ℕ). IsSomeAnd (slice_get (map ring_of_side sides) n) (λ ring. ring < len)) (sym e) longer)

@@ -53,7 +53,7 @@ pub played_then : (a b c : SessionState) → HasPlayed a b → HasPlayed b c →
 played_then a b c p q = record { same = same_then a b c p.same q.same; heard = hears_then a.reading b.reading c.reading p.heard q.heard }
 
 pub new_were_played : NewSessionsWerePlayed
-new_were_played config s new = record { began = s; new = new; played = record { same = same_itself s; heard = hears_nothing s.reading new.reading_new } }
+new_were_played config s new = record { began = s; new = new; played = record { same = same_itself s; heard = hears_nothing s.reading config.capacities new.reading_new } }
 
 pub are_played_on : SessionsArePlayedOn
 are_played_on config old new was played = record { began = was.began; new = was.new; played = played_then was.began old new was.played played }

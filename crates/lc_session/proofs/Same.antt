@@ -29,7 +29,7 @@ use Rattle.lc_session.specs.Pumping.{Pumping, Pumps, IsSamePump}
 use Rattle.lc_session.specs.Reading.{ReadingSide, channel_of_side, ToCredit, ToInbox, Hears, Refuses, Arrives, Violates, IsSameReading}
 use Rattle.lc_session.specs.Report.{channel_of_outbox, credit_of_outbox, PutsOn, ServesOn}
 use Rattle.lc_session.specs.Same.{SessionsStay}
-use Rattle.lc_session.proofs.Places.{some_map, set_keeps}
+use Rattle.lc_session.specs.Keeps.{arrives_same, violates_same}
 
 -- ---- one part, after nothing and after one call and another
 
@@ -56,57 +56,6 @@ pump_itself p = (refl, refl)
 
 pub pump_then : (a b c : Pumping) → IsSamePump a b → IsSamePump b c → IsSamePump a c
 pump_then a b c p q = (q.0 ∙ p.0, q.1 ∙ p.1)
-
--- ---- the reading side, after one frame
-
--- one place changed, and what matters of it stayed
-changes_keep : {A B : Type 0} (f : A → B) (Changes : A → A → Type 0) (at : ℕ) (old new : List A) → ((was is : A) → Changes was is → f is ≡ f was) → ChangesAt at Changes old new → map f new ≡ map f old
-changes_keep f Changes at old new same h =
-    ap (map f) h.2 ∙ set_keeps f old at h.0 (some_map (λ was. Changes was h.0) (λ was. f h.0 ≡ f was) _ (λ was change. same was h.0 change) h.1)
-
-credit_same : (c : Channel) (Changes : Incoming → Incoming → Type 0) (old new : ReadingSide) → ((was is : Incoming) → Changes was is → is.credit ≡ was.credit) → ToCredit c Changes old new → IsSameReading old new
-credit_same c Changes old new same change = record {
-  credits = changes_keep credit_in Changes (number_of c) old.credits new.credits same change.0;
-  inboxes = ap (map origin_of) change.1;
-}
-
-inbox_same : (c : Channel) (Changes : InboxSide → InboxSide → Type 0) (old new : ReadingSide) → ((was is : InboxSide) → Changes was is → IsSameSide was is) → ToInbox c Changes old new → IsSameReading old new
-inbox_same c Changes old new same change = record {
-  credits = ap (map credit_in) change.1;
-  inboxes = changes_keep origin_of Changes (number_of c) old.inboxes new.inboxes (λ was is made. let one = same was is made in (λ i. (one.inbox i, one.key i))) change.0;
-}
-
-added_same : (n : ℕ) (was is : Incoming) → IsAdded n was is → is.credit ≡ was.credit
-added_same n was is a = ap credit_in a.after ∙ ap credit_in a.loads.after
-
-not_added_same : (v : Violation) (n : ℕ) (was is : Incoming) → IsNotAdded v n was is → is.credit ≡ was.credit
-not_added_same IssuedPastLimit n was is h = ap credit_in h.after
-not_added_same TooManyGuarantees n was is h = ap credit_in h.1.loads.after
-not_added_same TotalPassed n was is h = ap credit_in h.1.loads.after
-not_added_same NotGuaranteed n was is h = absurd h
-not_added_same SentPastLimit n was is h = absurd h
-not_added_same AbsolvedTooMuch n was is h = absurd h
-not_added_same SendLimitRaised n was is h = absurd h
-not_added_same ReceiveLimitRaised n was is h = absurd h
-not_added_same AfterFinish n was is h = absurd h
-
-arrives_same : (old new : ReadingSide) (f : Frame) → Arrives old f new → IsSameReading old new
-arrives_same old new (Send c body) is = inbox_same c (Hears (Send c body)) old new (λ was now h. h.same) is
-arrives_same old new (Absolve c amount) is = inbox_same c (Hears (Absolve c amount)) old new (λ was now h. h.same) is
-arrives_same old new (LimitSending c bound) is = inbox_same c (Hears (LimitSending c bound)) old new (λ was now h. h.same) is
-arrives_same old new (Finish c) is = inbox_same c (Hears (Finish c)) old new (λ was now h. h.same) is
-arrives_same old new (Issue c amount) is = credit_same c (IsAdded amount) old new (added_same amount) is
-arrives_same old new (Plead c target) is = credit_same c (IsAsked target) old new (λ was now h. ap credit_in h.after) is
-arrives_same old new (LimitReceiving c bound) is = credit_same c (IsLimited bound) old new (λ was now h. ap credit_in h.after) is
-
-violates_same : (v : Violation) (old new : ReadingSide) (f : Frame) → Violates v old f new → IsSameReading old new
-violates_same v old new (Send c body) is = inbox_same c (Refuses v (Send c body)) old new (λ was now h. h.same) is
-violates_same v old new (Absolve c amount) is = inbox_same c (Refuses v (Absolve c amount)) old new (λ was now h. h.same) is
-violates_same v old new (LimitSending c bound) is = inbox_same c (Refuses v (LimitSending c bound)) old new (λ was now h. h.same) is
-violates_same v old new (Finish c) is = inbox_same c (Refuses v (Finish c)) old new (λ was now h. h.same) is
-violates_same v old new (Issue c amount) is = credit_same c (IsNotAdded v amount) old new (not_added_same v amount) is
-violates_same v old new (Plead c target) is = absurd is
-violates_same v old new (LimitReceiving c bound) is = credit_same c (IsPastLimit bound) old new (λ was now h. ap credit_in h.after) is.1
 
 -- ---- and after a run
 

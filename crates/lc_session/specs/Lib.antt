@@ -2,6 +2,7 @@ pub mod Batch
 pub mod Pumping
 pub mod Channels
 pub mod Reading
+pub mod Keeps
 pub mod Report
 pub mod Session
 pub mod Parts

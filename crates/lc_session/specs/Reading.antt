@@ -1,5 +1,5 @@
 -- What contracts see of the pump that reads, and what each frame that arrives does there. That a server's book judges what arrives and that guarantees are counted as they arrive is LCMUX's; that each frame goes to its channel's shared inbox or credit is this project's own.
-use Rattle.std.specs.Prelude.{◌≡◌, List, map, slice_get, IsSomeAnd}
+use Rattle.std.specs.Prelude.{◌≡◌, ℕ, List, map, slice_get, IsSomeAnd}
 use Rattle.lc_history.specs.Places.{ChangesAt}
 use Rattle.lc_frame.specs.declared.channel.Channel.{Channel}
 use Rattle.lc_frame.specs.declared.frame.Frame.{Frame}
@@ -31,6 +31,14 @@ pub record Reading : Type 0 where
 -- the channel of an inbox
 abbrev pub channel_of_side : InboxSide → Channel
 channel_of_side side = side.key.channel
+
+-- the bytes of the ring of an inbox
+abbrev pub ring_of_side : InboxSide → ℕ
+ring_of_side side = side.key.capacity
+
+-- the bytes of the channels' rings, by the channels' numbers
+abbrev pub rings_of : ReadingSide → List ℕ
+rings_of r = map ring_of_side r.inboxes
 
 -- what every reading side keeps: the inboxes are those of the channels, in order
 abbrev pub IsReadingSide : ReadingSide → Type 0

@@ -1,34 +1,40 @@
 //! The pump that reads.
 ghost use Rattle.std.specs.Prelude.{◌≡◌, ◌+◌, ◌≤◌, None, IfSome};
 ghost use Rattle.lc_driver.specs.Reading.{ReadsInto, CountsReads, CountsAll, EndsInput, end_of};
-ghost use Rattle.lc_session.specs.Reading.{Arrives, Violates, IsSameReading};
+ghost use Rattle.lc_session.specs.Reading.{rings_of, Arrives, Violates, IsSameReading};
 ghost use Rattle.lc_session.specs.Heard.{HearsMore};
 
 use crate::reading_side::ReadingSide;
 use lc_credit::CreditIn;
-use lc_driver::{CountedRead, Intake, ReadEnd, read_into};
+use lc_driver::{CountedRead, ReadEnd, read_into};
 use lc_frame::CHANNELS;
 use lc_inbox::InboxIn;
+use lc_peer::RingIntake;
 use std::marker::Model;
 use std::sync::Wait;
 
-/// Reads frames and lets each arrive at its channel's inbox or credit. One thread has it.
+/// Reads frames and lets each arrive at its channel's inbox or credit. One thread has it. It keeps no
+/// message that is longer than its ring.
 #[derive(Drop)]
 pub struct ReadPump {
     pub(crate) side: ReadingSide,
-    intake: Intake,
+    intake: RingIntake,
 }
 
 impl Model for ReadPump {
-    ghost use Rattle.lc_session.specs.Reading.{Reading};
+    ghost use Rattle.std.specs.Prelude.{◌≡◌};
+    ghost use Rattle.lc_session.specs.Reading.{Reading, rings_of};
 
     ghost Value = { Reading };
 
     ghost view = { λ p. record { side = p.side; intake = p.intake } };
+
+    ghost invariant = { λ p. rings_of p.side ≡ p.intake.rings };
 }
 
 impl ReadPump {
-    pub(crate) fn new(side: ReadingSide, intake: Intake) -> ReadPump
+    pub(crate) fn new(side: ReadingSide, intake: RingIntake) -> ReadPump
+        requires { rings_of side ≡ intake.rings }
         ensures { result ≡ record { side = side; intake = intake } }
     {
         ReadPump { side, intake }

@@ -1,21 +1,23 @@
 //! Where the frames that come are for.
-ghost use Rattle.std.specs.Prelude.{◌≡◌, ◌∷◌, [], ◌≤◌, map, OnOk, IfErr};
+ghost use Rattle.std.specs.Prelude.{◌≡◌, ◌∷◌, [], ◌<◌, ◌≤◌, length, map, OnOk, IfErr};
 ghost use Rattle.lc_history.specs.Places.{ChangesAt};
 ghost use Rattle.lc_frame.specs.Channel.{number_of};
 ghost use Rattle.lc_frame.specs.declared.version.Version.TheVariants.{Two};
+ghost use Rattle.lc_frame.specs.declared.frame.Frame.TheVariants.{Send};
 ghost use Rattle.lc_frame.specs.Frame.{IsValid, lane_of, channel_of};
 ghost use Rattle.lc_frame.specs.FrameRef.{frame_of};
-ghost use Rattle.lc_frame.specs.Kind.{max_amount};
+ghost use Rattle.lc_frame.specs.Kind.{max_amount, max_body};
 ghost use Rattle.lc_credit.specs.Sides.{IsAdded, IsNotAdded};
 ghost use Rattle.lc_inbox.specs.Sides.{IsSameSide};
+ghost use Rattle.lc_peer.specs.Longer.{IsLonger};
 ghost use Rattle.lc_session.specs.Channels.{channels};
-ghost use Rattle.lc_session.specs.Reading.{channel_of_side, Hears, Refuses, ToCredit, ToInbox, Arrives, Violates};
+ghost use Rattle.lc_session.specs.Reading.{channel_of_side, ring_of_side, rings_of, Hears, Refuses, ToCredit, ToInbox, Arrives, Violates};
 
 use lc_book::Violation;
 use lc_credit::CreditIn;
 use lc_frame::{CHANNELS, Channel, FrameRef, Lane};
 use lc_inbox::InboxIn;
-use lc_peer::FrameSink;
+use lc_peer::{FrameSink, RingSink, Unkept};
 use lc_wake::{Pump, Wakers};
 use std::alloc::Global;
 use std::marker::Model;
@@ -66,6 +68,43 @@ fn hear_at<R: Wait>(
 {
     let inbox = &mut inboxes[channel.index()];
     hear(rt, inbox, frame)
+}
+
+// A message comes to an inbox that is longer than its ring.
+fn refuse<R: Wait>(
+    rt: &R,
+    inbox: &mut InboxIn,
+    channel: Channel,
+    len: usize,
+    body: &Unkept,
+) -> Violation
+    requires channel { inbox.old.key.channel ≡ channel }
+    requires longer { inbox.old.key.capacity < len }
+    requires all { length body.now.bytes ≡ len }
+    requires most { len ≤ max_body Two }
+    ensures refused { Refuses result (Send channel body.now.bytes) inbox.old inbox.new }
+    ensures same { IsSameSide inbox.old inbox.new }
+{
+    inbox.refuse(rt, len, body)
+}
+
+// The same to the inbox of its channel.
+fn refuse_at<R: Wait>(
+    rt: &R,
+    inboxes: &mut [InboxIn; CHANNELS],
+    channel: Channel,
+    len: usize,
+    body: &Unkept,
+) -> Violation
+    requires places { map channel_of_side inboxes.old ≡ channels }
+    requires longer { IsLonger (map ring_of_side inboxes.old) channel len }
+    requires all { length body.now.bytes ≡ len }
+    requires most { len ≤ max_body Two }
+    ensures refused { ChangesAt (number_of channel) (Refuses result (Send channel body.now.bytes)) inboxes.old inboxes.new }
+    ensures places { map channel_of_side inboxes.new ≡ channels }
+{
+    let inbox = &mut inboxes[channel.index()];
+    refuse(rt, inbox, channel, len, body)
 }
 
 impl ReadingSide {
@@ -142,4 +181,19 @@ impl<R: Wait> FrameSink<R> for ReadingSide {
             }
         }
     }
+}
+
+impl<R: Wait> RingSink<R> for ReadingSide {
+    ghost use Rattle.lc_session.specs.Reading.{rings_of};
+    ghost use Rattle.lc_session.specs.Keeps.{arrives_rings, violates_rings};
+
+    ghost rings = { rings_of };
+
+    fn refuse_in(&mut self, rt: &R, channel: Channel, len: usize, body: &Unkept) -> Violation {
+        refuse_at(rt, &mut self.inboxes, channel, len, body)
+    }
+
+    ghost keeps = { arrives_rings };
+
+    ghost keeps_refused = { violates_rings };
 }

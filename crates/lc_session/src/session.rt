@@ -1,5 +1,5 @@
 //! How a session is made and stopped.
-ghost use Rattle.std.specs.Prelude.{◌≡◌, ◌<◌, [], take, map, None, IfOk};
+ghost use Rattle.std.specs.Prelude.{◌≡◌, ◌<◌, [], length, take, map, None, IfOk};
 ghost use Rattle.std.specs.Result.{result_err};
 ghost use Rattle.lc_frame.specs.declared.version.Version.{Version};
 ghost use Rattle.lc_frame.specs.Channel.{channel_count, number_of};
@@ -9,7 +9,7 @@ ghost use Rattle.lc_credit.specs.Sides.{new_outgoing};
 ghost use Rattle.lc_credit.specs.Channels.{credit_out};
 ghost use Rattle.lc_outbox.specs.Outbox.{new_outbox};
 ghost use Rattle.lc_session.specs.Channels.{channels};
-ghost use Rattle.lc_session.specs.Reading.{channel_of_side};
+ghost use Rattle.lc_session.specs.Reading.{channel_of_side, ring_of_side};
 ghost use Rattle.lc_session.specs.Batch.{new_batch};
 ghost use Rattle.lc_session.specs.Pumping.{new_pumping};
 ghost use Rattle.lc_session.specs.Session.{new_outboxes, IsNewSession};
@@ -23,11 +23,10 @@ use crate::recv_end::RecvEnd;
 use crate::send_end::SendEnd;
 use crate::write_pump::WritePump;
 use lc_credit::{CreditOut, CreditParts, credits};
-use lc_driver::Intake;
 use lc_frame::CHANNELS;
 use lc_inbox::{InboxOut, Inboxes, share_all, zipped};
 use lc_outbox::Outbox;
-use lc_peer::{Config, PeerFault};
+use lc_peer::{Config, PeerFault, RingIntake};
 use lc_queue::{Drain, LaneEnd, lanes};
 use lc_wake::{Waiter, Wakers, Waking};
 use std::alloc::{AllocError, Global};
@@ -84,7 +83,7 @@ struct Shared {
 // What the pumps have of their own.
 #[derive(Drop)]
 struct Streams {
-    intake: Intake,
+    intake: RingIntake,
     drain: Drain,
     batch: Batch,
 }
@@ -94,6 +93,7 @@ fn put_together(alloc: Global, session: Session, shared: Shared, streams: Stream
     requires clients { (queue : QueueId) × (version : Version) × (shared.inboxes.clients ≡ take channel_count (new_ends queue version)) }
     requires credits { shared.credits.outgoing ≡ map new_outgoing (map credit_out shared.credits.outgoing) }
     requires incoming { map channel_of_side shared.inboxes.incoming ≡ channels }
+    requires rings { map ring_of_side shared.inboxes.incoming ≡ streams.intake.rings }
     requires drain { streams.drain ≡ new_outlet streams.drain.queue streams.drain.version }
     requires batch { streams.batch ≡ new_batch streams.drain.version }
     ensures sending { result.send_ends ≡ new_outboxes channels shared.inboxes.clients shared.credits.outgoing }
@@ -122,14 +122,15 @@ fn put_together(alloc: Global, session: Session, shared: Shared, streams: Stream
 
 // The parts of a session of a lawful configuration. The error is want of memory.
 fn make(alloc: Global, config: Config) -> Result<Parts, AllocError>
-    requires { config_fault config ≡ None }
+    requires lawful { config_fault config ≡ None }
+    requires rings { length config.capacities ≡ channel_count }
     ensures { IfOk result (λ parts. IsNewSession config (state_of parts)) }
 {
     let batch = Batch::new(alloc, config.version)?;
     let waking = Waking::new(alloc)?;
     let wakers = Arc::try_clone(&waking.wakers)?;
     let credits = credits(alloc)?;
-    let intake = Intake::new(alloc)?;
+    let intake = RingIntake::new(alloc, config.capacities)?;
     let Ok(lanes) = lanes(alloc, config.slots, config.version) else {
         return Err(AllocError);
     };

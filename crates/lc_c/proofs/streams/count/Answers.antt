@@ -10,7 +10,7 @@ use Rattle.lc_c.proofs.streams.count.Goals as goal
 pub frames-preserved : goal.frames-preserved
 frames-preserved c =
     let frame = frame_of c.in-Some.frame in
-    let more = length-one-more c.args.side.now.peer.version c.args.side.now.peer.waiting c.frames.place frame c.in-Some.ensures.value in
+    let more = length-one-more c.side.inside.peer.version c.side.inside.peer.waiting c.frames.place frame c.in-Some.ensures.value in
     let same = ap (λ (v : Version). length (encoding v frame)) c.version-version.ensures in
     let valid = subst (λ (v : Version). IsValid v frame) (sym c.version-version.ensures) c.in-Some.ensures.valid in
     record {

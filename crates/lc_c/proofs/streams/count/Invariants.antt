@@ -7,6 +7,6 @@ use Rattle.lc_c.proofs.streams.count.Given as goal
 
 abbrev pub invariant-frames : goal.invariant-frames
 invariant-frames l = record {
-  count : l.count ≡ length l.side.pending.bytes + length (flat_map (encoding l.side.peer.version) (take l.place l.side.peer.waiting));
+  count : l.count ≡ length l.side-inside.pending.bytes + length (flat_map (encoding l.side-inside.peer.version) (take l.place l.side-inside.peer.waiting));
   small : l.count ≤ max_frame Two * (l.place + 1);
 }

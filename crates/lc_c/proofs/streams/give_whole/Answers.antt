@@ -9,4 +9,4 @@ pub returns-clause-gives : goal.returns-clause-gives
 returns-clause-gives c =
     let frame = frame_of c.in-Some.frame in
     let count = c.in-Ok.ensures.count ∙ ap (λ (v : Version). length (encoding v frame)) c.version-version.ensures in
-    gives_whole c.in-Ok.count c.args.side.now frame c.next_out-gone.new.self (omega (arith, c.len.ensures.value, c.if-len-gt0.false)) c.in-Some.ensures.value c.next_out-gone.ensures.after count
+    rw (← c.side.view_is) (gives_whole c.in-Ok.count _ frame c.next_out-gone.new.self (omega (arith, c.len.ensures.value, c.if-len-gt0.false)) c.in-Some.ensures.value c.next_out-gone.ensures.after count)
