@@ -45,6 +45,8 @@ use std::time::{Duration, Instant};
 /// - Frames of control (issues, absolves, limits, pleads and finishes) go before messages: they never wait
 ///   for a slot behind one. Messages leave 7 slots free, one for each channel, so a session has at least
 ///   [`Mux::LEAST_SLOTS`]. What finds no slot all the same waits as one amount for each channel and kind.
+/// - Messages that wait to be written have at most 65,536 bytes together, but for those that are sent by permits
+///   and one that is longer, which waits alone. So a short message never goes behind many long ones.
 /// - Senders go in turn. Between two messages of one sender each other sender that could go, since a call
 ///   of it waits whose guarantees are there, goes at least once. So a sender whose guarantees are there
 ///   waits for at most six messages of others, beside those that are sent by permits: a permit had its turn

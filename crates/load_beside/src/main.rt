@@ -1,6 +1,6 @@
 //! Runs sessions in which not every end gets on. The arguments are words, each with a number behind it:
 //! `beside MESSAGES` sends so many messages through each of six channels, beside one whose ends are slow, over
-//! one slot and over 64, and says whether one of them was longer on its way than 10 seconds.
+//! one slot and over 64, and says whether one of them was longer on its way than a minute.
 //!
 //! `turns SCHEDULES` lets the ends and the writing pump of a session go on by so many made schedules, and says
 //! whether any frame was passed by more than may pass it.
@@ -19,7 +19,7 @@ use std::time::Clock;
 use std::{env, io};
 
 /// The milliseconds from which on a message was late.
-const LATE: u64 = 10_000;
+const LATE: u64 = 60_000;
 
 fn go_beside<R, F>(rt: &R, files: &F, alloc: Global, messages: u32) -> &'static str
 where

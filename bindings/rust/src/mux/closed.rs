@@ -202,7 +202,8 @@ impl From<Closed> for SendError {
 #[derive(Clone, Debug, PartialEq, Eq)]
 #[non_exhaustive]
 pub enum TrySendError {
-    /// It would have to wait: for guarantees, or for a slot or its turn, which is [`Needs::Slot`].
+    /// It would have to wait: for guarantees, or for a place in the queue or its turn, which is
+    /// [`Needs::Slot`].
     Full(Needs),
     /// It will never go.
     Failed(SendError),

@@ -14,7 +14,7 @@ use std::time::{Duration, Instant};
 
 /// The end of a channel that sends.
 ///
-/// [`Sender::send`] waits for guarantees, for a slot and for its turn: as a future, as
+/// [`Sender::send`] waits for guarantees, for a place in the queue and for its turn: as a future, as
 /// [`Sender::send_blocking`] for a thread, or up to a [`Sender::send_timeout`]. Several tasks may share one
 /// sender by reference; their calls go in the order in which they began to wait.
 ///
@@ -126,8 +126,9 @@ impl Sender {
     }
 
     /// Sends a copy of 1 to 65,535 bytes as one message, in version Two of 1 to 1,048,576. It waits until
-    /// there are guarantees and a slot and it is this sender's turn. What can never go is an error at once;
-    /// but this side does not know the other's ring, so a message longer than that waits until the end.
+    /// there are guarantees and a place in the queue and it is this sender's turn. What can never go is an
+    /// error at once; but this side does not know the other's ring, so a message longer than that waits until
+    /// the end.
     ///
     /// The message is sent once the future is ready, in whole. *Cancel-safe*: a future that is dropped
     /// before sent nothing, spent no guarantee, and left its place in the line to the next.

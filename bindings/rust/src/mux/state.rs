@@ -91,6 +91,8 @@ pub(crate) struct State {
     stats: [Stats; 7],
     /// Slots that permits own.
     permits: usize,
+    /// The bytes of messages in the queue, or fewer: what was pulled counts as theirs.
+    queued: usize,
     /// The turns of all senders so far.
     turns: u64,
     /// Channels on which a receiver or a sender may owe something, as bits, and the one that is looked at first.
@@ -146,6 +148,7 @@ impl State {
             inc: Default::default(),
             stats: Default::default(),
             permits: 0,
+            queued: 0,
             turns: 0,
             owing_in: ALL,
             owing_out: ALL,
@@ -232,6 +235,7 @@ impl State {
         self.flush();
         let count = self.peer.write(buffer);
         if count > 0 {
+            self.queued = self.queued.saturating_sub(count);
             self.settle();
             return Pulled::Bytes(count);
         }

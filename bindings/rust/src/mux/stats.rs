@@ -21,7 +21,7 @@ pub struct Stats {
     pub bytes_received: u64,
     /// How long a sender's first call that waited did so for guarantees, also one that still does.
     pub waited_for_guarantees: Duration,
-    /// How long it waited for a slot, or for its turn.
+    /// How long it waited for a place in the queue, or for its turn.
     pub waited_for_slots: Duration,
     /// The most bytes of messages that were in the ring at once.
     pub most_buffered: u64,

@@ -286,7 +286,10 @@ fn channels_owe_in_turn() {
     let receivers: Vec<_> = ALL
         .map(|channel| hand.mux.receiver(channel).unwrap())
         .into();
-    (0..3).for_each(|_| sender.try_send(&[7; 131_072]).unwrap());
+    let permits = [(); 3].map(|()| sender.try_reserve(131_072).unwrap());
+    for permit in permits {
+        permit.send(&[7; 131_072]).unwrap();
+    }
     receivers
         .iter()
         .for_each(|receiver| receiver.issue(1).unwrap());

@@ -10,6 +10,10 @@ use std::task::{Poll, Waker};
 /// who waits.
 const MOST_LEFT: usize = 4_096;
 
+/// The most bytes of messages in the queue, where there is more than one: a short message goes behind all of them,
+/// and more would only lie there until the driver comes.
+const MOST_QUEUED: usize = 65_536;
+
 /// What a call of a sender wants.
 #[derive(Clone, Copy)]
 pub(crate) enum Ask<'a> {
@@ -161,6 +165,7 @@ impl State {
 
     fn put(&mut self, channel: Channel, body: &[u8]) -> Result<(), SendError> {
         self.peer.send(channel, body)?;
+        self.queued += body.len();
         self.went(channel);
         if self.out[at(channel)].pleaded.is_some() {
             // Its target may be all that is held now: then the next one is not taken for it.
@@ -180,12 +185,12 @@ impl State {
     // What a message of so many bytes needs, beside its turn, or why it will never go.
     fn judge(&self, channel: Channel, len: usize, ticket: Option<u64>) -> Result<Needs, SendError> {
         match self.lacks(channel, len, ticket)? {
-            Needs::Nothing if !self.has_slot() => Ok(Needs::Slot),
+            Needs::Nothing if !self.has_place(len) => Ok(Needs::Slot),
             needs => Ok(needs),
         }
     }
 
-    // What it needs beside a slot, too.
+    // What it needs beside a place in the queue, too.
     fn lacks(&self, channel: Channel, len: usize, ticket: Option<u64>) -> Result<Needs, SendError> {
         self.is_open()?;
         let needs = self.peer.needs(channel, len);
@@ -224,9 +229,10 @@ impl State {
         most.saturating_sub(self.set_aside(channel))
     }
 
-    // Whether a message may take a slot.
-    fn has_slot(&self) -> bool {
-        self.peer.slots_left() > KEPT + self.permits
+    // Whether a message of so many bytes may take a slot.
+    fn has_place(&self, len: usize) -> bool {
+        let fits = self.queued == 0 || self.queued + len <= MOST_QUEUED;
+        fits && self.peer.slots_left() > KEPT + self.permits
     }
 
     #[cold]
@@ -353,7 +359,10 @@ impl State {
         self.look_at_fronts();
         let went = |channel: &Channel| self.out[at(*channel)].went;
         let next = channels(self.fronts.able).min_by_key(went);
-        next.filter(|_| self.has_slot())
+        next.filter(|channel| {
+            let first = self.out[at(*channel)].line.first();
+            first.is_some_and(|first| self.has_place(first.len))
+        })
     }
 
     // Whether what the first call left could be done. Where memory was refused, it is for that call to say so.

@@ -1,7 +1,7 @@
 //! Calls of senders by chance: those of tasks, which may be given up unheard, beside those of threads, which
 //! whoever changes the session makes for them.
 use super::{Ask, Call, Pulled, State};
-use crate::{Channel, Config, MuxConfig, SendError};
+use crate::{Channel, Config, MuxConfig, Needs, SendError, TrySendError, Version};
 use std::collections::VecDeque;
 use std::env;
 use std::sync::atomic::{AtomicBool, Ordering::Relaxed};
@@ -295,5 +295,82 @@ fn a_long_message_is_sent_by_who_made_the_call() {
         let answer = state.poll_send(channel, &mut call, &waker);
         assert_eq!(answer, Poll::Ready(Ok(())));
         assert_eq!(state.stats(channel).messages_sent, 1);
+    }
+}
+
+/// A session in version Two with guarantees for all that is sent here.
+fn rich() -> State {
+    let mut config = MuxConfig::from(Config::new([1; 7], 64));
+    config.peer.version = Version::Two;
+    let mut state = State::new(&config).unwrap();
+    assert!(matches!(pull(&mut state, 128), Pulled::Bytes(39)));
+    for tag in 0x20..0x27 {
+        state.deliver(&[tag, 0, 0x20, 0, 0]).unwrap();
+    }
+    state
+}
+
+fn pull(state: &mut State, most: usize) -> Pulled {
+    let waker = Waker::from(Arc::new(Flag::default()));
+    state.pull(&mut vec![0; most], &waker)
+}
+
+fn goes(state: &mut State, channel: Channel, len: usize) -> bool {
+    match state.try_send(channel, Ask::Message(&vec![7; len])) {
+        Ok(()) => true,
+        Err(TrySendError::Full(Needs::Slot)) => false,
+        Err(other) => panic!("{other}"),
+    }
+}
+
+/// Behind others a message goes into the queue as long as they have 65,536 bytes together. One that is longer
+/// goes where none waits.
+#[test]
+fn so_many_bytes_of_messages_wait() {
+    let mut state = rich();
+    for (channel, len, goes_now) in [
+        (Channel::Data, 60_000, true),
+        (Channel::Data, 5_537, false),
+        (Channel::Overlap, 5_535, true),
+        (Channel::Overlap, 2, false),
+        (Channel::Capability, 1, true),
+        (Channel::Capability, 1, false),
+    ] {
+        assert_eq!(goes(&mut state, channel, len), goes_now, "{len} bytes");
+    }
+    assert!(matches!(pull(&mut state, 30_000), Pulled::Bytes(30_000)));
+    assert!(!goes(&mut state, Channel::Data, 30_001));
+    assert!(goes(&mut state, Channel::Data, 30_000));
+    assert!(matches!(pull(&mut state, 1 << 20), Pulled::Bytes(65_556)));
+    assert!(goes(&mut state, Channel::Data, 1_048_576));
+    assert!(!goes(&mut state, Channel::Overlap, 1));
+}
+
+/// Who waits for the bytes before it is woken once they went, and a permit is refused as long.
+#[test]
+fn who_waits_for_bytes_to_go_is_woken() {
+    let mut state = rich();
+    assert!(goes(&mut state, Channel::Data, 65_536));
+    let permit = state.try_send(Channel::Overlap, Ask::Permit(1));
+    assert_eq!(permit, Err(TrySendError::Full(Needs::Slot)));
+    for is_left in [false, true] {
+        let woken = Arc::new(Flag::default());
+        let waker = Waker::from(Arc::clone(&woken));
+        let mut call = Call {
+            ask: Ask::Message(b"now"),
+            is_left,
+            ticket: None,
+        };
+        let channel = Channel::Overlap;
+        assert!(state.poll_send(channel, &mut call, &waker).is_pending());
+        drop(std::mem::take(&mut state.wakes));
+        assert!(!woken.0.load(Relaxed));
+        assert!(matches!(pull(&mut state, 1 << 20), Pulled::Bytes(_)));
+        drop(std::mem::take(&mut state.wakes));
+        assert!(woken.0.load(Relaxed));
+        let answer = state.poll_send(channel, &mut call, &waker);
+        assert_eq!(answer, Poll::Ready(Ok(())));
+        assert!(matches!(pull(&mut state, 1 << 20), Pulled::Bytes(8)));
+        assert!(goes(&mut state, Channel::Data, 65_536));
     }
 }
