@@ -298,11 +298,13 @@ test('bad lines and bad links are said', async () => {
 
 test('the examples are those of the repository', async () => {
   const tab = await open();
-  const names = await tab.run(() => Array.from(document.querySelectorAll('#example option'), it => it.value).slice(1));
-  assert.equal(names.length, 9);
-  for (const name of names) {
+  const shown = await tab.run(() => Array.from(document.querySelectorAll('#example option'), it => [it.value, it.textContent]).slice(1));
+  assert.equal(shown.length, 9);
+  for (const [name, title] of shown) {
     await write(tab, 'example', name, 'change');
     const { script, capacity, version, answers } = await state(tab);
+    const [, said, ring, writes] = /^# (.*): lcmux replay (\d+)(?: (\d))?\n/.exec(script);
+    assert.deepEqual([title, capacity, version], [said, Number(ring), Number(writes ?? 1)]);
     assert.equal(script, await readFile(new URL(`../../../examples/${name}.script`, import.meta.url), 'utf8'));
     assert.deepEqual(answers, answersOf({ capacity, version, script }));
   }
