@@ -1,7 +1,7 @@
 //! How an end waits.
 use crate::wakers::Wakers;
 use crossbeam_utils::sync::Parker;
-use lc_frame::Lane;
+use lc_frame::{LANES, Lane};
 use std::alloc::Global;
 use std::sync::{Arc, Wait};
 use std::thread;
@@ -10,6 +10,10 @@ use std::time::{Clock, Duration};
 /// How often an end that found nothing yields the processor before it sleeps. What a wait takes
 /// with that is in `docs/performance.md`.
 const YIELDS: u32 = 1;
+
+/// An end starves that was refused a slot so often since it last had one: as often as there are ends.
+/// So often others yield to it at the end of a wait.
+const STARVED: u32 = LANES as u32;
 
 /// Why a wait ended. It is advice: nothing is promised of it.
 #[derive(Clone, Copy, Debug, PartialEq, Eq)]
@@ -32,6 +36,8 @@ pub struct Waiter {
     freed: u64,
     // Whether it met a full queue since then.
     wants_slot: bool,
+    // How often it did since it last put a frame, up to where it starves.
+    refused: u32,
 }
 
 impl Waiter {
@@ -43,17 +49,28 @@ impl Waiter {
             told: 0,
             freed: 0,
             wants_slot: false,
+            refused: 0,
         }
     }
 
     /// The end put a frame.
-    pub fn frame_put(&self) {
+    pub fn frame_put(&mut self) {
         self.shared.frame_put();
+        if self.refused == STARVED {
+            self.shared.feed(self.lane);
+        }
+        self.refused = 0;
     }
 
     /// The end met a full queue: a slot that was freed since its last wait ended ends its next one.
     pub fn met_full_queue(&mut self) {
         self.wants_slot = true;
+        if self.refused < STARVED {
+            self.refused += 1;
+        }
+        if self.refused == STARVED {
+            self.shared.starve(self.lane);
+        }
     }
 
     // What the end was told since its last wait ended, if anything.
@@ -100,6 +117,18 @@ impl Waiter {
         }
     }
 
+    // Lets ends that starve go first, if their threads may run. On a processor that all share, an end that
+    // is always woken right behind the pump would else have every slot.
+    fn give_way(&self) {
+        for _ in 0..STARVED {
+            if !self.shared.others_starve(self.lane) {
+                return;
+            }
+            thread::yield_now();
+        }
+        self.shared.forget_starved();
+    }
+
     // The wait has ended: what came so far is told by that. The counts are noted here alone, so
     // however often the end looks before its next wait, that misses nothing which came after a look.
     fn end_wait(&mut self) {
@@ -120,6 +149,7 @@ impl Waiter {
             Some(wake) => wake,
             None => self.sleep(rt),
         };
+        self.give_way();
         self.end_wait();
         wake
     }
@@ -130,6 +160,7 @@ impl Waiter {
         if self.yield_first().is_none() {
             self.parker.park_timeout(rt, timeout);
         }
+        self.give_way();
         let wake = self.news().unwrap_or(Wake::Again);
         self.end_wait();
         wake

@@ -3,7 +3,7 @@
 //! # Why no wake-up is lost
 //!
 //! No clause says that who waits is woken, so this is the argument for it. Ends and pumps share
-//! six kinds of words, each read and changed by single, sequentially
+//! seven kinds of words, each read and changed by single, sequentially
 //! consistent steps: so there is one order of all steps, and "before" means in it. `unpark`
 //! leaves a token that ends the next `park`, or the one that goes on; a park may also end without
 //! one, so whoever sleeps looks again after each.
@@ -14,6 +14,7 @@
 //! | `freed` | how often slots of the queue were freed |
 //! | `wanting` | a bit for each end that waits for a slot |
 //! | `over` | a bit for each pump whose run has ended |
+//! | `starved` | a bit for each end that keeps being refused a slot |
 //! | `pump_sleeps`, `stopped` | the writing pump sleeps or is about to; it was asked to stop |
 //!
 //! An end *notes* `told` and `freed` when one of its waits ends, and nowhere else; at first both
@@ -58,7 +59,8 @@
 //!   when the last run ended was told of that, and its wait ends: by `Over`, or by `Again` where
 //!   the new run has begun meanwhile.
 //!
-//! The yields before a park come between two looks and change nothing of this. An end that is not
+//! The yields before a park, and those by which an end lets starved ones go first, come between two looks
+//! and change nothing of this. An end that is not
 //! to wait for ever needs both pumps to run, or to have ended: who fails, or can't make a thread,
 //! stops the session and shuts its transport down.
 ghost use Rattle.std.specs.Prelude.{◌<◌};
@@ -125,6 +127,8 @@ pub struct Wakers {
     freed: AtomicU64,
     // A bit for each end that waits for a slot.
     wanting: AtomicU64,
+    // A bit for each end that keeps being refused one.
+    starved: AtomicU64,
     // A bit for each pump whose run has ended.
     over: AtomicU64,
     stopped: AtomicBool,
@@ -143,6 +147,7 @@ impl Wakers {
             pump_sleeps: AtomicBool::new(false),
             freed: AtomicU64::new(0),
             wanting: AtomicU64::new(0),
+            starved: AtomicU64::new(0),
             over: AtomicU64::new(0),
             stopped: AtomicBool::new(false),
         }
@@ -198,6 +203,26 @@ impl Wakers {
 
     pub(crate) fn want_no_slot(&self, lane: Lane) {
         self.wanting.fetch_and(!bit(lane), Ordering::SeqCst);
+    }
+
+    /// An end keeps being refused a slot, or had one.
+    pub(crate) fn starve(&self, lane: Lane) {
+        self.starved.fetch_or(bit(lane), Ordering::SeqCst);
+    }
+
+    pub(crate) fn feed(&self, lane: Lane) {
+        self.starved.fetch_and(!bit(lane), Ordering::SeqCst);
+    }
+
+    /// Whether other ends starve, and this one does not.
+    pub(crate) fn others_starve(&self, lane: Lane) -> bool {
+        let starved = self.starved.load(Ordering::SeqCst);
+        starved != 0 && starved & bit(lane) == 0
+    }
+
+    /// Those that starve do not come. Who does once more will say so.
+    pub(crate) fn forget_starved(&self) {
+        self.starved.store(0, Ordering::SeqCst);
     }
 
     /// Wakes up to so many of the ends that wait for a slot, from a lane on in turn, and says from

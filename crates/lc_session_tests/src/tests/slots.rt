@@ -2,8 +2,8 @@
 //! read, and what wakes them comes while its own is read.
 use crate::tests::staged::in_time;
 use crate::tests::ticks::Ticks;
-use lc_frame::{CHANNELS, Channel, Lane};
-use lc_wake::{Found, Pump, PumpWaiter, Waiter, Wakers, Waking};
+use lc_frame::{CHANNELS, Channel, LANES, Lane};
+use lc_wake::{Found, Pump, PumpWaiter, Waiter, Wake, Wakers, Waking};
 use std::io;
 use std::process::Abort;
 use std::sync::{Mutex, Wait};
@@ -183,7 +183,7 @@ fn wait_in_rounds<R: Wait + Abort>(rt: &R, waking: Waking) {
 // A pump is about to sleep twice: a frame is put, and then it is asked to stop, after a look began.
 fn sleep_twice<R: Wait + Abort>(rt: &R, waking: Waking) {
     let Waking {
-        sending,
+        mut sending,
         receiving: _,
         mut pump,
         wakers,
@@ -197,6 +197,41 @@ fn sleep_twice<R: Wait + Abort>(rt: &R, waking: Waking) {
     pump.sleep(rt);
     let found = (early.found(0), pump.look().found(0), pump.look().found(2));
     assert_eq!(rt; found, (Found::Nothing, Found::Stop, Found::Frames(2)));
+}
+
+// An end waits, and nothing comes: it yields once before it sleeps.
+fn wait_in_vain<R: Wait + Abort>(rt: &R, end: &mut Waiter) {
+    let wake = end.wait_timeout(&Ticks::new(rt), Duration::from_micros(1));
+    assert_eq!(rt; wake, Wake::Again);
+}
+
+// It yields as often as there are ends to one that was refused a slot so often, until it sees that this does
+// not come; and not to one that was refused less often, or had its slot. `scripts/threads` counts 19 yields.
+fn give_way<R: Wait + Abort>(rt: &R, waking: Waking) {
+    let Waking {
+        mut sending,
+        mut receiving,
+        pump: _,
+        wakers: _,
+    } = waking;
+    let (refused, end) = (&mut sending[3], &mut receiving[5]);
+    for _ in 1..LANES {
+        refused.met_full_queue();
+    }
+    wait_in_vain(rt, end);
+    refused.met_full_queue();
+    wait_in_vain(rt, end);
+    wait_in_vain(rt, end);
+    refused.met_full_queue();
+    wait_in_vain(rt, refused);
+    refused.frame_put();
+    wait_in_vain(rt, end);
+}
+
+#[test]
+fn an_end_gives_way_to_one_that_starves(rt: HostRuntime) -> Result<(), Fail> {
+    give_way(&rt, Waking::new(rt.alloc())?);
+    Ok(())
 }
 
 #[test]
