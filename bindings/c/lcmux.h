@@ -196,12 +196,20 @@ typedef struct lcmux_piece {
     size_t len;
 } lcmux_piece;
 
-/* A message where it lies: the bytes of the first piece, and then those of the rest, which is empty unless the
- * message goes round the end of its ring. */
+/* A message where it lies: the bytes of the first piece, and then those of the rest, which lies right behind it and
+ * is empty unless the message goes round the end of its ring. */
 typedef struct lcmux_front {
     lcmux_piece first;
     lcmux_piece rest;
 } lcmux_front;
+
+/* A frame where it lies: the first header_len bytes of header, and then those of message, which is empty unless the
+ * frame carries one. */
+typedef struct lcmux_next {
+    uint8_t header[9];
+    size_t header_len;
+    lcmux_piece message;
+} lcmux_next;
 
 /* Makes a peer behind an empty handle. LCMUX_HAS_PEER, LCMUX_BAD_VERSION, LCMUX_BAD_CAPACITY,
  * LCMUX_BAD_SLOTS and LCMUX_OUT_OF_MEMORY, in this order; the handle is then as it was. It asks for 18
@@ -289,12 +297,22 @@ lcmux_answer lcmux_peer_pending(lcmux_peer *peer) LCMUX_NONNULL;
 /* The number is 1 where lcmux_peer_write would give any byte, else 0. */
 lcmux_answer lcmux_peer_wants_write(lcmux_peer *peer) LCMUX_NONNULL;
 
+/* Lends the frame that goes out next where it lies, without a copy; it stays, and the number is how many bytes it
+ * has. Its message is the peer's: it lies there until the next lcmux_peer_sent, lcmux_peer_write or lcmux_peer_free
+ * of it. LCMUX_EMPTY where no frame waits, or where something is left of what was begun before it, which
+ * lcmux_peer_write gives. With another code than LCMUX_OK nothing is lent. */
+lcmux_answer lcmux_peer_next(lcmux_peer *peer, lcmux_next *next) LCMUX_NONNULL;
+
+/* The frame that lcmux_peer_next lends went out, whole: it is dropped, and the next one takes its place. The answer
+ * is that of lcmux_peer_next. */
+lcmux_answer lcmux_peer_sent(lcmux_peer *peer) LCMUX_NONNULL;
+
 /* The number is the length of the first message, which stays. LCMUX_EMPTY, LCMUX_ENDED. */
 lcmux_answer lcmux_peer_front_len(lcmux_peer *peer, uint32_t channel) LCMUX_NONNULL;
 
 /* Lends the first message where it lies, without a copy; it stays, and the number is its length. Its bytes are
- * the peer's: they lie there until the next lcmux_peer_take, lcmux_peer_pop, lcmux_peer_deliver or
- * lcmux_peer_free of it. LCMUX_EMPTY, LCMUX_ENDED. With another code than LCMUX_OK both pieces are empty. */
+ * the peer's: they lie there until the next lcmux_peer_take or lcmux_peer_pop of this channel or lcmux_peer_free.
+ * LCMUX_EMPTY, LCMUX_ENDED. With another code than LCMUX_OK both pieces are empty. */
 lcmux_answer lcmux_peer_front(lcmux_peer *peer, uint32_t channel, lcmux_front *message) LCMUX_NONNULL;
 
 /* Drops the first message; the number is its length, and its bytes are room of the ring again. LCMUX_EMPTY,

@@ -220,6 +220,7 @@ private:
         answers(lcmux_peer_end(&side.peer), {code ? code : side.model->end(), 0});
         answers(lcmux_peer_slots_left(&side.peer), {code, code ? 0 : side.model->slots - side.model->waiting()});
         answers(lcmux_peer_wants_write(&side.peer), {code, !code && side.model->pending() > 0});
+        next(me);
         ready(me);
         for (uint32_t c = 0; c < model::channels; c++) {
             answers(lcmux_peer_front_len(&side.peer, c), code ? lcmux_answer{code, 0} : side.model->channels[c].front_len());
@@ -290,7 +291,7 @@ private:
         case 15: return honour(me, channel);
         case 16:
         case 17:
-        case 18: return write(me, room_about(me, how, byte));
+        case 18: return how % 2 ? sent(me) : write(me, room_about(me, how, byte));
         case 19:
         case 20:
         case 21:
@@ -427,11 +428,44 @@ private:
         answers(lcmux_peer_write(&side.peer, buffer.data(), room), {code, count});
         if (code)
             return buffer.must_be(nullptr, 0);
-        const uint8_t *bytes = side.model->text.data() + side.model->written;
-        buffer.must_be(bytes, count);
-        side.model->written += count;
+        buffer.must_be(side.model->text.data() + side.model->written, count);
+        written(me, count);
+    }
+
+    void written(size_t me, size_t count) {
+        model::Peer &model = *sides[me].model;
+        const uint8_t *bytes = model.text.data() + model.written;
+        model.written += count;
         if (me < 2)
             sides[1 - me].wire.insert(sides[1 - me].wire.end(), bytes, bytes + count);
+    }
+
+    /* What the calls answer of the frame that goes out next. */
+    lcmux_answer about_next(size_t me) const {
+        uint32_t code = barred(me, 0);
+        size_t count = code ? 0 : sides[me].model->next_len();
+        return {code ? code : count ? LCMUX_OK : LCMUX_EMPTY, count};
+    }
+
+    /* The frame that is lent is the next one. */
+    void next(size_t me) {
+        lcmux_answer want = about_next(me);
+        lcmux_next next = {{}, 10, {nullptr, 1}};
+        answers(lcmux_peer_next(&sides[me].peer, &next), want);
+        same("the length of what is lent", next.header_len + next.message.len, want.number);
+        if (want.code != LCMUX_OK)
+            return;
+        const uint8_t *bytes = sides[me].model->text.data() + sides[me].model->written;
+        same("the header", memcmp(next.header, bytes, next.header_len), 0);
+        same("the message", memcmp(next.message.bytes, bytes + next.header_len, next.message.len), 0);
+    }
+
+    void sent(size_t me) {
+        lcmux_answer want = about_next(me);
+        note("sent", me, 0, 0);
+        answers(lcmux_peer_sent(&sides[me].peer), want);
+        if (want.code == LCMUX_OK)
+            written(me, want.number);
     }
 
     /* The first bytes of what comes, in short pieces where this play cuts it so. */

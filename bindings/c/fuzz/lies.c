@@ -142,6 +142,27 @@ WRAPPED(lcmux_answer, lcmux_peer_write, lcmux_peer *peer, uint8_t *buffer, size_
     return answer;
 }
 
+WRAPPED(lcmux_answer, lcmux_peer_next, lcmux_peer *peer, lcmux_next *next) {
+    lcmux_answer answer = __real_lcmux_peer_next(peer, next);
+    if (lie("a lent frame has the tag of another") && answer.code == LCMUX_OK)
+        next->header[0] ^= 1;
+    if (lie("the bytes of a lent length are exchanged") && next->header_len == 3) {
+        uint8_t high = next->header[1];
+        next->header[1] = next->header[2];
+        next->header[2] = high;
+    }
+    if (lie("a message is lent a byte late") && next->message.len > 1)
+        next->message.bytes++;
+    return answer;
+}
+
+WRAPPED(lcmux_answer, lcmux_peer_sent, lcmux_peer *peer) {
+    lcmux_next next;
+    if (lie("what was sent stays"))
+        return __real_lcmux_peer_next(peer, &next);
+    return __real_lcmux_peer_sent(peer);
+}
+
 WRAPPED(lcmux_answer, lcmux_peer_take, lcmux_peer *peer, uint32_t channel, uint8_t *buffer, size_t len) {
     static uint8_t room[1 << 20];
     lcmux_answer answer = __real_lcmux_peer_take(peer, channel, buffer, len);

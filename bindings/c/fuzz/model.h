@@ -309,6 +309,15 @@ struct Peer {
         return text.size() - written;
     }
 
+    /* How many bytes the next frame has, 0 where none waits or the one before is cut. */
+    size_t next_len() const {
+        auto next = std::lower_bound(starts.begin(), starts.end(), written);
+        if (next == starts.end() || *next != written)
+            return 0;
+        auto behind = next + 1;
+        return (behind == starts.end() ? text.size() : *behind) - written;
+    }
+
     void put(Frame frame) {
         Bytes bytes = encoding(frame, version);
         starts.push_back(text.size());

@@ -64,6 +64,7 @@ static void empty_handle(lcmux_peer *peer) {
     lcmux_server server = {.issued = 1};
     lcmux_ready ready = {.channels[6].plead = 7};
     lcmux_front front = {{buffer, 8}, {buffer, 8}};
+    lcmux_next next = {.header_len = 1, .message = {buffer, 8}};
     lcmux_delivery delivery = lcmux_peer_deliver(peer, buffer, 4);
     must(delivery.code == LCMUX_NO_PEER && delivery.taken == 0 && delivery.frames == 0, "deliver");
     must(lcmux_peer_send(peer, 1, buffer, 4).code == LCMUX_NO_PEER, "send");
@@ -76,6 +77,9 @@ static void empty_handle(lcmux_peer *peer) {
     must(lcmux_peer_finish(peer, 1).code == LCMUX_NO_PEER, "finish");
     must(lcmux_peer_write(peer, buffer, 4).code == LCMUX_NO_PEER, "write");
     must(lcmux_peer_pending(peer).code == LCMUX_NO_PEER, "pending");
+    must(lcmux_peer_next(peer, &next).code == LCMUX_NO_PEER && !next.header_len && !next.message.len, "next");
+    must(next.message.bytes, "a piece that is empty is no null pointer");
+    must(lcmux_peer_sent(peer).code == LCMUX_NO_PEER, "sent");
     must(lcmux_peer_end(peer).code == LCMUX_NO_PEER, "end");
     must(lcmux_peer_front_len(peer, 1).code == LCMUX_NO_PEER, "front length");
     must(lcmux_peer_front(peer, 1, &front).code == LCMUX_NO_PEER && !front.first.len && !front.rest.len, "front");

@@ -1,5 +1,6 @@
 /* Runs the cases of rows.txt through the library: `rows FILE` delivers the bytes of a line whole,
- * `rows FILE 1` a byte at a time, and takes what is lent to it. Prints how many lines were answered as they say. */
+ * `rows FILE 1` a byte at a time, and takes and sends what is lent to it. Prints how many lines were answered as they
+ * say. */
 #include "lcmux.h"
 
 #include <inttypes.h>
@@ -56,9 +57,36 @@ static const char *or_none(uint64_t left, char *text) {
     return text;
 }
 
+/* The frames that wait, from where each of them lies. */
+static void send_lent(struct side *me) {
+    lcmux_next next = {{0}, 1, {NULL, 1}};
+    for (;;) {
+        lcmux_answer lent = lcmux_peer_next(&me->peer, &next);
+        if (next.header_len + next.message.len != lent.number || !next.message.bytes)
+            abort();
+        memcpy(me->out + me->to, next.header, next.header_len);
+        memcpy(me->out + me->to + next.header_len, next.message.bytes, next.message.len);
+        me->to += lent.number;
+        lcmux_answer sent = lcmux_peer_sent(&me->peer);
+        if (sent.code != lent.code || sent.number != lent.number)
+            abort();
+        if (lent.code != LCMUX_OK)
+            return;
+    }
+}
+
+/* All that waits to go out. */
+static void send_out(struct side *me) {
+    if (piece == 1)
+        send_lent(me);
+    me->to += lcmux_peer_write(&me->peer, me->out + me->to, sizeof me->out - me->to).number;
+    if (piece == 1)
+        send_lent(me);
+}
+
 /* The next frame of the other side's bytes, byte by byte. */
 static void arrive(struct side *me, struct side *other) {
-    other->to += lcmux_peer_write(&other->peer, other->out + other->to, sizeof other->out - other->to).number;
+    send_out(other);
     while (other->from < other->to) {
         lcmux_delivery d = lcmux_peer_deliver(&me->peer, other->out + other->from++, 1);
         if (d.code != LCMUX_OK || d.frames == 1) {

@@ -18,6 +18,7 @@ static struct {
         lcmux_server server;
         lcmux_ready ready;
         lcmux_front front;
+        lcmux_next next;
     };
 } last;
 
@@ -61,6 +62,7 @@ OF_PEER(free)
 OF_PEER(slots_left)
 OF_PEER(wants_write)
 OF_PEER(pending)
+OF_PEER(sent)
 OF_PEER(end)
 OF_CHANNEL(honour)
 OF_CHANNEL(finish)
@@ -97,6 +99,7 @@ u32 EXPORT(peer_deliver)(u32 peer, u32 len) {
 u32 EXPORT(peer_client)(u32 peer, u32 channel) { return answer(lcmux_peer_client(AT(peer), channel, &last.client)); }
 u32 EXPORT(peer_server)(u32 peer, u32 channel) { return answer(lcmux_peer_server(AT(peer), channel, &last.server)); }
 u32 EXPORT(peer_ready)(u32 peer) { return answer(lcmux_peer_ready(AT(peer), &last.ready)); }
+u32 EXPORT(peer_next)(u32 peer) { return answer(lcmux_peer_next(AT(peer), &last.next)); }
 u32 EXPORT(peer_front)(u32 peer, u32 channel) { return answer(lcmux_peer_front(AT(peer), channel, &last.front)); }
 
 u32 EXPORT(version)(void) { return lcmux_version(); }

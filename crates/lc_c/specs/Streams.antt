@@ -1,5 +1,5 @@
 -- What goes out of a side and what comes to it. That a stream may be cut at any byte is this project's own to say.
-use Rattle.std.specs.Prelude.{◌≡◌, ℕ, ◌+◌, ◌<◌, ◌≤◌, min, List, [], ◌++◌, length, take, drop, Option, Some, None}
+use Rattle.std.specs.Prelude.{◌≡◌, ℕ, ◌+◌, ◌<◌, ◌≤◌, ◌==◌, min, List, [], ◌++◌, length, take, drop, if◌then◌else◌, Option, Some, None}
 use Rattle.std.specs.List.{flat_map}
 use Rattle.lc_frame.specs.FrameFault.{fault_number}
 use Rattle.lc_frame.specs.Encoding.{encoding}
@@ -12,7 +12,7 @@ use Rattle.lc_peer.specs.Intake.{IntakeState, GivesUp, IntakeEnds}
 use Rattle.lc_c.specs.declared.answer.LcmuxAnswer.{LcmuxAnswer}
 use Rattle.lc_c.specs.declared.wire.LcmuxDelivery.{LcmuxDelivery}
 use Rattle.lc_c.specs.Side.{Side}
-use Rattle.lc_c.specs.Answers.{done, only, no_peer}
+use Rattle.lc_c.specs.Answers.{done, only, no_peer, empty}
 
 -- the bytes that are to go out: the rest of the greeting or of the frame that was begun, and then those of the frames that wait, in the peer's version
 abbrev pub text : Side → List ℕ
@@ -117,3 +117,32 @@ pub record EndsWith (intake : IntakeState) (code : ℕ) : Type 0 where
 abbrev pub EndsBehind : Option Side → LcmuxAnswer → Type 0
 EndsBehind None answer = answer ≡ only no_peer
 EndsBehind (Some side) answer = EndsWith side.intake answer.code × (answer.number ≡ 0)
+
+-- the bytes of the frame that goes out next, where nothing is left of what was begun before it, else none
+abbrev pub next_bytes : Side → List ℕ
+next_bytes side = if length side.pending.bytes == 0 then flat_map (encoding side.peer.version) (take 1 side.peer.waiting) else []
+
+-- what the call answers that lends them, and the one that counts them as gone: the number is how many they are
+abbrev pub next_shown : ℕ → LcmuxAnswer
+next_shown n = record { code = if n == 0 then empty else done; number = n }
+
+-- the same behind a handle
+abbrev pub next_answer : Option Side → LcmuxAnswer
+next_answer None = only no_peer
+next_answer (Some side) = next_shown (length (next_bytes side))
+
+-- the bytes that are lent behind a handle
+abbrev pub next_of : Option Side → List ℕ
+next_of None = []
+next_of (Some side) = next_bytes side
+
+-- they went out of a side behind a handle, as by a write of as many bytes
+pub record SentNext (side : Side) (after : Option Side) : Type 0 where
+  pub new : Side
+  pub stands : after ≡ Some new
+  pub gives : GivesOut (length (next_bytes side)) side new
+
+-- they went out behind a handle
+abbrev pub SentBehind : Option Side → Option Side → Type 0
+SentBehind None after = after ≡ None
+SentBehind (Some side) after = SentNext side after

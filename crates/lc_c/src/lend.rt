@@ -31,8 +31,8 @@ pub struct LcmuxFront {
 
 impl LcmuxPiece {
     // A pointer is proved by hand. What lies at it no contract of an export can say, since the memory
-    // stays the ring's.
-    fn of(bytes: &[u8]) -> LcmuxPiece
+    // stays the peer's.
+    pub(crate) fn of(bytes: &[u8]) -> LcmuxPiece
         ensures { (result.bytes ≡ block_ptr bytes.entry.ref_ptr.0 bytes.entry.ref_ptr.1) × (result.len ≡ length bytes.now) }
     {
         LcmuxPiece {

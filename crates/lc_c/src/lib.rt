@@ -30,6 +30,7 @@ mod c_peer;
 mod handle;
 mod lend;
 mod make;
+mod next;
 mod own;
 mod parts;
 mod peer;
@@ -52,6 +53,7 @@ pub use c_peer::CPeer;
 pub use handle::Slot;
 pub use lend::{LcmuxFront, LcmuxPiece, lcmux_peer_front};
 pub use make::{LcmuxConfig, lcmux_peer_free, lcmux_peer_new};
+pub use next::{LcmuxNext, lcmux_peer_next, lcmux_peer_sent};
 pub use own::{
     lcmux_peer_absolve, lcmux_peer_finish, lcmux_peer_honour, lcmux_peer_issue,
     lcmux_peer_limit_receiving, lcmux_peer_limit_sending, lcmux_peer_plead, lcmux_peer_send,
