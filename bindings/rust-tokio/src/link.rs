@@ -1,7 +1,7 @@
 use crate::alarm::Alarm;
 use crate::Timeouts;
 use lcmux::{Closed, Driver, PollRead, PollWrite};
-use std::io::{self, ErrorKind};
+use std::io::{self, ErrorKind, IoSlice};
 use std::pin::Pin;
 use std::task::{Context, Poll};
 use tokio::io::{AsyncRead, AsyncWrite, ReadBuf};
@@ -137,6 +137,19 @@ impl<S: AsyncRead + AsyncWrite> PollWrite for Link<'_, S> {
     fn poll_write(&mut self, cx: &mut Context<'_>, bytes: &[u8]) -> Poll<io::Result<usize>> {
         let answer = self.stream.as_mut().poll_write(cx, bytes);
         self.wrote(cx, answer)
+    }
+
+    fn poll_write_vectored(
+        &mut self,
+        cx: &mut Context<'_>,
+        slices: &[IoSlice<'_>],
+    ) -> Poll<io::Result<usize>> {
+        let answer = self.stream.as_mut().poll_write_vectored(cx, slices);
+        self.wrote(cx, answer)
+    }
+
+    fn is_write_vectored(&self) -> bool {
+        self.stream.is_write_vectored()
     }
 
     fn poll_flush(&mut self, cx: &mut Context<'_>) -> Poll<io::Result<()>> {

@@ -1,4 +1,4 @@
-use crate::sys::{self, Answer, Handle};
+use crate::sys::{self, Answer, Handle, Lent, Next};
 use crate::{Channel, Overrun, PeerFault, ReadError, Refusal, Stop};
 use std::fmt::{self, Formatter};
 use std::io::{self, ErrorKind, Read, Write};
@@ -690,6 +690,25 @@ impl Peer {
     #[inline]
     pub fn front(&self, channel: Channel) -> Option<(&[u8], &[u8])> {
         self.handle.front(channel.number().into())
+    }
+
+    /// The frame that goes out next, for who counts it as sent and writes nothing out before it was read. `None`
+    /// also where something is left of what was begun before it.
+    #[inline]
+    pub(crate) fn next(&self) -> Option<Next> {
+        self.handle.next()
+    }
+
+    /// The frame of [`Peer::next`] went out.
+    #[inline]
+    pub(crate) fn sent(&mut self) {
+        self.handle.sent();
+    }
+
+    /// The first message, for who takes none of the channel before it was read.
+    #[inline]
+    pub(crate) fn lend(&self, channel: Channel) -> Option<Lent> {
+        self.handle.lend(channel.number().into())
     }
 
     /// Drops the first message, and answers its length; its bytes are room of the ring again.

@@ -5,14 +5,17 @@
 //! - every slice is passed with its own pointer, which is never null, and its own length;
 //! - a handle is behind an `UnsafeCell`, since readers too take it out of its place while they run. So
 //!   `Handle` is not `Sync`, and no call calls back, so of the calls on one handle one runs at a time;
-//! - what `lcmux_peer_front` lends lies in a ring, whose memory stays in its place, and whose bytes only calls
-//!   by `&mut` change;
+//! - what `lcmux_peer_front` lends lies in a ring, whose memory stays in its place. Of the first message no byte
+//!   changes until it is taken: so a [`Lent`] is read meanwhile by whoever keeps its channel from being taken
+//!   from;
+//! - what `lcmux_peer_next` lends has memory of its own, which stays until the frame is written or counted as sent;
 //! - what stands behind a handle is plain data from `malloc`, which no thread owns: hence `Send`.
 #![allow(unsafe_code)]
 
 use std::cell::UnsafeCell;
 use std::ffi::c_void;
-use std::ptr;
+use std::ops::Deref;
+use std::ptr::{self, NonNull};
 use std::slice;
 
 #[repr(C)]
@@ -94,15 +97,65 @@ struct Piece {
 
 impl Piece {
     const EMPTY: Piece = Piece {
-        bytes: ptr::NonNull::dangling().as_ptr(),
+        bytes: NonNull::dangling().as_ptr(),
         len: 0,
     };
 }
 
 #[repr(C)]
-struct Front {
+struct Pieces {
     first: Piece,
     rest: Piece,
+}
+
+/// A message where it lies, in one piece: the first one of a channel, until it is taken, or that of the frame
+/// that goes out next, until that is written or counted as sent. Who keeps one longer than a call sees to it that
+/// this does not happen before, and that the handle is not dropped.
+#[derive(Clone, Copy, Debug, PartialEq, Eq)]
+pub(crate) struct Lent {
+    bytes: NonNull<u8>,
+    len: usize,
+}
+
+// It is only read.
+unsafe impl Send for Lent {}
+unsafe impl Sync for Lent {}
+
+impl Lent {
+    fn of(bytes: *const u8, len: usize) -> Option<Lent> {
+        let bytes = NonNull::new(bytes.cast_mut())?;
+        Some(Lent { bytes, len })
+    }
+}
+
+impl Deref for Lent {
+    type Target = [u8];
+
+    #[inline]
+    fn deref(&self) -> &[u8] {
+        unsafe { slice::from_raw_parts(self.bytes.as_ptr(), self.len) }
+    }
+}
+
+#[repr(C)]
+struct RawNext {
+    header: [u8; 9],
+    header_len: usize,
+    message: Piece,
+}
+
+/// The frame that goes out next: the bytes before its message, and that, which is empty where it has none.
+pub(crate) struct Next {
+    header: [u8; 9],
+    header_len: usize,
+    pub message: Lent,
+}
+
+impl Next {
+    #[inline]
+    pub fn header(&self) -> &[u8] {
+        &self.header[..self.header_len]
+    }
 }
 
 extern "C" {
@@ -132,8 +185,10 @@ extern "C" {
     fn lcmux_peer_end(peer: *mut Raw) -> Answer;
     fn lcmux_peer_write(peer: *mut Raw, buffer: *mut u8, len: usize) -> Answer;
     fn lcmux_peer_pending(peer: *mut Raw) -> Answer;
+    fn lcmux_peer_next(peer: *mut Raw, next: *mut RawNext) -> Answer;
+    fn lcmux_peer_sent(peer: *mut Raw) -> Answer;
     fn lcmux_peer_front_len(peer: *mut Raw, channel: u32) -> Answer;
-    fn lcmux_peer_front(peer: *mut Raw, channel: u32, message: *mut Front) -> Answer;
+    fn lcmux_peer_front(peer: *mut Raw, channel: u32, message: *mut Pieces) -> Answer;
     fn lcmux_peer_pop(peer: *mut Raw, channel: u32) -> Answer;
     fn lcmux_peer_take(peer: *mut Raw, channel: u32, buffer: *mut u8, len: usize) -> Answer;
     fn lcmux_peer_client(peer: *mut Raw, channel: u32, balances: *mut Client) -> Answer;
@@ -301,19 +356,54 @@ impl Handle {
     }
 
     #[inline]
+    pub fn next(&self) -> Option<Next> {
+        let mut next = RawNext {
+            header: [0; 9],
+            header_len: 0,
+            message: Piece::EMPTY,
+        };
+        match unsafe { lcmux_peer_next(self.0.get(), &mut next) }.code {
+            0 => Some(Next {
+                header: next.header,
+                header_len: next.header_len,
+                message: Lent::of(next.message.bytes, next.message.len)?,
+            }),
+            _ => None,
+        }
+    }
+
+    #[inline]
+    pub fn sent(&mut self) -> Answer {
+        unsafe { lcmux_peer_sent(self.0.get()) }
+    }
+
+    #[inline]
     pub fn front_len(&self, channel: u32) -> Answer {
         unsafe { lcmux_peer_front_len(self.0.get(), channel) }
     }
 
     #[inline]
     pub fn front(&self, channel: u32) -> Option<(&[u8], &[u8])> {
-        let mut front = Front {
+        let Pieces { first, rest } = self.pieces(channel)?;
+        let lent = |piece: Piece| unsafe { slice::from_raw_parts(piece.bytes, piece.len) };
+        Some((lent(first), lent(rest)))
+    }
+
+    /// The first message in one piece: its second one lies right behind the first.
+    #[inline]
+    pub fn lend(&self, channel: u32) -> Option<Lent> {
+        let Pieces { first, rest } = self.pieces(channel)?;
+        Lent::of(first.bytes, first.len + rest.len)
+    }
+
+    #[inline]
+    fn pieces(&self, channel: u32) -> Option<Pieces> {
+        let mut pieces = Pieces {
             first: Piece::EMPTY,
             rest: Piece::EMPTY,
         };
-        let lent = |piece: Piece| unsafe { slice::from_raw_parts(piece.bytes, piece.len) };
-        match unsafe { lcmux_peer_front(self.0.get(), channel, &mut front) }.code {
-            0 => Some((lent(front.first), lent(front.rest))),
+        match unsafe { lcmux_peer_front(self.0.get(), channel, &mut pieces) }.code {
+            0 => Some(pieces),
             _ => None,
         }
     }

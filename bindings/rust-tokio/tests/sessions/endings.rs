@@ -3,21 +3,22 @@ use crate::*;
 use lcmux_tokio::lcmux::Channel::{Data, Overlap};
 use lcmux_tokio::lcmux::{MuxFault, SendError, Violation};
 use lcmux_tokio::run;
-use std::io;
+use std::io::{self, IoSlice};
 use std::marker::PhantomPinned;
 use std::pin::Pin;
 use std::sync::{Arc, Mutex};
 use std::task::{Context, Poll};
 use tokio::io::{AsyncReadExt, AsyncWriteExt, ReadBuf};
 
-/// What was done to a stream, a letter each, but for what had to wait: `w` and `f` for a write and a flush, `s`
-/// for a shutdown, `r` for a read and `e` for its end.
+/// What was done to a stream, a letter each, but for what had to wait: `w` and `v` for a write of one slice and of
+/// several, `f` for a flush, `s` for a shutdown, `r` for a read and `e` for its end.
 type Log = Arc<Mutex<String>>;
 
 /// A stream that tells what is done to it, and may not be moved.
 struct Told {
     stream: DuplexStream,
     log: Log,
+    is_vectored: bool,
     _pinned: PhantomPinned,
 }
 
@@ -27,6 +28,7 @@ impl Told {
         let told = Told {
             stream,
             log: Arc::clone(&log),
+            is_vectored: false,
             _pinned: PhantomPinned,
         };
         (told, log)
@@ -69,6 +71,20 @@ impl AsyncWrite for Told {
         bytes: &[u8],
     ) -> Poll<io::Result<usize>> {
         self.call('w', |stream| stream.poll_write(cx, bytes))
+    }
+
+    fn poll_write_vectored(
+        self: Pin<&mut Self>,
+        cx: &mut Context<'_>,
+        slices: &[IoSlice<'_>],
+    ) -> Poll<io::Result<usize>> {
+        assert!(self.is_vectored);
+        let bytes: Vec<u8> = slices.iter().flat_map(|slice| slice.to_vec()).collect();
+        self.call('v', |stream| stream.poll_write(cx, &bytes))
+    }
+
+    fn is_write_vectored(&self) -> bool {
+        self.is_vectored
     }
 
     fn poll_flush(self: Pin<&mut Self>, cx: &mut Context<'_>) -> Poll<io::Result<()>> {
@@ -117,6 +133,28 @@ fn the_end_comes_in_its_order() {
             "{log}"
         );
         assert_eq!(after.matches('e').count(), 1, "{log}");
+    });
+}
+
+/// To a stream that takes several slices at once a long message is one of them.
+#[test]
+fn a_long_message_is_a_slice_where_several_are_taken() {
+    on_each("a message as a slice", || async {
+        for is_vectored in [false, true] {
+            let (here, mut there) = tokio::io::duplex(1 << 16);
+            let (mut told, log) = Told::new(here);
+            told.is_vectored = is_vectored;
+            let (mut mux, run) = connect(told, rings(64)).unwrap();
+            let mut bytes = vec![0; first_bytes().len()];
+            there.read_exact(&mut bytes).await.unwrap();
+            let stream = [&GREETING[..], &issue(10_000)].concat();
+            there.write_all(&stream).await.unwrap();
+            mux.sender(Data).unwrap().send(&[7; 10_000]).await.unwrap();
+            mux.close();
+            drop((mux, there));
+            let _ = run.await.unwrap();
+            assert_eq!(log.lock().unwrap().contains('v'), is_vectored);
+        }
     });
 }
 

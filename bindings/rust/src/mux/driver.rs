@@ -3,10 +3,11 @@ use super::frames::{Cutter, Direction, Frame, Scanner};
 use super::io::{poll_uninterrupted, Blocking, PollRead, PollWrite, WriteHalf};
 use super::shared::Shared;
 use super::state::{Pulled, State};
+use crate::sys::Lent;
 use crate::{Closed, Overrun};
 use std::fmt::{self, Formatter};
 use std::future::poll_fn;
-use std::io::{self, ErrorKind, Read};
+use std::io::{self, ErrorKind, IoSlice, Read};
 use std::sync::Arc;
 use std::task::{ready, Context, Poll};
 use std::thread;
@@ -62,10 +63,13 @@ struct Reading {
 
 struct Writing {
     shared: Arc<Shared>,
-    // What was pulled and is not written: the bytes from start to end.
+    // What was pulled and is not written: the bytes from start to end, and of the message behind them, which the
+    // state lent until the next pull, those after so many.
     buffer: Vec<u8>,
     start: usize,
     end: usize,
+    message: Option<Lent>,
+    written: usize,
     is_flushed: bool,
     scanner: Scanner,
     result: Option<Result<(), Closed>>,
@@ -87,6 +91,8 @@ impl Driver {
                 buffer: Vec::new(),
                 start: 0,
                 end: 0,
+                message: None,
+                written: 0,
                 is_flushed: true,
                 scanner: Scanner::new(Direction::Out),
                 result: None,
@@ -215,8 +221,7 @@ impl Driver {
     /// # Ok::<(), lcmux::MuxFault>(())
     /// ```
     pub fn keep_alive(&self) -> bool {
-        let Writing { start, end, .. } = self.writing;
-        start == end && self.writing.shared.with(State::keep_alive)
+        self.writing.is_written() && self.writing.shared.with(State::keep_alive)
     }
 
     /// Whether the session is closed on this side: what was accepted is still written, and nothing more is
@@ -388,16 +393,18 @@ impl Writing {
     ) -> Poll<Result<(), Closed>> {
         grow(&mut self.buffer, 0);
         for _ in 0..PIECES {
-            if self.start < self.end {
+            if !self.is_written() {
                 ready!(self.poll_rest(cx, writer))?;
                 continue;
             }
+            let may_lend = writer.is_write_vectored();
             match self
                 .shared
-                .with(|state| state.pull(&mut self.buffer, cx.waker()))
+                .with(|state| state.pull(&mut self.buffer, may_lend, cx.waker()))
             {
-                Pulled::Bytes(count) => {
+                Pulled::Bytes(count, message) => {
                     (self.start, self.end) = (0, count);
+                    (self.message, self.written) = (message, 0);
                     grow(&mut self.buffer, count);
                 }
                 Pulled::Idle if self.is_flushed => return Poll::Pending,
@@ -414,24 +421,49 @@ impl Writing {
         Poll::Pending
     }
 
+    // What is not written of the bytes, and of the message behind them.
+    fn rest(&self) -> [&[u8]; 2] {
+        let message = self.message.as_deref().unwrap_or_default();
+        [&self.buffer[self.start..self.end], &message[self.written..]]
+    }
+
+    fn is_written(&self) -> bool {
+        self.rest().iter().all(|rest| rest.is_empty())
+    }
+
     fn poll_rest(
         &mut self,
         cx: &mut Context<'_>,
         writer: &mut impl PollWrite,
     ) -> Poll<io::Result<()>> {
-        let bytes = &self.buffer[self.start..self.end];
-        let count = ready!(poll_uninterrupted(|| writer.poll_write(cx, bytes)))?;
+        let [bytes, message] = self.rest();
+        let count = ready!(poll_uninterrupted(|| match message {
+            [] => writer.poll_write(cx, bytes),
+            _ => writer.poll_write_vectored(cx, &[bytes, message].map(IoSlice::new)),
+        }))?;
         if count == 0 {
             return Poll::Ready(Err(ErrorKind::WriteZero.into()));
         }
-        let Some(written) = bytes.get(..count) else {
-            let (claimed, offered) = (count, bytes.len());
+        let offered = bytes.len() + message.len();
+        if count > offered {
+            let claimed = count;
             return Poll::Ready(Err(Overrun { claimed, offered }.into()));
-        };
-        self.is_flushed = false;
-        self.scanner.scan(written, u64::MAX);
-        self.start += count;
+        }
+        self.wrote(count);
         Poll::Ready(Ok(()))
+    }
+
+    fn wrote(&mut self, count: usize) {
+        let of_bytes = count.min(self.end - self.start);
+        let written = &self.buffer[self.start..][..of_bytes];
+        self.scanner.scan(written, u64::MAX);
+        self.start += of_bytes;
+        if let Some(message) = &self.message {
+            let written = &message[self.written..][..count - of_bytes];
+            self.scanner.scan(written, u64::MAX);
+            self.written += written.len();
+        }
+        self.is_flushed = false;
     }
 
     fn poll_flush(

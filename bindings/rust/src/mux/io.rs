@@ -1,5 +1,5 @@
 //! What a driver asks of transports.
-use std::io::{self, Read, Write};
+use std::io::{self, IoSlice, Read, Write};
 use std::net::{Shutdown, TcpStream};
 use std::task::{ready, Context, Poll};
 
@@ -52,6 +52,12 @@ pub trait WriteHalf: Write {
     /// Ends this direction, so that the other side reads its end. It comes once, behind the last byte.
     fn end(&mut self) -> io::Result<()>;
 
+    /// Whether [`Write::write_vectored`] writes several slices at once: then a long message is given to it where
+    /// it lies, behind the bytes before it, and else copied.
+    fn writes_vectored(&self) -> bool {
+        false
+    }
+
     /// What ends a read and a write that block, for a session that fails or is aborted; one that ends in
     /// order drops it. `None` where nothing can: then
     /// [`Driver::run_blocking`](crate::Driver::run_blocking) returns once they do.
@@ -65,6 +71,10 @@ macro_rules! write_half_of_a_socket {
         impl WriteHalf for $socket {
             fn end(&mut self) -> io::Result<()> {
                 ended(self.shutdown(Shutdown::Write))
+            }
+
+            fn writes_vectored(&self) -> bool {
+                true
             }
 
             fn breaker(&mut self) -> io::Result<Option<Breaker>> {
@@ -221,6 +231,23 @@ pub trait PollWrite {
     /// now, it keeps the waker and wakes it once it does.
     fn poll_write(&mut self, cx: &mut Context<'_>, bytes: &[u8]) -> Poll<io::Result<usize>>;
 
+    /// Writes from the front of the slices, one after the other, as [`PollWrite::poll_write`] does: by default from
+    /// the first that has bytes alone.
+    fn poll_write_vectored(
+        &mut self,
+        cx: &mut Context<'_>,
+        slices: &[IoSlice<'_>],
+    ) -> Poll<io::Result<usize>> {
+        let first = slices.iter().find(|slice| !slice.is_empty());
+        self.poll_write(cx, first.map_or(&[], |slice| slice))
+    }
+
+    /// Whether [`PollWrite::poll_write_vectored`] writes several slices at once: then a long message is given to it
+    /// where it lies, behind the bytes before it, and else copied.
+    fn is_write_vectored(&self) -> bool {
+        false
+    }
+
     /// Brings on their way the bytes that were taken.
     fn poll_flush(&mut self, cx: &mut Context<'_>) -> Poll<io::Result<()>>;
 
@@ -237,6 +264,18 @@ impl<T: PollRead + ?Sized> PollRead for &mut T {
 impl<T: PollWrite + ?Sized> PollWrite for &mut T {
     fn poll_write(&mut self, cx: &mut Context<'_>, bytes: &[u8]) -> Poll<io::Result<usize>> {
         (**self).poll_write(cx, bytes)
+    }
+
+    fn poll_write_vectored(
+        &mut self,
+        cx: &mut Context<'_>,
+        slices: &[IoSlice<'_>],
+    ) -> Poll<io::Result<usize>> {
+        (**self).poll_write_vectored(cx, slices)
+    }
+
+    fn is_write_vectored(&self) -> bool {
+        (**self).is_write_vectored()
     }
 
     fn poll_flush(&mut self, cx: &mut Context<'_>) -> Poll<io::Result<()>> {
@@ -280,6 +319,18 @@ impl<R: Read> PollRead for Blocking<R> {
 impl<W: WriteHalf> PollWrite for Blocking<W> {
     fn poll_write(&mut self, _: &mut Context<'_>, bytes: &[u8]) -> Poll<io::Result<usize>> {
         Poll::Ready(self.0.write(bytes))
+    }
+
+    fn poll_write_vectored(
+        &mut self,
+        _: &mut Context<'_>,
+        slices: &[IoSlice<'_>],
+    ) -> Poll<io::Result<usize>> {
+        Poll::Ready(self.0.write_vectored(slices))
+    }
+
+    fn is_write_vectored(&self) -> bool {
+        self.0.writes_vectored()
     }
 
     fn poll_flush(&mut self, _: &mut Context<'_>) -> Poll<io::Result<()>> {

@@ -1,6 +1,7 @@
 use super::block::{block_on, block_until};
 use super::shared::Shared;
-use super::state::State;
+use super::state::{State, Taken};
+use crate::sys::Lent;
 use crate::{CallError, Channel, Closed, IssuePolicy, RecvTimeoutError, ServerBook, Stats, Take};
 use crate::{MuxFault, TryRecvError};
 use std::fmt::{self, Formatter};
@@ -15,8 +16,8 @@ use std::time::{Duration, Instant};
 ///
 /// [`Receiver::recv`] gives the next message, `None` once the channel has ended, and an error once the
 /// session is over and all that arrived was taken; after [`Mux::abort`](crate::Mux::abort) an error at once.
-/// As a future or, as [`Receiver::recv_blocking`], for a thread. [`Receiver::recv_ref`] lends the message in
-/// a buffer that is used again.
+/// As a future or, as [`Receiver::recv_blocking`], for a thread. [`Receiver::recv_ref`] lends the message
+/// where it lies.
 ///
 /// The room of what was taken is issued anew by the channel's [`IssuePolicy`].
 ///
@@ -37,8 +38,6 @@ use std::time::{Duration, Instant};
 pub struct Receiver {
     shared: Arc<Shared>,
     channel: Channel,
-    // What messages are lent in.
-    buffer: Vec<u8>,
 }
 
 // One try, which keeps the waker where nothing waits.
@@ -66,7 +65,6 @@ impl Receiver {
         Receiver {
             shared: Arc::clone(shared),
             channel,
-            buffer: Vec::new(),
         }
     }
 
@@ -93,6 +91,19 @@ impl Receiver {
     pub fn poll_recv(&mut self, cx: &mut Context<'_>) -> Poll<Result<Option<Vec<u8>>, Closed>> {
         let channel = self.channel;
         poll_take(&self.shared, channel, cx, |state| state.take(channel))
+            .map_ok(|taken| taken.map(|taken| self.copied(taken)))
+    }
+
+    // A message in a vector of its own: a long one is copied while others go on.
+    fn copied(&self, taken: Taken) -> Vec<u8> {
+        match taken {
+            Taken::Copied(message) => message,
+            Taken::Lent(front) => {
+                let message = front.to_vec();
+                self.shared.give_back(self.channel);
+                message
+            }
+        }
     }
 
     /// [`Receiver::recv`] for a thread, which sleeps meanwhile. It is not for a task of an executor.
@@ -112,24 +123,23 @@ impl Receiver {
     /// Takes the next message, if one is there.
     pub fn try_recv(&mut self) -> Result<Option<Vec<u8>>, TryRecvError> {
         match self.shared.with(|state| state.take(self.channel))? {
-            Take::Took(message) => Ok(Some(message)),
+            Take::Took(taken) => Ok(Some(self.copied(taken))),
             Take::Ended => Ok(None),
             Take::Empty => Err(TryRecvError::Empty),
         }
     }
 
-    /// [`Receiver::recv`] that lends the message, in a buffer that is used again. Its room is issued anew
-    /// when it is dropped.
+    /// [`Receiver::recv`] that lends the message where it lies, without a copy. Its room is issued anew when
+    /// it is dropped.
     ///
     /// *Cancel-safe*, as [`Receiver::recv`].
     pub async fn recv_ref(&mut self) -> Result<Option<Message<'_>>, Closed> {
-        let (shared, channel, buffer) = (&self.shared, self.channel, &mut self.buffer);
-        let lent =
-            poll_fn(|cx| poll_take(shared, channel, cx, |state| state.lend(channel, buffer)));
-        let len = lent.await?;
-        Ok(len.map(|len| Message {
+        let (shared, channel) = (&self.shared, self.channel);
+        let lent = poll_fn(|cx| poll_take(shared, channel, cx, |state| state.lend(channel)));
+        let front = lent.await?;
+        Ok(front.map(|front| Message {
             receiver: self,
-            len,
+            front,
         }))
     }
 
@@ -203,7 +213,7 @@ impl fmt::Debug for Receiver {
     }
 }
 
-/// A message that is lent: its bytes stand in the receiver's buffer, and its room is issued anew when it is
+/// A message that is lent: its bytes stand in the ring of its channel, and their room is issued anew when it is
 /// dropped.
 ///
 /// ```
@@ -223,14 +233,14 @@ impl fmt::Debug for Receiver {
 /// ```
 pub struct Message<'a> {
     receiver: &'a mut Receiver,
-    len: usize,
+    front: Lent,
 }
 
 impl Deref for Message<'_> {
     type Target = [u8];
 
     fn deref(&self) -> &[u8] {
-        &self.receiver.buffer[..self.len]
+        &self.front
     }
 }
 

@@ -347,7 +347,7 @@ mod tests {
         let polled = Pin::new(&mut call).poll(&mut Context::from_waker(&waker));
         assert!(polled.is_pending());
         let came = sender.shared.with(|state| {
-            state.pull(&mut [0; 64], &waker);
+            state.pull(&mut [0; 64], false, &waker);
             state.deliver(b"\x21\0\0\0\x08")
         });
         assert_eq!(came, Ok((5, 1)));

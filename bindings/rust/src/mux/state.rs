@@ -11,12 +11,14 @@ mod sending;
 #[cfg(test)]
 mod tests;
 
+pub(crate) use receiving::Taken;
 pub(crate) use sending::{Ask, Call};
 
 use super::config::MuxConfig;
 use super::io::Breaker;
 use super::shared::Wakes;
 use super::stats::Stats;
+use crate::sys::Lent;
 use crate::{
     Channel, ClientBook, Closed, IssuePolicy, MuxFault, Peer, PleadPolicy, ServerBook, Version,
 };
@@ -63,18 +65,22 @@ struct Fronts {
 #[derive(Default)]
 struct Incoming {
     waker: Option<Waker>,
-    /// The bytes of a message that is lent: they are no room yet.
-    lent: u64,
+    /// Whether the first message is lent: it is taken once it is given back.
+    is_lent: bool,
     policy: IssuePolicy,
     /// The target of the last plead, above which no policy issues.
     most: Option<u32>,
     owed: ServerOwed,
 }
 
+/// The shortest message that a transport is given where it lies. Those of the tests are short.
+const LONG: usize = if cfg!(debug_assertions) { 8 } else { 4_096 };
+
 /// What the writing half does next.
 pub(crate) enum Pulled {
-    /// So many bytes were put into its buffer.
-    Bytes(usize),
+    /// So many bytes were put into its buffer, and the message that goes behind them, if there is one, is lent
+    /// until the next pull.
+    Bytes(usize, Option<Lent>),
     /// Nothing is to go out; it is woken.
     Idle,
     /// Nothing more will go out.
@@ -93,6 +99,10 @@ pub(crate) struct State {
     permits: usize,
     /// The bytes of messages in the queue, or fewer: what was pulled counts as theirs.
     queued: usize,
+    /// How many messages in the queue are long, or more.
+    long: usize,
+    /// Whether the first frame in the queue is lent to the writing half.
+    is_lent: bool,
     /// The turns of all senders so far.
     turns: u64,
     /// Channels on which a receiver or a sender may owe something, as bits, and the one that is looked at first.
@@ -149,6 +159,8 @@ impl State {
             stats: Default::default(),
             permits: 0,
             queued: 0,
+            long: 0,
+            is_lent: false,
             turns: 0,
             owing_in: ALL,
             owing_out: ALL,
@@ -227,23 +239,73 @@ impl State {
         (self.owing_in, self.owing_out, self.fronts.stale) = (ALL, ALL, ALL);
     }
 
-    /// The next bytes that go out, to the front of an empty buffer. Where there are none the waker is kept.
-    pub fn pull(&mut self, buffer: &mut [u8], waker: &Waker) -> Pulled {
+    /// The next bytes that go out, to the front of an empty buffer; before a long message they end, and where the
+    /// transport writes several slices at once that is lent. Where there are none the waker is kept.
+    pub fn pull(&mut self, buffer: &mut [u8], may_lend: bool, waker: &Waker) -> Pulled {
         if let Some(closed) = &self.closed {
             return Pulled::Over(closed.clone());
         }
-        self.flush();
-        let count = self.peer.write(buffer);
+        match mem::take(&mut self.is_lent) {
+            true => self.count_sent(),
+            false => self.flush(),
+        }
+        let (count, lent) = match self.long {
+            0 => (self.write(buffer), None),
+            _ if may_lend => self.pull_frames(buffer),
+            _ => (self.write(buffer), None),
+        };
         if count > 0 {
-            self.queued = self.queued.saturating_sub(count);
+            let len = lent.map_or(count, |message| count + message.len());
+            self.queued = self.queued.saturating_sub(len);
             self.settle();
-            return Pulled::Bytes(count);
+            return Pulled::Bytes(count, lent);
         }
         if self.closing {
             return Pulled::End;
         }
         keep(&mut self.writer, waker, &mut self.wakes);
         Pulled::Idle
+    }
+
+    // The message that was lent went out.
+    fn count_sent(&mut self) {
+        self.peer.sent();
+        self.long = self.long.saturating_sub(1);
+        self.settle();
+    }
+
+    fn write(&mut self, buffer: &mut [u8]) -> usize {
+        let count = self.peer.write(buffer);
+        if count < buffer.len() {
+            self.long = 0;
+        }
+        count
+    }
+
+    // Frame by frame as many as fit, up to a message that is long.
+    fn pull_frames(&mut self, buffer: &mut [u8]) -> (usize, Option<Lent>) {
+        let mut count = 0;
+        while let Some(next) = self.peer.next() {
+            let (header, message) = (next.header(), next.message);
+            self.is_lent = message.len() >= LONG;
+            let copied = if self.is_lent { &[][..] } else { &*message };
+            let end = count + header.len() + copied.len();
+            let Some(room) = buffer.get_mut(count..end) else {
+                self.is_lent = false;
+                break;
+            };
+            room[..header.len()].copy_from_slice(header);
+            room[header.len()..].copy_from_slice(copied);
+            count = end;
+            if self.is_lent {
+                return (count, Some(message));
+            }
+            self.peer.sent();
+        }
+        match count {
+            0 => (self.write(buffer), None), // the rest of a frame that was cut, or one that fits no buffer
+            _ => (count, None),
+        }
     }
 
     /// Bytes that came. The answer is how many were taken, and how many frames they made whole.

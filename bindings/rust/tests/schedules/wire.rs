@@ -3,7 +3,7 @@ use crate::choices::Choices;
 use lcmux::{PollRead, PollWrite};
 use std::cell::RefCell;
 use std::collections::VecDeque;
-use std::io::{self, ErrorKind};
+use std::io::{self, ErrorKind, IoSlice};
 use std::rc::Rc;
 use std::task::{Context, Poll, Waker};
 
@@ -32,7 +32,11 @@ struct Stream {
 const CAPACITY: usize = 200;
 
 pub struct Reader(Half);
-pub struct Writer(Half);
+/// It takes several slices at once, or one.
+pub struct Writer {
+    half: Half,
+    is_vectored: bool,
+}
 
 struct Half {
     choices: Rc<RefCell<Choices>>,
@@ -48,7 +52,12 @@ pub fn wire(choices: &Rc<RefCell<Choices>>, fault: Option<Fault>) -> (Writer, Re
         stream: Rc::clone(&stream),
         fault,
     };
-    (Writer(half()), Reader(half()))
+    let is_vectored = choices.borrow_mut().one_in(2);
+    let writer = Writer {
+        half: half(),
+        is_vectored,
+    };
+    (writer, Reader(half()))
 }
 
 impl Half {
@@ -132,12 +141,12 @@ impl PollRead for Reader {
 
 impl PollWrite for Writer {
     fn poll_write(&mut self, cx: &mut Context<'_>, bytes: &[u8]) -> Poll<io::Result<usize>> {
-        if self.0.is_put_off(cx) {
+        if self.half.is_put_off(cx) {
             return Poll::Pending;
         }
-        let mut stream = self.0.stream.borrow_mut();
+        let mut stream = self.half.stream.borrow_mut();
         stream.calls += 1;
-        match self.0.fault {
+        match self.half.fault {
             Some(Fault::Write(after)) if stream.calls > after => {
                 return Poll::Ready(Err(failed()));
             }
@@ -150,18 +159,32 @@ impl PollWrite for Writer {
             stream.writer = Some(cx.waker().clone());
             return Poll::Pending;
         }
-        let count = self.0.at_most(bytes.len().min(room));
+        let count = self.half.at_most(bytes.len().min(room));
         stream.held.extend(&bytes[..count]);
         Poll::Ready(Ok(count))
     }
 
+    fn poll_write_vectored(
+        &mut self,
+        cx: &mut Context<'_>,
+        slices: &[IoSlice<'_>],
+    ) -> Poll<io::Result<usize>> {
+        assert!(self.is_vectored);
+        let bytes: Vec<u8> = slices.iter().flat_map(|slice| slice.to_vec()).collect();
+        self.poll_write(cx, &bytes)
+    }
+
+    fn is_write_vectored(&self) -> bool {
+        self.is_vectored
+    }
+
     fn poll_flush(&mut self, cx: &mut Context<'_>) -> Poll<io::Result<()>> {
-        if self.0.is_put_off(cx) {
+        if self.half.is_put_off(cx) {
             return Poll::Pending;
         }
-        let mut stream = self.0.stream.borrow_mut();
+        let mut stream = self.half.stream.borrow_mut();
         stream.calls += 1;
-        if matches!(self.0.fault, Some(Fault::Flush(after)) if stream.calls > after) {
+        if matches!(self.half.fault, Some(Fault::Flush(after)) if stream.calls > after) {
             return Poll::Ready(Err(failed()));
         }
         stream.flush();
@@ -169,11 +192,11 @@ impl PollWrite for Writer {
     }
 
     fn poll_close(&mut self, cx: &mut Context<'_>) -> Poll<io::Result<()>> {
-        if self.0.is_put_off(cx) {
+        if self.half.is_put_off(cx) {
             return Poll::Pending;
         }
         // What was not flushed never comes.
-        let mut stream = self.0.stream.borrow_mut();
+        let mut stream = self.half.stream.borrow_mut();
         stream.held.clear();
         stream.end();
         Poll::Ready(Ok(()))
@@ -183,7 +206,7 @@ impl PollWrite for Writer {
 // The transport of a driver that is done, or given up, is closed.
 impl Drop for Writer {
     fn drop(&mut self) {
-        self.0.stream.borrow_mut().end();
+        self.half.stream.borrow_mut().end();
     }
 }
 

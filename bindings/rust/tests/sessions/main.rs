@@ -11,6 +11,7 @@ mod endings;
 mod errors;
 mod frames;
 mod keeping;
+mod lent;
 mod receiving;
 mod sending;
 mod sockets;

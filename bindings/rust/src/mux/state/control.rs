@@ -179,12 +179,11 @@ impl State {
         }
     }
 
-    /// What may be issued beside what is owed and what is lent.
+    /// What may be issued beside what is owed.
     pub fn room(&mut self, channel: Channel) -> u32 {
         self.flush();
-        let inc = &self.inc[at(channel)];
         let room = self.peer.server(channel).room;
-        room.saturating_sub(inc.lent + u64::from(inc.owed.issue)) as u32
+        room.saturating_sub(self.inc[at(channel)].owed.issue.into()) as u32
     }
 
     /// Bounds what is still issued.
@@ -380,8 +379,7 @@ impl State {
             return 0;
         }
         let most = inc.most.map_or(book.capacity, u64::from);
-        let room = book.room.saturating_sub(inc.lent);
-        let amount = room.min(most.saturating_sub(book.outstanding));
+        let amount = book.room.min(most.saturating_sub(book.outstanding));
         book.receive_left.map_or(amount, |left| amount.min(left)) as u32
     }
 

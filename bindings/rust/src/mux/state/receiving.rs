@@ -1,42 +1,56 @@
 //! Receivers: what is taken, and what was lent.
 use super::{at, channels, keep, State};
+use crate::sys::Lent;
 use crate::{Channel, Closed, Take};
+use std::mem;
 use std::task::Waker;
 
+/// The longest message that is copied at once: a longer one is lent, and copied without the lock.
+const MOST_COPIED: usize = 4_096;
+
+/// A message that a call takes.
+pub(crate) enum Taken {
+    Copied(Vec<u8>),
+    Lent(Lent),
+}
+
 impl State {
-    /// The next message, into a vector of its own.
-    pub fn take(&mut self, channel: Channel) -> Result<Take<Vec<u8>>, Closed> {
-        self.may_take()?;
-        let taken = self.peer.take(channel);
-        if let Take::Took(message) = &taken {
-            self.took(channel, message.len());
-            self.freed(channel);
-        }
-        self.empty_or(taken)
+    /// The next message, to be had in a vector of its own.
+    pub fn take(&mut self, channel: Channel) -> Result<Take<Taken>, Closed> {
+        Ok(match self.lend(channel)? {
+            Take::Took(front) if front.len() <= MOST_COPIED => {
+                let message = front.to_vec();
+                self.take_lent(channel);
+                Take::Took(Taken::Copied(message))
+            }
+            Take::Took(front) => Take::Took(Taken::Lent(front)),
+            Take::Empty => Take::Empty,
+            Take::Ended => Take::Ended,
+        })
     }
 
-    /// The same, into a buffer that grows as it has to. The message is lent until it is given back.
-    pub fn lend(&mut self, channel: Channel, buffer: &mut Vec<u8>) -> Result<Take, Closed> {
+    /// The next message where it lies, until it is given back.
+    pub fn lend(&mut self, channel: Channel) -> Result<Take<Lent>, Closed> {
         self.may_take()?;
-        let len = self.peer.front_len(channel).unwrap_or(0);
-        if buffer.len() < len {
-            buffer.resize(len, 0);
-        }
-        match self.peer.take_into(channel, buffer) {
-            Ok(Take::Took(len)) => {
-                self.took(channel, len);
-                self.inc[at(channel)].lent = len as u64;
-                Ok(Take::Took(len))
-            }
-            Ok(taken) => self.empty_or(taken),
-            Err(refusal) => unreachable!("the buffer is as long as the message: {refusal}"),
-        }
+        self.take_lent(channel); // whose end was forgotten
+        let Some(front) = self.peer.lend(channel) else {
+            return self.why_none(channel);
+        };
+        self.inc[at(channel)].is_lent = true;
+        let stats = &mut self.stats[at(channel)];
+        stats.messages_received += 1;
+        stats.bytes_received += front.len() as u64;
+        Ok(Take::Took(front))
     }
 
     /// What was lent on these channels is room again.
     pub fn give_back_lent(&mut self, bits: u8) {
-        for channel in channels(bits) {
-            self.inc[at(channel)].lent = 0;
+        channels(bits).for_each(|channel| self.take_lent(channel));
+    }
+
+    fn take_lent(&mut self, channel: Channel) {
+        if mem::take(&mut self.inc[at(channel)].is_lent) {
+            let _ = self.peer.pop(channel);
             self.freed(channel);
         }
     }
@@ -54,19 +68,14 @@ impl State {
         }
     }
 
-    // Where nothing waits, and nothing will come any more, the reason why.
-    fn empty_or<T>(&self, taken: Take<T>) -> Result<Take<T>, Closed> {
-        match (taken, &self.closed) {
-            (Take::Empty, Some(closed)) => Err(closed.clone()),
-            (Take::Empty, None) if self.in_ended => Err(Closed::Clean),
-            (taken, _) => Ok(taken),
+    // What a call answers where no message waits.
+    fn why_none<T>(&mut self, channel: Channel) -> Result<Take<T>, Closed> {
+        match (self.peer.pop(channel), &self.closed) {
+            (Take::Ended, _) => Ok(Take::Ended),
+            (_, Some(closed)) => Err(closed.clone()),
+            (_, None) if self.in_ended => Err(Closed::Clean),
+            (_, None) => Ok(Take::Empty),
         }
-    }
-
-    fn took(&mut self, channel: Channel, len: usize) {
-        let stats = &mut self.stats[at(channel)];
-        stats.messages_received += 1;
-        stats.bytes_received += len as u64;
     }
 
     // There is room. A writing half that is on its way finds it there, so all that is freed before it comes goes

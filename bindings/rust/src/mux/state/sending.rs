@@ -1,6 +1,6 @@
 //! Senders: what a message lacks, whose turn it is, and who waits.
 use super::line::{Left, Place, Waiter};
-use super::{at, channels, keep, State, KEPT};
+use super::{at, channels, keep, State, KEPT, LONG};
 use crate::mux::stats::Lack;
 use crate::{Channel, Closed, Needs, Refusal, SendError, TrySendError};
 use std::mem;
@@ -166,6 +166,7 @@ impl State {
     fn put(&mut self, channel: Channel, body: &[u8]) -> Result<(), SendError> {
         self.peer.send(channel, body)?;
         self.queued += body.len();
+        self.long += usize::from(body.len() >= LONG);
         self.went(channel);
         if self.out[at(channel)].pleaded.is_some() {
             // Its target may be all that is held now: then the next one is not taken for it.

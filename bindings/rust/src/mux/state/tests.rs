@@ -1,6 +1,6 @@
 //! Calls of senders by chance: those of tasks, which may be given up unheard, beside those of threads, which
 //! whoever changes the session makes for them.
-use super::{Ask, Call, Pulled, State};
+use super::{Ask, Call, Pulled, State, LONG};
 use crate::{Channel, Config, MuxConfig, Needs, SendError, TrySendError, Version};
 use std::collections::VecDeque;
 use std::env;
@@ -60,6 +60,8 @@ struct Play {
     answered: Vec<Vec<u8>>,
     wire: VecDeque<u8>,
     sent: Vec<Sent>,
+    /// How many of them the writing half had where they lay.
+    lent: usize,
 }
 
 const RING: u32 = 64;
@@ -72,8 +74,11 @@ impl Play {
         let config = MuxConfig::from(Config::new([RING; 7], slots));
         let mut state = State::new(&config).unwrap();
         let waker = Waker::from(Arc::new(Flag::default()));
-        let pulled = state.pull(&mut [0; 128], &waker);
-        assert!(matches!(pulled, Pulled::Bytes(35)), "the first issues");
+        let pulled = state.pull(&mut [0; 128], false, &waker);
+        assert!(
+            matches!(pulled, Pulled::Bytes(35, None)),
+            "the first issues"
+        );
         let count = 2 + chance.below(12);
         let callers = (0..count).map(|_| Caller {
             channel: Channel::ALL[chance.below(7)],
@@ -93,6 +98,7 @@ impl Play {
             answered: Vec::new(),
             wire: VecDeque::new(),
             sent: Vec::new(),
+            lent: 0,
         };
         if is_rich {
             play.issue_to_all();
@@ -170,8 +176,12 @@ impl Play {
     fn pull(&mut self, most: usize) {
         let mut buffer = [0; 256];
         let waker = Waker::from(Arc::new(Flag::default()));
-        if let Pulled::Bytes(count) = self.state.pull(&mut buffer[..most], &waker) {
+        let may_lend = self.chance.below(2) == 0;
+        let pulled = self.state.pull(&mut buffer[..most], may_lend, &waker);
+        if let Pulled::Bytes(count, message) = pulled {
             self.wire.extend(&buffer[..count]);
+            self.wire.extend(message.iter().flat_map(|it| it.iter()));
+            self.lent += usize::from(message.is_some());
         }
         self.wake();
         while let Some(len) = self.whole() {
@@ -256,7 +266,7 @@ impl Play {
 fn calls_that_others_make_go_once_and_in_turn() {
     let asked = env::var("LCMUX_SCHEDULES").ok();
     let most = asked.and_then(|count| count.parse().ok()).unwrap_or(2_000);
-    let (mut messages, mut given_up) = (0, 0);
+    let (mut messages, mut given_up, mut lent) = (0, 0, 0);
     for seed in 0..most {
         let mut play = Play::new(seed);
         (0..150).for_each(|_| play.step());
@@ -267,9 +277,11 @@ fn calls_that_others_make_go_once_and_in_turn() {
         }
         messages += play.sent.len();
         given_up += play.began.len() - play.sent.len();
+        lent += play.lent;
     }
     assert!(messages as u64 > 20 * most, "{messages}");
     assert!(given_up as u64 > most, "{given_up}");
+    assert!(lent as u64 > most || LONG as u64 > LONGEST, "{lent}");
 }
 
 /// A message of 4,096 bytes is copied for others to send, and one that is longer is not: its thread is woken.
@@ -303,7 +315,7 @@ fn rich() -> State {
     let mut config = MuxConfig::from(Config::new([1; 7], 64));
     config.peer.version = Version::Two;
     let mut state = State::new(&config).unwrap();
-    assert!(matches!(pull(&mut state, 128), Pulled::Bytes(39)));
+    assert!(matches!(pull(&mut state, 128), Pulled::Bytes(39, None)));
     for tag in 0x20..0x27 {
         state.deliver(&[tag, 0, 0x20, 0, 0]).unwrap();
     }
@@ -312,7 +324,7 @@ fn rich() -> State {
 
 fn pull(state: &mut State, most: usize) -> Pulled {
     let waker = Waker::from(Arc::new(Flag::default()));
-    state.pull(&mut vec![0; most], &waker)
+    state.pull(&mut vec![0; most], false, &waker)
 }
 
 fn goes(state: &mut State, channel: Channel, len: usize) -> bool {
@@ -338,10 +350,16 @@ fn so_many_bytes_of_messages_wait() {
     ] {
         assert_eq!(goes(&mut state, channel, len), goes_now, "{len} bytes");
     }
-    assert!(matches!(pull(&mut state, 30_000), Pulled::Bytes(30_000)));
+    assert!(matches!(
+        pull(&mut state, 30_000),
+        Pulled::Bytes(30_000, None)
+    ));
     assert!(!goes(&mut state, Channel::Data, 30_001));
     assert!(goes(&mut state, Channel::Data, 30_000));
-    assert!(matches!(pull(&mut state, 1 << 20), Pulled::Bytes(65_556)));
+    assert!(matches!(
+        pull(&mut state, 1 << 20),
+        Pulled::Bytes(65_556, None)
+    ));
     assert!(goes(&mut state, Channel::Data, 1_048_576));
     assert!(!goes(&mut state, Channel::Overlap, 1));
 }
@@ -365,12 +383,47 @@ fn who_waits_for_bytes_to_go_is_woken() {
         assert!(state.poll_send(channel, &mut call, &waker).is_pending());
         drop(std::mem::take(&mut state.wakes));
         assert!(!woken.0.load(Relaxed));
-        assert!(matches!(pull(&mut state, 1 << 20), Pulled::Bytes(_)));
+        assert!(matches!(pull(&mut state, 1 << 20), Pulled::Bytes(_, None)));
         drop(std::mem::take(&mut state.wakes));
         assert!(woken.0.load(Relaxed));
         let answer = state.poll_send(channel, &mut call, &waker);
         assert_eq!(answer, Poll::Ready(Ok(())));
-        assert!(matches!(pull(&mut state, 1 << 20), Pulled::Bytes(8)));
+        assert!(matches!(pull(&mut state, 1 << 20), Pulled::Bytes(8, None)));
         assert!(goes(&mut state, Channel::Data, 65_536));
     }
+}
+
+/// The first bytes of a message of version Two.
+fn header(tag: u8, len: usize) -> Vec<u8> {
+    [&[tag][..], &(len as u32).to_be_bytes()].concat()
+}
+
+/// A long message is lent behind the bytes before it, keeps its slot until the next pull, and is one that waits no more.
+#[test]
+fn a_long_message_is_lent_where_it_lies() {
+    let mut state = rich();
+    let waker = Waker::from(Arc::new(Flag::default()));
+    let mut buffer = vec![0; 2 * LONG + 64];
+    let slots = state.peer.slots_left();
+    for (channel, len) in [(Channel::Data, LONG - 1), (Channel::Overlap, LONG)] {
+        assert!(goes(&mut state, channel, len));
+    }
+    let Pulled::Bytes(count, Some(message)) = state.pull(&mut buffer, true, &waker) else {
+        panic!("nothing is lent");
+    };
+    let short = [header(0x11, LONG - 1), vec![7; LONG - 1]].concat();
+    assert_eq!(buffer[..count], [short, header(0x12, LONG)].concat());
+    assert_eq!(*message, [7; LONG]);
+    assert_eq!((state.peer.slots_left(), state.queued), (slots - 1, 0));
+    assert!(goes(&mut state, Channel::Data, 1));
+    assert!(goes(&mut state, Channel::Overlap, LONG));
+    let Pulled::Bytes(count, Some(_)) = state.pull(&mut buffer, true, &waker) else {
+        panic!("nothing is lent");
+    };
+    let short = [header(0x11, 1), vec![7]].concat();
+    assert_eq!(buffer[..count], [short, header(0x12, LONG)].concat());
+    assert_eq!(state.long, 1);
+    let pulled = state.pull(&mut buffer, true, &waker);
+    assert!(matches!(pulled, Pulled::Idle));
+    assert_eq!((state.peer.slots_left(), state.long), (slots, 0));
 }
