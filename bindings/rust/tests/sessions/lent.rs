@@ -2,7 +2,7 @@
 use crate::hand::Hand;
 use crate::*;
 use lcmux::Channel::{Data, Overlap};
-use lcmux::{Closed, Direction, PollWrite};
+use lcmux::{Closed, Direction, Pipe, PollWrite, WriteHalf};
 use std::io::{self, IoSlice};
 use std::mem;
 use std::sync::{Arc, Mutex};
@@ -190,8 +190,19 @@ fn by_default_several_slices_are_written_one_by_one() {
     let written = bytes.poll_write_vectored(&mut context, &slices);
     assert!(matches!(written, Poll::Ready(Ok(2))));
     assert_eq!(bytes, b"hi");
+    let slices = [&b"!"[..], b"there"].map(IoSlice::new);
+    let written = bytes.poll_write_vectored(&mut context, &slices);
+    assert!(matches!(written, Poll::Ready(Ok(1))));
+    assert_eq!(bytes, b"hi!");
     let written = bytes.poll_write_vectored(&mut context, &[]);
     assert!(matches!(written, Poll::Ready(Ok(0))));
+}
+
+#[test]
+fn sockets_take_several_slices_at_once() {
+    let (here, _there) = std::os::unix::net::UnixStream::pair().unwrap();
+    assert!(here.writes_vectored());
+    assert!(!Pipe::new(here).writes_vectored());
 }
 
 /// Each write goes on where the one before ended, and each frame is told once its last byte is written.
