@@ -5,7 +5,7 @@ use std::io;
 use thiserror::Error;
 
 /// Why a sync failed.
-#[derive(Clone, Copy, Debug, PartialEq, Eq, Error)]
+#[derive(Clone, Copy, Debug, Error)]
 pub enum Fault {
     #[error("out of memory")]
     OutOfMemory,

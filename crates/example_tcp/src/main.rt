@@ -11,6 +11,7 @@ mod side;
 mod tasks;
 
 use anyhow::{Context, Error, anyhow};
+use fault::Fault;
 use items::{CONNECTING, LISTENING};
 use patience::accept;
 use side::{Synced, sync};
@@ -21,13 +22,33 @@ use std::sync::Wait;
 use std::thread::{Threads, join};
 use std::time::Clock;
 
+/// What this process is to do.
+#[derive(Clone, Copy)]
+enum Job {
+    /// Wait for another process at a port.
+    Listen(u16),
+    /// Connect to the one that listens there.
+    Connect(u16),
+    /// Both, here.
+    Both,
+}
+
+fn job_of(words: &[String]) -> Result<Job, Error> {
+    match words {
+        [_, what, port] if what.as_str() == "listen" => Ok(Job::Listen(port.parse()?)),
+        [_, what, port] if what.as_str() == "connect" => Ok(Job::Connect(port.parse()?)),
+        [_] => Ok(Job::Both),
+        _ => Err(anyhow!("usage: example_tcp listen PORT, example_tcp connect PORT, example_tcp")),
+    }
+}
+
 // The items that a side lacked; or why it failed, and what never went out.
-fn lacked_of(synced: Synced) -> Result<String, Error> {
+fn lacked_of(synced: Result<Synced, Fault>) -> Result<String, Error> {
     let Synced {
         lacked,
         left,
         partly,
-    } = synced;
+    } = synced?;
     lacked.context(format_args!(
         "{left} frames never went out, nor {partly} bytes of one that was begun"
     ))
@@ -40,7 +61,7 @@ where
 {
     let listener = TcpListener::bind(rt, (Ipv4Addr::LOCALHOST, port))?;
     let socket = accept(rt, &listener)?;
-    lacked_of(sync(rt, alloc, socket, LISTENING)?)
+    lacked_of(sync(rt, alloc, socket, LISTENING))
 }
 
 fn connect<R>(rt: &R, alloc: Global, port: u16) -> Result<String, Error>
@@ -48,39 +69,50 @@ where
     R: Net<Listener = TcpListener, Stream = TcpStream> + Threads + Wait + Clock + Sync,
 {
     let socket = TcpStream::connect(rt, (Ipv4Addr::LOCALHOST, port))?;
-    lacked_of(sync(rt, alloc, socket, CONNECTING)?)
+    lacked_of(sync(rt, alloc, socket, CONNECTING))
 }
 
-// Both sides in this process: what the one that listens lacked, and what the other did.
-fn both<R>(rt: &R, alloc: Global) -> Result<(String, String), Error>
+// Both ends of a connection in this process: that of the side that connects, and of the other.
+fn connected<R>(rt: &R) -> Result<(TcpStream, TcpStream), Error>
 where
-    R: Net<Listener = TcpListener, Stream = TcpStream> + Threads + Wait + Clock + Sync,
+    R: Net<Listener = TcpListener, Stream = TcpStream> + Wait + Clock,
 {
     let listener = TcpListener::bind(rt, (Ipv4Addr::LOCALHOST, 0u16))?;
     let far = TcpStream::connect(rt, listener.local_addr()?)?;
     let near = accept(rt, &listener)?;
-    let lacked = join(
+    Ok((far, near))
+}
+
+// What both sides lacked.
+fn both_lacked(alloc: Global, listening: String, connecting: String) -> Result<String, Error> {
+    let text = format!(in alloc;
+        "the side that listens lacked\n{listening}the other lacked\n{connecting}"
+    )?;
+    Ok(text)
+}
+
+// Both sides in this process.
+fn both<R>(rt: &R, alloc: Global) -> Result<String, Error>
+where
+    R: Net<Listener = TcpListener, Stream = TcpStream> + Threads + Wait + Clock + Sync,
+{
+    let (far, near) = connected(rt)?;
+    let (connecting, listening) = join(
         rt,
         || sync(rt, alloc, far, CONNECTING),
         || sync(rt, alloc, near, LISTENING),
     );
-    Ok((lacked_of(lacked.1?)?, lacked_of(lacked.0?)?))
+    let listening = lacked_of(listening)?;
+    both_lacked(alloc, listening, lacked_of(connecting)?)
 }
 
 fn main(rt: HostRuntime) -> Result<(), Error> {
     let words = env::args(&rt)?.collect::<Vec<String>>(rt.alloc())?;
-    let lacked = match words.as_slice() {
-        [_, what, port] if what.as_str() == "listen" => listen(&rt, rt.alloc(), port.parse()?)?,
-        [_, what, port] if what.as_str() == "connect" => connect(&rt, rt.alloc(), port.parse()?)?,
-        [_] => {
-            let (listening, connecting) = both(&rt, rt.alloc())?;
-            print!(rt; "the side that listens lacked\n{listening}the other lacked\n{connecting}")?;
-            return Ok(());
-        }
-        _ => return Err(anyhow!(
-            "usage: example_tcp listen PORT, example_tcp connect PORT, example_tcp"
-        )),
+    let lacked = match job_of(&words)? {
+        Job::Listen(port) => listen(&rt, rt.alloc(), port),
+        Job::Connect(port) => connect(&rt, rt.alloc(), port),
+        Job::Both => both(&rt, rt.alloc()),
     };
-    print!(rt; "{lacked}")?;
+    print!(rt; "{}", lacked?)?;
     Ok(())
 }

@@ -21,7 +21,7 @@ enum Game {
 }
 
 // So many messages on each channel and way, as many of each length as of another, at the sizes that
-// engines use.
+// engines use. Half a ring is issued at once, as windows are given back.
 fn exchange(shortest: u32, lengths: u32, messages: u32) -> lc_loopback::Plan {
     lc_loopback::Plan {
         capacity: 262_144,
@@ -29,6 +29,7 @@ fn exchange(shortest: u32, lengths: u32, messages: u32) -> lc_loopback::Plan {
         messages,
         shortest,
         lengths,
+        issue_from: 131_072,
     }
 }
 

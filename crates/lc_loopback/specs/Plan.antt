@@ -36,6 +36,6 @@ due p c = due_first p c p.messages
 abbrev pub config_of : Plan → Version → Config
 config_of p version = record { version = version; capacities = replicate channel_count p.capacity; slots = p.slots }
 
--- so many messages of 4 to 16 bytes through rings of 32, with four slots, so that ends wait for both
+-- so many messages of 4 to 16 bytes through rings of 32, with four slots, so that ends wait for both, and each issued anew as it is taken
 abbrev pub small_plan : ℕ → Plan
-small_plan messages = record { capacity = 32; slots = 4; messages = messages; shortest = 4; lengths = 13 }
+small_plan messages = record { capacity = 32; slots = 4; messages = messages; shortest = 4; lengths = 13; issue_from = 1 }

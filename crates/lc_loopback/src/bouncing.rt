@@ -8,7 +8,7 @@ use crate::plan::Plan;
 use crate::pumping::{join_pump_outcomes, start_pumps};
 use crate::sending::send;
 use crate::taken::Taken;
-use crate::taking::{issue, take};
+use crate::taking::{Owed, issue, take};
 use crate::worker::{Outcome, Part, Worker, join_outcome, start};
 use lc_frame::{CHANNELS, Version};
 use lc_loopback_report::LoopFault;
@@ -45,11 +45,19 @@ impl Worker<Game> for Player {
         let turns = game.turns;
         let mut patience = Patience::Polls { turns, hold };
         let mut buffer = [0; 4];
+        let mut owed = Owed::new(game.plan.issue_from);
         issue(rt, &mut self.receiving, game.plan.capacity, &mut patience)?;
         for round in 0..game.rounds {
             let body = round.to_be_bytes();
             send(rt, &mut self.sending, &body, &mut patience)?;
-            take(rt, &mut self.receiving, &body, &mut buffer, &mut patience)?;
+            take(
+                rt,
+                &mut self.receiving,
+                &body,
+                &mut buffer,
+                &mut owed,
+                &mut patience,
+            )?;
         }
         Ok(Taken::NOTHING)
     }

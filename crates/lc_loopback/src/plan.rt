@@ -21,11 +21,14 @@ pub struct Plan {
     pub shortest: u32,
     /// How many lengths the messages have.
     pub lengths: u32,
+    /// From how many bytes on a receiving end issues anew what it took, while more messages wait. Where
+    /// none waits it issues all that it took.
+    pub issue_from: u32,
 }
 
 impl Plan {
     /// So many messages of 4 to 16 bytes, through rings of 32 bytes and with four slots, so that ends
-    /// wait for both.
+    /// wait for both. Each is issued anew as it is taken.
     pub const fn small(messages: u32) -> Plan
         ensures { result ≡ small_plan messages }
     {
@@ -35,6 +38,7 @@ impl Plan {
             messages,
             shortest: 4,
             lengths: 13,
+            issue_from: 1,
         }
     }
 

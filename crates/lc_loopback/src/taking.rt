@@ -54,12 +54,62 @@ pub(crate) fn issue<R: Wait>(
     unreachable!()
 }
 
+/// What a receiving end took and has not issued anew.
+#[derive(Drop)]
+pub(crate) struct Owed {
+    bytes: u32,
+    issue_from: u32,
+}
+
+impl Owed {
+    /// Nothing. From so many bytes on all are issued.
+    pub(crate) const fn new(issue_from: u32) -> Owed {
+        Owed {
+            bytes: 0,
+            issue_from,
+        }
+    }
+
+    fn issue<R: Wait>(
+        &mut self,
+        rt: &R,
+        end: &mut RecvEnd,
+        patience: &mut Patience<'_>,
+    ) -> Result<(), LoopFault>
+        ensures same { IsSameSide end.old end.new }
+        ensures took { took end.new.seen ≡ took end.old.seen }
+    {
+        issue(rt, end, self.bytes, patience)?;
+        self.bytes = 0;
+        Ok(())
+    }
+
+    // So many more were taken: fewer than a ring has in all.
+    fn add<R: Wait>(
+        &mut self,
+        rt: &R,
+        end: &mut RecvEnd,
+        len: u32,
+        patience: &mut Patience<'_>,
+    ) -> Result<(), LoopFault>
+        ensures same { IsSameSide end.old end.new }
+        ensures took { took end.new.seen ≡ took end.old.seen }
+    {
+        self.bytes = self.bytes.saturating_add(len);
+        if self.bytes < self.issue_from {
+            return Ok(());
+        }
+        self.issue(rt, end, patience)
+    }
+}
+
 // Takes the next message as soon as one is there, and says how long it is. `None` where the channel
-// has ended.
+// has ended. It does not wait while it owes anything.
 fn next<R: Wait>(
     rt: &R,
     end: &mut RecvEnd,
     buffer: &mut [u8],
+    owed: &mut Owed,
     patience: &mut Patience<'_>,
 ) -> Result<Option<usize>, LoopFault>
     ensures range { IfOk result (λ next. IfSome next (λ len. len ≤ max_body Two)) }
@@ -70,6 +120,7 @@ fn next<R: Wait>(
         match end.take_into(rt, buffer) {
             Ok(Take::Took(len)) => return Ok(Some(len)),
             Ok(Take::Ended) => return Ok(None),
+            Ok(Take::Empty) if owed.bytes > 0 => owed.issue(rt, end, patience)?,
             Ok(Take::Empty) => patience.pause(rt, end)?,
             Err(_) => return Err(LoopFault::BadMessage),
         }
@@ -77,19 +128,20 @@ fn next<R: Wait>(
     unreachable!()
 }
 
-/// Takes the message that is due as soon as one is there, and issues its bytes anew.
+/// Takes the message that is due as soon as one is there, and issues its bytes anew, or owes them.
 pub(crate) fn take<R: Wait>(
     rt: &R,
     end: &mut RecvEnd,
     due: &[u8],
     buffer: &mut [u8],
+    owed: &mut Owed,
     patience: &mut Patience<'_>,
 ) -> Result<(), LoopFault>
     ensures same { IsSameSide end.old end.new }
     ensures took { OnOk result (took end.new.seen ≡ took end.old.seen ++ due.now ∷ []) }
 {
-    match next(rt, end, buffer, patience)? {
-        Some(len) if buffer.get(..len) == Some(due) => issue(rt, end, len as u32, patience),
+    match next(rt, end, buffer, owed, patience)? {
+        Some(len) if buffer.get(..len) == Some(due) => owed.add(rt, end, len as u32, patience),
         _ => Err(LoopFault::BadMessage),
     }
 }
@@ -99,6 +151,7 @@ fn end_taking<R: Wait>(
     rt: &R,
     end: &mut RecvEnd,
     buffer: &mut [u8],
+    owed: &mut Owed,
     finishes: bool,
 ) -> Result<(), LoopFault>
     ensures same { IsSameSide end.old end.new }
@@ -107,7 +160,7 @@ fn end_taking<R: Wait>(
     if !finishes {
         return Ok(());
     }
-    match next(rt, end, buffer, &mut Patience::Sleeps)? {
+    match next(rt, end, buffer, owed, &mut Patience::Sleeps)? {
         Some(_) => Err(LoopFault::BadMessage),
         None => Ok(()),
     }
@@ -128,14 +181,15 @@ fn take_all<R: Wait>(rt: &R, end: &mut RecvEnd, exchange: Exchange) -> Outcome
     let mut message = Message::new(exchange, end.channel())?;
     let mut buffer = bytes(alloc, 0, plan.shortest + plan.lengths)?;
     let mut taken = 0u64;
+    let mut owed = Owed::new(plan.issue_from);
     issue(rt, end, plan.capacity, &mut Patience::Sleeps)?;
     for number in 0..plan.messages {
         message.turn_to(number);
         let due = message.as_slice();
-        take(rt, end, due, &mut buffer, &mut Patience::Sleeps)?;
+        take(rt, end, due, &mut buffer, &mut owed, &mut Patience::Sleeps)?;
         taken += due.len() as u64;
     }
-    end_taking(rt, end, &mut buffer, finishes)?;
+    end_taking(rt, end, &mut buffer, &mut owed, finishes)?;
     Ok(Taken {
         messages: u64::from(plan.messages),
         bytes: taken,

@@ -1,2 +1,1 @@
 mod Sessions
-mod Exchanges

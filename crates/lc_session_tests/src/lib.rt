@@ -1,6 +1,5 @@
 //! Tests of `lc_session`.
 #![tactic(auto)]
 
-pub mod parted;
 #[cfg(test)]
 mod tests;

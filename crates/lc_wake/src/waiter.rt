@@ -154,7 +154,8 @@ impl Waiter {
         wake
     }
 
-    /// The same, and no longer than this. It may end earlier without a reason.
+    /// The same, and no longer than this, but for yields of the processor by which it may let others go
+    /// first. It may end earlier without a reason.
     pub fn wait_timeout<R: Wait + Clock>(&mut self, rt: &R, timeout: Duration) -> Wake {
         self.ask();
         if self.yield_first().is_none() {

@@ -5,7 +5,7 @@ use super::same;
 use super::transcript::shown_of;
 use lc_cli::print_loopback;
 use lc_frame::Version;
-use lc_loopback::{LoopFault, LoopReport, Plan, loopback, loopback_as, ping_pong};
+use lc_loopback::{LoopFault, LoopReport, Plan, loopback, loopback_as, loopback_of, ping_pong};
 use std::alloc::Global;
 use std::net::{Net, TcpListener, TcpStream};
 use std::process::Abort;
@@ -105,7 +105,8 @@ fn two_sessions_exchange_messages(rt: HostRuntime) {
 #[test]
 fn a_small_plan_has_its_rings_and_slots(rt: HostRuntime) {
     let found = format!(in rt.alloc(); "{:?}", Plan::small(7)).ok();
-    let wanted = "Plan { capacity: 32, slots: 4, messages: 7, shortest: 4, lengths: 13 }";
+    let wanted =
+        "Plan { capacity: 32, slots: 4, messages: 7, shortest: 4, lengths: 13, issue_from: 1 }";
     same(&rt, "a small plan", found, wanted);
 }
 
@@ -121,6 +122,58 @@ fn sessions_of_either_version_exchange_messages(rt: HostRuntime) {
         let found = shown_of(rt.alloc(), "lcmux loopback 10", exchange);
         same(&rt, "lcmux loopback 10", found, TEN);
     }
+}
+
+// Rings of one message, and one slot for all lanes: ends wait for guarantees, for messages and for the slot.
+const NARROW: Plan = Plan {
+    capacity: 4,
+    slots: 1,
+    messages: 100,
+    shortest: 4,
+    lengths: 1,
+    issue_from: 1,
+};
+
+// Nothing is issued anew before an end has taken all that there is.
+const LATE: Plan = Plan {
+    capacity: 32,
+    slots: 4,
+    messages: 1_000,
+    shortest: 4,
+    lengths: 13,
+    issue_from: u32::MAX,
+};
+
+// Whether two sessions exchange this. Where they do, their balances agree.
+fn is_exchanged<R>(rt: R, alloc: Global, plan: Plan, versions: [Version; 2]) -> bool
+where
+    R: Net<Listener = TcpListener, Stream = TcpStream>
+        + Threads
+        + Wait
+        + Copy
+        + Send
+        + Drop
+        + 'static,
+{
+    plan.is_lawful() && loopback_of(&rt, rt, alloc, plan, versions).is_ok()
+}
+
+#[test]
+fn sessions_exchange_messages_through_one_slot(rt: HostRuntime) {
+    for versions in [
+        [Version::One, Version::One],
+        [Version::One, Version::Two],
+        [Version::Two, Version::Two],
+    ] {
+        let is_exchanged = is_exchanged(rt, rt.alloc(), NARROW, versions);
+        assert!(&rt; is_exchanged, "{versions:?}");
+    }
+}
+
+#[test]
+fn sessions_exchange_messages_that_are_issued_late(rt: HostRuntime) {
+    let is_exchanged = is_exchanged(rt, rt.alloc(), LATE, [Version::One, Version::Two]);
+    assert!(&rt; is_exchanged, "issued late");
 }
 
 // A report of these messages alone.
@@ -240,8 +293,13 @@ where
 /// that comes to.
 type Case = (Trouble, u64, u64, Exchange, &'static str);
 
-// An exchange comes to what its case says.
-fn comes_to<R>(rt: R, alloc: Global, (trouble, first, last, exchange, wanted): Case)
+// An exchange comes to one of these.
+fn is_any(found: &str, wanted: &str) -> bool {
+    wanted.split(" or ").any(|one| one == found)
+}
+
+// An exchange comes to what its case says, which is at this place of its table.
+fn comes_to<R>(rt: R, alloc: Global, place: usize, (trouble, first, last, exchange, wanted): Case)
 where
     R: Net<Listener = TcpListener, Stream = TcpStream>
         + Threads
@@ -255,11 +313,28 @@ where
     for at in first..=last {
         let found = troubled(rt, alloc, trouble, at, exchange);
         let found = found.as_deref().unwrap_or("nothing");
-        let is_wanted = wanted.split(" or ").any(|one| one == found);
+        let case = (place, at);
         assert!(rt;
-            is_wanted,
-            "{trouble:?} at {at} of {exchange:?}: {found}, not {wanted}"
+            is_any(found, wanted),
+            "case {case:?}: {found}, not {wanted}"
         );
+    }
+}
+
+// And so does each case of a table.
+fn come_to<R>(rt: R, alloc: Global, cases: &[Case])
+where
+    R: Net<Listener = TcpListener, Stream = TcpStream>
+        + Threads
+        + Wait
+        + Abort
+        + Copy
+        + Send
+        + Drop
+        + 'static,
+{
+    for (place, case) in cases.iter().enumerate() {
+        comes_to(rt, alloc, place, *case);
     }
 }
 
@@ -282,9 +357,7 @@ const CONNECTIONS: [Case; 4] = [
 
 #[test]
 fn a_connection_that_fails_or_is_a_strangers_is_refused(rt: HostRuntime) {
-    for case in &CONNECTIONS {
-        comes_to(rt, rt.alloc(), *case);
-    }
+    come_to(rt, rt.alloc(), &CONNECTIONS);
 }
 
 const SOCKETS: [Case; 10] = [
@@ -303,9 +376,7 @@ const SOCKETS: [Case; 10] = [
 
 #[test]
 fn a_socket_that_fails_or_ends_too_early_ends_both_sessions(rt: HostRuntime) {
-    for case in &SOCKETS {
-        comes_to(rt, rt.alloc(), *case);
-    }
+    come_to(rt, rt.alloc(), &SOCKETS);
 }
 
 // Each stream of version Two begins with a greeting.
@@ -321,9 +392,7 @@ const GREETINGS: [Case; 7] = [
 
 #[test]
 fn another_greeting_ends_both_sessions(rt: HostRuntime) {
-    for case in &GREETINGS {
-        comes_to(rt, rt.alloc(), *case);
-    }
+    come_to(rt, rt.alloc(), &GREETINGS);
 }
 
 // The first four bytes of a message are its number, and the longest has sixteen.
@@ -340,9 +409,7 @@ const MESSAGES: [Case; 8] = [
 
 #[test]
 fn another_message_than_the_one_due_ends_both_sessions(rt: HostRuntime) {
-    for case in &MESSAGES {
-        comes_to(rt, rt.alloc(), *case);
-    }
+    come_to(rt, rt.alloc(), &MESSAGES);
 }
 
 // Fourteen channels are finished where both sides write in version Two, and none elsewhere.
@@ -356,9 +423,7 @@ const FINISHES: [Case; 5] = [
 
 #[test]
 fn a_message_more_before_the_end_ends_both_sessions(rt: HostRuntime) {
-    for case in &FINISHES {
-        comes_to(rt, rt.alloc(), *case);
-    }
+    come_to(rt, rt.alloc(), &FINISHES);
 }
 
 // What so many rounds come to over a network in trouble.

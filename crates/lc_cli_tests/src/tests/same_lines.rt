@@ -60,15 +60,10 @@ fn kind_of(written: io::Result<()>) -> Option<ErrorKind> {
     written.err().map(|error| error.kind())
 }
 
-fn is_same_calls(rt: &impl Abort, what: &str, found: Calls, wanted: Calls) -> Result<(), Fail> {
-    let wanted = String::from_utf8(wanted.bytes).map_err(|_| "no text")?;
-    same(
-        rt,
-        what,
-        String::from_utf8(found.bytes).ok(),
-        wanted.as_str(),
-    );
-    Ok(())
+fn is_same_calls(rt: &impl Abort, what: &str, found: Calls, wanted: Calls) {
+    let wanted = String::from_utf8(wanted.bytes).ok();
+    let wanted = wanted.as_deref().unwrap_or("no text");
+    same(rt, what, String::from_utf8(found.bytes).ok(), wanted);
 }
 
 // Whether the answer is written by the calls of before, and ends as it did. Answers whether the call that
@@ -79,31 +74,33 @@ fn is_same_answer(
     answer: &Answer,
     most: usize,
     failing: u64,
-) -> Result<bool, Fail> {
+) -> bool {
     let mut found = Calls::new(alloc, most, failing);
     let mut wanted = Calls::new(alloc, most, failing);
     let is_written = kind_of(lc_cli::write_answer(answer, &mut found));
     let was_written = kind_of(lines::write_answer(answer, &mut wanted));
     assert!(rt; is_written == was_written, "an answer fails in another way");
     let is_met = wanted.calls >= failing;
-    is_same_calls(rt, "the line of an answer", found, wanted)?;
-    Ok(is_met)
+    is_same_calls(rt, "the line of an answer", found, wanted);
+    is_met
 }
 
 // More calls than a line of a number or two has bytes.
 const CALLS: u64 = 100;
 
 // Each call fails in turn, and in the last turn none.
-fn is_same_in_turn(rt: &impl Abort, alloc: Global, answer: &Answer) -> Result<(), Fail> {
-    for most in [usize::MAX, 1] {
-        for failing in 1..=CALLS {
-            if !is_same_answer(rt, alloc, answer, most, failing)? {
-                break;
-            }
-            assert!(rt; failing < CALLS, "a line has more calls");
+fn is_same_by(rt: &impl Abort, alloc: Global, answer: &Answer, most: usize) {
+    for failing in 1..=CALLS {
+        if !is_same_answer(rt, alloc, answer, most, failing) {
+            return;
         }
     }
-    Ok(())
+    assert!(rt; false, "a line has more calls");
+}
+
+fn is_same_in_turn(rt: &impl Abort, alloc: Global, answer: Answer) {
+    is_same_by(rt, alloc, &answer, usize::MAX);
+    is_same_by(rt, alloc, &answer, 1);
 }
 
 // Numbers of each length, and those about their ends, 2^64 - 1 among them.
@@ -112,33 +109,41 @@ fn number_at(place: u32) -> u64 {
     power.saturating_sub(1).saturating_add(u64::from(place % 3))
 }
 
-// The answers with numbers.
-#[test]
-fn numbered_answers_have_the_lines_of_before(rt: HostRuntime) -> Result<(), Fail> {
-    for place in 0..66 {
-        let value = number_at(place);
-        let size = value as usize;
-        for refusal in [
-            Refusal::PastSendLimit { left: value },
-            Refusal::NoGuarantee { held: value },
-            Refusal::NotHeld { held: value },
-            Refusal::LimitRaised { left: value },
-            Refusal::PastReceiveLimit { left: value },
-            Refusal::NoRoom { room: value },
-            Refusal::NothingToAsk { outstanding: value },
-            Refusal::BufferTooSmall { need: size },
-        ] {
-            is_same_in_turn(&rt, rt.alloc(), &Answer::Refused(refusal))?;
-        }
-        let delivered = Answer::Delivered {
-            bytes: value,
-            frames: number_at(65 - place),
-        };
-        is_same_in_turn(&rt, rt.alloc(), &delivered)?;
-        let amount = value.min(u64::from(u32::MAX)) as u32;
-        is_same_in_turn(&rt, rt.alloc(), &Answer::Absolved(amount))?;
+// The refusals with a number.
+fn refusals_of(value: u64) -> [Refusal; 8] {
+    [
+        Refusal::PastSendLimit { left: value },
+        Refusal::NoGuarantee { held: value },
+        Refusal::NotHeld { held: value },
+        Refusal::LimitRaised { left: value },
+        Refusal::PastReceiveLimit { left: value },
+        Refusal::NoRoom { room: value },
+        Refusal::NothingToAsk { outstanding: value },
+        Refusal::BufferTooSmall {
+            need: value as usize,
+        },
+    ]
+}
+
+// All answers with numbers, of which this is one.
+fn are_same_at(rt: &impl Abort, alloc: Global, value: u64, other: u64) {
+    for refusal in refusals_of(value) {
+        is_same_in_turn(rt, alloc, Answer::Refused(refusal));
     }
-    Ok(())
+    let delivered = Answer::Delivered {
+        bytes: value,
+        frames: other,
+    };
+    is_same_in_turn(rt, alloc, delivered);
+    let amount = value.min(u64::from(u32::MAX)) as u32;
+    is_same_in_turn(rt, alloc, Answer::Absolved(amount));
+}
+
+#[test]
+fn numbered_answers_have_the_lines_of_before(rt: HostRuntime) {
+    for place in 0..66 {
+        are_same_at(&rt, rt.alloc(), number_at(place), number_at(65 - place));
+    }
 }
 
 const REFUSALS: [Refusal; 9] = [
@@ -166,12 +171,12 @@ const VIOLATIONS: [Violation; 9] = [
 ];
 
 #[test]
-fn other_answers_have_the_lines_of_before(rt: HostRuntime) -> Result<(), Fail> {
+fn other_answers_have_the_lines_of_before(rt: HostRuntime) {
     for refusal in REFUSALS {
-        is_same_in_turn(&rt, rt.alloc(), &Answer::Refused(refusal))?;
+        is_same_in_turn(&rt, rt.alloc(), Answer::Refused(refusal));
     }
     for violation in VIOLATIONS {
-        is_same_in_turn(&rt, rt.alloc(), &Answer::Violated(violation))?;
+        is_same_in_turn(&rt, rt.alloc(), Answer::Violated(violation));
     }
     for answer in [
         Answer::Accepted,
@@ -181,9 +186,19 @@ fn other_answers_have_the_lines_of_before(rt: HostRuntime) -> Result<(), Fail> {
         Answer::Empty,
         Answer::Ended,
     ] {
-        is_same_in_turn(&rt, rt.alloc(), &answer)?;
+        is_same_in_turn(&rt, rt.alloc(), answer);
     }
-    Ok(())
+}
+
+// A body that was taken, where the first calls fail in turn, and where each takes a byte.
+fn is_same_body(rt: &impl Abort, alloc: Global, bytes: Vec<u8>) {
+    let length = bytes.len() as u64;
+    let answer = Answer::Took(Body::from_vec(bytes));
+    for failing in 0..6 {
+        is_same_answer(rt, alloc, &answer, usize::MAX, failing);
+    }
+    is_same_answer(rt, alloc, &answer, 1, 0);
+    is_same_answer(rt, alloc, &answer, 1, length);
 }
 
 // Bodies of each length up to more than two pieces, with each byte at some place.
@@ -191,56 +206,67 @@ fn other_answers_have_the_lines_of_before(rt: HostRuntime) -> Result<(), Fail> {
 fn bodies_have_the_lines_of_before(rt: HostRuntime) -> Result<(), Fail> {
     let mut bytes = Vec::new(rt.alloc());
     for length in 0..600u32 {
-        let answer = Answer::Took(Body::from_vec(bytes.clone()?));
-        for failing in 0..6 {
-            is_same_answer(&rt, rt.alloc(), &answer, usize::MAX, failing)?;
-        }
-        is_same_answer(&rt, rt.alloc(), &answer, 1, 0)?;
-        is_same_answer(&rt, rt.alloc(), &answer, 1, u64::from(length))?;
+        is_same_body(&rt, rt.alloc(), bytes.clone()?);
         bytes.push((length.wrapping_mul(167) % 256) as u8)?;
     }
     Ok(())
 }
 
 // A stream of one frame, as it is listed.
-fn is_same_frame(rt: &impl Abort, alloc: Global, frame: FrameRef<'_>) -> Result<(), Fail> {
-    if !frame.is_valid(Version::Two) {
-        return Ok(());
-    }
-    let mut stream = Vec::from_slice(alloc, Version::Two.greeting())?;
-    frame.encode_into(Version::Two, &mut stream)?;
-    let (mut found, mut wanted, mut err) = (Vec::new(alloc), Vec::new(alloc), Vec::new(alloc));
+fn listed(alloc: Global, frame: FrameRef<'_>) -> Option<String> {
+    let stream = stream_of(alloc, &[frame]).ok()?;
+    let (mut found, mut err) = (Vec::new(alloc), Vec::new(alloc));
     let status = lc_cli::frames(alloc, &mut stream.as_slice(), &mut found, &mut err);
-    lines::write_frame(&frame, &mut wanted)?;
-    assert!(rt; status == 0, "a frame is refused");
-    let wanted = String::from_utf8(wanted).map_err(|_| "no text")?;
-    same(
-        rt,
-        "the line of a frame",
-        String::from_utf8(found).ok(),
-        wanted.as_str(),
-    );
-    Ok(())
+    if status != 0 {
+        return None;
+    }
+    String::from_utf8(found).ok()
+}
+
+fn line_before(alloc: Global, frame: FrameRef<'_>) -> Option<String> {
+    let mut wanted = Vec::new(alloc);
+    lines::write_frame(&frame, &mut wanted).ok()?;
+    String::from_utf8(wanted).ok()
+}
+
+fn is_same_frame(rt: &impl Abort, alloc: Global, frame: FrameRef<'_>) {
+    if !frame.is_valid(Version::Two) {
+        return;
+    }
+    let wanted = line_before(alloc, frame);
+    let wanted = wanted.as_deref().unwrap_or("no line");
+    same(rt, "the line of a frame", listed(alloc, frame), wanted);
+}
+
+// The frames of a channel with a number.
+fn frames_of(channel: Channel, bound: u64) -> [FrameRef<'static>; 5] {
+    let amount = bound.min(u64::from(u32::MAX)) as u32;
+    let target = amount;
+    [
+        FrameRef::Issue { channel, amount },
+        FrameRef::Absolve { channel, amount },
+        FrameRef::Plead { channel, target },
+        FrameRef::LimitSending { channel, bound },
+        FrameRef::LimitReceiving { channel, bound },
+    ]
+}
+
+fn are_same_frames(rt: &impl Abort, alloc: Global, channel: Channel, bound: u64) {
+    for frame in frames_of(channel, bound) {
+        is_same_frame(rt, alloc, frame);
+    }
 }
 
 #[test]
-fn frames_have_the_lines_of_before(rt: HostRuntime) -> Result<(), Fail> {
+fn frames_have_the_lines_of_before(rt: HostRuntime) {
     let body = b"any body".as_slice();
     for channel in Channel::ALL {
-        is_same_frame(&rt, rt.alloc(), FrameRef::Send { channel, body })?;
-        is_same_frame(&rt, rt.alloc(), FrameRef::Finish { channel })?;
+        is_same_frame(&rt, rt.alloc(), FrameRef::Send { channel, body });
+        is_same_frame(&rt, rt.alloc(), FrameRef::Finish { channel });
         for place in 0..66 {
-            let bound = number_at(place);
-            let amount = bound.min(u64::from(u32::MAX)) as u32;
-            let target = amount;
-            is_same_frame(&rt, rt.alloc(), FrameRef::Issue { channel, amount })?;
-            is_same_frame(&rt, rt.alloc(), FrameRef::Absolve { channel, amount })?;
-            is_same_frame(&rt, rt.alloc(), FrameRef::Plead { channel, target })?;
-            is_same_frame(&rt, rt.alloc(), FrameRef::LimitSending { channel, bound })?;
-            is_same_frame(&rt, rt.alloc(), FrameRef::LimitReceiving { channel, bound })?;
+            are_same_frames(&rt, rt.alloc(), channel, number_at(place));
         }
     }
-    Ok(())
 }
 
 // The next of many numbers, below a bound.
@@ -299,6 +325,21 @@ fn stream_of(alloc: Global, frames: &[FrameRef<'_>]) -> Result<Vec<u8>, AllocErr
     Ok(stream)
 }
 
+// A stream is listed, and with how it ended.
+fn listed_by(alloc: Global, mut stream: &[u8], mut out: Calls) -> (Calls, bool) {
+    let mut err = Vec::new(alloc);
+    let status = lc_cli::frames(alloc, &mut stream, &mut out, &mut err);
+    (out, status == 0)
+}
+
+// And as it was before.
+fn listed_before(alloc: Global, frames: &[FrameRef<'_>], mut out: Calls) -> Option<(Calls, bool)> {
+    let mut buffered = lc_cli::buffered(alloc, &mut out).ok()?;
+    let listed = list_before(frames, &mut buffered);
+    let _ = buffered.into_parts();
+    Some((out, listed.is_ok()))
+}
+
 // Whether the frames are listed by the calls of before. Answers whether the call that fails was made.
 fn is_same_listing(
     rt: &impl Abort,
@@ -306,55 +347,52 @@ fn is_same_listing(
     frames: &[FrameRef<'_>],
     most: usize,
     failing: u64,
-) -> Result<bool, Fail> {
-    let stream = stream_of(alloc, frames)?;
-    let mut found = Calls::new(alloc, most, failing);
-    let mut wanted = Calls::new(alloc, most, failing);
-    let mut err = Vec::new(alloc);
-    let status = lc_cli::frames(alloc, &mut stream.as_slice(), &mut found, &mut err);
-    let mut buffered = lc_cli::buffered(alloc, &mut wanted).map_err(|_| "no memory")?;
-    let listed = list_before(frames, &mut buffered);
-    let _ = buffered.into_parts();
-    assert!(rt;
-        status == u8::from(listed.is_err()),
-        "a listing ends in another way"
-    );
+) -> Option<bool> {
+    let stream = stream_of(alloc, frames).ok()?;
+    let (wanted, was_listed) = listed_before(alloc, frames, Calls::new(alloc, most, failing))?;
+    let (found, is_listed) = listed_by(alloc, &stream, Calls::new(alloc, most, failing));
+    assert!(rt; is_listed == was_listed, "a listing ends in another way");
     let is_met = wanted.calls >= failing;
-    is_same_calls(rt, "a listing", found, wanted)?;
-    Ok(is_met)
+    is_same_calls(rt, "a listing", found, wanted);
+    Some(is_met)
 }
 
 // So many frames that the calls end within lines, at many places.
-fn made_frames<'a>(
-    alloc: Global,
-    state: &mut u64,
-    bytes: &'a [u8],
-) -> Result<Vec<FrameRef<'a>>, Fail> {
+fn made_frames<'a>(alloc: Global, state: &mut u64, bytes: &'a [u8]) -> Option<Vec<FrameRef<'a>>> {
     let mut frames = Vec::new(alloc);
     for _ in 0..500 {
         let frame = made_frame(state, bytes);
         if frame.is_valid(Version::Two) {
-            frames.push(frame)?;
+            frames.push(frame).ok()?;
         }
     }
-    Ok(frames)
+    Some(frames)
 }
 
-// Each call fails in turn, where they are large, and some where each takes a byte.
-#[test]
-fn listings_are_written_by_the_calls_of_before(rt: HostRuntime) -> Result<(), Fail> {
-    let mut state = 64;
-    let bytes = vec![in rt.alloc(); 0xa5u8; 150]?;
-    for number in 0..12u64 {
-        let frames = made_frames(rt.alloc(), &mut state, bytes.as_slice())?;
-        let frames = frames.as_slice();
-        for failing in 1..=CALLS {
-            if !is_same_listing(&rt, rt.alloc(), frames, usize::MAX, failing)? {
-                break;
-            }
-            assert!(&rt; failing < CALLS, "a listing has more calls");
+// Each call fails in turn, where they are large.
+fn are_same_listings(rt: &impl Abort, alloc: Global, frames: &[FrameRef<'_>]) -> Option<()> {
+    for failing in 1..=CALLS {
+        if !is_same_listing(rt, alloc, frames, usize::MAX, failing)? {
+            return Some(());
         }
-        is_same_listing(&rt, rt.alloc(), frames, 1, number * 900)?;
     }
-    Ok(())
+    None
+}
+
+// And some where each takes a byte.
+fn is_same_number(rt: &impl Abort, alloc: Global, state: &mut u64, number: u64) -> Option<()> {
+    let bytes = [0xa5; 150];
+    let frames = made_frames(alloc, state, &bytes)?;
+    are_same_listings(rt, alloc, &frames)?;
+    is_same_listing(rt, alloc, &frames, 1, number.saturating_mul(900))?;
+    Some(())
+}
+
+#[test]
+fn listings_are_written_by_the_calls_of_before(rt: HostRuntime) {
+    let mut state = 64;
+    for number in 0..12 {
+        let listed = is_same_number(&rt, rt.alloc(), &mut state, number);
+        assert!(&rt; listed.is_some(), "no memory, or a listing has more calls");
+    }
 }

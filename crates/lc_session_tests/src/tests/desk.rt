@@ -13,16 +13,16 @@ ghost use Rattle.std.specs.List.{AllZip};
 ghost use Rattle.lc_session.specs.Pumping.{IsSamePump};
 
 use crate::tests::same;
+use crate::tests::sides::session;
 use crate::tests::ticks::Ticks;
 use lc_driver::Counted;
 use lc_frame::{CHANNELS, Channel, Version};
-use lc_peer::{Config, Take};
-use lc_session::{Parts, ReadPump, RecvEnd, Report, SendEnd, Session, WritePump, finish};
+use lc_peer::Take;
+use lc_session::{Parts, ReadPump, RecvEnd, Report, SendEnd, WritePump, finish};
 use std::alloc::Global;
 use std::mem::replace;
 use std::process::Abort;
 use std::sync::Wait;
-use std::test::Fail;
 use std::time::Duration;
 use test_devices::{Odd, Pipe, PipeReader, PipeWriter, Plan, channel, number, plan_of, text};
 
@@ -38,13 +38,8 @@ pub struct Desk {
 pub fn new_desk(alloc: Global, version: Version, slots: u32, digits: &str) -> Option<Desk>
     ensures { IfSome result (λ desk. AreOfOneSession (state_of desk.parts)) }
 {
-    let config = Config {
-        version,
-        capacities: [8; CHANNELS],
-        slots,
-    };
-    let parts = Session::new(alloc, config).ok()?;
     let input = Pipe::of(hex::decode(alloc, digits).ok()?);
+    let parts = session(alloc, version, 8, slots).ok()?;
     Some(Desk { parts, input })
 }
 
@@ -281,6 +276,7 @@ fn reports(rt: &impl Abort, alloc: Global, report: &Report, script: &str) {
 }
 
 /// A new session of version One answers each line of a script as it says, and then its report does.
+/// `None` where there is none.
 pub fn run<R: Wait + Abort>(
     rt: &R,
     alloc: Global,
@@ -288,7 +284,7 @@ pub fn run<R: Wait + Abort>(
     digits: &str,
     script: &str,
     report: &str,
-) -> Result<(), Fail> {
+) -> Option<()> {
     run_as(rt, alloc, Version::One, slots, digits, script, report)
 }
 
@@ -301,10 +297,10 @@ pub fn run_as<R: Wait + Abort>(
     digits: &str,
     script: &str,
     report: &str,
-) -> Result<(), Fail> {
-    let mut desk = new_desk(alloc, version, slots, digits).ok_or("there is no session")?;
+) -> Option<()> {
+    let mut desk = new_desk(alloc, version, slots, digits)?;
     works(rt, alloc, &mut desk, script);
     let Desk { parts, input: _ } = desk;
     reports(rt, alloc, &finish(rt, parts), report);
-    Ok(())
+    Some(())
 }

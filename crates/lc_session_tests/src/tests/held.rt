@@ -4,10 +4,10 @@
 //! Its thread is held by a clock, where it waits with a timeout. In a park without one nothing of a
 //! caller's is called: there `scripts/threads` holds the thread, by `scripts/hold.c`, which lets it go
 //! when a further thread is made.
-use crate::parted::{Ends, Pumps};
-use crate::tests::exchange::{session, taken_apart};
+use crate::tests::sides::{Ends, new_side};
 use crate::tests::staged::{await_count, in_time};
 use crate::tests::ticks::Ticks;
+use crate::tests::{equal, ran};
 use lc_book::Refusal;
 use lc_driver::{Counted, ReadEnd};
 use lc_frame::{CHANNELS, Channel, LANES, Lane};
@@ -98,7 +98,7 @@ impl<R: Wait> Clock for Gate<'_, R> {
 }
 
 /// Where one end is held.
-#[derive(Clone, Copy, Debug, PartialEq, Eq)]
+#[derive(Clone, Copy)]
 enum Hold {
     /// That of this lane, in its clock.
     Clock(usize),
@@ -108,7 +108,7 @@ enum Hold {
 
 impl Hold {
     fn is_by_clock(self, lane: Lane) -> bool {
-        self == Hold::Clock(lane.index())
+        matches!(self, Hold::Clock(at) if at == lane.index())
     }
 }
 
@@ -163,15 +163,13 @@ where
 }
 
 // Each end waits once, in a thread of its own.
-fn wait_each<R: Threads + Wait + Sync>(rt: &R, ends: Ends, hold: Hold, watch: &Watch) {
-    let Ends {
-        mut sending,
-        mut receiving,
-    } = ends;
+fn wait_each<R: Threads + Wait + Sync>(rt: &R, ends: &mut Ends, hold: Hold, watch: &Watch) {
+    let sending = &mut ends.sending;
+    let receiving = &mut ends.receiving;
     join(
         rt,
-        || wait_each_to_send(rt, &mut sending, hold, watch),
-        || wait_each_to_take(rt, &mut receiving, hold, watch),
+        || wait_each_to_send(rt, sending, hold, watch),
+        || wait_each_to_take(rt, receiving, hold, watch),
     );
 }
 
@@ -211,13 +209,13 @@ impl<R: Threads + Wait> Read for Telling<'_, R> {
 }
 
 // The reading pump tells all ends of a frame.
-fn read<R>(rt: &R, mut pump: ReadPump, frames: &[u8], watch: &Watch)
+fn read<R>(rt: &R, pump: &mut ReadPump, frames: &[u8], watch: &Watch)
 where
     R: Threads + Wait + Abort,
 {
     let mut reader = Counted::new(Telling { rt, frames, watch });
     let end = pump.run(rt, &mut reader, u64::MAX);
-    assert_eq!(rt; end, ReadEnd::Clean);
+    equal(rt, "a reading pump", end, ReadEnd::Clean);
 }
 
 /// A writer that is flushed once all ends that want a slot were told of one, and is written to once as many
@@ -225,7 +223,7 @@ where
 #[derive(Drop)]
 struct Resting<'a, R> {
     rt: &'a R,
-    session: Session,
+    session: &'a Session,
     watch: &'a Watch,
     slots: u32,
     writes: u64,
@@ -250,7 +248,7 @@ impl<R: Threads + Wait> Write for Resting<'_, R> {
 }
 
 // The writing pump tells all ends of a slot.
-fn write<R>(rt: &R, mut pump: WritePump, session: Session, slots: u32, watch: &Watch)
+fn write<R>(rt: &R, pump: &mut WritePump, session: &Session, slots: u32, watch: &Watch)
 where
     R: Threads + Wait + Abort,
 {
@@ -263,74 +261,72 @@ where
         writes: 0,
     });
     let end = pump.run(rt, &mut writer);
-    assert_eq!(rt; end, WriteEnd::Stopped);
+    equal(rt, "a writing pump", end, WriteEnd::Stopped);
 }
 
-// All slots are taken, and each end has met that.
-fn fill<R: Wait + Abort>(rt: &R, ends: &mut Ends, slots: u32) {
-    let Ends { sending, receiving } = ends;
+// All slots are taken.
+fn fill<R: Wait + Abort>(rt: &R, end: &mut RecvEnd, slots: u32) {
     for _ in 0..slots {
-        assert_eq!(rt; receiving[0].issue(rt, 1), Ok(()));
-    }
-    for end in sending {
-        assert_eq!(rt; end.limit(rt, 9), Err(Refusal::QueueFull));
-    }
-    for end in receiving {
-        assert_eq!(rt; end.limit(rt, 9), Err(Refusal::QueueFull));
+        equal(rt, "an issue", end.issue(rt, 1), Ok(()));
     }
 }
 
-/// What ends are told of.
-#[derive(Clone, Copy, Debug)]
-enum Told {
-    /// A frame for each, first for the end of this lane.
-    Frames(usize),
-    /// So many slots, and then that the pump is about to sleep.
-    Slots(u32),
+// Each end has met that.
+fn meet<R: Wait + Abort>(rt: &R, ends: &mut Ends) {
+    for end in &mut ends.sending {
+        equal(rt, "to send", end.limit(rt, 9), Err(Refusal::QueueFull));
+    }
+    for end in &mut ends.receiving {
+        equal(rt, "to receive", end.limit(rt, 9), Err(Refusal::QueueFull));
+    }
 }
 
-// Whether all others wake where one end is held.
-fn hold_one<R>(rt: &R, alloc: Global, told: Told, hold: Hold) -> Option<()>
+// All others wake where one end is held while a frame comes for each, first for that of this lane.
+fn tell_frames<R>(rt: &R, alloc: Global, first: usize, hold: Hold) -> Option<()>
 where
     R: Threads + Wait + Abort + Sync,
 {
-    let slots = match told {
-        Told::Frames(_) => 1,
-        Told::Slots(slots) => slots,
-    };
-    let (mut ends, pumps, session) = taken_apart(session(alloc, 16, slots).ok()?);
-    let Pumps { reading, writing } = pumps;
+    let frames = frames(alloc, first).ok()?;
+    let mut side = new_side(alloc, 16, 1)?;
     let watch = Watch::new();
-    match told {
-        Told::Frames(first) => {
-            let frames = frames(alloc, first).ok()?;
-            join(
-                rt,
-                || wait_each(rt, ends, hold, &watch),
-                || read(rt, reading, &frames, &watch),
-            );
-        }
-        Told::Slots(slots) => {
-            fill(rt, &mut ends, slots);
-            join(
-                rt,
-                || wait_each(rt, ends, hold, &watch),
-                || write(rt, writing, session, slots, &watch),
-            );
-        }
-    }
+    let ends = &mut side.ends;
+    let reading = &mut side.pumps.reading;
+    join(
+        rt,
+        || wait_each(rt, ends, hold, &watch),
+        || read(rt, reading, &frames, &watch),
+    );
     Some(())
 }
 
-// The same in each way of telling, of which this end is told first where one can be.
+// The same where so many slots are freed, and then the pump is about to sleep.
+fn tell_slots<R>(rt: &R, alloc: Global, slots: u32, hold: Hold) -> Option<()>
+where
+    R: Threads + Wait + Abort + Sync,
+{
+    let mut side = new_side(alloc, 16, slots)?;
+    fill(rt, &mut side.ends.receiving[0], slots);
+    meet(rt, &mut side.ends);
+    let watch = Watch::new();
+    let ends = &mut side.ends;
+    let writing = &mut side.pumps.writing;
+    let session = &side.session;
+    join(
+        rt,
+        || wait_each(rt, ends, hold, &watch),
+        || write(rt, writing, session, slots, &watch),
+    );
+    Some(())
+}
+
+// Each way of telling, of which this end is told first where one can be.
 fn hold_in_turn<R>(rt: &R, alloc: Global, lane: usize, hold: Hold)
 where
     R: Threads + Wait + Abort + Sync,
 {
-    for told in [Told::Frames(lane), Told::Slots(1), Told::Slots(14)] {
-        let held = hold_one(rt, alloc, told, hold);
-        assert!(rt; held.is_some(), "{told:?} {hold:?}");
-    }
+    ran(rt, tell_frames(rt, alloc, lane, hold));
+    ran(rt, tell_slots(rt, alloc, 1, hold));
+    ran(rt, tell_slots(rt, alloc, 14, hold));
 }
 
 #[test]

@@ -6,10 +6,11 @@ ghost use Rattle.lc_outbox.specs.Outbox.{IsSameOutbox};
 ghost use Rattle.lc_session.specs.Reading.{IsSameReading};
 ghost use Rattle.lc_session_tests.specs.Desks.{StaysOfOne};
 
-use crate::tests::exchange::session;
+use crate::tests::equal;
+use crate::tests::sides::session;
 use lc_book::Refusal;
 use lc_driver::{Counted, ReadEnd};
-use lc_frame::CHANNELS;
+use lc_frame::{CHANNELS, Version};
 use lc_session::{Parts, ReadPump, RecvEnd, SendEnd, WriteEnd, WritePump, finish};
 use std::process::Abort;
 use std::sync::Wait;
@@ -30,7 +31,7 @@ fn receive(rt: &(impl Wait + Abort), pump: &mut ReadPump)
 {
     let mut reader = Counted::new(GUARANTEES.as_slice());
     let end = pump.run(rt, &mut reader, 10);
-    assert_eq!(rt; end, ReadEnd::Clean);
+    equal(rt, "a reading pump", end, ReadEnd::Clean);
 }
 
 // Whether a message is sent. A send that gets no memory changes nothing.
@@ -41,10 +42,11 @@ fn sends(rt: &(impl Wait + Abort), ends: &mut [SendEnd; CHANNELS]) -> bool
     let sent = end.send(rt, b"hi");
     let held = end.held();
     if sent.is_ok() {
-        assert_eq!(rt; held, 3);
+        equal(rt, "what is held", held, 3);
         return true;
     }
-    assert_eq!(rt; (sent, held), (Err(Refusal::OutOfMemory), 5));
+    let refused = (Err(Refusal::OutOfMemory), 5);
+    equal(rt, "a refused send", (sent, held), refused);
     false
 }
 
@@ -53,7 +55,7 @@ fn issue(rt: &(impl Wait + Abort), ends: &mut [RecvEnd; CHANNELS])
 {
     let end = &mut ends[1];
     let issued = end.issue(rt, 8);
-    assert_eq!(rt; issued, Ok(()));
+    equal(rt, "an issue", issued, Ok(()));
 }
 
 // All that was put goes out, into a memory that is large enough.
@@ -63,7 +65,8 @@ fn write(rt: &(impl Wait + Abort), pump: &mut WritePump, out: Vec<u8>, wanted: &
     let mut writer = Counted::new(out);
     let end = pump.run(rt, &mut writer);
     let mut out = writer.into_inner();
-    assert_eq!(rt; (end, out.as_slice()), (WriteEnd::Stopped, wanted));
+    let found = (end, out.as_slice());
+    equal(rt, "what is written", found, (WriteEnd::Stopped, wanted));
     out.clear();
     out
 }
@@ -87,9 +90,10 @@ fn works(rt: &(impl Wait + Abort), mut parts: Parts, out: Vec<u8>) -> (bool, Par
 #[test]
 fn a_session_and_a_send_ask_for_memory(rt: HostRuntime) -> Result<(), Fail> {
     let out = Vec::with_capacity(rt.alloc(), 16)?;
-    let (sent, parts) = works(&rt, session(rt.alloc(), 8, 4)?, out);
+    let parts = session(rt.alloc(), Version::One, 8, 4)?;
+    let (sent, parts) = works(&rt, parts, out);
     let report = finish(&rt, parts);
-    assert_eq!(rt; (report.left, report.partly), (0, 0));
+    equal(&rt, "what is left", (report.left, report.partly), (0, 0));
     if !sent {
         return Err("a send was refused and changed nothing")?;
     }

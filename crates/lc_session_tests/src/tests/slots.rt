@@ -1,17 +1,19 @@
 //! Ends that wait side by side, and a pump, all in one thread: one end waits while the other's clock is
 //! read, and what wakes them comes while its own is read.
+use crate::tests::equal;
 use crate::tests::staged::in_time;
 use crate::tests::ticks::Ticks;
 use lc_frame::{CHANNELS, Channel, LANES, Lane};
 use lc_wake::{Found, Pump, PumpWaiter, Waiter, Wake, Wakers, Waking};
+use std::alloc::Global;
 use std::io;
 use std::process::Abort;
-use std::sync::{Mutex, Wait};
+use std::sync::{Arc, Mutex, Wait};
 use std::test::Fail;
 use std::time::{Clock, Duration};
 
 /// What comes while ends sleep.
-#[derive(Clone, Copy, Debug)]
+#[derive(Clone, Copy)]
 enum News {
     /// So many slots are freed.
     Freed(usize),
@@ -148,36 +150,78 @@ const ROUNDS: [(bool, News, (u64, u64)); 13] = [
     (true, News::Ended(Pump::Reading), (1, 1)),
 ];
 
-// Two ends wait side by side, in all rounds.
-fn wait_in_rounds<R: Wait + Abort>(rt: &R, waking: Waking) {
+// What two ends that wait side by side share.
+struct Shared {
+    others: Mutex<[Waiter; CHANNELS]>,
+    pump: Mutex<PumpWaiter>,
+    wakers: Arc<Wakers, Global>,
+}
+
+// One call, wherever it is dropped.
+impl Drop for Shared {
+    fn drop(self) {
+        let Shared {
+            others: _,
+            pump: _,
+            wakers: _,
+        } = self;
+    }
+}
+
+impl Shared {
+    fn clock<'a, R: Wait>(&'a self, rt: &'a R, news: News) -> Busy<'a, R> {
+        Busy::new(rt, &self.pump, &self.wakers, news)
+    }
+
+    // A round in which the first end waits, and the second while it does: how often each read its clock.
+    fn wait_both<R: Wait>(&self, rt: &R, first: &mut Waiter, news: News) -> (u64, u64) {
+        let clock = Beside {
+            ticks: Ticks::new(rt),
+            others: &self.others,
+            clock: self.clock(rt, news),
+        };
+        first.wait_timeout(&clock, Duration::from_micros(1));
+        (clock.ticks.readings(), clock.clock.ticks.readings())
+    }
+}
+
+// An end that no longer waits for a slot is not woken for it in place of another.
+fn give_up<R: Wait + Abort>(rt: &R, first: &mut Waiter, shared: &Shared) {
+    first.met_full_queue();
+    first.wait_timeout(&Ticks::new(rt), Duration::from_micros(1));
+    let alone = shared.clock(rt, News::Freed(1));
+    wait_second(rt, &shared.others, &alone);
+    equal(rt, "the one that waits", alone.ticks.readings(), 1);
+    first.wait_timeout(&Ticks::new(rt), Duration::from_micros(1));
+}
+
+// All rounds, in turn.
+fn wait_in_rounds<R: Wait + Abort>(rt: &R, first: &mut Waiter, shared: &Shared) {
+    for &(wants, news, wanted) in &ROUNDS {
+        if wants {
+            first.met_full_queue();
+        }
+        let found = shared.wait_both(rt, first, news);
+        equal(rt, "a round", found, wanted);
+    }
+}
+
+// Two ends wait side by side.
+fn wait_beside<R: Wait + Abort>(rt: &R, waking: Waking) {
     let Waking {
         mut sending,
         receiving,
         pump,
         wakers,
     } = waking;
-    let (others, pump) = (Mutex::new(receiving), Mutex::new(pump));
+    let shared = Shared {
+        others: Mutex::new(receiving),
+        pump: Mutex::new(pump),
+        wakers,
+    };
     let first = &mut sending[6];
-    // An end that no longer waits for a slot is not woken for it in place of another.
-    first.met_full_queue();
-    first.wait_timeout(&Ticks::new(rt), Duration::from_micros(1));
-    let alone = Busy::new(rt, &pump, &wakers, News::Freed(1));
-    wait_second(rt, &others, &alone);
-    assert!(rt; alone.ticks.readings() == 1, "another end is woken");
-    first.wait_timeout(&Ticks::new(rt), Duration::from_micros(1));
-    for &(wants, news, wanted) in &ROUNDS {
-        if wants {
-            first.met_full_queue();
-        }
-        let clock = Beside {
-            ticks: Ticks::new(rt),
-            others: &others,
-            clock: Busy::new(rt, &pump, &wakers, news),
-        };
-        first.wait_timeout(&clock, Duration::from_micros(1));
-        let found = (clock.ticks.readings(), clock.clock.ticks.readings());
-        assert!(rt; found == wanted, "{news:?}: {found:?}, not {wanted:?}");
-    }
+    give_up(rt, first, &shared);
+    wait_in_rounds(rt, first, &shared);
 }
 
 // A pump is about to sleep twice: a frame is put, and then it is asked to stop, after a look began.
@@ -196,7 +240,8 @@ fn sleep_twice<R: Wait + Abort>(rt: &R, waking: Waking) {
     wakers.stop();
     pump.sleep(rt);
     let found = (early.found(0), pump.look().found(0), pump.look().found(2));
-    assert_eq!(rt; found, (Found::Nothing, Found::Stop, Found::Frames(2)));
+    let wanted = (Found::Nothing, Found::Stop, Found::Frames(2));
+    equal(rt, "what a pump finds", found, wanted);
 }
 
 // An end waits, and nothing comes: it yields once before it sleeps.
@@ -238,7 +283,7 @@ fn an_end_gives_way_to_one_that_starves(rt: HostRuntime) -> Result<(), Fail> {
 fn what_wakes_ends_and_a_pump(rt: HostRuntime) -> Result<(), Fail> {
     let (ends, pump) = (Waking::new(rt.alloc())?, Waking::new(rt.alloc())?);
     in_time(&rt, || {
-        wait_in_rounds(&rt, ends);
+        wait_beside(&rt, ends);
         sleep_twice(&rt, pump);
     });
     Ok(())

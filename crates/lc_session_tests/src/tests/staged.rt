@@ -7,10 +7,9 @@
 //! a colon what happens in each. `read` lets the reading pump, in a thread of its own, go on to where it
 //! waits next: it has read the bytes that come, its run has ended, a further run reads, it has ended.
 //! `who` names the ends whose next wait would not sleep.
-use crate::parted::{Ends, Pumps};
 use crate::tests::desk::{at_receiver, at_sender, call_of};
-use crate::tests::exchange::{session_as, taken_apart};
-use crate::tests::same;
+use crate::tests::sides::{Ends, new_side_as};
+use crate::tests::{equal, ran, same};
 use lc_driver::{Counted, ReadEnd};
 use lc_frame::{Channel, Version};
 use lc_session::{ReadPump, Session, WritePump};
@@ -84,15 +83,15 @@ fn read<R: Wait + Abort>(rt: &R, pump: &mut ReadPump, steps: &Steps, bytes: &[u8
         step,
     });
     let end = pump.run(rt, &mut reader, u64::MAX);
-    assert_eq!(rt; end, ReadEnd::Clean);
+    equal(rt, "a reading pump", end, ReadEnd::Clean);
 }
 
 // The reading pump, in two runs.
-fn read_twice<R: Wait + Abort>(rt: &R, mut pump: ReadPump, steps: &Steps, bytes: &[u8]) {
+fn read_twice<R: Wait + Abort>(rt: &R, pump: &mut ReadPump, steps: &Steps, bytes: &[u8]) {
     steps.reach(rt, 0);
-    read(rt, &mut pump, steps, bytes, 1);
+    read(rt, pump, steps, bytes, 1);
     steps.reach(rt, 2);
-    read(rt, &mut pump, steps, &[], 3);
+    read(rt, pump, steps, &[], 3);
     steps.reached.store(4, Ordering::SeqCst);
 }
 
@@ -107,19 +106,23 @@ struct Stage<'a, R> {
     steps: &'a Steps,
 }
 
+// Names an end whose wait would not sleep, by what that answers.
+fn add(all: &mut String, kind: &str, at: Channel, nap: Option<String>) -> Option<()> {
+    if nap?.as_str() == "Again 0" {
+        let number = at.number();
+        write!(all, " {kind} {number}").ok()?;
+    }
+    Some(())
+}
+
 // The ends whose wait would not sleep.
 fn told<R: Wait>(rt: &R, alloc: Global, ends: &mut Ends) -> Option<String> {
-    let mut all = format!(in alloc; "told").ok()?;
+    let mut all = String::from_str(alloc, "told").ok()?;
     for at in Channel::ALL {
-        let number = at.number();
-        let sending = at_sender(rt, alloc, &mut ends.sending, at, "nap-sending", "1")?;
-        if sending.as_str() == "Again 0" {
-            all = format!(in alloc; "{all} sending {number}").ok()?;
-        }
-        let receiving = at_receiver(rt, alloc, &mut ends.receiving, at, "nap-receiving", "1")?;
-        if receiving.as_str() == "Again 0" {
-            all = format!(in alloc; "{all} receiving {number}").ok()?;
-        }
+        let sending = at_sender(rt, alloc, &mut ends.sending, at, "nap-sending", "1");
+        add(&mut all, "sending", at, sending)?;
+        let receiving = at_receiver(rt, alloc, &mut ends.receiving, at, "nap-receiving", "1");
+        add(&mut all, "receiving", at, receiving)?;
     }
     Some(all)
 }
@@ -182,7 +185,7 @@ impl<R: Wait + Abort> Write for Stage<'_, R> {
 }
 
 // All lines of a script, in turn.
-fn perform<R: Wait + Abort>(rt: &R, mut pump: WritePump, mut stage: Stage<'_, R>) {
+fn perform<R: Wait + Abort>(rt: &R, pump: &mut WritePump, mut stage: Stage<'_, R>) {
     for _ in rt.forever() {
         let Some(line) = stage.script.next() else {
             return;
@@ -213,8 +216,9 @@ where
     R: Threads + Wait + Abort + Sync,
 {
     let bytes = hex::decode(alloc, digits).ok()?;
-    let (ends, pumps, session) = taken_apart(session_as(alloc, version, 8, slots).ok()?);
-    let Pumps { reading, writing } = pumps;
+    let (session, ends, mut pumps) = new_side_as(alloc, version, 8, slots)?.apart();
+    let reading = &mut pumps.reading;
+    let writing = &mut pumps.writing;
     let steps = Steps {
         asked: AtomicU64::new(0),
         reached: AtomicU64::new(0),
@@ -388,8 +392,7 @@ const STAGED: [(Version, u32, &str, &str); 9] = [
 fn a_pump_and_its_session_step_by_step(rt: HostRuntime) {
     in_time(&rt, || {
         for &(version, slots, digits, script) in &STAGED {
-            let played = play(&rt, rt.alloc(), version, slots, digits, script);
-            assert!(rt; played.is_some(), "{script}");
+            ran(&rt, play(&rt, rt.alloc(), version, slots, digits, script));
         }
     });
 }
@@ -422,24 +425,63 @@ const CALLS: [(&str, &str, &str, &str, &str); 8] = [
 /// An Issue of 5 and a Plead down to 2.
 const ASKED: &str = "21000000054100000002";
 
-// The pump is woken by what a call puts where it is about to sleep.
+// A call puts its frame where the pump is about to sleep.
+fn putting(alloc: Global, verb: &str, word: &str, answer: &str, frame: &str) -> Option<String> {
+    [
+        "read => ()
+        issue 1 4 => Ok(())
+        run => Stopped
+        write 4c434d022100000004
+        flush: ",
+        verb,
+        " 1 ",
+        word,
+        " => ",
+        answer,
+        "
+        write ",
+        frame,
+        "
+        flush
+        flush: stop => ()
+        flush",
+    ]
+    .concat(alloc)
+    .ok()
+}
+
+// The pump is woken by what is put then.
 fn puts<R>(rt: &R, alloc: Global, place: usize) -> Option<()>
 where
     R: Threads + Wait + Abort + Sync,
 {
     let &(verb, word, _, answer, frame) = CALLS.get(place)?;
-    let script = format!(in alloc;
+    let script = putting(alloc, verb, word, answer, frame)?;
+    play(rt, alloc, Version::Two, 4, ASKED, script.as_str())
+}
+
+// A call is refused for want of a slot, and the frame is written that has it.
+fn wanting(alloc: Global, verb: &str, word: &str, kind: &str) -> Option<String> {
+    [
         "read => ()
+        nap-sending 1 1 => Again 0
+        nap-sending 1 1 => Again 1
         issue 1 4 => Ok(())
+        ",
+        verb,
+        " 1 ",
+        word,
+        " => Err(QueueFull)
         run => Stopped
-        write 4c434d022100000004
-        flush: {verb} 1 {word} => {answer}
-        write {frame}
-        flush
-        flush: stop => ()
-        flush"
-    );
-    play(rt, alloc, Version::Two, 4, ASKED, script.ok()?.as_str())
+        write 4c434d022100000004: nap-",
+        kind,
+        " 1 1 => Again 0; nap-",
+        kind,
+        " 1 1 => Again 2; stop => ()
+        flush",
+    ]
+    .concat(alloc)
+    .ok()
 }
 
 // A slot that is freed is news for an end whose call was refused, before the frame is written.
@@ -448,25 +490,16 @@ where
     R: Threads + Wait + Abort + Sync,
 {
     let &(verb, word, kind, _, _) = CALLS.get(place)?;
-    let script = format!(in alloc;
-        "read => ()
-        nap-sending 1 1 => Again 0
-        nap-sending 1 1 => Again 1
-        issue 1 4 => Ok(())
-        {verb} 1 {word} => Err(QueueFull)
-        run => Stopped
-        write 4c434d022100000004: nap-{kind} 1 1 => Again 0; nap-{kind} 1 1 => Again 2; stop => ()
-        flush"
-    );
-    play(rt, alloc, Version::Two, 1, ASKED, script.ok()?.as_str())
+    let script = wanting(alloc, verb, word, kind)?;
+    play(rt, alloc, Version::Two, 1, ASKED, script.as_str())
 }
 
 #[test]
 fn each_call_wakes_the_pump_or_waits_for_a_slot(rt: HostRuntime) {
     in_time(&rt, || {
         for place in 0..CALLS.len() {
-            assert!(rt; puts(&rt, rt.alloc(), place).is_some());
-            assert!(rt; wants(&rt, rt.alloc(), place).is_some());
+            ran(&rt, puts(&rt, rt.alloc(), place));
+            ran(&rt, wants(&rt, rt.alloc(), place));
         }
     });
 }
@@ -483,27 +516,38 @@ const FRAMES: [(&str, &str, &str); 7] = [
     ("6", "0000000000000009", ""),
 ];
 
+// A stream of version Two with this frame alone.
+fn stream_of(alloc: Global, kind: &str, at: &str, rest: &str) -> Option<String> {
+    ["4c434d02", kind, at, rest].concat(alloc).ok()
+}
+
+// The frame comes once guarantees were issued. A limit on receiving comes before any.
+fn script_of(alloc: Global, concerns: &str, at: &str) -> Option<String> {
+    if concerns.is_empty() {
+        return String::from_str(alloc, "read => ()\nwho => told").ok();
+    }
+    [
+        "issue ",
+        at,
+        " 4 => Ok(())\nread => ()\nwho => told",
+        concerns,
+        " ",
+        at,
+    ]
+    .concat(alloc)
+    .ok()
+}
+
 // A frame on this channel tells the end that it concerns, and no other.
 fn tells<R>(rt: &R, alloc: Global, at: Channel, frame: (&str, &str, &str)) -> Option<()>
 where
     R: Threads + Wait + Abort + Sync,
 {
     let (kind, rest, concerns) = frame;
-    let number = at.number();
-    let digits = format!(in alloc; "4c434d02{kind}{number}{rest}").ok()?;
-    let script = if concerns.is_empty() {
-        format!(in alloc; "read => ()\nwho => told")
-    } else {
-        format!(in alloc; "issue {number} 4 => Ok(())\nread => ()\nwho => told{concerns} {number}")
-    };
-    play(
-        rt,
-        alloc,
-        Version::One,
-        4,
-        digits.as_str(),
-        script.ok()?.as_str(),
-    )
+    let at = text(alloc, &at.number())?;
+    let digits = stream_of(alloc, kind, at.as_str(), rest)?;
+    let script = script_of(alloc, concerns, at.as_str())?;
+    play(rt, alloc, Version::One, 4, digits.as_str(), script.as_str())
 }
 
 #[test]
@@ -511,8 +555,7 @@ fn a_frame_tells_the_end_that_it_concerns(rt: HostRuntime) {
     in_time(&rt, || {
         for at in Channel::ALL {
             for &frame in &FRAMES {
-                let played = tells(&rt, rt.alloc(), at, frame);
-                assert!(rt; played.is_some(), "{at:?} {frame:?}");
+                ran(&rt, tells(&rt, rt.alloc(), at, frame));
             }
         }
     });

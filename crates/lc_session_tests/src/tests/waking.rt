@@ -1,19 +1,19 @@
 //! Ends and pumps that wait, and what wakes each. One that nothing wakes would wait for ever.
-use crate::parted::Ends;
-use crate::tests::ends::{await_end, issue, send, take};
-use crate::tests::exchange::{connection, run_both, session, taken_apart, wires};
+use crate::tests::ends::{await_end, issue, send, take, wait_to_send, wait_to_take};
+use crate::tests::lines::{Line, connection, run_both};
+use crate::tests::sides::{Ends, Side, new_side};
 use crate::tests::staged::{await_count, in_time};
+use crate::tests::{equal, ran};
 use lc_driver::{Counted, ReadEnd};
 use lc_frame::{CHANNELS, Channel};
 use lc_session::{ReadPump, RecvEnd, SendEnd, Session, WriteEnd, WritePump};
 use lc_wake::Wake;
 use std::alloc::Global;
 use std::io::{Read, Write};
-use std::net::TcpStream;
+use std::net::{Net, TcpListener, TcpStream};
 use std::process::Abort;
 use std::sync::Wait;
 use std::sync::atomic::{AtomicU64, Ordering};
-use std::test::Fail;
 use std::thread::{Threads, join};
 use std::time::{Clock, Duration};
 use std::{io, thread};
@@ -30,26 +30,32 @@ enum Game {
 
 const ROUNDS: u32 = 1000;
 
-// Sends the messages of all rounds on a channel and takes as many, the one that leads first.
-fn bounce<R: Wait + Abort>(
+// Sends the message of a round and takes as many, the one that leads first.
+fn bounce_once<R: Wait + Abort>(
     rt: &R,
-    sending: &mut [SendEnd; CHANNELS],
-    receiving: &mut [RecvEnd; CHANNELS],
+    sending: &mut SendEnd,
+    receiving: &mut RecvEnd,
     leads: bool,
+    round: u32,
 ) {
-    let sending = &mut sending[0];
-    let receiving = &mut receiving[0];
+    let body = round.to_be_bytes();
+    if leads {
+        send(rt, sending, &body);
+    }
+    take(rt, receiving, &body);
     issue(rt, receiving, 4);
-    for k in 0..ROUNDS {
-        let body = k.to_be_bytes();
-        if leads {
-            send(rt, sending, &body);
-        }
-        take(rt, receiving, &body);
-        issue(rt, receiving, 4);
-        if !leads {
-            send(rt, sending, &body);
-        }
+    if !leads {
+        send(rt, sending, &body);
+    }
+}
+
+// The messages of all rounds on a channel.
+fn bounce<R: Wait + Abort>(rt: &R, ends: &mut Ends, leads: bool) {
+    let sending = &mut ends.sending;
+    let receiving = &mut ends.receiving;
+    issue(rt, &mut receiving[0], 4);
+    for round in 0..ROUNDS {
+        bounce_once(rt, &mut sending[0], &mut receiving[0], leads, round);
     }
 }
 
@@ -57,9 +63,9 @@ fn bounce<R: Wait + Abort>(
 fn honour<R: Wait + Abort>(rt: &R, sending: &mut SendEnd) {
     for _ in rt.forever() {
         match sending.honour(rt) {
-            Ok(None) => assert_eq!(rt; sending.wait(rt), Wake::Again),
+            Ok(None) => wait_to_send(rt, sending),
             answer => {
-                assert_eq!(rt; answer, Ok(Some(4)));
+                equal(rt, "an honour", answer, Ok(Some(4)));
                 return;
             }
         }
@@ -72,67 +78,79 @@ fn await_absolving<R: Wait + Abort>(rt: &R, receiving: &mut RecvEnd) {
         if receiving.book(rt).outstanding() == 0 {
             return;
         }
-        assert_eq!(rt; receiving.wait(rt), Wake::Again);
+        wait_to_take(rt, receiving);
     }
 }
 
 // Honours a plead in each round, and sends no more then.
-fn give_back<R: Wait + Abort>(rt: &R, sending: &mut [SendEnd; CHANNELS]) {
-    let sending = &mut sending[0];
+fn give_back<R: Wait + Abort>(rt: &R, sending: &mut SendEnd) {
     for _ in 0..ROUNDS {
         honour(rt, sending);
     }
-    assert_eq!(rt; sending.limit(rt, 0), Ok(()));
+    equal(rt, "a limit", sending.limit(rt, 0), Ok(()));
 }
 
 // Issues and pleads in each round.
-fn ask_back<R: Wait + Abort>(rt: &R, receiving: &mut [RecvEnd; CHANNELS]) {
-    let receiving = &mut receiving[0];
+fn ask_back<R: Wait + Abort>(rt: &R, receiving: &mut RecvEnd) {
     for _ in 0..ROUNDS {
         issue(rt, receiving, 4);
-        assert_eq!(rt; receiving.plead(rt, 0), Ok(()));
+        equal(rt, "a plead", receiving.plead(rt, 0), Ok(()));
         await_absolving(rt, receiving);
     }
     await_end(rt, receiving);
 }
 
 // One side's part of a game.
-fn play<R: Wait + Abort>(rt: &R, ends: Ends, leads: bool, game: Game) {
-    let Ends {
-        mut sending,
-        mut receiving,
-    } = ends;
+fn play<R: Wait + Abort>(rt: &R, ends: &mut Ends, leads: bool, game: Game) {
     match game {
-        Game::Messages => bounce(rt, &mut sending, &mut receiving, leads),
-        Game::Pleads if leads => give_back(rt, &mut sending),
-        Game::Pleads => ask_back(rt, &mut receiving),
+        Game::Messages => bounce(rt, ends, leads),
+        Game::Pleads if leads => give_back(rt, &mut ends.sending[0]),
+        Game::Pleads => ask_back(rt, &mut ends.receiving[0]),
     }
 }
 
 // Both sides play, and then both sessions are stopped.
-fn play_both<R>(rt: &R, a: Ends, b: Ends, sessions: [Session; 2], game: Game)
+fn play_both<R>(rt: &R, a: &mut Ends, b: &mut Ends, sessions: (&Session, &Session), game: Game)
 where
     R: Threads + Wait + Abort + Sync,
 {
     join(rt, || play(rt, a, true, game), || play(rt, b, false, game));
-    for session in &sessions {
-        session.stop();
-    }
+    sessions.0.stop();
+    sessions.1.stop();
+}
+
+// Two sessions play, while all their pumps run.
+fn play_over<R>(rt: &R, mut a: Side, mut b: Side, a_to_b: Line, b_to_a: Line, game: Game)
+where
+    R: Threads + Wait + Abort + Sync,
+{
+    let (a_ends, b_ends) = (&mut a.ends, &mut b.ends);
+    let (a_pumps, b_pumps) = (&mut a.pumps, &mut b.pumps);
+    let sessions = (&a.session, &b.session);
+    join(
+        rt,
+        || play_both(rt, a_ends, b_ends, sessions, game),
+        || run_both(rt, a_pumps, b_pumps, a_to_b, b_to_a),
+    );
+}
+
+fn play_new<R>(rt: &R, alloc: Global, game: Game) -> Option<()>
+where
+    R: Threads + Wait + Abort + Sync + Net<Listener = TcpListener, Stream = TcpStream>,
+{
+    let a_to_b = Line::new(rt, alloc)?;
+    let b_to_a = Line::new(rt, alloc)?;
+    let a = new_side(alloc, 4, 4)?;
+    let b = new_side(alloc, 4, 4)?;
+    play_over(rt, a, b, a_to_b, b_to_a, game);
+    Some(())
 }
 
 #[test]
-fn ends_wait_for_each_other_in_turns(rt: HostRuntime) -> Result<(), Fail> {
+fn ends_wait_for_each_other_in_turns(rt: HostRuntime) {
     for game in [Game::Messages, Game::Pleads] {
-        let (a_ends, a_pumps, a) = taken_apart(session(rt.alloc(), 4, 4)?);
-        let (b_ends, b_pumps, b) = taken_apart(session(rt.alloc(), 4, 4)?);
-        let wires = wires(&rt, rt.alloc())?;
-        join(
-            &rt,
-            || play_both(&rt, a_ends, b_ends, [a, b], game),
-            || run_both(&rt, a_pumps, b_pumps, wires),
-        );
+        ran(&rt, play_new(&rt, rt.alloc(), game));
     }
-    Ok(())
 }
 
 // Lets the others get so far that they sleep.
@@ -147,15 +165,13 @@ fn give_way() {
 const FLUSHES: u64 = 4;
 
 // Writes all until the session is stopped.
-fn write<R: Wait + Abort>(rt: &R, alloc: Global, mut pump: WritePump, wanted: &[u8]) {
+fn write<R: Wait + Abort>(rt: &R, alloc: Global, pump: &mut WritePump, wanted: &[u8]) {
     let pipe = Pipe::of(Vec::new(alloc));
     let mut writer = Counted::new(PipeWriter::new(Plan::whole(), pipe));
     let end = pump.run(rt, &mut writer);
     let writer = writer.into_inner();
-    assert_eq!(rt;
-        (end, writer.pipe.bytes.as_slice()),
-        (WriteEnd::Stopped, wanted)
-    );
+    let found = (end, writer.pipe.bytes.as_slice());
+    equal(rt, "what is written", found, (WriteEnd::Stopped, wanted));
     let flushes = writer.flushes.calls;
     assert!(rt; flushes <= FLUSHES, "{flushes} flushes");
 }
@@ -166,51 +182,55 @@ fn stop_late(session: Session) {
     session.stop();
 }
 
-#[test]
-fn a_clone_stops_a_pump_that_sleeps(rt: HostRuntime) -> Result<(), Fail> {
-    let parts = session(rt.alloc(), 8, 4)?;
-    let clone = parts.session.try_clone()?;
-    join(
-        &rt,
-        || stop_late(clone),
-        || write(&rt, rt.alloc(), parts.write_pump, &[]),
-    );
-    Ok(())
+fn stop_by_a_clone<R>(rt: &R, alloc: Global) -> Option<()>
+where
+    R: Threads + Wait + Abort + Sync,
+{
+    let mut side = new_side(alloc, 8, 4)?;
+    let clone = side.session.try_clone().ok()?;
+    let writing = &mut side.pumps.writing;
+    join(rt, || stop_late(clone), || write(rt, alloc, writing, &[]));
+    Some(())
 }
 
-// Issues on a channel as soon as there is a slot.
-fn issue_at<R: Wait + Abort>(rt: &R, ends: &mut [RecvEnd; CHANNELS], at: Channel, n: u32) {
-    let end = &mut ends[at.index()];
-    issue(rt, end, n);
+#[test]
+fn a_clone_stops_a_pump_that_sleeps(rt: HostRuntime) {
+    ran(&rt, stop_by_a_clone(&rt, rt.alloc()));
 }
 
 // Issues where there is no slot yet, and stops the session.
-fn issue_and_stop<R: Wait + Abort>(rt: &R, ends: Ends, session: Session) {
-    let Ends {
-        sending: _,
-        mut receiving,
-    } = ends;
-    issue_at(rt, &mut receiving, Channel::DataChannel, 2);
+fn issue_and_stop<R: Wait + Abort>(rt: &R, ends: &mut Ends, session: &Session) {
+    issue(rt, &mut ends.receiving[Channel::DataChannel.index()], 2);
     session.stop();
 }
 
 // The pump runs once the ends sleep.
-fn write_late<R: Wait + Abort>(rt: &R, alloc: Global, pump: WritePump, wanted: &[u8]) {
+fn write_late<R: Wait + Abort>(rt: &R, alloc: Global, pump: &mut WritePump, wanted: &[u8]) {
     give_way();
     write(rt, alloc, pump, wanted);
 }
 
-#[test]
-fn a_freed_slot_wakes_an_end(rt: HostRuntime) -> Result<(), Fail> {
-    let (mut ends, pumps, session) = taken_apart(session(rt.alloc(), 8, 1)?);
-    issue_at(&rt, &mut ends.receiving, Channel::ReconciliationChannel, 1);
+fn wait_for_a_slot<R>(rt: &R, alloc: Global) -> Option<()>
+where
+    R: Threads + Wait + Abort + Sync,
+{
+    let mut side = new_side(alloc, 8, 1)?;
+    let ends = &mut side.ends;
+    let writing = &mut side.pumps.writing;
+    let session = &side.session;
+    issue(rt, &mut ends.receiving[0], 1);
     let wanted = [0x20, 0, 0, 0, 1, 0x21, 0, 0, 0, 2];
     join(
-        &rt,
-        || issue_and_stop(&rt, ends, session),
-        || write_late(&rt, rt.alloc(), pumps.writing, &wanted),
+        rt,
+        || issue_and_stop(rt, ends, session),
+        || write_late(rt, alloc, writing, &wanted),
     );
-    Ok(())
+    Some(())
+}
+
+#[test]
+fn a_freed_slot_wakes_an_end(rt: HostRuntime) {
+    ran(&rt, wait_for_a_slot(&rt, rt.alloc()));
 }
 
 // Waits until the end of a pump's run is told, and counts the waits that ended before.
@@ -232,29 +252,25 @@ fn sleep_receiving<R: Wait>(rt: &R, end: &mut RecvEnd, waits: &AtomicU64) {
     }
 }
 
-fn sleep_each_sending<R: Threads + Wait + Sync>(rt: &R, mut ends: [SendEnd; CHANNELS]) {
+fn sleep_each_sending<R: Threads + Wait + Sync>(rt: &R, ends: &mut [SendEnd; CHANNELS]) {
     let waits = AtomicU64::new(0);
-    thread::for_each_mut(
-        rt,
-        &mut ends,
-        CHANNELS,
-        &|_, end| sleep_sending(rt, end, &waits),
-    );
+    thread::for_each_mut(rt, ends, CHANNELS, &|_, end| sleep_sending(rt, end, &waits));
 }
 
-fn sleep_each_receiving<R: Threads + Wait + Sync>(rt: &R, mut ends: [RecvEnd; CHANNELS]) {
+fn sleep_each_receiving<R: Threads + Wait + Sync>(rt: &R, ends: &mut [RecvEnd; CHANNELS]) {
     let waits = AtomicU64::new(0);
     thread::for_each_mut(
         rt,
-        &mut ends,
+        ends,
         CHANNELS,
         &|_, end| sleep_receiving(rt, end, &waits),
     );
 }
 
 // All ends wait, each in a thread of its own.
-fn sleep_all<R: Threads + Wait + Sync>(rt: &R, ends: Ends) {
-    let Ends { sending, receiving } = ends;
+fn sleep_all<R: Threads + Wait + Sync>(rt: &R, ends: &mut Ends) {
+    let sending = &mut ends.sending;
+    let receiving = &mut ends.receiving;
     join(
         rt,
         || sleep_each_sending(rt, sending),
@@ -262,70 +278,72 @@ fn sleep_all<R: Threads + Wait + Sync>(rt: &R, ends: Ends) {
     );
 }
 
-// A run of a pump ends once the ends sleep.
-fn read_late<R: Wait + Abort>(rt: &R, mut pump: ReadPump) {
+// A run that reads to the end of the stream.
+fn read<R: Wait + Abort, D: Read + Drop>(rt: &R, pump: &mut ReadPump, reader: D) {
+    let mut reader = Counted::new(reader);
+    let end = pump.run(rt, &mut reader, u64::MAX);
+    equal(rt, "a reading pump", end, ReadEnd::Clean);
+}
+
+// It ends once the ends sleep.
+fn read_late<R: Wait + Abort>(rt: &R, pump: &mut ReadPump) {
     give_way();
-    let mut reader = Counted::new(b"".as_slice());
-    let end = pump.run(rt, &mut reader, 1);
-    assert_eq!(rt; end, ReadEnd::Clean);
+    read(rt, pump, b"".as_slice());
+}
+
+fn end_reading<R>(rt: &R, alloc: Global) -> Option<()>
+where
+    R: Threads + Wait + Abort + Sync,
+{
+    let mut side = new_side(alloc, 8, 4)?;
+    let ends = &mut side.ends;
+    let reading = &mut side.pumps.reading;
+    join(rt, || sleep_all(rt, ends), || read_late(rt, reading));
+    Some(())
+}
+
+fn end_writing<R>(rt: &R, alloc: Global) -> Option<()>
+where
+    R: Threads + Wait + Abort + Sync,
+{
+    let mut side = new_side(alloc, 8, 4)?;
+    side.session.stop();
+    let ends = &mut side.ends;
+    let writing = &mut side.pumps.writing;
+    join(
+        rt,
+        || sleep_all(rt, ends),
+        || write_late(rt, alloc, writing, &[]),
+    );
+    Some(())
 }
 
 #[test]
-fn the_end_of_a_run_wakes_all_ends(rt: HostRuntime) -> Result<(), Fail> {
-    let (ends, pumps, _session) = taken_apart(session(rt.alloc(), 8, 4)?);
-    join(
-        &rt,
-        || sleep_all(&rt, ends),
-        || read_late(&rt, pumps.reading),
-    );
-    let (ends, pumps, session) = taken_apart(session(rt.alloc(), 8, 4)?);
-    session.stop();
-    join(
-        &rt,
-        || sleep_all(&rt, ends),
-        || write_late(&rt, rt.alloc(), pumps.writing, &[]),
-    );
-    Ok(())
+fn the_end_of_a_run_wakes_all_ends(rt: HostRuntime) {
+    ran(&rt, end_reading(&rt, rt.alloc()));
+    ran(&rt, end_writing(&rt, rt.alloc()));
 }
 
-// What a wait of each kind of end answers.
-fn wait_each<R: Wait + Clock>(rt: &R, ends: &mut Ends, timeout: Duration) -> (Wake, Wake) {
-    let sending = &mut ends.sending;
-    let receiving = &mut ends.receiving;
-    (
-        wait_to_send(rt, sending, timeout),
-        wait_to_take(rt, receiving, timeout),
-    )
+// Each kind of end waits so long at most, and this is how that ends.
+fn wait_each<R: Wait + Clock + Abort>(rt: &R, ends: &mut Ends, timeout: Duration, wake: Wake) {
+    let sent = ends.sending[0].wait_timeout(rt, timeout);
+    equal(rt, "a wait to send", sent, wake);
+    let took = ends.receiving[0].wait_timeout(rt, timeout);
+    equal(rt, "a wait to take", took, wake);
 }
 
-fn wait_to_send<R: Wait + Clock>(
-    rt: &R,
-    ends: &mut [SendEnd; CHANNELS],
-    timeout: Duration,
-) -> Wake {
-    let end = &mut ends[0];
-    end.wait_timeout(rt, timeout)
-}
-
-fn wait_to_take<R: Wait + Clock>(
-    rt: &R,
-    ends: &mut [RecvEnd; CHANNELS],
-    timeout: Duration,
-) -> Wake {
-    let end = &mut ends[0];
-    end.wait_timeout(rt, timeout)
+fn wait_in_time<R: Wait + Clock + Abort>(rt: &R, alloc: Global) -> Option<()> {
+    let mut side = new_side(alloc, 8, 4)?;
+    let ends = &mut side.ends;
+    wait_each(rt, ends, Duration::from_millis(1), Wake::Again);
+    read(rt, &mut side.pumps.reading, b"".as_slice());
+    wait_each(rt, ends, Duration::MAX, Wake::Over);
+    Some(())
 }
 
 #[test]
-fn a_wait_ends_in_time(rt: HostRuntime) -> Result<(), Fail> {
-    let (mut ends, mut pumps, _session) = taken_apart(session(rt.alloc(), 8, 4)?);
-    let early = wait_each(&rt, &mut ends, Duration::from_millis(1));
-    let mut reader = Counted::new(b"".as_slice());
-    let end = pumps.reading.run(&rt, &mut reader, 1);
-    let late = wait_each(&rt, &mut ends, Duration::MAX);
-    assert_eq!(rt; (early, end), ((Wake::Again, Wake::Again), ReadEnd::Clean));
-    assert_eq!(rt; late, (Wake::Over, Wake::Over));
-    Ok(())
+fn a_wait_ends_in_time(rt: HostRuntime) {
+    ran(&rt, wait_in_time(&rt, rt.alloc()));
 }
 
 // Each wait is over until a further run has begun.
@@ -338,37 +356,37 @@ fn await_run<R: Wait + Clock>(rt: &R, end: &mut SendEnd) {
 }
 
 // Once a further run has begun, guarantees come in it, of which the end is told.
-fn await_guarantees<R: Wait + Clock + Abort>(rt: &R, ends: Ends, mut writer: TcpStream) {
-    let Ends {
-        mut sending,
-        receiving: _,
-    } = ends;
-    let end = &mut sending[1];
+fn await_guarantees<R>(rt: &R, end: &mut SendEnd, mut writer: TcpStream)
+where
+    R: Wait + Clock + Abort,
+{
     await_run(rt, end);
     let written = writer.write_all(&[0x21, 0, 0, 0, 5]);
     assert!(rt; written.is_ok());
-    assert_eq!(rt; end.wait(rt), Wake::Again);
+    wait_to_send(rt, end);
     drop(writer);
 }
 
-// A run that reads to the end of the stream.
-fn read<R: Wait + Abort, D: Read + Drop>(rt: &R, pump: &mut ReadPump, reader: D) {
-    let mut reader = Counted::new(reader);
-    let end = pump.run(rt, &mut reader, u64::MAX);
-    assert_eq!(rt; end, ReadEnd::Clean);
+fn run_again<R>(rt: &R, alloc: Global) -> Option<()>
+where
+    R: Threads + Wait + Clock + Abort + Sync + Net<Listener = TcpListener, Stream = TcpStream>,
+{
+    let (writer, reader) = connection(rt).ok()?;
+    let mut side = new_side(alloc, 8, 4)?;
+    let ends = &mut side.ends;
+    let reading = &mut side.pumps.reading;
+    read(rt, reading, b"".as_slice());
+    join(
+        rt,
+        || await_guarantees(rt, &mut ends.sending[1], writer),
+        || read(rt, reading, reader),
+    );
+    Some(())
 }
 
 #[test]
-fn a_further_run_is_not_over(rt: HostRuntime) -> Result<(), Fail> {
-    let (ends, mut pumps, _session) = taken_apart(session(rt.alloc(), 8, 4)?);
-    let (writer, reader) = connection(&rt)?;
-    read(&rt, &mut pumps.reading, b"".as_slice());
-    join(
-        &rt,
-        || await_guarantees(&rt, ends, writer),
-        || read(&rt, &mut pumps.reading, reader),
-    );
-    Ok(())
+fn a_further_run_is_not_over(rt: HostRuntime) {
+    ran(&rt, run_again(&rt, rt.alloc()));
 }
 
 /// How many frames a paced reader gives.
@@ -409,17 +427,15 @@ impl<R: Wait + Abort> Read for Paced<'_, R> {
 
 // An end of channel 1 waits for frames that come one by one. A run ended before it waits, so its first wait
 // leaves the token of that, which is no reason to end the next one.
-fn wait_for_each<R>(rt: &R, alloc: Global, frame: &[u8], sends: bool) -> Option<()>
+fn wait_for_each<'a, R>(rt: &'a R, alloc: Global, frame: &'a [u8], sends: bool) -> Option<()>
 where
     R: Threads + Wait + Abort + Sync,
 {
-    let (ends, mut pumps, _session) = taken_apart(session(alloc, 8, 4).ok()?);
-    let Ends {
-        mut sending,
-        mut receiving,
-    } = ends;
+    let mut side = new_side(alloc, 8, 4)?;
+    let ends = &mut side.ends;
+    let reading = &mut side.pumps.reading;
     let (begun, waits) = (AtomicU64::new(0), AtomicU64::new(0));
-    read(rt, &mut pumps.reading, b"".as_slice());
+    read(rt, reading, b"".as_slice());
     let reader = Paced {
         rt,
         frame,
@@ -432,12 +448,12 @@ where
         || {
             await_count(rt, &begun, 1);
             if sends {
-                sleep_sending(rt, &mut sending[1], &waits);
+                sleep_sending(rt, &mut ends.sending[1], &waits);
             } else {
-                sleep_receiving(rt, &mut receiving[1], &waits);
+                sleep_receiving(rt, &mut ends.receiving[1], &waits);
             }
         },
-        || read(rt, &mut pumps.reading, reader),
+        || read(rt, reading, reader),
     );
     Some(())
 }
@@ -445,8 +461,11 @@ where
 #[test]
 fn each_frame_ends_one_wait(rt: HostRuntime) {
     in_time(&rt, || {
-        let issued = wait_for_each(&rt, rt.alloc(), &[0x21, 0, 0, 0, 1], true);
-        let limited = wait_for_each(&rt, rt.alloc(), &[0x51, 0, 0, 0, 0, 0, 0, 0, 9], false);
-        assert_eq!(rt; (issued, limited), (Some(()), Some(())));
+        let limit = [0x51, 0, 0, 0, 0, 0, 0, 0, 9];
+        ran(
+            &rt,
+            wait_for_each(&rt, rt.alloc(), &[0x21, 0, 0, 0, 1], true),
+        );
+        ran(&rt, wait_for_each(&rt, rt.alloc(), &limit, false));
     });
 }

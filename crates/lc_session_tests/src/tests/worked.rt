@@ -1,7 +1,10 @@
 //! Worked sequences of calls, all in one thread.
 use crate::tests::desk::{run, run_as};
+use crate::tests::ran;
 use lc_frame::Version;
-use std::test::Fail;
+use std::alloc::Global;
+use std::process::Abort;
+use std::sync::Wait;
 
 /// Of each: the slots of the queue, the bytes that come, the calls with what they answer, and what
 /// the report says then.
@@ -130,11 +133,10 @@ const WORKED: [(u32, &str, &str, &str); 8] = [
 ];
 
 #[test]
-fn worked_calls(rt: HostRuntime) -> Result<(), Fail> {
+fn worked_calls(rt: HostRuntime) {
     for &(slots, digits, script, report) in &WORKED {
-        run(&rt, rt.alloc(), slots, digits, script, report)?;
+        ran(&rt, run(&rt, rt.alloc(), slots, digits, script, report));
     }
-    Ok(())
 }
 
 /// The same of sessions of version Two.
@@ -176,12 +178,20 @@ const GREETED: [(u32, &str, &str, &str); 4] = [
     ),
 ];
 
+// A row of a session of version Two.
+fn run_in_two<R: Wait + Abort>(
+    rt: &R,
+    alloc: Global,
+    (slots, digits, script, report): (u32, &str, &str, &str),
+) -> Option<()> {
+    run_as(rt, alloc, Version::Two, slots, digits, script, report)
+}
+
 #[test]
-fn worked_calls_of_version_two(rt: HostRuntime) -> Result<(), Fail> {
-    for &(slots, digits, script, report) in &GREETED {
-        run_as(&rt, rt.alloc(), Version::Two, slots, digits, script, report)?;
+fn worked_calls_of_version_two(rt: HostRuntime) {
+    for &row in &GREETED {
+        ran(&rt, run_in_two(&rt, rt.alloc(), row));
     }
-    Ok(())
 }
 
 /// Channels that are finished, in sessions of version Two.
@@ -277,9 +287,8 @@ const FINISHED: [(u32, &str, &str, &str); 5] = [
 ];
 
 #[test]
-fn finished_channels(rt: HostRuntime) -> Result<(), Fail> {
-    for &(slots, digits, script, report) in &FINISHED {
-        run_as(&rt, rt.alloc(), Version::Two, slots, digits, script, report)?;
+fn finished_channels(rt: HostRuntime) {
+    for &row in &FINISHED {
+        ran(&rt, run_in_two(&rt, rt.alloc(), row));
     }
-    Ok(())
 }
