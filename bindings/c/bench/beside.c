@@ -73,12 +73,14 @@ static uint64_t nanoseconds(void) {
     return (uint64_t)now.tv_sec * 1000000000 + (uint64_t)now.tv_nsec;
 }
 
-/* Writes a message, which is its number and then the channel's in each byte, and says how long it is. */
+/* Writes a message, which is its number and then the channel's in each byte, and says how long it is. Of bulk the
+ * number alone is written anew. */
 static size_t write_message(const load *load, uint32_t number, uint8_t channel, uint8_t *message) {
     size_t len = load->length ? load->length : 4 + number % 13;
     uint32_t first = htonl(number);
     memcpy(message, &first, sizeof first);
-    memset(message + sizeof first, channel, len - sizeof first);
+    if (!load->is_quiet || number == 0)
+        memset(message + sizeof first, channel, len - sizeof first);
     return len;
 }
 

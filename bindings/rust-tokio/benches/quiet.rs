@@ -1,29 +1,48 @@
 //! How long a message of one channel is on its way over TCP on the loopback, one each millisecond, while the other
-//! six carry messages of 60 KiB, all one way through rings of 256 KiB, with a task for each end: `one` on one
-//! thread, `many` on a thread for each processor. `cargo bench --bench quiet`.
+//! six carry messages of 60 KiB, all one way through rings of 256 KiB, with a task for each end: `one` with both
+//! sides on one thread, `two` with one thread a side, `many` on a thread for each processor.
+//! `cargo bench --bench quiet`.
 #[path = "../../rust/benches/common/quiet.rs"]
 mod quiet;
 
-use lcmux::{Channel, Config, Mux, Receiver, Sender};
+use lcmux::{Channel, Closed, Config, Mux, Receiver, Sender};
 use lcmux_tokio::connect;
 use quiet::{lasted, print_times, stamp, BEFORE, BULK, COUNT, PACE, QUIET};
 use std::error::Error;
+use std::net;
 use std::sync::atomic::{AtomicBool, AtomicU64, Ordering::Relaxed};
 use std::sync::Arc;
+use std::thread;
 use std::time::{Duration, Instant};
-use tokio::net::{TcpListener, TcpStream};
-use tokio::runtime::Builder;
+use tokio::net::TcpStream;
+use tokio::runtime::{Builder, Runtime};
+use tokio::task::JoinHandle;
 use tokio::time::{sleep, sleep_until};
 
-fn session(stream: TcpStream) -> Result<Mux, Box<dyn Error>> {
-    stream.set_nodelay(true)?;
-    Ok(connect(stream, Config::new([262_144; 7], 64))?.0)
+type Failure = Box<dyn Error + Send + Sync>;
+
+/// What both sides know: the time that stamps count from, whether bulk is to end, and how much of it was taken.
+struct Run {
+    start: Instant,
+    is_done: AtomicBool,
+    bytes: AtomicU64,
 }
 
-async fn send_bulk(sender: Sender, is_done: Arc<AtomicBool>) {
+fn bulk() -> impl Iterator<Item = Channel> {
+    Channel::ALL.into_iter().filter(|channel| *channel != QUIET)
+}
+
+fn session(stream: net::TcpStream) -> Result<(Mux, JoinHandle<Result<(), Closed>>), Failure> {
+    stream.set_nodelay(true)?;
+    stream.set_nonblocking(true)?;
+    let stream = TcpStream::from_std(stream)?;
+    Ok(connect(stream, Config::new([262_144; 7], 64))?)
+}
+
+async fn send_bulk(sender: Sender, run: Arc<Run>) {
     let mut message = vec![0; BULK];
     for number in 0u32.. {
-        if is_done.load(Relaxed) {
+        if run.is_done.load(Relaxed) {
             return;
         }
         message[..4].copy_from_slice(&number.to_be_bytes());
@@ -31,7 +50,7 @@ async fn send_bulk(sender: Sender, is_done: Arc<AtomicBool>) {
     }
 }
 
-async fn take_bulk(mut receiver: Receiver, bytes: Arc<AtomicU64>) {
+async fn take_bulk(mut receiver: Receiver, run: Arc<Run>) {
     let mut due = vec![0; BULK];
     for number in 0u32.. {
         let Some(message) = receiver.recv_ref().await.unwrap() else {
@@ -39,7 +58,7 @@ async fn take_bulk(mut receiver: Receiver, bytes: Arc<AtomicU64>) {
         };
         due[..4].copy_from_slice(&number.to_be_bytes());
         assert_eq!(*message, *due);
-        bytes.fetch_add(BULK as u64, Relaxed);
+        run.bytes.fetch_add(BULK as u64, Relaxed);
     }
 }
 
@@ -61,38 +80,78 @@ async fn take_quiet(mut receiver: Receiver, start: Instant) -> Vec<Duration> {
     times
 }
 
-async fn measure(name: &str) -> Result<(), Box<dyn Error>> {
-    let listener = TcpListener::bind("127.0.0.1:0").await?;
-    let mut here = session(TcpStream::connect(listener.local_addr()?).await?)?;
-    let mut there = session(listener.accept().await?.0)?;
-    let (is_done, bytes) = (
-        Arc::new(AtomicBool::new(false)),
-        Arc::new(AtomicU64::new(0)),
-    );
-    let mut tasks = Vec::new();
-    for channel in Channel::ALL.into_iter().filter(|channel| *channel != QUIET) {
-        let sender = here.sender(channel).unwrap();
-        let receiver = there.receiver(channel).unwrap();
-        tasks.push(tokio::spawn(send_bulk(sender, Arc::clone(&is_done))));
-        tasks.push(tokio::spawn(take_bulk(receiver, Arc::clone(&bytes))));
+async fn send_all(stream: net::TcpStream, run: Arc<Run>) -> Result<(), Failure> {
+    let (mut mux, driver) = session(stream)?;
+    for channel in bulk() {
+        let sender = mux.sender(channel).unwrap();
+        tokio::spawn(send_bulk(sender, Arc::clone(&run)));
     }
     sleep(BEFORE).await;
-    let (sender, receiver) = (here.sender(QUIET).unwrap(), there.receiver(QUIET).unwrap());
-    let (before, began) = (bytes.load(Relaxed), Instant::now());
-    let sent = tokio::spawn(send_quiet(sender, began));
-    let times = tokio::spawn(take_quiet(receiver, began)).await?;
-    print_times(name, times, bytes.load(Relaxed) - before, began.elapsed());
-    is_done.store(true, Relaxed);
-    sent.await?;
-    for task in tasks {
-        task.await?;
-    }
-    Ok(())
+    let quiet = mux.sender(QUIET).unwrap();
+    tokio::spawn(send_quiet(quiet, run.start)).await?;
+    run.is_done.store(true, Relaxed);
+    drop(mux);
+    Ok(driver.await??)
 }
 
-fn main() -> Result<(), Box<dyn Error>> {
-    let one = Builder::new_current_thread().enable_all().build()?;
-    one.block_on(measure("one"))?;
-    let many = Builder::new_multi_thread().enable_all().build()?;
-    many.block_on(measure("many"))
+async fn take_all(stream: net::TcpStream, name: &str, run: Arc<Run>) -> Result<(), Failure> {
+    let (mut mux, driver) = session(stream)?;
+    for channel in bulk() {
+        let receiver = mux.receiver(channel).unwrap();
+        tokio::spawn(take_bulk(receiver, Arc::clone(&run)));
+    }
+    sleep(BEFORE).await;
+    let (before, began) = (run.bytes.load(Relaxed), Instant::now());
+    let quiet = mux.receiver(QUIET).unwrap();
+    let times = tokio::spawn(take_quiet(quiet, run.start)).await?;
+    let bytes = run.bytes.load(Relaxed) - before;
+    print_times(name, times, bytes, began.elapsed());
+    drop(mux);
+    Ok(driver.await??)
+}
+
+fn pair() -> Result<[net::TcpStream; 2], Failure> {
+    let listener = net::TcpListener::bind("127.0.0.1:0")?;
+    let here = net::TcpStream::connect(listener.local_addr()?)?;
+    Ok([here, listener.accept()?.0])
+}
+
+fn new_run() -> Arc<Run> {
+    Arc::new(Run {
+        start: Instant::now(),
+        is_done: AtomicBool::new(false),
+        bytes: AtomicU64::new(0),
+    })
+}
+
+fn measure(name: &'static str, runtime: &Runtime) -> Result<(), Failure> {
+    let ([here, there], run) = (pair()?, new_run());
+    let sending = runtime.spawn(send_all(here, Arc::clone(&run)));
+    let taking = runtime.spawn(take_all(there, name, run));
+    runtime.block_on(async {
+        sending.await??;
+        taking.await?
+    })
+}
+
+fn measure_two() -> Result<(), Failure> {
+    let ([here, there], run) = (pair()?, new_run());
+    let (sending, taking) = (on_one_thread()?, on_one_thread()?);
+    let sent = Arc::clone(&run);
+    let sender = thread::spawn(move || sending.block_on(send_all(here, sent)));
+    taking.block_on(take_all(there, "two", run))?;
+    sender.join().unwrap()
+}
+
+fn on_one_thread() -> Result<Runtime, Failure> {
+    Ok(Builder::new_current_thread().enable_all().build()?)
+}
+
+fn main() -> Result<(), Failure> {
+    measure("one", &on_one_thread()?)?;
+    measure_two()?;
+    measure(
+        "many",
+        &Builder::new_multi_thread().enable_all().build()?,
+    )
 }
