@@ -62,7 +62,7 @@ typedef struct side {
 
 static void check(bool holds, const char *what) {
     if (!holds) {
-        fprintf(stderr, "beside: %s: %s\n", what, strerror(errno));
+        fprintf(stderr, "beside: %s\n", what);
         exit(1);
     }
 }
@@ -250,7 +250,8 @@ static void connect_pair(int fds[2]) {
     check(connect(fds[0], (struct sockaddr *)&at, len) == 0, "connect");
     fds[1] = accept(listener, NULL, NULL);
     for (int i = 0; i < 2; i++)
-        check(setsockopt(fds[i], IPPROTO_TCP, TCP_NODELAY, &one, sizeof one) == 0 && fcntl(fds[i], F_SETFL, O_NONBLOCK) == 0,
+        check(setsockopt(fds[i], IPPROTO_TCP, TCP_NODELAY, &one, sizeof one) == 0 &&
+                  fcntl(fds[i], F_SETFL, O_NONBLOCK) == 0,
               "a socket");
     close(listener);
 }
@@ -283,11 +284,15 @@ static void print_times(side *s) {
            s->times[(uint64_t)last * 99 / 100], s->times[last], (double)s->bulk / 1e6 / took);
 }
 
+static double microseconds(struct timeval time) {
+    return (double)time.tv_sec * 1e6 + (double)time.tv_usec;
+}
+
 static void print_rate(const load *load, uint64_t took) {
     struct rusage used;
     double messages = 2.0 * CHANNELS * load->count;
     check(getrusage(RUSAGE_SELF, &used) == 0, "getrusage");
-    double spent = (double)(used.ru_utime.tv_sec + used.ru_stime.tv_sec) * 1e6 + (double)(used.ru_utime.tv_usec + used.ru_stime.tv_usec);
+    double spent = microseconds(used.ru_utime) + microseconds(used.ru_stime);
     printf("c.%zu %.0f messages/s %.2f us\n", load->length, messages * 1e9 / (double)took, spent / messages);
 }
 
@@ -327,7 +332,8 @@ static bool reads(const char *word, unsigned long least, unsigned long most, uns
 int main(int argc, char **argv) {
     unsigned long length = BULK, count = 0;
     bool is_quiet = argc == 3 && strcmp(argv[1], "quiet") == 0;
-    bool is_swap = argc == 4 && strcmp(argv[1], "swap") == 0 && reads(argv[2], 0, LONGEST, &length) && (length == 0 || length >= 4);
+    bool is_swap = argc == 4 && strcmp(argv[1], "swap") == 0 && reads(argv[2], 0, LONGEST, &length) &&
+                   (length == 0 || length >= 4);
     if (!(is_quiet || is_swap) || !reads(argv[argc - 1], 1, 100000000, &count)) {
         fprintf(stderr, "usage: beside swap LENGTH COUNT, beside quiet COUNT\n");
         return 2;

@@ -150,8 +150,5 @@ fn on_one_thread() -> Result<Runtime, Failure> {
 fn main() -> Result<(), Failure> {
     measure("one", &on_one_thread()?)?;
     measure_two()?;
-    measure(
-        "many",
-        &Builder::new_multi_thread().enable_all().build()?,
-    )
+    measure("many", &Builder::new_multi_thread().enable_all().build()?)
 }
