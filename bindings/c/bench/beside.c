@@ -63,7 +63,7 @@ typedef struct side {
 static void check(bool holds, const char *what) {
     if (!holds) {
         fprintf(stderr, "beside: %s\n", what);
-        exit(1);
+        _exit(1); /* the other side may be about to, too */
     }
 }
 
