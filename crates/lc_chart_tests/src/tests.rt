@@ -1,10 +1,8 @@
 //! What a run shows, and the scripts and the stream that are drawn.
-mod before;
 mod devices;
 mod faults;
 mod layout;
-mod same_pictures;
-mod same_shapes;
+mod shapes;
 mod told;
 
 use lc_chart::run;

@@ -1,7 +1,6 @@
 //! The kinds of test, and the one comparison that all of them make.
 mod answers;
 mod bad_lines;
-mod before;
 mod bodies;
 mod bounds;
 mod commands;
@@ -10,8 +9,6 @@ mod failures;
 mod finishes;
 mod loops;
 mod nets;
-mod same_lines;
-mod same_scripts;
 mod sessions;
 mod streams;
 mod transcript;

@@ -1,5 +1,4 @@
 //! One side of a session over devices that follow a plan.
-mod before;
 mod buffered;
 mod counted;
 mod failing;
@@ -10,6 +9,5 @@ mod long_messages;
 mod longer;
 mod lying;
 mod rounds;
-mod same_reading;
 mod script;
 mod worked;

@@ -3,7 +3,6 @@ mod decoders;
 mod frames;
 mod memory;
 mod rings;
-mod same_rings;
 mod texts;
 mod values;
 
