@@ -1,4 +1,5 @@
 //! One side of a session over devices that follow a plan.
+mod before;
 mod buffered;
 mod counted;
 mod failing;

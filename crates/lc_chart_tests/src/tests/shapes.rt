@@ -32,7 +32,12 @@ fn shapes_are_their_elements(rt: HostRuntime) -> Result<(), Fail> {
     plan.most = 1;
     let mut out = PipeWriter::new(plan, Pipe::of(Vec::new(rt.alloc())));
     assert!(&rt; draw(&mut out).is_ok(), "shapes byte by byte");
-    same(&rt, "shapes", String::from_utf8(out.pipe.bytes).ok(), SHAPES);
+    same(
+        &rt,
+        "shapes",
+        String::from_utf8(out.pipe.bytes).ok(),
+        SHAPES,
+    );
     Ok(())
 }
 
@@ -42,13 +47,18 @@ fn fails_at(rt: &impl Abort, alloc: Global, call: u64) -> bool {
     let is_drawn = draw(&mut out).is_ok();
     let is_front = SHAPES.as_bytes().starts_with(out.pipe.bytes.as_slice());
     let is_made = out.plan.calls >= call;
-    assert!(rt; is_front && is_drawn != is_made && out.plan.calls <= call, "write {call}");
+    assert!(rt;
+        is_front && is_drawn != is_made && out.plan.calls <= call,
+        "write {call}"
+    );
     is_made
 }
 
 #[test]
 fn a_failed_write_ends_a_shape(rt: HostRuntime) {
-    let failed = (1..200).take_while(|call| fails_at(&rt, rt.alloc(), *call)).count();
+    let failed = (1..200)
+        .take_while(|call| fails_at(&rt, rt.alloc(), *call))
+        .count();
     assert!(&rt; failed > 40 && failed < 199, "{failed} writes");
 }
 

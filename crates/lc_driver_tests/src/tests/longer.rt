@@ -1,6 +1,5 @@
 //! Messages about as long as their rings, read by a link, of which it keeps none that is longer, and by
 //! a peer whose intake keeps whatever comes: both answer the same.
-use crate::tests::same_reading::{Made, append};
 use lc_driver::{Counted, Failures, Link, ReadEnd, read_in};
 use lc_frame::{CHANNELS, Channel, FrameRef, Version};
 use lc_peer::{Config, Intake, Peer, Take, Violation};
@@ -20,6 +19,34 @@ const MORE: [usize; 4] = [0, 1, 2, 514];
 
 /// The bytes of the longest tag and length of a Send.
 const HEADER: usize = 5;
+
+// Numbers that look random.
+#[derive(Clone, Copy)]
+struct Made(u64);
+
+impl Made {
+    // The next of many numbers below this one.
+    fn below(&mut self, most: usize) -> usize {
+        self.0 = self
+            .0
+            .wrapping_mul(6_364_136_223_846_793_005)
+            .wrapping_add(1_442_695_040_888_963_407);
+        (self.0 >> 33) as usize % most.max(1)
+    }
+
+    // Whether one of so many comes.
+    fn one_in(&mut self, most: usize) -> bool {
+        self.below(most) == 0
+    }
+}
+
+// Appends the frame, if it is one of this version.
+fn append(version: Version, frame: FrameRef<'_>, out: &mut Vec<u8>) -> Result<(), AllocError> {
+    if frame.is_valid(version) {
+        frame.encode_into(version, out)?;
+    }
+    Ok(())
+}
 
 // A reader whose first reads give so many bytes together, and no more at once.
 #[derive(Drop)]
