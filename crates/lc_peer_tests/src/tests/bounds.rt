@@ -1,7 +1,6 @@
 //! Bounds of peers, and the calls that take memory.
 use crate::tests::inbox::inbox;
-use crate::tests::same;
-use crate::tests::script::{peer, peer_of, text};
+use crate::tests::{same, text};
 use lc_frame::{CHANNELS, Channel, FrameRef, Version};
 use lc_peer::{Config, Inbox, NewFault, Peer, PeerFault, Refusal, Take, Violation};
 use std::alloc::Global;
@@ -27,6 +26,21 @@ const FAULTS: [([u32; CHANNELS], u32, &str); 4] = [
         "BadCapacity { channel: StaticTokenChannel }: the capacity of StaticTokenChannel is not 1 to 2^24",
     ),
 ];
+
+// A peer on which nothing has happened.
+fn peer_of(
+    alloc: Global,
+    version: Version,
+    capacities: [u32; CHANNELS],
+    slots: u32,
+) -> Result<Peer, Fail> {
+    let config = Config {
+        version,
+        capacities,
+        slots,
+    };
+    Ok(Peer::new(alloc, config)?)
+}
 
 // Why there is no peer.
 fn fault(alloc: Global, capacities: [u32; CHANNELS], slots: u32) -> Option<PeerFault> {
@@ -63,7 +77,7 @@ fn the_widest_peer(rt: HostRuntime) -> Result<(), Fail> {
     let mut widest = [16_777_216; CHANNELS];
     widest[0] = 1;
     let long = vec![in rt.alloc(); 7_u8; 65_536]?;
-    let mut peer = peer(rt.alloc(), widest, 65_536)?;
+    let mut peer = peer_of(rt.alloc(), Version::One, widest, 65_536)?;
     let sent = peer.send(Channel::DataChannel, &long);
     let issued = peer.issue(Channel::DataChannel, 16_777_216);
     let answers = text(rt.alloc(), &(sent, issued));
@@ -219,7 +233,7 @@ fn called(rt: &impl Abort, peer: &mut Peer) -> Result<(), Fail> {
 fn memory_is_asked_for_by_three_calls(rt: HostRuntime) -> Result<(), Fail> {
     are_bad(&rt, rt.alloc());
     let _ = inbox(rt.alloc(), 8)?;
-    let mut peer = peer(rt.alloc(), [8; CHANNELS], 7)?;
+    let mut peer = peer_of(rt.alloc(), Version::One, [8; CHANNELS], 7)?;
     called(&rt, &mut peer)?;
     let _: Vec<u8> = Vec::with_capacity(rt.alloc(), 1)?;
     Ok(())

@@ -1,9 +1,9 @@
 //! A script of calls on an inbox by itself.
-use crate::tests::script::{bytes, text};
-use crate::tests::{Subject, answers, same};
+use crate::tests::{same, text};
 use lc_frame::{Decoded, FrameRef, Version, decode};
 use lc_peer::{Inbox, Refusal, Violation};
 use std::alloc::Global;
+use std::process::Abort;
 use std::test::Fail;
 
 /// The calls on an inbox over a ring of 8 bytes, with what they answer.
@@ -47,7 +47,7 @@ const CALLS: [&str; 3] = [
 
 // A frame for the server arrives.
 fn arrive(alloc: Global, inbox: &mut Inbox, digits: &str) -> Option<Result<(), Violation>> {
-    let bytes = bytes(alloc, digits)?;
+    let bytes = hex::decode(alloc, digits).ok()?;
     match decode(Version::Two, &bytes) {
         Decoded::Whole {
             frame: FrameRef::Send { body, .. },
@@ -98,16 +98,24 @@ fn with_number(alloc: Global, inbox: &mut Inbox, verb: &str, word: &str) -> Opti
     }
 }
 
-impl Subject for Inbox {
-    fn answer(&mut self, alloc: Global, call: &str) -> Option<String> {
-        let (verb, word) = call.split_once(' ').unwrap_or((call, ""));
-        match verb {
-            "arrive" => text(alloc, &arrive(alloc, self, word)?),
-            "front" => text(alloc, &self.front()),
-            "pop" => text(alloc, &self.pop()),
-            "book" => book(alloc, self),
-            _ => with_number(alloc, self, verb, word),
-        }
+// What a call answers, as text; `None` where there is no such call.
+fn answer(alloc: Global, inbox: &mut Inbox, call: &str) -> Option<String> {
+    let (verb, word) = call.split_once(' ').unwrap_or((call, ""));
+    match verb {
+        "arrive" => text(alloc, &arrive(alloc, inbox, word)?),
+        "front" => text(alloc, &inbox.front()),
+        "pop" => text(alloc, &inbox.pop()),
+        "book" => book(alloc, inbox),
+        _ => with_number(alloc, inbox, verb, word),
+    }
+}
+
+// Each call of a script answers what stands behind it: a line is a call, ` => ` and its answer.
+fn answers(rt: &impl Abort, alloc: Global, inbox: &mut Inbox, script: &str) {
+    for line in script.lines() {
+        let line = line.trim();
+        let (call, wanted) = line.split_once(" => ").unwrap_or((line, "an answer"));
+        same(rt, line, answer(alloc, inbox, call), wanted);
     }
 }
 
