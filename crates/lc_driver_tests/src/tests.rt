@@ -1,5 +1,4 @@
 //! One side of a session over devices that follow a plan.
-mod before;
 mod buffered;
 mod counted;
 mod failing;

@@ -1,10 +1,8 @@
 //! A reader that says it gave more bytes than it wrote. The contract of a reader allows it, and what the
 //! memory held that it was handed is then read as bytes of the stream.
 //!
-//! In a call that reads once that memory was zero when each read went through a buffer of its own, and is
-//! zero still. In one that reads more often a byte that was not written was zero, or one of an earlier read
-//! of that very call; it is never one of a message of an earlier call.
-use crate::tests::before::Before;
+//! In a call that reads once that memory is zero. In one that reads more often a byte that was not written is
+//! zero, or one of an earlier read of that very call; it is never one of a message of an earlier call.
 use lc_driver::{Counted, ReadEnd, read_in};
 use lc_frame::{CHANNELS, Channel, FrameRef, Version};
 use lc_peer::{Config, Intake, Peer, Take};
@@ -29,12 +27,25 @@ const LENGTHS: [usize; 12] = [
 /// header, so all.
 const WRITTEN: [usize; 8] = [16, 0, 8, 15, 1, 16, 3, 0];
 
-// A stream of which each read after the first writes a part of what it gives.
+// A stream of which each read after the first writes a part of what it gives. What it gave is kept, with zeros
+// for what was not written.
 #[derive(Drop)]
 struct Lies<'a> {
     bytes: &'a [u8],
     reads: usize,
     most: usize,
+    given: Vec<u8>,
+}
+
+impl<'a> Lies<'a> {
+    fn new(alloc: Global, bytes: &'a [u8], most: usize) -> Lies<'a> {
+        Lies {
+            bytes,
+            reads: 0,
+            most,
+            given: Vec::new(alloc),
+        }
+    }
 }
 
 impl Read for Lies<'_> {
@@ -44,49 +55,42 @@ impl Read for Lies<'_> {
         let written = part.saturating_mul(given) / 16;
         self.reads = self.reads.saturating_add(1);
         let mut front = self.bytes.get(..written).unwrap_or(&[]);
+        self.given.extend_from_slice(front)?;
+        self.given.resize(
+            self.given
+                .len()
+                .saturating_add(given.saturating_sub(written)),
+            0,
+        )?;
         let _written = front.read(buf)?;
         self.bytes = self.bytes.get(given..).unwrap_or(&[]);
         Ok(given)
     }
 }
 
-// What reads a stream for a peer: today's code, or that of before.
-#[derive(Drop)]
-enum Reading {
-    Now(Intake),
-    Before(Before),
-}
-
+// A side that reads a stream.
 #[derive(Drop)]
 struct ReadingPeer {
     peer: Peer,
-    reading: Reading,
+    intake: Intake,
 }
 
 impl ReadingPeer {
-    fn new(alloc: Global, reading: Reading) -> Result<ReadingPeer, Fail> {
+    fn new(alloc: Global) -> Result<ReadingPeer, Fail> {
         let config = Config {
             version: Version::Two,
             capacities: [CAPACITY; CHANNELS],
             slots: 64,
         };
         let peer = Peer::new(alloc, config)?;
-        Ok(ReadingPeer { peer, reading })
+        let intake = Intake::new(alloc)?;
+        Ok(ReadingPeer { peer, intake })
     }
 
-    fn read(&mut self, reader: &mut Counted<Lies<'_>>, max_reads: u64) -> ReadEnd {
-        match &mut self.reading {
-            Reading::Now(intake) => read_in(&mut self.peer, reader, intake, max_reads),
-            Reading::Before(before) => before.read_in(&mut self.peer, reader, max_reads),
-        }
-    }
-
-    // The bytes of a frame come in, by calls of so many reads. How the last ends.
-    fn hear(&mut self, bytes: &[u8], most: usize, max_reads: u64) -> ReadEnd {
-        let reads = 0;
-        let mut reader = Counted::new(Lies { bytes, reads, most });
+    // Bytes come in, by calls of so many reads. How the last ends.
+    fn hear(&mut self, reader: &mut Counted<Lies<'_>>, max_reads: u64) -> ReadEnd {
         for _ in 0..10_000 {
-            match self.read(&mut reader, max_reads) {
+            match read_in(&mut self.peer, reader, &mut self.intake, max_reads) {
                 ReadEnd::TurnsSpent => {}
                 end => return end,
             }
@@ -94,7 +98,7 @@ impl ReadingPeer {
         ReadEnd::TurnsSpent
     }
 
-    // The first message, if there is one; its room is promised anew.
+    // The first message, if there is one.
     fn take(&mut self, buffer: &mut [u8; LONGEST]) -> Option<usize> {
         match self.peer.take_into(CHANNEL, buffer) {
             Ok(Take::Took(len)) => Some(len),
@@ -127,56 +131,43 @@ struct Round {
     max_reads: u64,
 }
 
-// A message comes in, and is taken into the buffer. Its room is promised anew.
-fn hear(
-    rt: &impl Abort,
-    side: &mut ReadingPeer,
-    bytes: &[u8],
-    round: Round,
-    buffer: &mut [u8; LONGEST],
-) {
-    let end = side.hear(bytes, round.most, round.max_reads);
+// A message comes in, and is taken. Its room is promised anew.
+fn hear(rt: &impl Abort, alloc: Global, side: &mut ReadingPeer, round: Round) -> Result<(), Fail> {
+    let bytes = frame(alloc, round.len, round.byte)?;
+    let mut reader = Counted::new(Lies::new(alloc, &bytes, round.most));
+    let end = side.hear(&mut reader, round.max_reads);
     assert_eq!(rt; end, ReadEnd::Clean);
-    let taken = side.take(buffer);
+    let mut found = [0; LONGEST];
+    let taken = side.take(&mut found);
     assert_eq!(rt; taken, Some(round.len));
+    is_as_given(
+        rt,
+        found.get(..round.len).unwrap_or(&[]),
+        reader.into_inner().given.as_slice(),
+        round,
+    );
     let room = u32::try_from(round.len).unwrap_or(0);
     assert_eq!(rt; side.peer.issue(CHANNEL, room), Ok(()));
+    Ok(())
 }
 
-// Both sides hear the same message.
-fn compare(
-    rt: &impl Abort,
-    alloc: Global,
-    sides: &mut (ReadingPeer, ReadingPeer),
-    round: Round,
-) -> Result<(), Fail> {
-    let bytes = frame(alloc, round.len, round.byte)?;
-    let (mut found, mut wanted) = ([0; LONGEST], [0; LONGEST]);
-    hear(rt, &mut sides.0, &bytes, round, &mut found);
-    hear(rt, &mut sides.1, &bytes, round, &mut wanted);
+// What was not written is zero, or in a call of more reads a byte of this message.
+fn is_as_given(rt: &impl Abort, found: &[u8], given: &[u8], round: Round) {
     if round.max_reads == 1 {
         assert!(rt;
-            found == wanted,
+            given.ends_with(found),
             "other bytes where {} are lied of",
             round.len
         );
     }
-    let is_own = |byte: &u8| *byte == 0 || bytes.contains(byte);
-    assert!(rt; found.iter().all(is_own), "bytes of another message");
-    assert!(rt;
-        wanted.iter().all(is_own),
-        "bytes of another message, before"
-    );
-    Ok(())
+    let is_own = found.iter().all(|byte| *byte == 0 || given.contains(byte));
+    assert!(rt; is_own, "bytes of another message");
 }
 
-// Both sides hear messages of all lengths, whose bytes tell one from another.
-fn compare_all(rt: &impl Abort, alloc: Global, max_reads: u64) -> Result<(), Fail> {
-    let now = ReadingPeer::new(alloc, Reading::Now(Intake::new(alloc)?))?;
-    let before = ReadingPeer::new(alloc, Reading::Before(Before::new(alloc)?))?;
-    let mut sides = (now, before);
-    greet(rt, &mut sides.0);
-    greet(rt, &mut sides.1);
+// A side hears messages of all lengths, whose bytes tell one from another.
+fn hear_all(rt: &impl Abort, alloc: Global, max_reads: u64) -> Result<(), Fail> {
+    let mut side = ReadingPeer::new(alloc)?;
+    greet(rt, alloc, &mut side);
     let mut byte = b' ';
     for most in [100, 512, 2_000] {
         for len in LENGTHS {
@@ -187,17 +178,18 @@ fn compare_all(rt: &impl Abort, alloc: Global, max_reads: u64) -> Result<(), Fai
                 most,
                 max_reads,
             };
-            compare(rt, alloc, &mut sides, round)?;
+            hear(rt, alloc, &mut side, round)?;
         }
     }
     Ok(())
 }
 
 // A side promises room, and the greeting comes in.
-fn greet(rt: &impl Abort, side: &mut ReadingPeer) {
+fn greet(rt: &impl Abort, alloc: Global, side: &mut ReadingPeer) {
+    let mut greeting = Counted::new(Lies::new(alloc, b"LCM\x02", 512));
     let ends = (
         side.peer.issue(CHANNEL, CAPACITY),
-        side.hear(b"LCM\x02", 512, 1),
+        side.hear(&mut greeting, 1),
     );
     assert_eq!(rt; ends, (Ok(()), ReadEnd::Clean));
 }
@@ -206,13 +198,13 @@ fn greet(rt: &impl Abort, side: &mut ReadingPeer) {
 fn a_call_that_reads_once_takes_zeros_for_what_was_not_written(
     rt: HostRuntime,
 ) -> Result<(), Fail> {
-    compare_all(&rt, rt.alloc(), 1)
+    hear_all(&rt, rt.alloc(), 1)
 }
 
 #[test]
 fn no_byte_of_an_earlier_message_is_read_again(rt: HostRuntime) -> Result<(), Fail> {
     for max_reads in [2, 3, 100] {
-        compare_all(&rt, rt.alloc(), max_reads)?;
+        hear_all(&rt, rt.alloc(), max_reads)?;
     }
     Ok(())
 }
