@@ -1,10 +1,11 @@
 //! A script of calls on an inbox by itself.
-use crate::tests::{same, text};
+use crate::tests::script::same;
 use lc_frame::{Decoded, FrameRef, Version, decode};
 use lc_peer::{Inbox, Refusal, Violation};
 use std::alloc::Global;
 use std::process::Abort;
 use std::test::Fail;
+use test_devices::text;
 
 /// The calls on an inbox over a ring of 8 bytes, with what they answer.
 const CALLS: [&str; 3] = [

@@ -1,11 +1,12 @@
 //! Bounds of peers, and the calls that take memory.
 use crate::tests::inbox::inbox;
-use crate::tests::{same, text};
+use crate::tests::script::same;
 use lc_frame::{CHANNELS, Channel, FrameRef, Version};
 use lc_peer::{Config, Inbox, NewFault, Peer, PeerFault, Refusal, Take, Violation};
 use std::alloc::Global;
 use std::process::Abort;
 use std::test::Fail;
+use test_devices::text;
 
 /// Capacities and slots of which there is no peer, and why.
 const FAULTS: [([u32; CHANNELS], u32, &str); 4] = [

@@ -1,6 +1,0 @@
-//! Tests of `lc_peer`: what no program over a binding can call. What a peer answers to calls and bytes is shown
-//! by the rows of `bindings/rows.txt`, and by the tests of the bindings beside a model.
-#![tactic(auto)]
-
-#[cfg(test)]
-mod tests;
