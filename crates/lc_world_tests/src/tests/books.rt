@@ -58,13 +58,14 @@ pub fn shown_server(alloc: Global, server: &ServerBook) -> Option<String> {
 #[test]
 fn no_channel_has_more_guarantees_in_all(rt: HostRuntime) -> Result<(), Fail> {
     let mut server = ServerBook::restore(OLD_SERVER).ok_or("no server")?;
-    let issued = [9, 2, 1, 1].map(|amount| server.issue(amount));
     let reached = Err(Refusal::TotalReached);
-    let no_room = Err(Refusal::NoRoom { room: 8 });
-    assert_eq!(rt; issued, [no_room, reached, Ok(()), reached]);
+    let too_many = (server.issue(9), server.issue(2));
+    assert_eq!(rt; too_many, (Err(Refusal::NoRoom { room: 8 }), reached));
+    let last = (server.issue(1), server.issue(1));
+    assert_eq!(rt; last, (Ok(()), reached));
     let mut client = ClientBook::restore(OLD_CLIENT).ok_or("no client")?;
-    let received = [2, 1].map(|amount| client.issued(amount));
-    assert_eq!(rt; received, [Err(Violation::TotalPassed), Ok(())]);
+    let received = (client.issued(2), client.issued(1));
+    assert_eq!(rt; received, (Err(Violation::TotalPassed), Ok(())));
     Ok(())
 }
 
