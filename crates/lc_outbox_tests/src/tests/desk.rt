@@ -2,14 +2,13 @@
 //! and after `=>` what it answers. `add` and `ask` are the reading side's, `other` is a limit of an
 //! outbox of channel 2 over the same queue, and `pop` is the drain's, which writes a frame as its
 //! bytes. `long` sends so many bytes, and `popped` says whether the next frame is that message.
-ghost use Rattle.std.specs.Prelude.{◌≡◌, IfSome, slice_set};
+ghost use Rattle.std.specs.Prelude.{◌≡◌, IfSome};
 ghost use Rattle.lc_queue.specs.Parts.{new_end, new_ends};
 ghost use Rattle.lc_credit.specs.Sides.{new_outgoing};
-ghost use Rattle.lc_credit.specs.Channels.{AreMatched, SameCredit, SameCredits};
 
 use crate::tests::same;
-use lc_credit::{CreditIn, CreditOut, CreditParts, credits, settle};
-use lc_frame::{Body, CHANNELS, Channel, Frame, MAX_AMOUNT, Version};
+use lc_credit::{CreditIn, CreditOut, CreditParts, credits};
+use lc_frame::{Body, Channel, Frame, MAX_AMOUNT, Version};
 use lc_outbox::Outbox;
 use lc_queue::{Drain, LaneEnd, Lanes, lanes};
 use std::alloc::Global;
@@ -55,15 +54,8 @@ fn spare_end(alloc: Global) -> Option<CreditOut>
     parts.outgoing.into_iter().next()
 }
 
-/// A new desk over a queue of so many slots, and the ends of all credits, with another at the place
-/// of the outbox's.
-pub fn new_desk(
-    alloc: Global,
-    version: Version,
-    slots: u32,
-) -> Option<(Desk, [CreditOut; CHANNELS])>
-    ensures { IfSome result (λ new. AreMatched new.0.incoming (slice_set new.1 1 new.0.outbox.credit)) }
-{
+/// A new desk over a queue of so many slots.
+pub fn new_desk(alloc: Global, version: Version, slots: u32) -> Option<Desk> {
     let (lane, other_lane, drain) = two_ends(alloc, lanes(alloc, slots, version).ok()?)?;
     let other = Outbox::new(alloc, other_lane, spare_end(alloc)?);
     let spare = spare_end(alloc)?;
@@ -71,21 +63,17 @@ pub fn new_desk(
         incoming,
         mut outgoing,
     } = credits(alloc).ok()?;
-    let credit = replace(&mut outgoing[1], spare);
-    let outbox = Outbox::new(alloc, lane, credit);
-    let desk = Desk {
+    let outbox = Outbox::new(alloc, lane, replace(&mut outgoing[1], spare));
+    Some(Desk {
         incoming,
         outbox,
         other,
         drain,
-    };
-    Some((desk, outgoing))
+    })
 }
 
 // What the reading side does.
-fn read(alloc: Global, incoming: &mut CreditIn, verb: &str, n: u64) -> Option<String>
-    ensures { SameCredits incoming.old incoming.new }
-{
+fn read(alloc: Global, incoming: &mut CreditIn, verb: &str, n: u64) -> Option<String> {
     let amount = u32::try_from(n).ok()?;
     if amount > MAX_AMOUNT {
         return None;
@@ -103,9 +91,7 @@ fn long(alloc: Global, len: u64) -> Option<Vec<u8>> {
 }
 
 // What a call of the outbox answers, which names a number.
-fn own<R: Wait>(rt: &R, alloc: Global, outbox: &mut Outbox, verb: &str, n: u64) -> Option<String>
-    ensures { SameCredit outbox.old.credit outbox.new.credit }
-{
+fn own<R: Wait>(rt: &R, alloc: Global, outbox: &mut Outbox, verb: &str, n: u64) -> Option<String> {
     let answer = match verb {
         "long" => outbox.send(rt, &long(alloc, n)?),
         "absolve" => outbox.absolve(rt, u32::try_from(n).ok()?),
@@ -115,9 +101,7 @@ fn own<R: Wait>(rt: &R, alloc: Global, outbox: &mut Outbox, verb: &str, n: u64) 
     text(alloc, &answer)
 }
 
-fn send<R: Wait>(rt: &R, alloc: Global, outbox: &mut Outbox, digits: &str) -> Option<String>
-    ensures { SameCredit outbox.old.credit outbox.new.credit }
-{
+fn send<R: Wait>(rt: &R, alloc: Global, outbox: &mut Outbox, digits: &str) -> Option<String> {
     let body = hex::decode(alloc, digits).ok()?;
     text(alloc, &outbox.send(rt, &body))
 }
@@ -141,10 +125,7 @@ fn popped<R: Wait>(rt: &R, alloc: Global, drain: &mut Drain, n: u64) -> Option<S
 }
 
 // What a call answers, which names a number.
-fn numbered<R: Wait>(rt: &R, alloc: Global, desk: &mut Desk, verb: &str, n: u64) -> Option<String>
-    ensures incoming { SameCredits desk.old.incoming desk.new.incoming }
-    ensures outbox { SameCredit desk.old.outbox.credit desk.new.outbox.credit }
-{
+fn numbered<R: Wait>(rt: &R, alloc: Global, desk: &mut Desk, verb: &str, n: u64) -> Option<String> {
     match verb {
         "add" | "ask" => read(alloc, &mut desk.incoming, verb, n),
         "other" => text(alloc, &desk.other.limit(rt, n)),
@@ -154,10 +135,7 @@ fn numbered<R: Wait>(rt: &R, alloc: Global, desk: &mut Desk, verb: &str, n: u64)
 }
 
 // What a call answers.
-fn answer<R: Wait>(rt: &R, alloc: Global, desk: &mut Desk, call: &str) -> Option<String>
-    ensures incoming { SameCredits desk.old.incoming desk.new.incoming }
-    ensures outbox { SameCredit desk.old.outbox.credit desk.new.outbox.credit }
-{
+fn answer<R: Wait>(rt: &R, alloc: Global, desk: &mut Desk, call: &str) -> Option<String> {
     let (verb, word) = call.split_once(' ').unwrap_or((call, ""));
     match verb {
         "send" => send(rt, alloc, &mut desk.outbox, word),
@@ -170,44 +148,19 @@ fn answer<R: Wait>(rt: &R, alloc: Global, desk: &mut Desk, call: &str) -> Option
     }
 }
 
-// What became of the channel's guarantees: those received, held, spent, absolved and waived.
-fn settled(alloc: Global, desk: Desk, rest: [CreditOut; CHANNELS]) -> Option<String>
-    requires { AreMatched desk.incoming (slice_set rest 1 desk.outbox.credit) }
-{
-    let (_lane, credit) = desk.outbox.into_parts();
-    let mut outgoing = rest;
-    outgoing[1] = credit;
-    if !outgoing.iter().all(|end| end.pending().is_none()) {
-        return None;
-    }
-    let incoming = desk.incoming;
-    let balance = settle(CreditParts { incoming, outgoing })[1];
-    text(
-        alloc,
-        &(
-            balance.received,
-            balance.held,
-            balance.spent,
-            balance.absolved,
-            balance.waived,
-        ),
-    )
-}
-
-/// Each call of a script, in turn, answers what stands after it. Then the credits are settled: what
-/// was received on the channel, and is held, spent, absolved and waived.
+/// Each call of a script, in turn, answers what stands after it.
 pub fn works<R: Wait + Abort>(
     rt: &R,
     alloc: Global,
     version: Version,
     slots: u32,
     script: &str,
-) -> Option<String> {
-    let (mut desk, rest) = new_desk(alloc, version, slots)?;
+) -> Option<()> {
+    let mut desk = new_desk(alloc, version, slots)?;
     for line in script.lines() {
         let line = line.trim();
         let (call, wanted) = line.split_once(" => ").unwrap_or((line, "an answer"));
         same(rt, line, answer(rt, alloc, &mut desk, call), wanted);
     }
-    settled(alloc, desk, rest)
+    Some(())
 }

@@ -41,7 +41,7 @@ fn calls(rt: &(impl Wait + Abort), desk: &mut Desk) {
 // Requests for memory can be refused here in turn; the last is the test's own.
 #[test]
 fn a_send_alone_asks_for_memory(rt: HostRuntime) -> Result<(), Fail> {
-    let (mut desk, _rest) = new_desk(rt.alloc(), Version::Two, 8).ok_or("there is no desk")?;
+    let mut desk = new_desk(rt.alloc(), Version::Two, 8).ok_or("there is no desk")?;
     let added = desk.incoming.add(Channel::DataChannel, 5);
     desk.incoming.ask(Channel::DataChannel, 1);
     assert!(rt; added.is_ok());
