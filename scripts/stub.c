@@ -1,12 +1,16 @@
 // Preloaded into a program, stands in for what the system answers. CLOCK has the milliseconds that go by before
 // each look at the clock, in turn and from the first again behind the last. FAILS says what fails each time: a
-// write to a `pipe`, or a socket's word that it does not wait with short pieces, `nodelay`.
+// write to a `pipe`, or a socket's word that it does not wait with short pieces, `nodelay`. TROUBLE has three numbers:
+// a standard stream, the call of it that fails, from 1 on, and its error, where 0 means that it gives or takes
+// nothing. PIECE has the most bytes that a call of a standard stream gives or takes.
 #define _GNU_SOURCE
 #include <dlfcn.h>
 #include <errno.h>
 #include <netinet/in.h>
 #include <netinet/tcp.h>
 #include <stdatomic.h>
+#include <stdint.h>
+#include <stdio.h>
 #include <stdlib.h>
 #include <string.h>
 #include <sys/socket.h>
@@ -16,22 +20,45 @@
 
 enum { MOST = 64 };
 
+static ssize_t (*read_from)(int, void *, size_t);
 static ssize_t (*write_to)(int, const void *, size_t);
 static int (*set)(int, int, int, const void *, socklen_t);
 static int (*look)(clockid_t, struct timespec *);
 static int fails_at_pipes, fails_to_hurry, count;
 static long steps[MOST];
-static _Atomic long looks, now;
+static _Atomic long looks, now, calls;
+static int troubled = -1, error;
+static long last;
+static size_t piece = SIZE_MAX;
 
 static int is_pipe(int file) {
     struct stat about;
     return fstat(file, &about) == 0 && S_ISFIFO(about.st_mode);
 }
 
+static size_t length_of(int file, size_t length) {
+    return file <= 2 && length > piece ? piece : length;
+}
+
+// Whether this call of a standard stream is the one that fails.
+static int is_in_trouble(int file) {
+    return file == troubled && ++calls == last;
+}
+
+static int fail_with(int number) {
+    if (number) errno = number;
+    return number ? -1 : 0;
+}
+
+ssize_t read(int file, void *bytes, size_t length) {
+    if (is_in_trouble(file)) return fail_with(error);
+    return read_from(file, bytes, length_of(file, length));
+}
+
 ssize_t write(int file, const void *bytes, size_t length) {
-    if (!fails_at_pipes || file <= 2 || !is_pipe(file)) return write_to(file, bytes, length);
-    errno = EPIPE;
-    return -1;
+    if (is_in_trouble(file)) return fail_with(error);
+    if (fails_at_pipes && file > 2 && is_pipe(file)) return fail_with(EPIPE);
+    return write_to(file, bytes, length_of(file, length));
 }
 
 int setsockopt(int socket, int level, int name, const void *value, socklen_t length) {
@@ -49,11 +76,14 @@ int clock_gettime(clockid_t clock, struct timespec *at) {
 }
 
 __attribute__((constructor)) static void begin(void) {
-    const char *fails = getenv("FAILS"), *clock = getenv("CLOCK");
+    const char *fails = getenv("FAILS"), *clock = getenv("CLOCK"), *trouble = getenv("TROUBLE"), *most = getenv("PIECE");
+    *(void **)&read_from = dlsym(RTLD_NEXT, "read");
     *(void **)&write_to = dlsym(RTLD_NEXT, "write");
     *(void **)&set = dlsym(RTLD_NEXT, "setsockopt");
     *(void **)&look = dlsym(RTLD_NEXT, "clock_gettime");
     fails_at_pipes = fails && strcmp(fails, "pipe") == 0;
     fails_to_hurry = fails && strcmp(fails, "nodelay") == 0;
     for (char *end; clock && *clock && count < MOST; clock = end) steps[count++] = strtol(clock, &end, 10);
+    if (trouble && sscanf(trouble, "%d %ld %d", &troubled, &last, &error) != 3) abort();
+    if (most) piece = strtoul(most, NULL, 10);
 }

@@ -1,5 +1,5 @@
-//! Tests of `lc_cli`: what no clause says. They read the texts that the program is given and compare
-//! those that it prints, run every command through `run`, and let each device fail.
+//! Tests of `lc_cli` and `lc_loopback`: what neither a clause nor a run of `lcmux` shows. They compare
+//! the lines of answers and reports, and let two sessions meet trouble.
 #![tactic(auto)]
 
 #[cfg(test)]

@@ -1,17 +1,7 @@
 //! The kinds of test, and the one comparison that all of them make.
 mod answers;
-mod bad_lines;
-mod bodies;
-mod bounds;
-mod commands;
-mod devices;
-mod failures;
-mod finishes;
 mod loops;
 mod nets;
-mod sessions;
-mod streams;
-mod transcript;
 
 use std::process::Abort;
 

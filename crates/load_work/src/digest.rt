@@ -35,4 +35,11 @@ impl Digest {
         self.add(sum);
         self.add(sums);
     }
+
+    /// Adds what a command answered and wrote.
+    pub fn add_output(&mut self, status: u8, out: &[u8], err: &[u8]) {
+        self.add(u64::from(status));
+        self.add_bytes(out);
+        self.add_bytes(err);
+    }
 }

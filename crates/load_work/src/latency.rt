@@ -2,10 +2,9 @@
 //! over TCP to its own reading pump.
 use crate::digest::Digest;
 use crate::random::{Pool, Random};
-use crate::sessions::{issue, read_all, send, take, write_all_out};
-use lc_frame::{CHANNELS, Version};
-use lc_peer::Config;
-use lc_session::{Parts, ReadPump, RecvEnd, SendEnd, Session, WritePump};
+use crate::sessions::{CAPACITY, READ_AHEAD, issue, send, session, take, use_pumps};
+use lc_frame::CHANNELS;
+use lc_session::{Parts, RecvEnd, SendEnd, Session};
 use std::alloc::Global;
 use std::io::BufReader;
 use std::net::{Ipv4Addr, Net, TcpListener, TcpStream};
@@ -14,15 +13,6 @@ use std::sync::atomic::{AtomicBool, Ordering};
 use std::thread::{Threads, join};
 use std::time::{Clock, Duration};
 use std::{io, thread};
-
-/// The bytes of each ring.
-const CAPACITY: u32 = 262_144;
-
-/// The frames that may wait.
-const SLOTS: u32 = 64;
-
-/// The bytes that one read of the connection asks for.
-const READ_AHEAD: usize = 65_536;
 
 /// The bytes of a message of the quiet channel, of which the first eight say when it was sent, and of a
 /// message of the others.
@@ -251,16 +241,6 @@ fn sum(takers: [Taker; CHANNELS]) -> Option<Latency> {
     Some(came)
 }
 
-// A new session.
-fn session(alloc: Global) -> Option<Parts> {
-    let config = Config {
-        version: Version::One,
-        capacities: [CAPACITY; CHANNELS],
-        slots: SLOTS,
-    };
-    Session::new(alloc, config).ok()
-}
-
 // All ends at work. The session is stopped once all that send are through.
 fn use_ends<R: Threads + Wait + Clock + Sync>(
     rt: &R,
@@ -280,21 +260,6 @@ fn use_ends<R: Threads + Wait + Clock + Sync>(
     );
 }
 
-// Both pumps at work, over a new connection.
-fn use_pumps<R: Threads + Wait + Sync>(
-    rt: &R,
-    reading: ReadPump,
-    reader: BufReader<TcpStream>,
-    writing: WritePump,
-    writer: TcpStream,
-) {
-    join(
-        rt,
-        || read_all(rt, reading, reader),
-        || write_all_out(rt, writing, writer),
-    );
-}
-
 /// So many messages go through one channel of a session, one each millisecond, while six send bulk.
 pub fn measure<R, N>(
     rt: &R,
@@ -309,6 +274,8 @@ where
 {
     let mut random = random;
     let pool = Pool::new(alloc, &mut random, BULK).ok()?;
+    let (writer, reader) = connection(net).ok()?;
+    let reader = BufReader::with_capacity(alloc, READ_AHEAD, reader).ok()?;
     let Parts {
         session,
         mut send_ends,
@@ -317,8 +284,6 @@ where
         write_pump,
     } = session(alloc)?;
     let mut takers = recv_ends.map(|end| Taker::new(end));
-    let (writer, reader) = connection(net).ok()?;
-    let reader = BufReader::with_capacity(alloc, READ_AHEAD, reader).ok()?;
     let done = AtomicBool::new(false);
     let job = Job {
         random,

@@ -75,25 +75,6 @@ impl Traffic {
         let [_, _, longest] = self.lengths;
         longest as usize
     }
-
-    fn len(&self, random: &mut Random) -> usize {
-        let [short, middle, long] = self.lengths;
-        let most = match random.from_to(0, 9) {
-            0..=5 => short,
-            6..=8 => middle,
-            _ => long,
-        };
-        random.from_to(self.shortest, most.max(self.shortest)) as usize
-    }
-
-    fn link(&self, alloc: Global) -> Option<Link> {
-        let config = Config {
-            version: self.version,
-            capacities: [self.capacity; CHANNELS],
-            slots: 64,
-        };
-        Link::new(alloc, config).ok()
-    }
 }
 
 // A stream whose reads give few bytes or many.
@@ -120,7 +101,12 @@ struct Side {
 
 impl Side {
     fn new(alloc: Global, traffic: &Traffic) -> Option<Side> {
-        let link = traffic.link(alloc)?;
+        let config = Config {
+            version: traffic.version,
+            capacities: [traffic.capacity; CHANNELS],
+            slots: 64,
+        };
+        let link = Link::new(alloc, config).ok()?;
         Some(Side { link })
     }
 
@@ -130,7 +116,7 @@ impl Side {
             let Some(channel) = some_channel(random) else {
                 return;
             };
-            let len = traffic.len(random);
+            let len = random.len_from(traffic.shortest, traffic.lengths);
             let body = pool.part(random, len);
             match self.link.peer.send(channel, body) {
                 Ok(()) => digest.add(body.len() as u64),
@@ -233,28 +219,52 @@ fn carry(
     to.read_in(&mut reader, u64::MAX) == ReadEnd::Clean
 }
 
+// What both sides work with, and what came of it.
+#[derive(Drop)]
+struct Shared {
+    traffic: Traffic,
+    random: Random,
+    digest: Digest,
+    pool: Pool,
+    buffer: Vec<u8>,
+    wire: Vec<u8>,
+}
+
+impl Shared {
+    // One side takes and sends, and the other reads in what it wrote. Whether that went well.
+    fn turn(&mut self, from: &mut Side, to: &mut Side) -> bool {
+        let traffic = self.traffic;
+        from.take(&traffic, &mut self.buffer, &mut self.digest);
+        from.send(&traffic, &self.pool, &mut self.random, &mut self.digest);
+        carry(
+            &mut from.link,
+            &mut to.link,
+            &mut self.wire,
+            &traffic,
+            self.random,
+        )
+    }
+}
+
 /// Two peers send each other messages, in so many turns.
 pub fn exchange(alloc: Global, traffic: Traffic, random: Random, turns: u32) -> Option<Digest> {
     let mut random = random;
-    let mut digest = Digest::new();
-    let pool = Pool::new(alloc, &mut random, traffic.longest()).ok()?;
-    let mut buffer = vec![in alloc; 0u8; traffic.longest()].ok()?;
-    let mut wire = Vec::new(alloc);
+    let mut shared = Shared {
+        pool: Pool::new(alloc, &mut random, traffic.longest()).ok()?,
+        buffer: vec![in alloc; 0u8; traffic.longest()].ok()?,
+        wire: Vec::new(alloc),
+        digest: Digest::new(),
+        random,
+        traffic,
+    };
     let mut one = Side::new(alloc, &traffic)?;
     let mut other = Side::new(alloc, &traffic)?;
     for _ in 0..turns {
-        one.take(&traffic, &mut buffer, &mut digest);
-        one.send(&traffic, &pool, &mut random, &mut digest);
-        if !carry(&mut one.link, &mut other.link, &mut wire, &traffic, random) {
-            return None;
-        }
-        other.take(&traffic, &mut buffer, &mut digest);
-        other.send(&traffic, &pool, &mut random, &mut digest);
-        if !carry(&mut other.link, &mut one.link, &mut wire, &traffic, random) {
+        if !shared.turn(&mut one, &mut other) || !shared.turn(&mut other, &mut one) {
             return None;
         }
     }
-    one.add_books(&mut digest);
-    other.add_books(&mut digest);
-    Some(digest)
+    one.add_books(&mut shared.digest);
+    other.add_books(&mut shared.digest);
+    Some(shared.digest)
 }

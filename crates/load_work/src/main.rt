@@ -23,6 +23,7 @@ use digest::Digest;
 use latency::Latency;
 use links::Traffic;
 use random::Random;
+use scripts::Task;
 use std::alloc::Global;
 use std::fs::Files;
 use std::net::{Net, TcpListener, TcpStream};
@@ -38,22 +39,6 @@ struct Outcome {
     latency: Option<Latency>,
 }
 
-impl Outcome {
-    fn of(latency: Latency) -> Outcome {
-        Outcome {
-            digest: latency.digest,
-            latency: Some(latency),
-        }
-    }
-
-    fn plain(digest: Digest) -> Outcome {
-        Outcome {
-            digest,
-            latency: None,
-        }
-    }
-}
-
 // Does so much work of a kind. `None` where there is no such kind, or where it failed.
 fn work<R, H>(rt: R, host: &H, alloc: Global, kind: &str, seed: u32, count: u32) -> Option<Outcome>
 where
@@ -67,16 +52,22 @@ where
         "crumbs" => links::exchange(alloc, Traffic::CRUMBS, random, count),
         "uneven" => links::exchange(alloc, Traffic::UNEVEN, random, count),
         "session" => sessions::exchange(&rt, host, alloc, random, count),
-        "replay" => scripts::replay_all(alloc, random, count),
-        "chart" => scripts::chart_all(alloc, random, count),
+        "replay" => scripts::run_all(alloc, Task::Replay, random, count),
+        "chart" => scripts::run_all(alloc, Task::Draw, random, count),
         "frames" => streams::list_all(alloc, random, count),
         "latency" => {
             let latency = latency::measure(&rt, host, alloc, random, count)?;
-            return Some(Outcome::of(latency));
+            return Some(Outcome {
+                digest: latency.digest,
+                latency: Some(latency),
+            });
         }
         _ => None,
     };
-    Some(Outcome::plain(digest?))
+    Some(Outcome {
+        digest: digest?,
+        latency: None,
+    })
 }
 
 fn number(word: &str) -> u32 {

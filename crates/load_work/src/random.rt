@@ -43,6 +43,17 @@ impl Random {
         let number = u64::from(first) + (self.next() >> 33) % count;
         number as u32
     }
+
+    /// A length from the shortest up to the first of these in six of ten cases, to the second in three
+    /// more, and to the last in one.
+    pub fn len_from(&mut self, shortest: u32, [short, middle, long]: [u32; 3]) -> usize {
+        let most = match self.from_to(0, 9) {
+            0..=5 => short,
+            6..=8 => middle,
+            _ => long,
+        };
+        self.from_to(shortest, most.max(shortest)) as usize
+    }
 }
 
 /// Bytes of which each message is a part.

@@ -97,7 +97,8 @@ fn write_script(
     Ok(())
 }
 
-fn version_of(number: u32) -> Version {
+/// The version of which the input of this number is.
+pub fn version_of(number: u32) -> Version {
     if number % 2 == 0 {
         Version::One
     } else {
@@ -105,50 +106,55 @@ fn version_of(number: u32) -> Version {
     }
 }
 
-/// Replays so many scripts.
-pub fn replay_all(alloc: Global, random: Random, count: u32) -> Option<Digest> {
+/// What is done with a script.
+#[derive(Clone, Copy)]
+pub enum Task {
+    Replay,
+    Draw,
+}
+
+impl Task {
+    // The lines of a script.
+    fn lines(self) -> u32 {
+        match self {
+            Task::Replay => LONG,
+            Task::Draw => SHORT,
+        }
+    }
+
+    // Does it: the status.
+    fn run(
+        self,
+        alloc: Global,
+        version: Version,
+        mut script: &[u8],
+        out: &mut Vec<u8>,
+        err: &mut Vec<u8>,
+    ) -> u8 {
+        let capacity = CAPACITY;
+        match self {
+            Task::Replay => lc_cli::replay_as(alloc, capacity, version, &mut script, out, err),
+            Task::Draw => {
+                let command = Command::Session { capacity, version };
+                lc_chart::chart(alloc, command, &mut script, out, err)
+            }
+        }
+    }
+}
+
+/// Replays or draws so many scripts.
+pub fn run_all(alloc: Global, task: Task, random: Random, count: u32) -> Option<Digest> {
     let mut random = random;
     let mut digest = Digest::new();
     let pool = digits(alloc, &mut random).ok()?;
     let (mut script, mut out, mut err) = (Vec::new(alloc), Vec::new(alloc), Vec::new(alloc));
     for number in 0..count {
-        write_script(&mut random, &pool, &mut script, LONG).ok()?;
+        write_script(&mut random, &pool, &mut script, task.lines()).ok()?;
         out.clear();
         err.clear();
         let version = version_of(number);
-        let status = lc_cli::replay_as(
-            alloc,
-            CAPACITY,
-            version,
-            &mut script.as_slice(),
-            &mut out,
-            &mut err,
-        );
-        digest.add(u64::from(status));
-        digest.add_bytes(out.as_slice());
-        digest.add_bytes(err.as_slice());
-    }
-    Some(digest)
-}
-
-/// Draws the sessions of so many scripts.
-pub fn chart_all(alloc: Global, random: Random, count: u32) -> Option<Digest> {
-    let mut random = random;
-    let mut digest = Digest::new();
-    let pool = digits(alloc, &mut random).ok()?;
-    let (mut script, mut out, mut err) = (Vec::new(alloc), Vec::new(alloc), Vec::new(alloc));
-    for number in 0..count {
-        write_script(&mut random, &pool, &mut script, SHORT).ok()?;
-        out.clear();
-        err.clear();
-        let command = Command::Session {
-            capacity: CAPACITY,
-            version: version_of(number),
-        };
-        let status = lc_chart::chart(alloc, command, &mut script.as_slice(), &mut out, &mut err);
-        digest.add(u64::from(status));
-        digest.add_bytes(out.as_slice());
-        digest.add_bytes(err.as_slice());
+        let status = task.run(alloc, version, script.as_slice(), &mut out, &mut err);
+        digest.add_output(status, out.as_slice(), err.as_slice());
     }
     Some(digest)
 }

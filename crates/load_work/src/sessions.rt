@@ -16,13 +16,13 @@ use std::thread;
 use std::thread::{Threads, join};
 
 /// The bytes of each ring.
-const CAPACITY: u32 = 262_144;
+pub const CAPACITY: u32 = 262_144;
 
 /// The frames that may wait.
 const SLOTS: u32 = 64;
 
-/// The bytes that one read of the pipe asks for.
-const READ_AHEAD: usize = 65_536;
+/// The bytes that one read of the pipe or the connection asks for.
+pub const READ_AHEAD: usize = 65_536;
 
 /// The longest message of six in ten, of three more, and of the last.
 const LENGTHS: [u32; 3] = [128, 2_048, 61_440];
@@ -43,16 +43,6 @@ impl Job {
     }
 }
 
-fn len_of(random: &mut Random) -> usize {
-    let [short, middle, long] = LENGTHS;
-    let most = match random.from_to(0, 9) {
-        0..=5 => short,
-        6..=8 => middle,
-        _ => long,
-    };
-    random.from_to(1, most.max(1)) as usize
-}
-
 /// Sends a message as soon as there are guarantees and a slot for it. Whether it did.
 pub fn send<R: Wait>(rt: &R, end: &mut SendEnd, body: &[u8]) -> bool {
     for _ in rt.forever() {
@@ -70,7 +60,7 @@ pub fn send<R: Wait>(rt: &R, end: &mut SendEnd, body: &[u8]) -> bool {
 fn send_all<R: Wait>(rt: &R, end: &mut SendEnd, pool: &Pool, job: Job) {
     let mut random = job.random;
     for _ in 0..job.messages {
-        let len = len_of(&mut random);
+        let len = random.len_from(1, LENGTHS);
         let body = pool.part(&mut random, len);
         if !send(rt, end, body) {
             return;
@@ -169,14 +159,65 @@ fn take_each<R: Threads + Wait + Sync>(
     );
 }
 
-/// Writes until the session is stopped. The writer goes then, which ends the stream.
-pub fn write_all_out<R: Wait, W: Write + Drop>(rt: &R, mut pump: WritePump, writer: W) {
+// Writes until the session is stopped. The writer goes then, which ends the stream.
+fn write_all_out<R: Wait, W: Write + Drop>(rt: &R, mut pump: WritePump, writer: W) {
     let _end = pump.run(rt, &mut Counted::new(writer));
 }
 
-/// Reads until the stream ends.
-pub fn read_all<R: Wait, D: Read + Drop>(rt: &R, mut pump: ReadPump, reader: D) {
+// Reads until the stream ends.
+fn read_all<R: Wait, D: Read + Drop>(rt: &R, mut pump: ReadPump, reader: D) {
     let _end = pump.run(rt, &mut Counted::new(reader), u64::MAX);
+}
+
+/// Both pumps at work.
+pub fn use_pumps<R, D, W>(rt: &R, reading: ReadPump, reader: D, writing: WritePump, writer: W)
+where
+    R: Threads + Wait + Sync,
+    D: Read + Drop + Send,
+    W: Write + Drop + Send,
+{
+    join(
+        rt,
+        || read_all(rt, reading, reader),
+        || write_all_out(rt, writing, writer),
+    );
+}
+
+// All ends at work. The session is stopped once all are through.
+fn use_ends<R: Threads + Wait + Sync>(
+    rt: &R,
+    alloc: Global,
+    session: &Session,
+    sending: &mut [SendEnd; CHANNELS],
+    takers: &mut [Taker; CHANNELS],
+    pool: &Pool,
+    job: Job,
+) {
+    join(
+        rt,
+        || send_each(rt, sending, pool, job),
+        || take_each(rt, alloc, session, takers, job),
+    );
+    session.stop();
+}
+
+/// A new session.
+pub fn session(alloc: Global) -> Option<Parts> {
+    let config = Config {
+        version: Version::One,
+        capacities: [CAPACITY; CHANNELS],
+        slots: SLOTS,
+    };
+    Session::new(alloc, config).ok()
+}
+
+// What came of all channels.
+fn sum(takers: &[Taker; CHANNELS]) -> Option<Digest> {
+    let mut digest = Digest::new();
+    for taker in takers {
+        digest.add(taker.digest?.value());
+    }
+    Some(digest)
 }
 
 /// So many messages go through each channel of a session.
@@ -194,43 +235,21 @@ where
     let mut random = random;
     let [_, _, longest] = LENGTHS;
     let pool = Pool::new(alloc, &mut random, longest as usize).ok()?;
-    let config = Config {
-        version: Version::One,
-        capacities: [CAPACITY; CHANNELS],
-        slots: SLOTS,
-    };
+    let job = Job { random, messages };
+    let (reader, writer) = pipe(files).ok()?;
+    let reader = BufReader::with_capacity(alloc, READ_AHEAD, reader).ok()?;
     let Parts {
         session,
         mut send_ends,
         recv_ends,
         read_pump,
         write_pump,
-    } = Session::new(alloc, config).ok()?;
+    } = session(alloc)?;
     let mut takers = recv_ends.map(|end| Taker { end, digest: None });
-    let (reader, writer) = pipe(files).ok()?;
-    let reader = BufReader::with_capacity(alloc, READ_AHEAD, reader).ok()?;
-    let job = Job { random, messages };
     join(
         rt,
-        || {
-            join(
-                rt,
-                || read_all(rt, read_pump, reader),
-                || write_all_out(rt, write_pump, writer),
-            )
-        },
-        || {
-            join(
-                rt,
-                || send_each(rt, &mut send_ends, &pool, job),
-                || take_each(rt, alloc, &session, &mut takers, job),
-            );
-            session.stop();
-        },
+        || use_pumps(rt, read_pump, reader, write_pump, writer),
+        || use_ends(rt, alloc, &session, &mut send_ends, &mut takers, &pool, job),
     );
-    let mut digest = Digest::new();
-    for taker in &takers {
-        digest.add(taker.digest?.value());
-    }
-    Some(digest)
+    sum(&takers)
 }

@@ -1,6 +1,7 @@
 //! Streams of frames, listed.
 use crate::digest::Digest;
 use crate::random::{LAST_CHANNEL, Pool, Random};
+use crate::scripts::version_of;
 use lc_frame::{Channel, FrameRef, Version};
 use std::alloc::{AllocError, Global};
 
@@ -72,18 +73,11 @@ pub fn list_all(alloc: Global, random: Random, count: u32) -> Option<Digest> {
     let pool = Pool::new(alloc, &mut random, LONGEST as usize).ok()?;
     let (mut out, mut err) = (Vec::new(alloc), Vec::new(alloc));
     for number in 0..count {
-        let version = if number % 2 == 0 {
-            Version::One
-        } else {
-            Version::Two
-        };
-        let stream = stream(alloc, &mut random, &pool, version).ok()?;
+        let stream = stream(alloc, &mut random, &pool, version_of(number)).ok()?;
         out.clear();
         err.clear();
         let status = lc_cli::frames(alloc, &mut stream.as_slice(), &mut out, &mut err);
-        digest.add(u64::from(status));
-        digest.add_bytes(out.as_slice());
-        digest.add_bytes(err.as_slice());
+        digest.add_output(status, out.as_slice(), err.as_slice());
     }
     Some(digest)
 }

@@ -6,7 +6,8 @@ ghost use Rattle.lc_peer.specs.Inbox.{new_inbox};
 ghost use Rattle.lc_inbox.specs.Sides.{IsSameSide};
 ghost use Rattle.test_threads.specs.Arrivals.{arrived, IsNewPair};
 
-use lc_frame::{CHANNELS, Frame, FrameRef, LANES, Version};
+use crate::frames::number_of;
+use lc_frame::{CHANNELS, FrameRef, LANES, Version};
 use lc_inbox::{InboxEnd, InboxIn, InboxOut, SharedInbox, finish, share};
 use lc_peer::{Inbox, Take};
 use lc_queue::{Drain, LaneEnd, Lanes, lanes};
@@ -34,8 +35,8 @@ struct Message {
 fn numbered_message(number: u32) -> Message
     ensures { result.len ≤ 8 }
 {
-    let len = (number % 8) as usize + 1;
-    let bytes = [(number / 8 % 256) as u8; 8];
+    let len = (number & 7) as usize + 1;
+    let bytes = [(number >> 3 & 0xff) as u8; 8];
     Message { bytes, len }
 }
 
@@ -49,8 +50,8 @@ pub(crate) fn await_guarantees<R: Wait>(rt: &R, drain: &mut Drain, held: u64, ne
             return held;
         }
         match drain.pop(rt) {
-            Some(Frame::Issue { amount, .. }) => held = held.saturating_add(u64::from(amount)),
-            _ => thread::yield_now(),
+            Some(frame) => held = held.saturating_add(u64::from(number_of(&frame))),
+            None => thread::yield_now(),
         }
     }
     unreachable!()
@@ -87,17 +88,22 @@ fn hear_all<R: Wait>(rt: &R, mut incoming: InboxIn, mut drain: Drain, count: u32
     (incoming, lawful)
 }
 
+// Issues what is owed, if there is a slot for the frame.
+fn issue_owed<R: Wait>(rt: &R, outgoing: &mut InboxOut, owed: &mut u32)
+    ensures { outgoing.new.inbox ≡ outgoing.old.inbox }
+{
+    if *owed > 0 && outgoing.issue(rt, *owed).is_ok() {
+        *owed = 0;
+    }
+}
+
 // Takes a message as soon as one waits, and issues what is owed as soon as a slot is free: the
 // message's length, which is owed then too.
 fn take<R: Wait>(rt: &R, outgoing: &mut InboxOut, owed: &mut u32, buffer: &mut [u8; 8]) -> usize
     ensures { outgoing.new.inbox ≡ outgoing.old.inbox }
 {
     for _ in rt.forever() {
-        if *owed > 0
-            && let Ok(()) = outgoing.issue(rt, *owed)
-        {
-            *owed = 0;
-        }
+        issue_owed(rt, outgoing, owed);
         match outgoing.take_into(rt, buffer) {
             Ok(Take::Took(len)) => {
                 *owed = owed.saturating_add(len as u32);

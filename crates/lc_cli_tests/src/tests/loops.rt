@@ -1,68 +1,31 @@
 //! Two sessions that exchange messages, and what is printed of that.
-use super::devices::ShortWriter;
 use super::nets::{Trouble, Troubled};
 use super::same;
-use super::transcript::shown_of;
 use lc_cli::print_loopback;
 use lc_frame::Version;
-use lc_loopback::{LoopFault, LoopReport, Plan, loopback, loopback_as, loopback_of, ping_pong};
+use lc_loopback::{LoopFault, LoopReport, Plan, loopback_as, loopback_of, ping_pong};
 use std::alloc::Global;
+use std::io::Write;
 use std::net::{Net, TcpListener, TcpStream};
 use std::process::Abort;
 use std::sync::Wait;
 use std::thread::Threads;
 
-const ONE: &str = "> A 0 messages 1 bytes 4
-> A 1 messages 1 bytes 4
-> A 2 messages 1 bytes 4
-> A 3 messages 1 bytes 4
-> A 4 messages 1 bytes 4
-> A 5 messages 1 bytes 4
-> A 6 messages 1 bytes 4
-> B 0 messages 1 bytes 4
-> B 1 messages 1 bytes 4
-> B 2 messages 1 bytes 4
-> B 3 messages 1 bytes 4
-> B 4 messages 1 bytes 4
-> B 5 messages 1 bytes 4
-> B 6 messages 1 bytes 4
-> balanced
-= 0
-";
-
-const TEN: &str = "> A 0 messages 10 bytes 85
-> A 1 messages 10 bytes 85
-> A 2 messages 10 bytes 85
-> A 3 messages 10 bytes 85
-> A 4 messages 10 bytes 85
-> A 5 messages 10 bytes 85
-> A 6 messages 10 bytes 85
-> B 0 messages 10 bytes 85
-> B 1 messages 10 bytes 85
-> B 2 messages 10 bytes 85
-> B 3 messages 10 bytes 85
-> B 4 messages 10 bytes 85
-> B 5 messages 10 bytes 85
-> B 6 messages 10 bytes 85
-> balanced
-= 0
-";
-
-const THOUSAND: &str = "> A 0 messages 1000 bytes 9994
-> A 1 messages 1000 bytes 9994
-> A 2 messages 1000 bytes 9994
-> A 3 messages 1000 bytes 9994
-> A 4 messages 1000 bytes 9994
-> A 5 messages 1000 bytes 9994
-> A 6 messages 1000 bytes 9994
-> B 0 messages 1000 bytes 9994
-> B 1 messages 1000 bytes 9994
-> B 2 messages 1000 bytes 9994
-> B 3 messages 1000 bytes 9994
-> B 4 messages 1000 bytes 9994
-> B 5 messages 1000 bytes 9994
-> B 6 messages 1000 bytes 9994
-> balanced
+const TEN: &str = "A 0 messages 10 bytes 85
+A 1 messages 10 bytes 85
+A 2 messages 10 bytes 85
+A 3 messages 10 bytes 85
+A 4 messages 10 bytes 85
+A 5 messages 10 bytes 85
+A 6 messages 10 bytes 85
+B 0 messages 10 bytes 85
+B 1 messages 10 bytes 85
+B 2 messages 10 bytes 85
+B 3 messages 10 bytes 85
+B 4 messages 10 bytes 85
+B 5 messages 10 bytes 85
+B 6 messages 10 bytes 85
+balanced
 = 0
 ";
 
@@ -90,19 +53,6 @@ B 6 messages 14 bytes 36
 ";
 
 #[test]
-fn two_sessions_exchange_messages(rt: HostRuntime) {
-    for (command, wanted) in [
-        ("lcmux loopback 1", ONE),
-        ("lcmux loopback 10", TEN),
-        ("lcmux loopback 1000", THOUSAND),
-    ] {
-        let exchange = |count| loopback(&rt, rt, rt.alloc(), count);
-        let found = shown_of(rt.alloc(), command, exchange);
-        same(&rt, command, found, wanted);
-    }
-}
-
-#[test]
 fn a_small_plan_has_its_rings_and_slots(rt: HostRuntime) {
     let found = format!(in rt.alloc(); "{:?}", Plan::small(7)).ok();
     let wanted =
@@ -118,9 +68,8 @@ fn sessions_of_either_version_exchange_messages(rt: HostRuntime) {
         [Version::Two, Version::One],
         [Version::Two, Version::Two],
     ] {
-        let exchange = |count| loopback_as(&rt, rt, rt.alloc(), count, versions);
-        let found = shown_of(rt.alloc(), "lcmux loopback 10", exchange);
-        same(&rt, "lcmux loopback 10", found, TEN);
+        let answer = loopback_as(&rt, rt, rt.alloc(), 10, versions);
+        same(&rt, "ten messages", printed(rt.alloc(), answer), TEN);
     }
 }
 
@@ -176,58 +125,26 @@ fn sessions_exchange_messages_that_are_issued_late(rt: HostRuntime) {
     assert!(&rt; is_exchanged, "issued late");
 }
 
-// A report of these messages alone.
-fn counted(count: u32) -> Result<LoopReport, LoopFault> {
-    let mut report = REPORT;
-    report.messages[0][0] = u64::from(count);
-    Ok(report)
-}
-
-#[test]
-fn the_number_of_messages_is_handed_on(rt: HostRuntime) {
-    for count in ["1", "2", "99999", "100000"] {
-        let command = format!(in rt.alloc(); "lcmux loopback {count}").unwrap_or(String::new(
-            rt.alloc(),
-        ));
-        let found = shown_of(rt.alloc(), command.as_str(), counted);
-        let first = found.as_deref().and_then(|text| text.split('\n').next());
-        let wanted = format!(in rt.alloc(); "> A 0 messages {count} bytes 20").ok();
-        assert!(rt; first == wanted.as_deref(), "{count}");
-    }
-}
-
 // What is printed, and the status.
-fn printed(alloc: Global, answer: Result<LoopReport, LoopFault>, fails_at: u32) -> Option<String> {
-    let mut out = ShortWriter::new(alloc, fails_at);
-    let mut err = Vec::new(alloc);
+fn printed(alloc: Global, answer: Result<LoopReport, LoopFault>) -> Option<String> {
+    let (mut out, mut err) = (Vec::new(alloc), Vec::new(alloc));
     let status = print_loopback(alloc, answer, &mut out, &mut err);
-    let out = String::from_utf8(out.written).ok()?;
-    let err = String::from_utf8(err).ok()?;
-    format!(in alloc; "{out}{err}= {status}\n").ok()
+    out.append(&mut err).ok()?;
+    writeln!(out, "= {status}").ok()?;
+    String::from_utf8(out).ok()
+}
+
+// What is printed behind the lines of that report.
+fn ended(alloc: Global, balanced: bool) -> Option<String> {
+    let shown = printed(alloc, Ok(LoopReport { balanced, ..REPORT }))?;
+    String::from_str(alloc, shown.strip_prefix(LINES)?).ok()
 }
 
 #[test]
 fn each_number_has_its_place(rt: HostRuntime) {
-    let wanted = format!(in rt.alloc(); "{LINES}= 0\n").unwrap_or(String::new(rt.alloc()));
-    same(
-        &rt,
-        "not balanced",
-        printed(rt.alloc(), Ok(REPORT), u32::MAX),
-        wanted.as_str(),
-    );
-    let balanced = LoopReport {
-        balanced: true,
-        ..REPORT
-    };
-    let wanted = format!(in rt.alloc(); "{LINES}balanced\n= 0\n").unwrap_or(String::new(
-        rt.alloc(),
-    ));
-    same(
-        &rt,
-        "balanced",
-        printed(rt.alloc(), Ok(balanced), u32::MAX),
-        wanted.as_str(),
-    );
+    for (balanced, end) in [(false, "= 0\n"), (true, "balanced\n= 0\n")] {
+        same(&rt, "a report", ended(rt.alloc(), balanced), end);
+    }
 }
 
 // Of several faults the first of these is answered.
@@ -245,15 +162,9 @@ fn every_fault_has_its_sentence_and_prints_its_line_alone(rt: HostRuntime) {
         let said = format!(in rt.alloc(); "{fault}").ok();
         same(&rt, "a sentence", said, sentence);
         assert!(rt; fault as usize == place, "{fault:?}");
-        let found = printed(rt.alloc(), Err(fault), 1);
+        let found = printed(rt.alloc(), Err(fault));
         same(&rt, "a fault", found, "lcmux: loopback failed\n= 1\n");
     }
-}
-
-#[test]
-fn a_report_that_cannot_be_written_is_a_failed_write(rt: HostRuntime) {
-    let found = printed(rt.alloc(), Ok(REPORT), 1);
-    same(&rt, "the first write", found, "lcmux: write failed\n= 1\n");
 }
 
 /// How many messages go through each channel each way, and the versions in which both sides write.

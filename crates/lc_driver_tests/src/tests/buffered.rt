@@ -1,6 +1,7 @@
 //! Long messages to a writer that gathers what it is given: what it has passed on when the writing ends is
 //! what it passed on when frames went out as many at once as fit the longest one, each time in one write.
-use lc_driver::{Counted, Link};
+use crate::tests::{equal, ran};
+use lc_driver::{Counted, Link, WriteFault};
 use lc_frame::{CHANNELS, Channel, FrameRef, Version};
 use lc_peer::Config;
 use std::alloc::{AllocError, Global};
@@ -13,6 +14,9 @@ const CHANNEL: Channel = Channel::DataChannel;
 
 /// How many bytes go out at once in version Two: those of the longest frame.
 const BATCH: usize = 1_048_581;
+
+/// The tag and the length of a message.
+const HEADER: usize = 5;
 
 /// The longest message of version One, one byte and one page more, and longer ones up to the longest.
 const LENGTHS: [usize; 5] = [65_535, 65_536, 69_580, 262_144, 1_048_576];
@@ -80,97 +84,112 @@ impl Write for Gathers {
     }
 }
 
-// The bytes of a message on channel 1.
-fn frame(alloc: Global, body: &[u8]) -> Result<Vec<u8>, Fail> {
+// Appends a message on channel 1.
+fn append(body: &[u8], out: &mut Vec<u8>) -> Result<(), AllocError> {
     let len = u32::try_from(body.len()).unwrap_or(0);
-    let mut bytes = Vec::from_slice(alloc, b"\x11")?;
-    bytes.extend_from_slice(&len.to_be_bytes())?;
-    bytes.extend_from_slice(body)?;
-    Ok(bytes)
+    out.extend_from_slice(b"\x11")?;
+    out.extend_from_slice(&len.to_be_bytes())?;
+    out.extend_from_slice(body)
 }
 
 // The greeting and the messages, written as many whole frames at once as fit the longest.
-fn batches(alloc: Global, bodies: &[&[u8]], writer: &mut Gathers) -> Result<(), Fail> {
-    let mut batch = Vec::from_slice(alloc, b"LCM\x02")?;
+fn write_batches(alloc: Global, bodies: &[&[u8]], writer: &mut Gathers) -> Option<()> {
+    let mut batch = Vec::from_slice(alloc, b"LCM\x02").ok()?;
     for body in bodies {
-        let frame = frame(alloc, body)?;
-        if batch.len().saturating_add(frame.len()) > BATCH {
-            writer.write(&batch)?;
+        if batch
+            .len()
+            .saturating_add(HEADER)
+            .saturating_add(body.len())
+            > BATCH
+        {
+            writer.write(&batch).ok()?;
             batch.clear();
         }
-        batch.extend_from_slice(&frame)?;
+        append(body, &mut batch).ok()?;
     }
-    writer.write(&batch)?;
-    Ok(())
+    writer.write(&batch).ok()?;
+    Some(())
 }
 
-// A new link, which was promised room. Whether it was.
-fn promised(alloc: Global) -> Result<(Link, bool), Fail> {
+// A writer of this size to which they are written so.
+fn batches(alloc: Global, bodies: &[&[u8]], size: usize) -> Option<Gathers> {
+    let mut writer = Gathers::new(alloc, size);
+    write_batches(alloc, bodies, &mut writer)?;
+    Some(writer)
+}
+
+// A new link.
+fn new_link(alloc: Global) -> Option<Link> {
     let config = Config {
         version: Version::Two,
         capacities: [32; CHANNELS],
         slots: 32,
     };
-    let mut link = Link::new(alloc, config)?;
+    Link::new(alloc, config).ok()
+}
+
+// These messages wait, for which room was promised.
+fn send(rt: &impl Abort, link: &mut Link, bodies: &[&[u8]]) {
     let heard = link.peer.arrive(FrameRef::Issue {
         channel: CHANNEL,
         amount: 4_194_304,
     });
-    Ok((link, heard.is_ok()))
-}
-
-// Sends a message. Whether it was accepted.
-fn sends(link: &mut Link, body: &[u8]) -> bool {
-    link.peer.send(CHANNEL, body).is_ok()
-}
-
-// A new link at which these messages wait.
-fn waiting(rt: &impl Abort, alloc: Global, bodies: &[&[u8]]) -> Result<Link, Fail> {
-    let (mut link, heard) = promised(alloc)?;
-    assert!(rt; heard, "no room is promised");
+    equal(rt, "a promise", heard, Ok(()));
     for body in bodies {
-        assert!(rt; sends(&mut link, body), "a message is not accepted");
+        equal(rt, "a send", link.peer.send(CHANNEL, body), Ok(()));
     }
-    Ok(link)
+}
+
+// How a link writes them to a writer of this size, and the writer.
+fn written(
+    rt: &impl Abort,
+    alloc: Global,
+    bodies: &[&[u8]],
+    size: usize,
+) -> Option<(Result<u64, WriteFault>, Gathers)> {
+    let mut link = new_link(alloc)?;
+    send(rt, &mut link, bodies);
+    let mut writer = Counted::new(Gathers::new(alloc, size));
+    let answer = link.write_out(&mut writer);
+    Some((answer, writer.into_inner()))
 }
 
 // What has passed on is the same, in the same writes, and so is what is still held.
-fn compare(rt: &impl Abort, alloc: Global, bodies: &[&[u8]], size: usize) -> Result<(), Fail> {
-    let mut link = waiting(rt, alloc, bodies)?;
-    let mut writer = Counted::new(Gathers::new(alloc, size));
-    let written = link.write_out(&mut writer);
-    let found = writer.into_inner();
-    let mut wanted = Gathers::new(alloc, size);
-    batches(alloc, bodies, &mut wanted)?;
-    let all = wanted.passed.len().saturating_add(wanted.held.len());
-    assert_eq!(rt; written, Ok(all as u64));
-    let len = bodies.first().map(|body| body.len());
-    assert!(rt;
-        (found.passed.len(), found.writes) == (wanted.passed.len(), wanted.writes),
-        "of {len:?} bytes {} had passed a buffer of {size}, not {}",
-        found.passed.len(),
-        wanted.passed.len()
-    );
+fn are_same(rt: &impl Abort, size: usize, found: &Gathers, wanted: &Gathers) {
+    let passed = (size, found.passed.len(), found.writes);
+    let due = (size, wanted.passed.len(), wanted.writes);
+    equal(rt, "what has passed a buffer", passed, due);
     assert!(rt; found.passed == wanted.passed, "other bytes have passed");
     assert!(rt; found.held == wanted.held, "other bytes are held");
-    Ok(())
+}
+
+fn compare(rt: &impl Abort, alloc: Global, bodies: &[&[u8]], size: usize) -> Option<()> {
+    let wanted = batches(alloc, bodies, size)?;
+    let (answer, found) = written(rt, alloc, bodies, size)?;
+    let all = wanted.passed.len().saturating_add(wanted.held.len());
+    equal(rt, "a writing", answer, Ok(all as u64));
+    are_same(rt, size, &found, &wanted);
+    Some(())
 }
 
 // By itself, with a short one behind, and with one before and behind.
-fn compare_all(rt: &impl Abort, alloc: Global, long: &[u8], size: usize) -> Result<(), Fail> {
-    compare(rt, alloc, &[long], size)?;
-    compare(rt, alloc, &[long, SHORT], size)?;
-    compare(rt, alloc, &[SHORT, long, SHORT], size)
+fn compare_all(rt: &impl Abort, alloc: Global, long: &[u8], size: usize) {
+    ran(rt, compare(rt, alloc, &[long], size));
+    ran(rt, compare(rt, alloc, &[long, SHORT], size));
+    ran(rt, compare(rt, alloc, &[SHORT, long, SHORT], size));
+}
+
+fn compare_each(rt: &impl Abort, alloc: Global, bytes: &[u8]) {
+    for len in LENGTHS {
+        for size in SIZES {
+            compare_all(rt, alloc, bytes.get(..len).unwrap_or(&[]), size);
+        }
+    }
 }
 
 #[test]
 fn what_has_passed_on_is_what_had(rt: HostRuntime) -> Result<(), Fail> {
     let bytes = vec![in rt.alloc(); 0x5a_u8; 1_048_576]?;
-    for len in LENGTHS {
-        let long = bytes.get(..len).unwrap_or(&[]);
-        for size in SIZES {
-            compare_all(&rt, rt.alloc(), long, size)?;
-        }
-    }
+    compare_each(&rt, rt.alloc(), &bytes);
     Ok(())
 }

@@ -1,34 +1,41 @@
 //! What `Counted` hands on, and the texts of faults.
+use crate::tests::{equal, same};
 use lc_driver::{Counted, CountedRead, CountedWrite, Failures, WriteFault};
+use std::alloc::Global;
 use std::io;
 use std::io::{ErrorKind, Read, Write};
 use std::process::Abort;
-use std::test::Fail;
 
 /// More bytes than a buffer of any usual length has.
 const LARGE: usize = 70_000;
 
-#[test]
-fn large_writes_are_handed_on(rt: HostRuntime) -> Result<(), Fail> {
-    let bytes = vec![in rt.alloc(); 0x5a_u8; LARGE]?;
-    let mut writer = Counted::new(Vec::new(rt.alloc()));
-    let first = writer.write_counted(&bytes).ok();
-    let second = writer.write(&bytes).ok();
-    let len = writer.into_inner().len();
-    assert_eq!(rt; (first, second, len), (Some(70_000), Some(70_000), 140_000));
-    Ok(())
+// What two writes answer, and how many bytes they wrote.
+fn large_writes(alloc: Global, bytes: &[u8]) -> (Option<usize>, Option<usize>, usize) {
+    let mut writer = Counted::new(Vec::new(alloc));
+    let first = writer.write_counted(bytes).ok();
+    let second = writer.write(bytes).ok();
+    (first, second, writer.into_inner().len())
+}
+
+// What two reads answer, and how many bytes they leave.
+fn large_reads(bytes: &[u8], buffer: &mut [u8]) -> (Option<usize>, Option<usize>, usize) {
+    let mut reader = Counted::new(bytes);
+    let first = reader.read_counted(buffer).ok();
+    let second = reader.read(buffer).ok();
+    (first, second, reader.into_inner().len())
 }
 
 #[test]
-fn large_reads_are_handed_on(rt: HostRuntime) -> Result<(), Fail> {
-    let bytes = vec![in rt.alloc(); 0x5a_u8; 2 * LARGE]?;
-    let mut buffer = vec![in rt.alloc(); 0u8; LARGE]?;
-    let mut reader = Counted::new(bytes.as_slice());
-    let first = reader.read_counted(&mut buffer).ok();
-    let second = reader.read(&mut buffer).ok();
-    let len = reader.into_inner().len();
-    assert_eq!(rt; (first, second, len), (Some(70_000), Some(70_000), 0));
-    Ok(())
+fn large_writes_are_handed_on(rt: HostRuntime) {
+    let found = large_writes(rt.alloc(), &[0x5a; LARGE]);
+    let wanted = (Some(70_000), Some(70_000), 140_000);
+    equal(&rt, "two writes", found, wanted);
+}
+
+#[test]
+fn large_reads_are_handed_on(rt: HostRuntime) {
+    let found = large_reads(&[0x5a; 2 * LARGE], &mut [0; LARGE]);
+    equal(&rt, "two reads", found, (Some(70_000), Some(70_000), 0));
 }
 
 /// A device all of whose calls fail with an error of the system.
@@ -68,13 +75,17 @@ fn failed(
     error: Option<io::Error>,
     (code, kind): (i32, ErrorKind),
 ) {
-    let found = error.map(|error| (error.raw_os_error(), error.kind()));
-    let wanted = (Some((Some(code), kind)), Some(kind));
-    assert_eq!(rt; (found, device.last_failure()), wanted);
+    let Some(error) = error else {
+        assert!(rt; false, "no failure");
+        return;
+    };
+    let found = (error.raw_os_error(), error.kind());
+    let wanted = ((Some(code), kind), Some(kind));
+    equal(rt, "a failure", (found, device.last_failure()), wanted);
 }
 
 #[test]
-fn errors_are_handed_on(rt: HostRuntime) -> Result<(), Fail> {
+fn errors_are_handed_on(rt: HostRuntime) {
     for &(code, kind) in &ERRORS {
         let mut device = Counted::new(Broken { code });
         let error = device.read(&mut [0; 4]).err();
@@ -84,7 +95,6 @@ fn errors_are_handed_on(rt: HostRuntime) -> Result<(), Fail> {
         let error = device.flush().err();
         failed(&rt, &device, error, (code, kind));
     }
-    Ok(())
 }
 
 /// Faults of a writing and their texts.
@@ -108,10 +118,9 @@ const TEXTS: [(WriteFault, &str); 4] = [
 ];
 
 #[test]
-fn faults_have_texts(rt: HostRuntime) -> Result<(), Fail> {
+fn faults_have_texts(rt: HostRuntime) {
     for (fault, text) in &TEXTS {
-        let found = format!(in rt.alloc(); "{fault}")?;
-        assert_eq!(rt; found.as_str(), *text);
+        let found = format!(in rt.alloc(); "{fault}").ok();
+        same(&rt, "a fault", found, text);
     }
-    Ok(())
 }

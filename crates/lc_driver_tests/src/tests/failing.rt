@@ -1,12 +1,12 @@
 //! A session whose devices fail, stop short or move nothing at each of their calls in turn.
 use crate::tests::failing_link::FailingLink;
+use crate::tests::{equal, ran};
 use lc_driver::{Link, ReadEnd, WriteFault};
 use lc_frame::{Channel, Version};
 use lc_peer::Take;
 use std::alloc::Global;
 use std::io::ErrorKind;
 use std::process::Abort;
-use std::test::Fail;
 use test_devices::{Odd, Pipe, Plan};
 
 /// The messages of a session.
@@ -63,11 +63,13 @@ fn length(number: u8) -> usize {
 fn send(rt: &impl Abort, link: &mut Link, number: u8) {
     let bytes = [number; 16];
     let body = bytes.get(..length(number)).unwrap_or(&[]);
-    assert_eq!(rt; link.peer.send(Channel::DataChannel, body), Ok(()));
+    let sent = link.peer.send(Channel::DataChannel, body);
+    equal(rt, "a send", sent, Ok(()));
 }
 
 fn issue(rt: &impl Abort, link: &mut Link, amount: u32) {
-    assert_eq!(rt; link.peer.issue(Channel::DataChannel, amount), Ok(()));
+    let issued = link.peer.issue(Channel::DataChannel, amount);
+    equal(rt, "an issue", issued, Ok(()));
 }
 
 // Takes the message of this number, if it is there, and issues as much again.
@@ -77,7 +79,8 @@ fn take(rt: &impl Abort, link: &mut Link, number: u8) -> bool {
         return false;
     };
     let bytes = [number; 16];
-    assert_eq!(rt; buffer.get(..len), bytes.get(..length(number)));
+    let wanted = bytes.get(..length(number));
+    equal(rt, "a message", buffer.get(..len), wanted);
     issue(rt, link, u32::try_from(len).unwrap_or(0));
     true
 }
@@ -110,7 +113,7 @@ fn messages_go(
             taken = take_all(rt, &mut server.link, taken);
         }
     }
-    assert_eq!(rt; taken, MESSAGES);
+    equal(rt, "the messages taken", taken, MESSAGES);
     wire
 }
 
@@ -120,9 +123,9 @@ fn session(
     version: Version,
     kind: ErrorKind,
     (writing, reading): (Plan, Plan),
-) -> Result<Wire, Fail> {
-    let mut client = FailingLink::new(alloc, version, 32, 32)?;
-    let mut server = FailingLink::new(alloc, version, 32, 32)?;
+) -> Option<Wire> {
+    let mut client = FailingLink::new(alloc, version, 32, 32).ok()?;
+    let mut server = FailingLink::new(alloc, version, 32, 32).ok()?;
     client.kind = kind;
     server.kind = kind;
     let wire = Wire {
@@ -132,7 +135,7 @@ fn session(
         failed: 0,
         empty: 0,
     };
-    Ok(messages_go(rt, &mut client, &mut server, wire))
+    Some(messages_go(rt, &mut client, &mut server, wire))
 }
 
 /// A device, what it does at one call and how it fails there; and how many calls tell of a failure and
@@ -172,39 +175,44 @@ fn was_odd(rt: &impl Abort, wire: &Wire, device: &str, at: u64, wanted: (u32, u3
     if plan.calls < at {
         return false;
     }
-    assert_eq!(rt; (wire.failed, wire.empty), wanted, "{device} {at}");
+    let found = (at, wire.failed, wire.empty);
+    equal(rt, device, found, (at, wanted.0, wanted.1));
     true
 }
 
-fn each_is_odd(
+// Whether a session came to that call, which is odd; `None` where there was no memory for it.
+fn is_odd(
     rt: &impl Abort,
     alloc: Global,
     version: Version,
     (device, odd, kind, wanted): OddCall,
-) -> Result<(), Fail> {
+    at: u64,
+) -> Option<bool> {
+    let plans = plans(device, Plan::odd(odd, at));
+    let wire = session(rt, alloc, version, kind, plans)?;
+    Some(was_odd(rt, &wire, device, at, wanted))
+}
+
+fn each_is_odd(rt: &impl Abort, alloc: Global, version: Version, odd_call: OddCall) -> Option<()> {
     for at in 1..100 {
-        let plans = plans(device, Plan::odd(odd, at));
-        let wire = session(rt, alloc, version, kind, plans)?;
-        if !was_odd(rt, &wire, device, at, wanted) {
+        if !is_odd(rt, alloc, version, odd_call, at)? {
             break;
         }
     }
-    Ok(())
+    Some(())
 }
 
 #[test]
-fn each_call_fails_in_turn(rt: HostRuntime) -> Result<(), Fail> {
+fn each_call_fails_in_turn(rt: HostRuntime) {
     for &odd_call in &ODD_CALLS {
-        each_is_odd(&rt, rt.alloc(), Version::One, odd_call)?;
+        ran(&rt, each_is_odd(&rt, rt.alloc(), Version::One, odd_call));
     }
-    Ok(())
 }
 
 // The first calls move the greeting.
 #[test]
-fn each_call_fails_in_turn_in_version_two(rt: HostRuntime) -> Result<(), Fail> {
+fn each_call_fails_in_turn_in_version_two(rt: HostRuntime) {
     for &odd_call in &ODD_CALLS {
-        each_is_odd(&rt, rt.alloc(), Version::Two, odd_call)?;
+        ran(&rt, each_is_odd(&rt, rt.alloc(), Version::Two, odd_call));
     }
-    Ok(())
 }

@@ -1,11 +1,10 @@
 //! One side of a session with its pipes.
 use lc_driver::{Counted, Link, ReadEnd, Uninterrupted, WriteFault};
 use lc_frame::{CHANNELS, Version};
-use lc_peer::Config;
+use lc_peer::{Config, PeerFault};
 use std::alloc::Global;
 use std::io;
 use std::io::{ErrorKind, Read, Write};
-use std::test::Fail;
 use test_devices::{Odd, Pipe, PipeReader, PipeWriter, Plan};
 
 /// A device that says of each failure of the one below that it was of this kind.
@@ -17,20 +16,26 @@ struct Failing<D> {
 
 impl<D: Read> Read for Failing<D> {
     fn read(&mut self, buf: &mut [u8]) -> io::Result<usize> {
-        let kind = self.kind;
-        self.device.read(buf).map_err(|_| io::Error::from(kind))
+        let Ok(count) = self.device.read(buf) else {
+            return Err(io::Error::from(self.kind));
+        };
+        Ok(count)
     }
 }
 
 impl<D: Write> Write for Failing<D> {
     fn write(&mut self, buf: &[u8]) -> io::Result<usize> {
-        let kind = self.kind;
-        self.device.write(buf).map_err(|_| io::Error::from(kind))
+        let Ok(count) = self.device.write(buf) else {
+            return Err(io::Error::from(self.kind));
+        };
+        Ok(count)
     }
 
     fn flush(&mut self) -> io::Result<()> {
-        let kind = self.kind;
-        self.device.flush().map_err(|_| io::Error::from(kind))
+        let Ok(()) = self.device.flush() else {
+            return Err(io::Error::from(self.kind));
+        };
+        Ok(())
     }
 }
 
@@ -48,7 +53,7 @@ impl FailingLink {
         version: Version,
         capacity: u32,
         slots: u32,
-    ) -> Result<FailingLink, Fail> {
+    ) -> Result<FailingLink, PeerFault> {
         let config = Config {
             version,
             capacities: [capacity; CHANNELS],

@@ -1,12 +1,12 @@
 //! Streams of a hostile peer, whole and cut in two after each byte.
 use crate::tests::failing_link::FailingLink;
 use crate::tests::script::run;
+use crate::tests::{equal, ran};
 use lc_driver::Link;
 use lc_frame::{Channel, Version};
 use lc_peer::Take;
 use std::alloc::{AllocError, Global};
 use std::process::Abort;
-use std::test::Fail;
 use test_devices::{FINISHED, HOSTILE, Hostile, Pipe, Plan};
 
 // What a reading that may make no reads answers after one that ended so.
@@ -18,45 +18,45 @@ fn without_reads(end: &str) -> &str {
 }
 
 // The script of a stream whose first read gives so many bytes.
-fn cut_at(alloc: Global, stream: &Hostile, cut: usize) -> Result<String, Fail> {
+fn cut_at(alloc: Global, stream: &Hostile, cut: usize) -> Option<String> {
     let (own, end, at) = (stream.own, stream.end, stream.channel);
     let (held, left) = (stream.held, stream.receive_left);
     let (server, taken) = (stream.server, stream.taken);
     let last = without_reads(end);
-    Ok(format!(in alloc;
+    format!(in alloc;
         "{own}read 10 all {cut} 1 => {end}
         server {at} => {server}
         client {at} => held {held} {left:?}
         take {at} => {taken}
         read 10 all => {end}
         read 0 all => {last}"
-    )?)
+    )
+    .ok()
 }
 
 // A stream comes to new sides, and its first read gives each count of its bytes in turn.
-fn cut_anywhere(rt: &impl Abort, alloc: Global, stream: &Hostile) -> Result<(), Fail> {
+fn cut_anywhere(rt: &impl Abort, alloc: Global, stream: &Hostile) -> Option<()> {
     for before in 0..stream.bytes.len() / 2 {
         let script = cut_at(alloc, stream, before + 1)?;
-        run(rt, alloc, stream.bytes, script.as_str())?;
+        run(rt, alloc, Version::One, stream.bytes, script.as_str())?;
     }
-    Ok(())
+    Some(())
 }
 
 #[test]
-fn streams_cut_anywhere(rt: HostRuntime) -> Result<(), Fail> {
+fn streams_cut_anywhere(rt: HostRuntime) {
     for stream in &HOSTILE {
-        cut_anywhere(&rt, rt.alloc(), stream)?;
+        ran(&rt, cut_anywhere(&rt, rt.alloc(), stream));
     }
-    Ok(())
 }
 
 #[test]
-fn streams_of_version_two_cut_anywhere(rt: HostRuntime) -> Result<(), Fail> {
+fn streams_of_version_two_cut_anywhere(rt: HostRuntime) {
     for stream in HOSTILE.iter().chain(&FINISHED) {
         let bytes = stream.in_two;
-        cut_anywhere(&rt, rt.alloc(), &Hostile { bytes, ..*stream })?;
+        let stream = Hostile { bytes, ..*stream };
+        ran(&rt, cut_anywhere(&rt, rt.alloc(), &stream));
     }
-    Ok(())
 }
 
 // The next byte of a linear congruential generator.
@@ -85,12 +85,12 @@ fn is_bounded(rt: &impl Abort, link: &mut Link, channel: Channel) {
     let book = link.peer.server(channel);
     let (buffered, outstanding) = (book.buffered(), book.outstanding());
     assert!(rt; buffered.saturating_add(outstanding) <= 8);
-    assert_eq!(rt; take_all(link, channel), buffered);
+    equal(rt, "what is taken", take_all(link, channel), buffered);
 }
 
 fn issue_all(rt: &impl Abort, link: &mut Link) {
     for channel in &Channel::ALL {
-        assert_eq!(rt; link.peer.issue(*channel, 8), Ok(()));
+        equal(rt, "an issue", link.peer.issue(*channel, 8), Ok(()));
     }
 }
 
@@ -109,24 +109,34 @@ fn any_stream(alloc: Global, version: Version, state: &mut u64) -> Result<Vec<u8
     Ok(bytes)
 }
 
-fn any_streams(rt: &impl Abort, alloc: Global, version: Version) -> Result<(), Fail> {
+// A side to which the next bytes come is bounded.
+fn any_stream_comes(
+    rt: &impl Abort,
+    alloc: Global,
+    version: Version,
+    state: &mut u64,
+) -> Option<()> {
+    let pipe = Pipe::of(any_stream(alloc, version, state).ok()?);
+    let mut side = FailingLink::new(alloc, version, 8, 7).ok()?;
+    issue_all(rt, &mut side.link);
+    let _ = side.read(Plan::whole(), pipe, 10);
+    all_are_bounded(rt, &mut side.link);
+    Some(())
+}
+
+fn any_streams(rt: &impl Abort, alloc: Global, version: Version) {
     let mut state = 1;
     for _ in 0..10_000 {
-        let pipe = Pipe::of(any_stream(alloc, version, &mut state)?);
-        let mut side = FailingLink::new(alloc, version, 8, 7)?;
-        issue_all(rt, &mut side.link);
-        let _ = side.read(Plan::whole(), pipe, 10);
-        all_are_bounded(rt, &mut side.link);
+        ran(rt, any_stream_comes(rt, alloc, version, &mut state));
     }
-    Ok(())
 }
 
 #[test]
-fn streams_of_any_bytes(rt: HostRuntime) -> Result<(), Fail> {
-    any_streams(&rt, rt.alloc(), Version::One)
+fn streams_of_any_bytes(rt: HostRuntime) {
+    any_streams(&rt, rt.alloc(), Version::One);
 }
 
 #[test]
-fn streams_of_any_bytes_behind_a_greeting(rt: HostRuntime) -> Result<(), Fail> {
-    any_streams(&rt, rt.alloc(), Version::Two)
+fn streams_of_any_bytes_behind_a_greeting(rt: HostRuntime) {
+    any_streams(&rt, rt.alloc(), Version::Two);
 }

@@ -1,10 +1,9 @@
 //! A script of calls on an inbox by itself.
-use crate::tests::script::same;
+use crate::tests::{equal, ran, same};
 use lc_frame::{Decoded, FrameRef, Version, decode};
-use lc_peer::{Inbox, Refusal, Violation};
+use lc_peer::{Inbox, NewFault, Refusal, Violation};
 use std::alloc::Global;
 use std::process::Abort;
-use std::test::Fail;
 use test_devices::text;
 
 /// The calls on an inbox over a ring of 8 bytes, with what they answer.
@@ -111,37 +110,34 @@ fn answer(alloc: Global, inbox: &mut Inbox, call: &str) -> Option<String> {
     }
 }
 
-// Each call of a script answers what stands behind it: a line is a call, ` => ` and its answer.
-fn answers(rt: &impl Abort, alloc: Global, inbox: &mut Inbox, script: &str) {
+// Each call of a script on a new inbox answers what stands behind it: a line is a call, ` => ` and its
+// answer.
+fn answers(rt: &impl Abort, alloc: Global, script: &str) -> Option<()> {
+    let mut inbox = Inbox::new(alloc, 8).ok()?;
     for line in script.lines() {
         let line = line.trim();
         let (call, wanted) = line.split_once(" => ").unwrap_or((line, "an answer"));
-        same(rt, line, answer(alloc, inbox, call), wanted);
+        same(rt, line, answer(alloc, &mut inbox, call), wanted);
     }
+    Some(())
 }
 
-/// An inbox on which nothing has happened.
-pub fn inbox(alloc: Global, capacity: u32) -> Result<Inbox, Fail> {
-    Ok(Inbox::new(alloc, capacity)?)
-}
-
-// Why there is no inbox.
-fn fault(alloc: Global, capacity: u32) -> Option<String> {
-    text(alloc, &Inbox::new(alloc, capacity).err())
+/// Why there is no inbox.
+pub fn fault(alloc: Global, capacity: u32) -> Option<NewFault> {
+    Inbox::new(alloc, capacity).err()
 }
 
 #[test]
 fn no_inbox_has_these_capacities(rt: HostRuntime) {
     for capacity in [0, 16_777_217] {
-        same(&rt, "new", fault(rt.alloc(), capacity), "Some(BadCapacity)");
+        let found = fault(rt.alloc(), capacity);
+        equal(&rt, "new", found, Some(NewFault::BadCapacity));
     }
 }
 
 #[test]
-fn worked_calls(rt: HostRuntime) -> Result<(), Fail> {
+fn worked_calls(rt: HostRuntime) {
     for script in &CALLS {
-        let mut inbox = inbox(rt.alloc(), 8)?;
-        answers(&rt, rt.alloc(), &mut inbox, script);
+        ran(&rt, answers(&rt, rt.alloc(), script));
     }
-    Ok(())
 }

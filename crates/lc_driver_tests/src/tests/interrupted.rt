@@ -1,7 +1,7 @@
 //! What `Uninterrupted` makes of the answers of a device, and how often it asks.
 ghost use Rattle.std.specs.Prelude.{◌≤◌, IfOk};
 
-use crate::tests::script::same;
+use crate::tests::same;
 use lc_driver::Uninterrupted;
 use std::alloc::Global;
 use std::io;
@@ -82,17 +82,26 @@ fn device(interruptions: &str, then: &str) -> Option<Uninterrupted<Signalled>> {
     }))
 }
 
+fn called(device: &mut Uninterrupted<Signalled>, verb: &str) -> io::Result<usize> {
+    match verb {
+        "read" => device.read(&mut [0; 4]),
+        "write" => device.write(&[0; 4]),
+        _ => {
+            device.flush()?;
+            Ok(0)
+        }
+    }
+}
+
 // What a call answers, and how many calls the device saw.
 fn answer(alloc: Global, call: &str) -> Option<String> {
     let (verb, rest) = call.split_once(' ')?;
     let (interruptions, then) = rest.split_once(' ')?;
     let mut device = device(interruptions, then)?;
-    let answer = match verb {
-        "read" => device.read(&mut [0; 4]),
-        "write" => device.write(&[0; 4]),
-        _ => device.flush().map(|()| 0),
+    let answer = match called(&mut device, verb) {
+        Ok(count) => Ok(count),
+        Err(error) => Err(error.raw_os_error()),
     };
-    let answer = answer.map_err(|error| error.raw_os_error());
     let calls = device.into_inner().calls;
     format!(in alloc; "{answer:?} calls {calls}").ok()
 }

@@ -4,12 +4,14 @@
 //! They go out as short ones do, with what stands before and behind them in one write: a rest by itself
 //! would wait, on a TCP connection that gathers short segments, until the first write is acknowledged.
 use crate::tests::failing_link::FailingLink;
-use lc_driver::WriteFault;
+use crate::tests::{equal, ran};
+use lc_driver::{Link, WriteFault};
 use lc_frame::{Channel, FrameRef, Version};
-use std::alloc::Global;
+use std::alloc::{AllocError, Global};
 use std::process::Abort;
-use std::test::Fail;
 use test_devices::{Odd, Pipe, Plan};
+
+const CHANNEL: Channel = Channel::DataChannel;
 
 const SHORT: &[u8] = b"abc";
 
@@ -50,24 +52,39 @@ const CUTS: [Cut; 10] = [
     ((65_549, Odd::Fails, 2), (65_549, 2, End::Failed), (0, 1)),
 ];
 
-// A side that wrote its greeting, at which the three messages wait.
-fn side(rt: &impl Abort, alloc: Global, long: &[u8]) -> Result<FailingLink, Fail> {
-    let channel = Channel::DataChannel;
-    let mut side = FailingLink::new(alloc, Version::Two, 32, 32)?;
-    let (greeted, _) = side.write(Plan::whole(), Pipe::of(Vec::new(alloc)));
-    let heard = side.link.peer.arrive(FrameRef::Issue {
-        channel,
-        amount: 100_000,
+fn hear(rt: &impl Abort, link: &mut Link) {
+    let heard = link.peer.arrive(FrameRef::Issue {
+        channel: CHANNEL,
+        amount: 1_048_576,
     });
-    assert_eq!(rt; (greeted, heard), (Ok(4), Ok(())));
+    equal(rt, "a promise", heard, Ok(()));
+}
+
+// A side of version Two that was promised room.
+fn promised(rt: &impl Abort, alloc: Global) -> Option<FailingLink> {
+    let mut side = FailingLink::new(alloc, Version::Two, 32, 32).ok()?;
+    hear(rt, &mut side.link);
+    Some(side)
+}
+
+fn send(rt: &impl Abort, side: &mut FailingLink, body: &[u8]) {
+    let sent = side.link.peer.send(CHANNEL, body);
+    equal(rt, "a send", sent, Ok(()));
+}
+
+// A side that wrote its greeting, at which the three messages wait.
+fn greeted(rt: &impl Abort, alloc: Global, long: &[u8]) -> Option<FailingLink> {
+    let mut side = promised(rt, alloc)?;
+    let (greeted, _) = side.write(Plan::whole(), Pipe::of(Vec::new(alloc)));
+    equal(rt, "a greeting", greeted, Ok(4));
     for body in [SHORT, long, SHORT] {
-        assert_eq!(rt; side.link.peer.send(channel, body), Ok(()));
+        send(rt, &mut side, body);
     }
-    Ok(side)
+    Some(side)
 }
 
 // The bytes of the three frames.
-fn stream(alloc: Global, long: &[u8]) -> Result<Vec<u8>, Fail> {
+fn stream(alloc: Global, long: &[u8]) -> Result<Vec<u8>, AllocError> {
     let mut bytes = Vec::from_slice(alloc, b"\x11\x00\x00\x00\x03abc")?;
     bytes.extend_from_slice(b"\x11\x00\x01\x00\x00")?;
     bytes.extend_from_slice(long)?;
@@ -75,8 +92,8 @@ fn stream(alloc: Global, long: &[u8]) -> Result<Vec<u8>, Fail> {
     Ok(bytes)
 }
 
-// The writing ends as is wanted, and a further one goes on with the next byte.
-fn is_cut(rt: &impl Abort, alloc: Global, long: &[u8], cut: Cut) -> Result<(), Fail> {
+// A writing ends as is wanted. What it wrote, and after how many bytes.
+fn cut_off(rt: &impl Abort, side: &mut FailingLink, empty: Pipe, cut: Cut) -> (Pipe, u64) {
     let ((most, odd, at), (written, calls, end), left) = cut;
     let wanted = match end {
         End::Whole => Ok(written),
@@ -87,26 +104,53 @@ fn is_cut(rt: &impl Abort, alloc: Global, long: &[u8], cut: Cut) -> Result<(), F
         most,
         ..Plan::odd(odd, at)
     };
-    let mut side = side(rt, alloc, long)?;
-    let (answer, writer) = side.write(plan, Pipe::of(Vec::new(alloc)));
-    assert_eq!(rt; (answer, writer.plan.calls), (wanted, calls));
-    assert_eq!(rt; (side.link.pending(), side.link.peer.waiting()), left);
-    let (answer, writer) = side.write(Plan::whole(), writer.pipe);
-    assert_eq!(rt; answer, Ok(65_557_u64.saturating_sub(written)));
-    assert_eq!(rt; writer.pipe.bytes, stream(alloc, long)?);
-    Ok(())
+    let (answer, writer) = side.write(plan, empty);
+    let found = (side.link.pending(), side.link.peer.waiting());
+    equal(
+        rt,
+        "a writing",
+        (answer, writer.plan.calls),
+        (wanted, calls),
+    );
+    equal(rt, "what is left", found, left);
+    (writer.pipe, written)
 }
 
-#[test]
-fn a_long_message_is_cut(rt: HostRuntime) -> Result<(), Fail> {
-    let mut long = Vec::new(rt.alloc());
+// The writing ends as is wanted, and a further one goes on with the next byte.
+fn is_cut(rt: &impl Abort, alloc: Global, (long, all): (&[u8], &[u8]), cut: Cut) -> Option<()> {
+    let mut side = greeted(rt, alloc, long)?;
+    let (pipe, written) = cut_off(rt, &mut side, Pipe::of(Vec::new(alloc)), cut);
+    let (answer, writer) = side.write(Plan::whole(), pipe);
+    let rest = 65_557_u64.saturating_sub(written);
+    equal(rt, "a further writing", answer, Ok(rest));
+    assert!(rt;
+        writer.pipe.bytes.as_slice() == all,
+        "other bytes are written"
+    );
+    Some(())
+}
+
+// A message whose bytes tell where they stand.
+fn long(alloc: Global) -> Result<Vec<u8>, AllocError> {
+    let mut long = Vec::new(alloc);
     for place in 0..LONG {
         long.push((place % 251) as u8)?;
     }
+    Ok(long)
+}
+
+fn each_is_cut(rt: &impl Abort, alloc: Global) -> Option<()> {
+    let long = long(alloc).ok()?;
+    let all = stream(alloc, &long).ok()?;
     for &cut in &CUTS {
-        is_cut(&rt, rt.alloc(), &long, cut)?;
+        is_cut(rt, alloc, (&long, &all), cut)?;
     }
-    Ok(())
+    Some(())
+}
+
+#[test]
+fn a_long_message_is_cut(rt: HostRuntime) {
+    ran(&rt, each_is_cut(&rt, rt.alloc()));
 }
 
 /// Messages that are sent before anything is written; after how many bytes and writes all went out, with
@@ -122,35 +166,28 @@ const WRITES: [(&[usize], u64, u64); 8] = [
     (&[1_048_576], 1_048_585, 2),
 ];
 
-// A side at which messages of these lengths wait behind its greeting.
-fn waiting(
-    rt: &impl Abort,
-    alloc: Global,
-    bytes: &[u8],
-    lengths: &[usize],
-) -> Result<FailingLink, Fail> {
-    let channel = Channel::DataChannel;
-    let mut side = FailingLink::new(alloc, Version::Two, 32, 32)?;
-    let heard = side.link.peer.arrive(FrameRef::Issue {
-        channel,
-        amount: 1_048_576,
-    });
-    assert_eq!(rt; heard, Ok(()));
+// What a side writes, at which messages of these lengths wait behind its greeting: after how many bytes
+// and writes it ends.
+fn write(rt: &impl Abort, alloc: Global, bytes: &[u8], lengths: &[usize]) -> Option<(u64, u64)> {
+    let mut side = promised(rt, alloc)?;
     for &length in lengths {
-        let body = bytes.get(..length).unwrap_or(&[]);
-        assert_eq!(rt; side.link.peer.send(channel, body), Ok(()));
+        send(rt, &mut side, bytes.get(..length).unwrap_or(&[]));
     }
-    Ok(side)
+    let (answer, writer) = side.write(Plan::whole(), Pipe::of(Vec::new(alloc)));
+    equal(rt, "a writing", answer, Ok(writer.pipe.bytes.len() as u64));
+    Some((answer.ok()?, writer.plan.calls))
+}
+
+fn each_goes_out(rt: &impl Abort, alloc: Global) -> Option<()> {
+    let bytes = vec![in alloc; 0x5a_u8; 1_048_576].ok()?;
+    for &(lengths, written, calls) in &WRITES {
+        let found = write(rt, alloc, &bytes, lengths);
+        equal(rt, "what goes out", found, Some((written, calls)));
+    }
+    Some(())
 }
 
 #[test]
-fn a_long_message_goes_out_with_what_stands_by_it(rt: HostRuntime) -> Result<(), Fail> {
-    let bytes = vec![in rt.alloc(); 0x5a_u8; 1_048_576]?;
-    for &(lengths, written, calls) in &WRITES {
-        let mut side = waiting(&rt, rt.alloc(), &bytes, lengths)?;
-        let (answer, writer) = side.write(Plan::whole(), Pipe::of(Vec::new(rt.alloc())));
-        assert_eq!(rt; (answer, writer.plan.calls), (Ok(written), calls));
-        assert_eq!(rt; writer.pipe.bytes.len() as u64, written);
-    }
-    Ok(())
+fn a_long_message_goes_out_with_what_stands_by_it(rt: HostRuntime) {
+    ran(&rt, each_goes_out(&rt, rt.alloc()));
 }

@@ -1,5 +1,6 @@
 //! Messages about as long as their rings, read by a link, of which it keeps none that is longer, and by
 //! a peer whose intake keeps whatever comes: both answer the same.
+use crate::tests::{equal, ran};
 use lc_driver::{Counted, Failures, Link, ReadEnd, read_in};
 use lc_frame::{CHANNELS, Channel, FrameRef, Version};
 use lc_peer::{Config, Intake, Peer, Take, Violation};
@@ -7,7 +8,6 @@ use std::alloc::{AllocError, Global};
 use std::io;
 use std::io::Read;
 use std::process::Abort;
-use std::test::Fail;
 
 /// The bytes of the rings, by the channels' numbers.
 const RINGS: [u32; CHANNELS] = [1, 7, 16, 40, 90, 300, 512];
@@ -68,6 +68,11 @@ impl Read for Cut<'_> {
     }
 }
 
+// How a reading ended, how many reads it made, and how many bytes it left.
+fn came_of(end: ReadEnd, reader: Counted<Cut<'_>>) -> (ReadEnd, u64, usize) {
+    (end, reader.calls(), reader.into_inner().bytes.len())
+}
+
 // A side that reads by a link, and one that keeps whatever comes.
 #[derive(Drop)]
 struct Sides {
@@ -77,16 +82,16 @@ struct Sides {
 }
 
 impl Sides {
-    fn new(alloc: Global) -> Result<Sides, Fail> {
+    fn new(alloc: Global) -> Option<Sides> {
         let config = Config {
             version: Version::One,
             capacities: RINGS,
             slots: 8,
         };
-        Ok(Sides {
-            link: Link::new(alloc, config)?,
-            peer: Peer::new(alloc, config)?,
-            intake: Intake::new(alloc)?,
+        Some(Sides {
+            link: Link::new(alloc, config).ok()?,
+            peer: Peer::new(alloc, config).ok()?,
+            intake: Intake::new(alloc).ok()?,
         })
     }
 
@@ -101,11 +106,12 @@ impl Sides {
         let mut two = Counted::new(Cut { bytes, before });
         let end = self.link.read_in(&mut one, 9);
         let wanted = read_in(&mut self.peer, &mut two, &mut self.intake, 9);
-        assert!(rt; end == wanted, "a link answers {end:?}, and not {wanted:?}");
-        let calls = (one.calls(), two.calls());
-        assert!(rt; calls.0 == calls.1, "other reads: {calls:?}");
-        let left = (one.into_inner().bytes.len(), two.into_inner().bytes.len());
-        assert!(rt; left.0 == left.1, "other bytes are left: {left:?}");
+        equal(
+            rt,
+            "a reading by a link",
+            came_of(end, one),
+            came_of(wanted, two),
+        );
         end
     }
 
@@ -114,10 +120,7 @@ impl Sides {
         let (mut one, mut two) = ([7; LONGEST], [7; LONGEST]);
         let found = self.link.peer.take_into(channel, &mut one);
         let wanted = self.peer.take_into(channel, &mut two);
-        assert!(rt;
-            found == wanted,
-            "a take answers {found:?}, and not {wanted:?}"
-        );
+        equal(rt, "a take by a link", found, wanted);
         assert!(rt; one == two, "a message of other bytes");
         match found {
             Ok(Take::Took(len)) => Some(len),
@@ -154,33 +157,34 @@ fn ring_of(channel: Channel) -> usize {
     RINGS[channel.index()] as usize
 }
 
+const NOT_GUARANTEED: ReadEnd = ReadEnd::Violated(Violation::NotGuaranteed);
+
+// A message is longer than its ring: nothing of it is kept, and nothing more arrives.
+fn is_refused(rt: &impl Abort, sides: &mut Sides, channel: Channel, end: ReadEnd) {
+    equal(rt, "a longer message", end, NOT_GUARANTEED);
+    let kept = sides.link.kept();
+    assert!(rt; kept <= HEADER, "{kept} bytes are kept");
+    let end = sides.read(rt, b"\x10\x00\x01a", 0);
+    equal(rt, "a further one", end, NOT_GUARANTEED);
+    equal(rt, "a take", sides.take(rt, channel), None);
+}
+
 // A message that all guarantees of its ring were issued for: it arrives, unless it is longer.
 fn came(
     rt: &impl Abort,
-    alloc: Global,
+    sides: &mut Sides,
     channel: Channel,
     len: usize,
-    cut: (&[u8], usize),
-) -> Result<(), Fail> {
-    let mut sides = Sides::new(alloc)?;
-    let ring = ring_of(channel);
+    (bytes, before): (&[u8], usize),
+) {
     sides.issue(channel, RINGS[channel.index()]);
-    let end = sides.read(rt, cut.0, cut.1);
-    if len <= ring {
-        assert!(rt; end == ReadEnd::Clean, "{len} bytes in {ring}: {end:?}");
-        assert_eq!(rt; sides.take(rt, channel), Some(len));
-        return Ok(());
+    let end = sides.read(rt, bytes, before);
+    if len > ring_of(channel) {
+        is_refused(rt, sides, channel, end);
+        return;
     }
-    let wanted = ReadEnd::Violated(Violation::NotGuaranteed);
-    assert!(rt; end == wanted, "{len} bytes in {ring}: {end:?}");
-    assert!(rt;
-        sides.link.kept() <= HEADER,
-        "{} bytes are kept",
-        sides.link.kept()
-    );
-    assert_eq!(rt; sides.read(rt, b"\x10\x00\x01a", 0), wanted);
-    assert_eq!(rt; sides.take(rt, channel), None);
-    Ok(())
+    equal(rt, "a message", end, ReadEnd::Clean);
+    equal(rt, "a take", sides.take(rt, channel), Some(len));
 }
 
 // The same cut after each byte.
@@ -190,60 +194,61 @@ fn came_cut_anywhere(
     version: Version,
     channel: Channel,
     len: usize,
-) -> Result<(), Fail> {
-    let bytes = stream_of(alloc, version, channel, len)?;
+) -> Option<()> {
+    let bytes = stream_of(alloc, version, channel, len).ok()?;
     for before in 0..bytes.len() {
-        came(rt, alloc, channel, len, (bytes.as_slice(), before))?;
+        came(rt, &mut Sides::new(alloc)?, channel, len, (&bytes, before));
     }
-    Ok(())
+    Some(())
 }
 
-fn messages_of(rt: &impl Abort, alloc: Global, version: Version) -> Result<(), Fail> {
-    for channel in &Channel::ALL {
-        for more in &MORE {
-            let len = ring_of(*channel).saturating_sub(1).saturating_add(*more);
+fn messages_of(rt: &impl Abort, alloc: Global, version: Version) {
+    for channel in Channel::ALL {
+        for more in MORE {
+            let len = ring_of(channel).saturating_sub(1).saturating_add(more);
             if len > 0 {
-                came_cut_anywhere(rt, alloc, version, *channel, len)?;
+                ran(rt, came_cut_anywhere(rt, alloc, version, channel, len));
             }
         }
     }
-    Ok(())
 }
 
 #[test]
-fn messages_about_their_ring(rt: HostRuntime) -> Result<(), Fail> {
-    messages_of(&rt, rt.alloc(), Version::One)
+fn messages_about_their_ring(rt: HostRuntime) {
+    messages_of(&rt, rt.alloc(), Version::One);
 }
 
 #[test]
-fn messages_about_their_ring_in_two(rt: HostRuntime) -> Result<(), Fail> {
-    messages_of(&rt, rt.alloc(), Version::Two)
+fn messages_about_their_ring_in_two(rt: HostRuntime) {
+    messages_of(&rt, rt.alloc(), Version::Two);
+}
+
+// A stream of a Finish and a message that is longer than its ring.
+fn finished_stream(alloc: Global, channel: Channel) -> Result<Vec<u8>, AllocError> {
+    let version = Version::Two;
+    let len = ring_of(channel).saturating_add(1);
+    let mut out = Vec::from_slice(alloc, version.greeting())?;
+    append(version, FrameRef::Finish { channel }, &mut out)?;
+    append_send(version, channel, len, &mut out)?;
+    Ok(out)
 }
 
 // After a Finish a longer message is refused as one that comes after it.
-fn after_a_finish(rt: &impl Abort, alloc: Global, channel: Channel) -> Result<(), Fail> {
-    let mut out = Vec::from_slice(alloc, Version::Two.greeting())?;
-    append(Version::Two, FrameRef::Finish { channel }, &mut out)?;
-    append_send(
-        Version::Two,
-        channel,
-        ring_of(channel).saturating_add(1),
-        &mut out,
-    )?;
-    for before in 0..out.len() {
-        let mut sides = Sides::new(alloc)?;
-        let end = sides.read(rt, out.as_slice(), before);
-        assert_eq!(rt; end, ReadEnd::Violated(Violation::AfterFinish));
+fn after_a_finish(rt: &impl Abort, alloc: Global, channel: Channel) -> Option<()> {
+    let bytes = finished_stream(alloc, channel).ok()?;
+    let wanted = ReadEnd::Violated(Violation::AfterFinish);
+    for before in 0..bytes.len() {
+        let end = Sides::new(alloc)?.read(rt, &bytes, before);
+        equal(rt, "a longer message", end, wanted);
     }
-    Ok(())
+    Some(())
 }
 
 #[test]
-fn a_longer_message_after_a_finish(rt: HostRuntime) -> Result<(), Fail> {
-    for channel in &Channel::ALL {
-        after_a_finish(&rt, rt.alloc(), *channel)?;
+fn a_longer_message_after_a_finish(rt: HostRuntime) {
+    for channel in Channel::ALL {
+        ran(&rt, after_a_finish(&rt, rt.alloc(), channel));
     }
-    Ok(())
 }
 
 // Guarantees that are issued while a message is on its way count at its end, but none is enough for a
@@ -253,25 +258,25 @@ fn issued_meanwhile(
     alloc: Global,
     channel: Channel,
     more: usize,
-) -> Result<ReadEnd, Fail> {
-    let ring = ring_of(channel);
-    let bytes = stream_of(alloc, Version::Two, channel, ring.saturating_add(more))?;
+) -> Option<ReadEnd> {
+    let len = ring_of(channel).saturating_add(more);
+    let bytes = stream_of(alloc, Version::Two, channel, len).ok()?;
     let (header, body) = bytes.as_slice().split_at(bytes.len().min(9));
     let mut sides = Sides::new(alloc)?;
-    assert_eq!(rt; sides.read(rt, header, 0), ReadEnd::Truncated);
+    let end = sides.read(rt, header, 0);
+    equal(rt, "a header", end, ReadEnd::Truncated);
     sides.issue(channel, RINGS[channel.index()]);
-    Ok(sides.read(rt, body, 0))
+    Some(sides.read(rt, body, 0))
 }
 
 #[test]
-fn guarantees_that_come_too_late_and_are_too_few(rt: HostRuntime) -> Result<(), Fail> {
-    for channel in &Channel::ALL {
-        let fits = issued_meanwhile(&rt, rt.alloc(), *channel, 0)?;
-        assert_eq!(&rt; fits, ReadEnd::Clean);
-        let longer = issued_meanwhile(&rt, rt.alloc(), *channel, 1)?;
-        assert_eq!(&rt; longer, ReadEnd::Violated(Violation::NotGuaranteed));
+fn guarantees_that_come_too_late_and_are_too_few(rt: HostRuntime) {
+    for channel in Channel::ALL {
+        for (more, wanted) in [(0, ReadEnd::Clean), (1, NOT_GUARANTEED)] {
+            let end = issued_meanwhile(&rt, rt.alloc(), channel, more);
+            equal(&rt, "a message", end, Some(wanted));
+        }
     }
-    Ok(())
 }
 
 // A made frame: mostly a message about as long as its ring.
@@ -320,16 +325,21 @@ fn read_made(rt: &impl Abort, sides: &mut Sides, bytes: &[u8], made: &mut Made) 
     }
 }
 
+// Sides read a made stream, for whose messages all guarantees were issued.
+fn made_stream_is_read(rt: &impl Abort, alloc: Global, made: &mut Made) -> Option<()> {
+    let bytes = made_stream(alloc, made).ok()?;
+    let mut sides = Sides::new(alloc)?;
+    for channel in Channel::ALL {
+        sides.issue(channel, RINGS[channel.index()]);
+    }
+    read_made(rt, &mut sides, &bytes, made);
+    Some(())
+}
+
 #[test]
-fn made_streams_are_read_as_by_an_intake_that_keeps_all(rt: HostRuntime) -> Result<(), Fail> {
+fn made_streams_are_read_as_by_an_intake_that_keeps_all(rt: HostRuntime) {
     let mut made = Made(3);
     for _ in 0..150 {
-        let mut sides = Sides::new(rt.alloc())?;
-        for channel in &Channel::ALL {
-            sides.issue(*channel, RINGS[channel.index()]);
-        }
-        let bytes = made_stream(rt.alloc(), &mut made)?;
-        read_made(&rt, &mut sides, bytes.as_slice(), &mut made);
+        ran(&rt, made_stream_is_read(&rt, rt.alloc(), &mut made));
     }
-    Ok(())
 }

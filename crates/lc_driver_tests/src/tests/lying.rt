@@ -3,14 +3,14 @@
 //!
 //! In a call that reads once that memory is zero. In one that reads more often a byte that was not written is
 //! zero, or one of an earlier read of that very call; it is never one of a message of an earlier call.
+use crate::tests::{equal, ran};
 use lc_driver::{Counted, ReadEnd, read_in};
 use lc_frame::{CHANNELS, Channel, FrameRef, Version};
 use lc_peer::{Config, Intake, Peer, Take};
-use std::alloc::Global;
+use std::alloc::{AllocError, Global};
 use std::io;
 use std::io::Read;
 use std::process::Abort;
-use std::test::Fail;
 
 const CHANNEL: Channel = Channel::DataChannel;
 
@@ -76,15 +76,15 @@ struct ReadingPeer {
 }
 
 impl ReadingPeer {
-    fn new(alloc: Global) -> Result<ReadingPeer, Fail> {
+    fn new(alloc: Global) -> Option<ReadingPeer> {
         let config = Config {
             version: Version::Two,
             capacities: [CAPACITY; CHANNELS],
             slots: 64,
         };
-        let peer = Peer::new(alloc, config)?;
-        let intake = Intake::new(alloc)?;
-        Ok(ReadingPeer { peer, intake })
+        let intake = Intake::new(alloc).ok()?;
+        let peer = Peer::new(alloc, config).ok()?;
+        Some(ReadingPeer { peer, intake })
     }
 
     // Bytes come in, by calls of so many reads. How the last ends.
@@ -108,7 +108,7 @@ impl ReadingPeer {
 }
 
 // The bytes of a message, each of them this one.
-fn frame(alloc: Global, len: usize, byte: u8) -> Result<Vec<u8>, Fail> {
+fn frame(alloc: Global, len: usize, byte: u8) -> Result<Vec<u8>, AllocError> {
     let bytes = [byte; LONGEST];
     let body = bytes.get(..len).unwrap_or(b"a");
     let frame = FrameRef::Send {
@@ -131,24 +131,24 @@ struct Round {
     max_reads: u64,
 }
 
-// A message comes in, and is taken. Its room is promised anew.
-fn hear(rt: &impl Abort, alloc: Global, side: &mut ReadingPeer, round: Round) -> Result<(), Fail> {
-    let bytes = frame(alloc, round.len, round.byte)?;
+// A message comes in, and is taken.
+fn hear(rt: &impl Abort, alloc: Global, side: &mut ReadingPeer, round: Round) -> Option<()> {
+    let bytes = frame(alloc, round.len, round.byte).ok()?;
     let mut reader = Counted::new(Lies::new(alloc, &bytes, round.most));
     let end = side.hear(&mut reader, round.max_reads);
-    assert_eq!(rt; end, ReadEnd::Clean);
+    equal(rt, "a reading", end, ReadEnd::Clean);
+    take(rt, side, reader.into_inner().given.as_slice(), round);
+    Some(())
+}
+
+// The message that was given so is taken. Its room is promised anew.
+fn take(rt: &impl Abort, side: &mut ReadingPeer, given: &[u8], round: Round) {
     let mut found = [0; LONGEST];
     let taken = side.take(&mut found);
-    assert_eq!(rt; taken, Some(round.len));
-    is_as_given(
-        rt,
-        found.get(..round.len).unwrap_or(&[]),
-        reader.into_inner().given.as_slice(),
-        round,
-    );
+    equal(rt, "a take", taken, Some(round.len));
+    is_as_given(rt, found.get(..round.len).unwrap_or(&[]), given, round);
     let room = u32::try_from(round.len).unwrap_or(0);
-    assert_eq!(rt; side.peer.issue(CHANNEL, room), Ok(()));
-    Ok(())
+    equal(rt, "an issue", side.peer.issue(CHANNEL, room), Ok(()));
 }
 
 // What was not written is zero, or in a call of more reads a byte of this message.
@@ -165,7 +165,7 @@ fn is_as_given(rt: &impl Abort, found: &[u8], given: &[u8], round: Round) {
 }
 
 // A side hears messages of all lengths, whose bytes tell one from another.
-fn hear_all(rt: &impl Abort, alloc: Global, max_reads: u64) -> Result<(), Fail> {
+fn hear_all(rt: &impl Abort, alloc: Global, max_reads: u64) -> Option<()> {
     let mut side = ReadingPeer::new(alloc)?;
     greet(rt, alloc, &mut side);
     let mut byte = b' ';
@@ -181,7 +181,7 @@ fn hear_all(rt: &impl Abort, alloc: Global, max_reads: u64) -> Result<(), Fail> 
             hear(rt, alloc, &mut side, round)?;
         }
     }
-    Ok(())
+    Some(())
 }
 
 // A side promises room, and the greeting comes in.
@@ -191,20 +191,17 @@ fn greet(rt: &impl Abort, alloc: Global, side: &mut ReadingPeer) {
         side.peer.issue(CHANNEL, CAPACITY),
         side.hear(&mut greeting, 1),
     );
-    assert_eq!(rt; ends, (Ok(()), ReadEnd::Clean));
+    equal(rt, "a greeting", ends, (Ok(()), ReadEnd::Clean));
 }
 
 #[test]
-fn a_call_that_reads_once_takes_zeros_for_what_was_not_written(
-    rt: HostRuntime,
-) -> Result<(), Fail> {
-    hear_all(&rt, rt.alloc(), 1)
+fn a_call_that_reads_once_takes_zeros_for_what_was_not_written(rt: HostRuntime) {
+    ran(&rt, hear_all(&rt, rt.alloc(), 1));
 }
 
 #[test]
-fn no_byte_of_an_earlier_message_is_read_again(rt: HostRuntime) -> Result<(), Fail> {
+fn no_byte_of_an_earlier_message_is_read_again(rt: HostRuntime) {
     for max_reads in [2, 3, 100] {
-        hear_all(&rt, rt.alloc(), max_reads)?;
+        ran(&rt, hear_all(&rt, rt.alloc(), max_reads));
     }
-    Ok(())
 }

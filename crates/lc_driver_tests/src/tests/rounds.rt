@@ -3,11 +3,11 @@
 //!
 //! What ends a message must not wait for an acknowledgement: who reads answers only when the message is
 //! whole, and acknowledges late, so that a round would take some 40 milliseconds.
+use crate::tests::equal;
 use lc_driver::{Counted, Link, ReadEnd};
 use lc_frame::{CHANNELS, Channel, Version};
 use lc_peer::{Config, Take};
 use std::alloc::Global;
-use std::io;
 use std::net::{Ipv4Addr, Net, TcpListener, TcpStream};
 use std::process::Abort;
 use std::sync::Wait;
@@ -52,169 +52,169 @@ struct ConnectedLink {
     stream: Counted<TcpStream>,
 }
 
-fn failed(what: &'static str) -> io::Error {
-    io::Error::other(what)
-}
-
 impl ConnectedLink {
-    fn new(alloc: Global, stream: TcpStream) -> io::Result<ConnectedLink> {
+    fn new(alloc: Global, stream: TcpStream) -> Option<ConnectedLink> {
         let config = Config {
             version: Version::Two,
             capacities: [RING; CHANNELS],
             slots: 8,
         };
-        let link = Link::new(alloc, config).map_err(|_| failed("no link"))?;
-        Ok(ConnectedLink {
-            link,
-            stream: Counted::new(stream),
-        })
+        let link = Link::new(alloc, config).ok()?;
+        let stream = Counted::new(stream);
+        Some(ConnectedLink { link, stream })
     }
 
-    fn issue(&mut self, amount: u32) -> io::Result<()> {
+    fn issue(&mut self, rt: &impl Abort, amount: u32) {
         let issued = self.link.peer.issue(CHANNEL, amount);
-        issued.map_err(|_| failed("not issued"))
+        equal(rt, "an issue", issued, Ok(()));
     }
 
-    fn send(&mut self, body: &[u8]) -> io::Result<()> {
+    fn send(&mut self, rt: &impl Abort, body: &[u8]) {
         let sent = self.link.peer.send(CHANNEL, body);
-        sent.map_err(|_| failed("not sent"))
+        equal(rt, "a send", sent, Ok(()));
     }
 
-    fn write(&mut self) -> io::Result<()> {
+    fn write(&mut self, rt: &impl Abort) {
         let written = self.link.write_out(&mut self.stream);
-        written.map_err(|_| failed("not written"))?;
-        Ok(())
+        assert!(rt; written.is_ok(), "not written");
+    }
+
+    // Reads once. Whether the stream goes on.
+    fn read(&mut self, rt: &impl Abort) -> bool {
+        match self.link.read_in(&mut self.stream, 1) {
+            ReadEnd::TurnsSpent => true,
+            end => {
+                equal(rt, "a reading", end, ReadEnd::Clean);
+                false
+            }
+        }
     }
 
     // Reads until a message can be taken. `None` at the end of the stream.
-    fn take<R: Wait>(&mut self, rt: &R, buffer: &mut [u8]) -> io::Result<Option<usize>> {
+    fn take<R: Wait + Abort>(&mut self, rt: &R, buffer: &mut [u8]) -> Option<usize> {
         for _ in rt.forever() {
             match self.link.peer.take_into(CHANNEL, buffer) {
-                Ok(Take::Took(len)) => return Ok(Some(len)),
-                Ok(_) => {}
-                Err(_) => return Err(failed("too long")),
+                Ok(Take::Took(len)) => return Some(len),
+                answer => equal(rt, "a take", answer, Ok(Take::Empty)),
             }
-            match self.link.read_in(&mut self.stream, 1) {
-                ReadEnd::TurnsSpent => {}
-                ReadEnd::Clean => return Ok(None),
-                _ => return Err(failed("the stream broke")),
+            if !self.read(rt) {
+                return None;
             }
         }
         unreachable!()
     }
 
     // Reads until so much may be sent.
-    fn hear<R: Wait>(&mut self, rt: &R, amount: usize) -> io::Result<()> {
+    fn hear<R: Wait + Abort>(&mut self, rt: &R, amount: usize) {
         for _ in rt.forever() {
             if self.link.peer.client(CHANNEL).held() >= amount as u64 {
-                return Ok(());
+                return;
             }
-            match self.link.read_in(&mut self.stream, 1) {
-                ReadEnd::TurnsSpent => {}
-                _ => return Err(failed("the stream broke")),
-            }
+            assert!(rt; self.read(rt), "the stream ended");
         }
-        unreachable!()
     }
 }
 
 // One round of a message, and a short one behind it where that is wanted, and the answer.
-fn ask<R: Wait>(rt: &R, side: &mut ConnectedLink, long: &mut [u8], behind: bool) -> io::Result<()> {
-    side.hear(rt, long.len() + 3)?;
+fn ask<R: Wait + Abort>(rt: &R, side: &mut ConnectedLink, long: &mut [u8], behind: bool) {
+    side.hear(rt, long.len() + 3);
     if let Some(first) = long.first_mut() {
         *first = if behind { FIRST } else { LAST };
     }
-    side.send(long)?;
+    side.send(rt, long);
     if behind {
-        side.send(&[LAST, 2, 3])?;
+        side.send(rt, &[LAST, 2, 3]);
     }
-    side.write()?;
-    let mut answer = [0; 1];
-    match side.take(rt, &mut answer)? {
-        Some(1) => Ok(()),
-        _ => Err(failed("no answer")),
-    }
+    side.write(rt);
+    equal(rt, "an answer", side.take(rt, &mut [0; 1]), Some(1));
+}
+
+// How long that takes.
+fn time<R: Wait + Clock + Abort>(
+    rt: &R,
+    side: &mut ConnectedLink,
+    long: &mut [u8],
+    behind: bool,
+) -> Option<Duration> {
+    let start = Instant::now(rt).ok()?;
+    ask(rt, side, long, behind);
+    start.elapsed(rt).ok()
 }
 
 // The median of what the rounds of a case take.
-fn median<R: Wait + Clock>(
+fn median<R: Wait + Clock + Abort>(
     rt: &R,
     alloc: Global,
     side: &mut ConnectedLink,
-    case: (usize, bool),
-) -> io::Result<Duration> {
-    let (len, behind) = case;
-    let mut long = vec![in alloc; FIRST; len]?;
+    (len, behind): (usize, bool),
+) -> Option<Duration> {
+    let mut long = vec![in alloc; FIRST; len].ok()?;
     let mut taken = Vec::new(alloc);
     for _ in 0..ROUNDS {
-        let start = Instant::now(rt)?;
-        ask(rt, side, &mut long, behind)?;
-        taken.push(start.elapsed(rt)?)?;
+        taken.push(time(rt, side, &mut long, behind)?).ok()?;
     }
-    taken.sort()?;
-    let middle = taken.get(taken.len() / 2).copied();
-    middle.ok_or(failed("no rounds"))
+    taken.sort().ok()?;
+    taken.get(taken.len() / 2).copied()
 }
 
 // The medians of all cases.
-fn ask_all<R: Wait + Clock>(rt: &R, alloc: Global, stream: TcpStream) -> io::Result<Vec<Duration>> {
+fn ask_all<R>(rt: &R, alloc: Global, stream: TcpStream) -> Option<Vec<Duration>>
+where
+    R: Wait + Clock + Abort,
+{
     let mut side = ConnectedLink::new(alloc, stream)?;
-    side.issue(RING)?;
+    side.issue(rt, RING);
     let mut medians = Vec::new(alloc);
     for &case in &CASES {
-        medians.push(median(rt, alloc, &mut side, case)?)?;
+        medians.push(median(rt, alloc, &mut side, case)?).ok()?;
     }
-    Ok(medians)
+    Some(medians)
 }
 
-// Takes a message, promises its room anew, and answers it where it is the last of a round. Whether there
-// was one.
-fn answer<R: Wait>(rt: &R, side: &mut ConnectedLink, buffer: &mut [u8]) -> io::Result<bool> {
-    let Some(len) = side.take(rt, buffer)? else {
-        return Ok(false);
-    };
-    side.issue(u32::try_from(len).unwrap_or(0))?;
-    if buffer.first() == Some(&LAST) {
-        side.send(&[LAST])?;
-        side.write()?;
+// Promises the room of a message anew, and answers it where it is the last of a round.
+fn answer<R: Abort>(rt: &R, side: &mut ConnectedLink, message: &[u8]) {
+    side.issue(rt, u32::try_from(message.len()).unwrap_or(0));
+    if message.first() == Some(&LAST) {
+        side.send(rt, &[LAST]);
+        side.write(rt);
     }
-    Ok(true)
 }
 
-fn answer_each<R: Wait>(rt: &R, side: &mut ConnectedLink, buffer: &mut [u8]) -> io::Result<()> {
+fn answer_each<R: Wait + Abort>(rt: &R, side: &mut ConnectedLink, buffer: &mut [u8]) {
     for _ in rt.forever() {
-        if !answer(rt, side, buffer)? {
-            return Ok(());
-        }
+        let Some(len) = side.take(rt, buffer) else {
+            return;
+        };
+        answer(rt, side, buffer.get(..len).unwrap_or(&[]));
     }
-    unreachable!()
 }
 
 // The side that answers, until the stream ends.
-fn answer_all<R: Wait>(rt: &R, alloc: Global, stream: TcpStream) -> io::Result<()> {
-    let mut buffer = vec![in alloc; 0_u8; 1 << 20]?;
+fn answer_all<R: Wait + Abort>(rt: &R, alloc: Global, stream: TcpStream) -> Option<()> {
+    let mut buffer = vec![in alloc; 0_u8; 1 << 20].ok()?;
     let mut side = ConnectedLink::new(alloc, stream)?;
-    side.issue(RING)?;
-    side.write()?;
-    answer_each(rt, &mut side, &mut buffer)
+    side.issue(rt, RING);
+    side.write(rt);
+    answer_each(rt, &mut side, &mut buffer);
+    Some(())
 }
 
 // The two ends of a new connection, which sends all at once or gathers short segments.
-fn connection<R>(rt: &R, nodelay: bool) -> io::Result<(TcpStream, TcpStream)>
+fn connection<R>(rt: &R, nodelay: bool) -> Option<(TcpStream, TcpStream)>
 where
     R: Net<Listener = TcpListener, Stream = TcpStream>,
 {
-    let listener = TcpListener::bind(rt, (Ipv4Addr::LOCALHOST, 0u16))?;
-    let here = TcpStream::connect(rt, listener.local_addr()?)?;
-    let (there, _) = listener.accept()?;
-    here.set_nodelay(nodelay)?;
-    there.set_nodelay(nodelay)?;
-    Ok((here, there))
+    let listener = TcpListener::bind(rt, (Ipv4Addr::LOCALHOST, 0u16)).ok()?;
+    let here = TcpStream::connect(rt, listener.local_addr().ok()?).ok()?;
+    here.set_nodelay(nodelay).ok()?;
+    let (there, _) = listener.accept().ok()?;
+    there.set_nodelay(nodelay).ok()?;
+    Some((here, there))
 }
 
-fn play<R>(rt: &R, alloc: Global, nodelay: bool) -> io::Result<Vec<Duration>>
+fn play<R>(rt: &R, alloc: Global, nodelay: bool) -> Option<Vec<Duration>>
 where
-    R: Net<Listener = TcpListener, Stream = TcpStream> + Threads + Wait + Clock + Sync,
+    R: Net<Listener = TcpListener, Stream = TcpStream> + Threads + Wait + Clock + Abort + Sync,
 {
     let (here, there) = connection(rt, nodelay)?;
     let (medians, answered) = join(
@@ -226,14 +226,19 @@ where
     medians
 }
 
-#[test]
-fn no_round_waits_for_an_acknowledgement(rt: HostRuntime) -> Result<(), Fail> {
-    let at_once = play(&rt, rt.alloc(), true)?;
-    let gathered = play(&rt, rt.alloc(), false)?;
-    assert_eq!(rt; gathered.len(), CASES.len());
-    for (&(len, behind), (took, least)) in CASES.iter().zip(gathered.iter().zip(&at_once)) {
+// No case takes much longer.
+fn compare(rt: &impl Abort, gathered: &[Duration], at_once: &[Duration]) {
+    equal(rt, "the cases", gathered.len(), CASES.len());
+    for (&(len, behind), (took, least)) in CASES.iter().zip(gathered.iter().zip(at_once)) {
         let longer = took.as_millis().saturating_sub(least.as_millis());
         assert!(rt; longer <= MOST, "{len} bytes, {behind}: {longer} ms longer");
     }
+}
+
+#[test]
+fn no_round_waits_for_an_acknowledgement(rt: HostRuntime) -> Result<(), Fail> {
+    let at_once = play(&rt, rt.alloc(), true).ok_or("no rounds")?;
+    let gathered = play(&rt, rt.alloc(), false).ok_or("no rounds")?;
+    compare(&rt, &gathered, &at_once);
     Ok(())
 }

@@ -1,12 +1,12 @@
 //! Scripts of calls on one side of a session: a call a line, and after `=>` what it answers.
 use crate::tests::failing_link::FailingLink;
+use crate::tests::same;
 use lc_driver::{Link, ReadEnd};
 use lc_frame::{Channel, Version};
 use lc_peer::{Peer, Take};
 use std::alloc::Global;
 use std::mem::replace;
 use std::process::Abort;
-use std::test::Fail;
 use test_devices::{Pipe, Plan, channel, number, plan_of, text};
 
 // What the first message of a channel is.
@@ -101,12 +101,6 @@ fn read(
     }
 }
 
-/// Fails where there is no text, or not the one that is wanted, and names what was compared.
-pub fn same(rt: &impl Abort, what: &str, found: Option<String>, wanted: &str) {
-    let found = found.as_deref().unwrap_or("nothing");
-    assert!(rt; found == wanted, "{what}: {found}, not {wanted}");
-}
-
 // Each call of a script, in turn, answers what stands after it.
 fn answers(rt: &impl Abort, alloc: Global, side: &mut FailingLink, input: &mut Pipe, script: &str) {
     for line in script.lines() {
@@ -116,18 +110,17 @@ fn answers(rt: &impl Abort, alloc: Global, side: &mut FailingLink, input: &mut P
     }
 }
 
-/// A new side, whose input are the bytes of these digits, answers each line of a script as it says.
-pub fn run(rt: &impl Abort, alloc: Global, digits: &str, script: &str) -> Result<(), Fail> {
-    let mut input = Pipe::of(hex::decode(alloc, digits)?);
-    let mut side = FailingLink::new(alloc, Version::One, 8, 4)?;
+/// A new side that writes this version, whose input are the bytes of these digits, answers each line of
+/// a script as it says. `None` where there is none.
+pub fn run(
+    rt: &impl Abort,
+    alloc: Global,
+    version: Version,
+    digits: &str,
+    script: &str,
+) -> Option<()> {
+    let mut input = Pipe::of(hex::decode(alloc, digits).ok()?);
+    let mut side = FailingLink::new(alloc, version, 8, 4).ok()?;
     answers(rt, alloc, &mut side, &mut input, script);
-    Ok(())
-}
-
-/// The same of a side that writes version Two, to which nothing comes.
-pub fn run_in_two(rt: &impl Abort, alloc: Global, script: &str) -> Result<(), Fail> {
-    let mut input = Pipe::of(Vec::new(alloc));
-    let mut side = FailingLink::new(alloc, Version::Two, 8, 4)?;
-    answers(rt, alloc, &mut side, &mut input, script);
-    Ok(())
+    Some(())
 }

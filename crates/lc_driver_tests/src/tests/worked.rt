@@ -1,6 +1,7 @@
 //! Worked examples of writing and reading, and the counts of a device.
 use crate::tests::failing_link::{FailingLink, unflushed};
-use crate::tests::script::{run, run_in_two};
+use crate::tests::script::run;
+use crate::tests::{equal, ran};
 use lc_driver::{Counted, CountedRead, CountedWrite, Failures, ReadEnd};
 use lc_frame::{Channel, Version};
 use std::alloc::Global;
@@ -104,11 +105,10 @@ const WORKED: [(&str, &str); 12] = [
 ];
 
 #[test]
-fn worked_calls(rt: HostRuntime) -> Result<(), Fail> {
+fn worked_calls(rt: HostRuntime) {
     for &(input, script) in &WORKED {
-        run(&rt, rt.alloc(), input, script)?;
+        ran(&rt, run(&rt, rt.alloc(), Version::One, input, script));
     }
-    Ok(())
 }
 
 /// Calls of a peer that writes version Two, with what they answer.
@@ -140,11 +140,10 @@ const IN_TWO: [&str; 4] = [
 ];
 
 #[test]
-fn a_greeting_goes_out_first_and_once(rt: HostRuntime) -> Result<(), Fail> {
+fn a_greeting_goes_out_first_and_once(rt: HostRuntime) {
     for script in &IN_TWO {
-        run_in_two(&rt, rt.alloc(), script)?;
+        ran(&rt, run(&rt, rt.alloc(), Version::Two, "", script));
     }
-    Ok(())
 }
 
 /// Of a write that stops in a greeting or behind it: the bytes that it wrote, those that the next call
@@ -163,70 +162,83 @@ fn stopping(
     alloc: Global,
     (odd, fault): (&str, &str),
     (written, rest, pending, waiting): (&str, &str, u64, u64),
-) -> Result<String, Fail> {
+) -> Option<String> {
     let (before, after) = (written.len() / 2, rest.len() / 2);
     let call = before + 1;
-    Ok(format!(in alloc;
+    format!(in alloc;
         "issue 1 5 => Ok(())
         write 1 {odd} {call} => Err({fault} {{ written: {before} }}) {written} calls {call} pending {pending} waiting {waiting}
         write 1 => Ok({after}) {rest} calls {after} pending 0 waiting 0
         write all => Ok(0)  calls 0 pending 0 waiting 0"
-    )?)
+    )
+    .ok()
+}
+
+fn a_greeting_is_cut(
+    rt: &impl Abort,
+    alloc: Global,
+    odd: (&str, &str),
+    stopped: (&str, &str, u64, u64),
+) -> Option<()> {
+    let script = stopping(alloc, odd, stopped)?;
+    run(rt, alloc, Version::Two, "", script.as_str())
 }
 
 #[test]
-fn a_greeting_is_cut_at_each_byte(rt: HostRuntime) -> Result<(), Fail> {
+fn a_greeting_is_cut_at_each_byte(rt: HostRuntime) {
     for odd in [("fails", "Failed"), ("0", "Zero")] {
         for &stopped in &STOPPED {
-            let script = stopping(rt.alloc(), odd, stopped)?;
-            run_in_two(&rt, rt.alloc(), script.as_str())?;
+            ran(&rt, a_greeting_is_cut(&rt, rt.alloc(), odd, stopped));
         }
     }
-    Ok(())
 }
 
 // The script of a write that fails after so many bytes, and of the one after it.
 fn failing(
     alloc: Global,
-    written: &str,
-    rest: &str,
-    pending: u64,
-    waiting: u64,
-) -> Result<String, Fail> {
+    (written, rest, pending, waiting): (&str, &str, u64, u64),
+) -> Option<String> {
     let (before, after) = (written.len() / 2, rest.len() / 2);
     let call = before + 1;
-    Ok(format!(in alloc;
+    format!(in alloc;
         "issue 1 5 => Ok(())
         issue 2 3 => Ok(())
         write 1 fails {call} => Err(Failed {{ written: {before} }}) {written} calls {call} pending {pending} waiting {waiting}
         write all => Ok({after}) {rest} calls 1 pending 0 waiting 0"
-    )?)
+    )
+    .ok()
+}
+
+fn a_write_fails(rt: &impl Abort, alloc: Global, failed: (&str, &str, u64, u64)) -> Option<()> {
+    let script = failing(alloc, failed)?;
+    run(rt, alloc, Version::One, "", script.as_str())
 }
 
 #[test]
-fn a_write_fails_at_each_byte(rt: HostRuntime) -> Result<(), Fail> {
-    for &(written, rest, pending, waiting) in &FAILED_WRITES {
-        let script = failing(rt.alloc(), written, rest, pending, waiting)?;
-        run(&rt, rt.alloc(), "", script.as_str())?;
+fn a_write_fails_at_each_byte(rt: HostRuntime) {
+    for &failed in &FAILED_WRITES {
+        ran(&rt, a_write_fails(&rt, rt.alloc(), failed));
     }
-    Ok(())
+}
+
+fn a_read_fails(rt: &impl Abort, alloc: Global, call: u64) -> Option<()> {
+    let script = format!(in alloc;
+        "issue 1 2 => Ok(())
+        count 30 1 fails {call} => ReadFailed calls {call}
+        read 30 1 => Clean
+        server 1 => outstanding 0 buffered 2 None
+        client 1 => held 5 None
+        client 0 => held 0 Some(10)
+        take 1 => 6869"
+    );
+    run(rt, alloc, Version::One, THREE_FRAMES, script.ok()?.as_str())
 }
 
 #[test]
-fn a_read_fails_at_each_byte(rt: HostRuntime) -> Result<(), Fail> {
+fn a_read_fails_at_each_byte(rt: HostRuntime) {
     for call in 1..21 {
-        let script = format!(in rt.alloc();
-            "issue 1 2 => Ok(())
-            count 30 1 fails {call} => ReadFailed calls {call}
-            read 30 1 => Clean
-            server 1 => outstanding 0 buffered 2 None
-            client 1 => held 5 None
-            client 0 => held 0 Some(10)
-            take 1 => 6869"
-        )?;
-        run(&rt, rt.alloc(), THREE_FRAMES, script.as_str())?;
+        ran(&rt, a_read_fails(&rt, rt.alloc(), call));
     }
-    Ok(())
 }
 
 // So many bytes went through a device at a call, or it failed; and so many failures and ends were
@@ -237,7 +249,8 @@ fn counts(
     went: Option<usize>,
     wanted: (Option<usize>, u64, u64),
 ) {
-    assert_eq!(rt; (went, device.failures(), device.ends()), wanted);
+    let found = (went, device.failures(), device.ends());
+    equal(rt, "a device", found, wanted);
 }
 
 // A writer fails at its second call and at each flush.
@@ -250,7 +263,7 @@ fn a_writer_fails(rt: &impl Abort, pipe: Pipe) -> Pipe {
     counts(rt, &writer, wrote, (None, 1, 0));
     let wrote = writer.write(b"").ok();
     counts(rt, &writer, wrote, (Some(0), 1, 0));
-    let flushed = writer.flush().ok().map(|()| 0);
+    let flushed = writer.flush().is_ok().then_some(0);
     counts(rt, &writer, flushed, (None, 2, 0));
     writer.into_inner().pipe
 }
@@ -271,7 +284,7 @@ fn a_reader_ends_and_fails(rt: &impl Abort, pipe: Pipe) {
     let mut buffer = [7; 4];
     let read = reader.read_counted(&mut buffer).ok();
     counts(rt, &reader, read, (Some(2), 0, 0));
-    assert_eq!(rt; buffer, [b'a', b'b', 7, 7]);
+    equal(rt, "a buffer", buffer, [b'a', b'b', 7, 7]);
     let read = reader.read(&mut buffer).ok();
     counts(rt, &reader, read, (Some(0), 0, 1));
     let read = reader.read(&mut buffer).ok();
@@ -281,11 +294,10 @@ fn a_reader_ends_and_fails(rt: &impl Abort, pipe: Pipe) {
 }
 
 #[test]
-fn a_device_counts(rt: HostRuntime) -> Result<(), Fail> {
+fn a_device_counts(rt: HostRuntime) {
     let empty = Pipe::of(Vec::new(rt.alloc()));
     let written = a_writer_fails(&rt, empty);
     a_reader_ends_and_fails(&rt, a_writer_ends(&rt, written));
-    Ok(())
 }
 
 // What waits goes out, and what comes arrives.
@@ -295,7 +307,7 @@ fn moves(rt: &impl Abort, side: &mut FailingLink, empty: Pipe, full: Pipe) {
     let end = side.read(Plan::whole(), full, 10).0;
     let held = side.link.peer.client(Channel::DataChannel).held();
     let wanted = (Ok(()), Ok(5), ReadEnd::Clean, 5);
-    assert_eq!(rt; (issued, wrote, end, held), wanted);
+    equal(rt, "what moves", (issued, wrote, end, held), wanted);
 }
 
 // A side asks for memory where it is made, and no write and no read asks for any: the last request

@@ -26,19 +26,19 @@ fn works(
 ) -> Result<(), Fail> {
     let mut parts = credits(alloc)?;
     for (place, (call, answer)) in calls.iter().enumerate() {
-        assert_eq!(rt; play(&mut parts, channel, *call), *answer, "call {place}");
+        let found = play(&mut parts, channel, *call);
+        assert!(rt; found == *answer, "{channel:?}: call {place}");
     }
     let mut all = [NONE; 7];
     all[channel.index()] = balance;
-    assert_eq!(rt; balances(parts), Some(all));
+    assert!(rt; balances(parts) == Some(all), "the balances");
     Ok(())
 }
 
-#[test]
-fn what_is_given_back_is_held_again(rt: HostRuntime) -> Result<(), Fail> {
-    works(
-        &rt,
-        rt.alloc(),
+/// Of each example: the channel, the calls with what they answer, and the balance that they leave.
+const WORKED: [(Channel, &[(Call, Answer)], Balance); 5] = [
+    // What is given back is held again.
+    (
         Channel::DataChannel,
         &[
             (Call::Add(10), Answer::Done),
@@ -70,14 +70,9 @@ fn what_is_given_back_is_held_again(rt: HostRuntime) -> Result<(), Fail> {
             absolved: 1,
             waived: 0,
         },
-    )
-}
-
-#[test]
-fn all_guarantees_are_held_and_absolved(rt: HostRuntime) -> Result<(), Fail> {
-    works(
-        &rt,
-        rt.alloc(),
+    ),
+    // All guarantees are held and absolved.
+    (
         Channel::ReconciliationChannel,
         &[
             (Call::Add(16_777_216), Answer::Done),
@@ -100,14 +95,9 @@ fn all_guarantees_are_held_and_absolved(rt: HostRuntime) -> Result<(), Fail> {
             absolved: 16_777_216,
             waived: 0,
         },
-    )
-}
-
-#[test]
-fn a_plead_is_answered_by_absolving(rt: HostRuntime) -> Result<(), Fail> {
-    works(
-        &rt,
-        rt.alloc(),
+    ),
+    // A plead is answered by absolving.
+    (
         Channel::DataChannel,
         &[
             (Call::Add(5), Answer::Done),
@@ -126,14 +116,9 @@ fn a_plead_is_answered_by_absolving(rt: HostRuntime) -> Result<(), Fail> {
             absolved: 3,
             waived: 0,
         },
-    )
-}
-
-#[test]
-fn nothing_comes_past_a_limit(rt: HostRuntime) -> Result<(), Fail> {
-    works(
-        &rt,
-        rt.alloc(),
+    ),
+    // Nothing comes past a limit.
+    (
         Channel::StaticTokenChannel,
         &[
             (Call::Limit(4), Answer::Done),
@@ -166,14 +151,9 @@ fn nothing_comes_past_a_limit(rt: HostRuntime) -> Result<(), Fail> {
             absolved: 0,
             waived: 0,
         },
-    )
-}
-
-#[test]
-fn a_finished_end_waives_what_it_holds_and_what_comes(rt: HostRuntime) -> Result<(), Fail> {
-    works(
-        &rt,
-        rt.alloc(),
+    ),
+    // A finished end waives what it holds and what comes.
+    (
         Channel::DataChannel,
         &[
             (Call::Add(10), Answer::Done),
@@ -190,5 +170,13 @@ fn a_finished_end_waives_what_it_holds_and_what_comes(rt: HostRuntime) -> Result
             absolved: 0,
             waived: 8,
         },
-    )
+    ),
+];
+
+#[test]
+fn worked_calls(rt: HostRuntime) -> Result<(), Fail> {
+    for &(channel, calls, balance) in &WORKED {
+        works(&rt, rt.alloc(), channel, calls, balance)?;
+    }
+    Ok(())
 }

@@ -7,7 +7,7 @@ use lc_credit::{Balance, CreditOut, CreditParts, settle};
 use lc_frame::{Channel, MAX_AMOUNT, MAX_TOTAL};
 
 /// A call on one channel's credit.
-#[derive(Clone, Copy, Debug, PartialEq, Eq)]
+#[derive(Clone, Copy)]
 pub enum Call {
     Add(u32),
     Limit(u64),
@@ -23,7 +23,7 @@ pub enum Call {
 }
 
 /// What a call answered.
-#[derive(Clone, Copy, Debug, PartialEq, Eq)]
+#[derive(Clone, Copy, PartialEq)]
 pub enum Answer {
     Done,
     Number(u64),

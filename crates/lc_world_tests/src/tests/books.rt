@@ -1,5 +1,5 @@
 //! What books show of themselves, the bounds of their rings, and the last guarantees of a channel. What their calls
-//! answer is shown by the rows of `bindings/rows.txt`, and in `lc_cli_tests`.
+//! answer is shown by the rows of `bindings/rows.txt`, and by `scripts/transcripts`.
 use super::{Subject, answers, text};
 use lc_book::{ClientBook, ClientParts, Refusal, ServerBook, ServerParts, Violation};
 use lc_frame::Version;

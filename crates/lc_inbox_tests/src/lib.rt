@@ -1,5 +1,0 @@
-//! Tests of `lc_inbox`.
-#![tactic(auto)]
-
-#[cfg(test)]
-mod tests;

@@ -1,5 +1,0 @@
-//! Tests of `lc_outbox`.
-#![tactic(auto)]
-
-#[cfg(test)]
-mod tests;
