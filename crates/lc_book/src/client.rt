@@ -39,7 +39,7 @@ impl Model for ClientBook {
 }
 
 /// The fields of a client's book, by name, the numbers in bytes of messages.
-#[derive(Clone, Copy, Debug, PartialEq, Eq)]
+#[derive(Clone, Copy, Debug)]
 pub struct ClientParts {
     /// The version of the stream on which messages are sent, which bounds their length.
     pub version: Version,

@@ -8,7 +8,7 @@ use std::fmt;
 use std::fmt::Display;
 
 /// A number that a refusal carries, by its name.
-#[derive(Clone, Copy, Debug, PartialEq, Eq)]
+#[derive(Clone, Copy, Debug)]
 pub struct Detail {
     pub name: &'static str,
     pub value: u64,

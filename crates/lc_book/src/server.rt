@@ -39,7 +39,7 @@ impl Model for ServerBook {
 }
 
 /// The fields of a server's book, by name, in bytes of messages.
-#[derive(Clone, Copy, Debug, PartialEq, Eq)]
+#[derive(Clone, Copy, Debug)]
 pub struct ServerParts {
     /// The bytes of the receiving ring, 1 to 2^24.
     pub capacity: u32,

@@ -7,7 +7,7 @@ use lc_book::Refusal;
 
 /// What a call answers: a code of the table, and the number that goes with it, or 0.
 #[repr(C)]
-#[derive(Clone, Copy, Debug, PartialEq, Eq)]
+#[derive(Clone, Copy)]
 pub struct LcmuxAnswer {
     pub code: u32,
     pub number: u64,

@@ -20,7 +20,7 @@ use std::alloc::Global;
 
 /// What there is to do on a channel: 1 where it is so, else 0.
 #[repr(C)]
-#[derive(Clone, Copy, Debug, PartialEq, Eq)]
+#[derive(Clone, Copy)]
 pub struct LcmuxChannelReady {
     pub message: u64,
     pub ended: u64,
@@ -31,7 +31,7 @@ pub struct LcmuxChannelReady {
 
 /// What there is to do on each channel, by their numbers.
 #[repr(C)]
-#[derive(Clone, Copy, Debug, PartialEq, Eq)]
+#[derive(Clone, Copy)]
 pub struct LcmuxReady {
     pub channels: [LcmuxChannelReady; CHANNELS],
 }

@@ -17,7 +17,7 @@ pub const NO_LIMIT: u64 = u64::MAX;
 
 /// The balances of a channel at its client, in bytes of messages.
 #[repr(C)]
-#[derive(Clone, Copy, Debug, PartialEq, Eq)]
+#[derive(Clone, Copy)]
 pub struct LcmuxClient {
     pub held: u64,
     pub received: u64,
@@ -32,7 +32,7 @@ pub struct LcmuxClient {
 
 /// The balances of a channel at its server, in bytes of messages.
 #[repr(C)]
-#[derive(Clone, Copy, Debug, PartialEq, Eq)]
+#[derive(Clone, Copy)]
 pub struct LcmuxServer {
     pub capacity: u64,
     pub issued: u64,

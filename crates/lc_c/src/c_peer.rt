@@ -6,7 +6,7 @@ use std::marker::Model;
 /// A peer, what came of its stream and is no whole frame yet, with why that stream was given up, if
 /// it was, and what is left of the frame that was begun to go out, or of the greeting. Of what came no
 /// message longer than its ring is kept.
-#[derive(Debug, Drop)]
+#[derive(Drop)]
 pub struct CPeer {
     pub peer: Peer,
     pub intake: RingIntake,

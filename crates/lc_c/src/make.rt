@@ -18,7 +18,7 @@ use std::alloc::Global;
 
 /// The bounds of a peer.
 #[repr(C)]
-#[derive(Clone, Copy, Debug, PartialEq, Eq)]
+#[derive(Clone, Copy)]
 pub struct LcmuxConfig {
     /// The version of the format that goes out: 1 or 2. Either may come.
     pub version: u32,

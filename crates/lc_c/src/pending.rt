@@ -11,7 +11,7 @@ use std::alloc::{AllocError, Global};
 use std::marker::Model;
 
 /// The bytes that are left of a frame whose first ones went out, or of the greeting of a new stream.
-#[derive(Debug, Drop)]
+#[derive(Drop)]
 pub struct Pending {
     encoder: StreamEncoder,
 }

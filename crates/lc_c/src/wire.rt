@@ -11,7 +11,7 @@ use std::alloc::Global;
 
 /// What a delivery did.
 #[repr(C)]
-#[derive(Clone, Copy, Debug, PartialEq, Eq)]
+#[derive(Clone, Copy)]
 pub struct LcmuxDelivery {
     pub code: u32,
     /// How many bytes of the piece were taken: all of them unless it stopped.

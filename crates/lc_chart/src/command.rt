@@ -56,7 +56,7 @@ pub fn chart<R: Read, W: Write, E: Write>(
 }
 
 /// What the program is asked to draw.
-#[derive(Clone, Copy, Debug, PartialEq, Eq)]
+#[derive(Clone, Copy)]
 pub enum Command {
     /// The session of a script, with receiving rings of so many bytes and streams of the version.
     Session { capacity: u32, version: Version },
@@ -119,7 +119,7 @@ fn print_session<W: Write>(
     let drawn = draw_session(session, events, &mut buffered);
     // A writer that is dropped would try once more to write what a failed write left.
     let _ = buffered.into_parts();
-    drawn.map_err(|_| ChartFault::Shared(Fault::WriteFailed))
+    drawn.or(Err(ChartFault::Shared(Fault::WriteFailed)))
 }
 
 fn chart_frames<R: Read, W: Write>(
@@ -132,7 +132,7 @@ fn chart_frames<R: Read, W: Write>(
     let mut buffered = buffered(alloc, out)?;
     let drawn = draw_stream(bytes.as_slice(), survey, &mut buffered);
     let _ = buffered.into_parts();
-    drawn.map_err(|_| ChartFault::Shared(Fault::WriteFailed))?;
+    drawn.or(Err(ChartFault::Shared(Fault::WriteFailed)))?;
     match survey.fault {
         Some(fault) => Err(ChartFault::Shared(fault)),
         None => Ok(()),

@@ -22,7 +22,7 @@ pub(crate) fn client_of(direction: Lane) -> Side {
 
 /// What a bar of a direction shows, in bytes: what its client holds, or what is buffered, outstanding
 /// and free in its server's ring.
-#[derive(Clone, Copy, Debug, PartialEq, Eq)]
+#[derive(Clone, Copy, PartialEq, Eq)]
 pub(crate) enum Bar {
     Held(u64),
     Ring {
@@ -33,7 +33,7 @@ pub(crate) enum Bar {
 }
 
 /// A bar, and the events between which it stood: after the first and before the last.
-#[derive(Clone, Copy, Debug)]
+#[derive(Clone, Copy)]
 pub(crate) struct Span {
     pub direction: Lane,
     pub from: u16,
@@ -42,7 +42,7 @@ pub(crate) struct Span {
 }
 
 /// A frame that a side put: at which event, and at which it arrived, if it did.
-#[derive(Clone, Copy, Debug)]
+#[derive(Clone, Copy)]
 pub(crate) struct Arrow {
     pub side: Side,
     pub channel: Channel,

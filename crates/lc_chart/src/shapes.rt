@@ -11,7 +11,7 @@ use std::io::Write;
 use std::{fmt, io};
 
 /// A place in the picture, in its units from the upper left corner.
-#[derive(Clone, Copy, Debug, PartialEq, Eq)]
+#[derive(Clone, Copy)]
 pub struct Point {
     pub x: u64,
     pub y: u64,
@@ -28,7 +28,7 @@ impl Point {
 }
 
 /// How a shape is painted: by a name of the style sheet, and in the colour of a channel.
-#[derive(Clone, Copy, Debug, PartialEq, Eq)]
+#[derive(Clone, Copy)]
 pub struct Paint {
     name: &'static str,
     channel: Option<Channel>,

@@ -22,7 +22,7 @@ const WIDTH: u64 = 600;
 const TOP: u64 = 60;
 
 /// What a stream has: how many frames before its end or its first fault.
-#[derive(Clone, Copy, Debug)]
+#[derive(Clone, Copy)]
 pub(crate) struct Survey {
     pub frames: u16,
     pub fault: Option<Fault>,

@@ -24,7 +24,7 @@ pub fn read_all<R: Read>(alloc: Global, input: &mut R) -> Result<Vec<u8>, Fault>
     let mut bytes = Vec::new(alloc);
     let mut piece = [0u8; PIECE];
     loop {
-        let count = input.read(&mut piece).map_err(|_| Fault::ReadFailed)?;
+        let count = input.read(&mut piece).or(Err(Fault::ReadFailed))?;
         if count == 0 {
             return Ok(bytes);
         }

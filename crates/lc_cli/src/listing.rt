@@ -51,7 +51,7 @@ fn print_frames<R: Read, W: Write>(alloc: Global, input: &mut R, out: &mut W) ->
     // The frames before a fault are printed, so a failed write is met first.
     let printed = match list(alloc, input, &mut buffered) {
         Err(Fault::WriteFailed) => Err(Fault::WriteFailed),
-        read => buffered.flush().map_err(|_| Fault::WriteFailed).and(read),
+        read => buffered.flush().or(Err(Fault::WriteFailed)).and(read),
     };
     // A writer that is dropped would try once more to write what a failed write left.
     let _ = buffered.into_parts();
@@ -72,7 +72,7 @@ fn read_piece<R: Read>(input: &mut R, piece: &mut [u8]) -> Result<usize, Fault>
     ensures bytes { IfOk result (λ n. Consumes (R.remaining input.old) (R.remaining input.new) (take n piece.new)) }
     ensures end { IfOk result (λ n. n ≡ 0 → 0 < length piece.old → IsAtEnd (R.remaining input.new)) }
 {
-    input.read(piece).map_err(|_| Fault::ReadFailed)
+    input.read(piece).or(Err(Fault::ReadFailed))
 }
 
 /// Writes the frame's line, with its line feed. Takes no memory.
@@ -95,7 +95,7 @@ pub fn write_frame<W: Write>(frame: &FrameRef<'_>, out: &mut W) -> io::Result<()
 fn print_frame<W: Write>(frame: &FrameRef<'_>, out: &mut W) -> Result<(), Fault>
     ensures { OnOk result (Appends (W.contents out.old) (W.contents out.new) (frame_line (frame_of frame.now))) }
 {
-    write_frame(frame, out).map_err(|_| Fault::WriteFailed)
+    write_frame(frame, out).or(Err(Fault::WriteFailed))
 }
 
 fn write_sent<W: Write>(channel: Channel, body: &[u8], out: &mut W) -> io::Result<()>
@@ -167,7 +167,7 @@ impl Listing {
         let _stored = self.decoder.stored();
         let mut piece = [0u8; PIECE];
         loop {
-            out.flush().map_err(|_| Fault::WriteFailed)?;
+            out.flush().or(Err(Fault::WriteFailed))?;
             let count = read_piece(input, &mut piece)?;
             if count == 0 {
                 return Ok(());
@@ -199,7 +199,10 @@ impl Listing {
         requires { IsUndecided self.now.decoder }
         ensures { OnOk result (self.now.decoder.bytes ≡ []) }
     {
-        self.decoder.end().map_err(|fault| self.fault(fault))
+        match self.decoder.end() {
+            Ok(()) => Ok(()),
+            Err(fault) => Err(self.fault(fault)),
+        }
     }
 
     // Feeds the piece to the decoder, and prints each frame that comes to stand.

@@ -36,7 +36,7 @@ fn print_report<W: Write>(alloc: Global, report: &LoopReport, out: &mut W) -> Re
     let written = write_report(report, &mut buffered);
     // A writer that is dropped would try once more to write what a failed write left.
     let _ = buffered.into_parts();
-    written.map_err(|_| Fault::WriteFailed)
+    written.or(Err(Fault::WriteFailed))
 }
 
 fn write_report<W: Write>(report: &LoopReport, out: &mut W) -> io::Result<()> {

@@ -17,7 +17,7 @@ const PIECE: usize = 256;
 pub fn buffered<W: Write>(alloc: Global, out: &mut W) -> Result<BufWriter<&mut W>, Fault>
     ensures { IfErr result (λ fault. fault ≡ Fault.OutOfMemory) }
 {
-    BufWriter::new(alloc, out).map_err(|_| Fault::OutOfMemory)
+    BufWriter::new(alloc, out).or(Err(Fault::OutOfMemory))
 }
 
 // The lower case digit of a number below 16. It is reckoned, so that many are at once.

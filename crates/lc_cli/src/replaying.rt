@@ -136,14 +136,14 @@ fn print_answers<W: Write>(alloc: Global, answers: &[Answer], out: &mut W) -> Re
     let written = write_answers(answers, &mut buffered);
     // A writer that is dropped would try once more to write what a failed write left.
     let _ = buffered.into_parts();
-    written.map_err(|_| Fault::WriteFailed)
+    written.or(Err(Fault::WriteFailed))
 }
 
 fn put_answers<W: Write>(answers: &[Answer], out: &mut W) -> Result<(), Fault>
     ensures prints { OnOk result (Appends (W.contents out.old) (W.contents out.new) (flat_map answer_line answers.now)) }
     ensures failed { IfErr result (λ fault. fault ≡ Fault.WriteFailed) }
 {
-    write_answers(answers, out).map_err(|_| Fault::WriteFailed)
+    write_answers(answers, out).or(Err(Fault::WriteFailed))
 }
 
 fn write_answers<W: Write>(answers: &[Answer], out: &mut W) -> io::Result<()>

@@ -111,7 +111,7 @@ fn cut(bytes: &[u8], place: Option<usize>) -> (&[u8], Option<&[u8]>)
 fn body_of(alloc: Global, digits: &[u8]) -> Result<Body, LineFault>
     ensures { IfOk result (λ body. decode_of digits.now ≡ Ok body) }
 {
-    let bytes = decode(alloc, digits).map_err(|_| LineFault::OutOfMemory)?;
+    let bytes = decode(alloc, digits).or(Err(LineFault::OutOfMemory))?;
     bytes.map(Body::from_vec).ok_or(LineFault::Bad)
 }
 
@@ -127,7 +127,7 @@ fn channel_of(field: &[u8]) -> Option<Channel>
 
 // A part of a line that is no text makes the line a bad one.
 fn check_text(part: &[u8]) -> Result<(), LineFault> {
-    str::from_utf8(part).map_err(|_| LineFault::Bad)?;
+    str::from_utf8(part).or(Err(LineFault::Bad))?;
     Ok(())
 }
 
@@ -286,13 +286,13 @@ impl<'a> Fields<'a> {
     fn amount(&mut self) -> Result<u32, LineFault>
         ensures { IfOk result (λ amount. Reads self.old self.new (decimal amount)) }
     {
-        u32::try_from(self.bound()?).map_err(|_| LineFault::Bad)
+        u32::try_from(self.bound()?).or(Err(LineFault::Bad))
     }
 
     fn bound(&mut self) -> Result<u64, LineFault>
         ensures { IfOk result (λ bound. Reads self.old self.new (decimal bound)) }
     {
-        let digits = str::from_utf8(self.field()?).map_err(|_| LineFault::Bad)?;
+        let digits = str::from_utf8(self.field()?).or(Err(LineFault::Bad))?;
         parse_decimal(digits).ok_or(LineFault::Bad)
     }
 

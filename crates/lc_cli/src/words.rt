@@ -25,7 +25,7 @@ pub(crate) const SEND: &[u8] = b"send";
 pub(crate) const TAKE: &[u8] = b"take";
 
 /// The word of an event.
-#[derive(Clone, Copy, Debug, PartialEq, Eq)]
+#[derive(Clone, Copy)]
 pub(crate) enum Word {
     Absolve,
     Arrive,

@@ -9,7 +9,7 @@ use crate::scan::{number_at, send_channel};
 use crate::version::Version;
 
 /// A Send whose tag and length are there, with any part of its body, or nothing of it.
-#[derive(Clone, Copy, Debug, PartialEq, Eq)]
+#[derive(Clone, Copy, Debug)]
 pub struct BegunSend {
     pub channel: Channel,
     /// The length of its message, in bytes.

@@ -1,10 +1,6 @@
 //! The bytes of a message.
-ghost use Rattle.std.specs.Prelude.{◌≡◌, ◌==◌, ◌≤◌, [], length, vec_capacity};
-ghost use Rattle.std.proofs.Common.{rules};
-ghost use Rattle.std.specs.Cmp.Lexicographic.{pointwise};
-ghost use Rattle.std.specs.Cmp.Rules.{comparing};
+ghost use Rattle.std.specs.Prelude.{◌≡◌, ◌≤◌, [], length, vec_capacity};
 
-use std::alloc::AllocError;
 use std::marker::Model;
 
 /// The bytes of a message, which contracts see as their list.
@@ -54,28 +50,4 @@ impl Body {
     {
         self.bytes.as_slice()
     }
-}
-
-impl Clone for Body {
-    ghost is_clone = { λ body copy. copy ≡ body };
-
-    fn clone(&self) -> Result<Body, AllocError> {
-        Ok(Body {
-            bytes: self.bytes.clone()?,
-        })
-    }
-}
-
-impl PartialEq for Body {
-    ghost eq = { pointwise ◌==◌ };
-
-    ghost laws = { Prim.search (comparing, rules) };
-
-    fn eq(&self, other: &Body) -> bool {
-        self.as_slice() == other.as_slice()
-    }
-}
-
-impl Eq for Body {
-    ghost laws = { Prim.search (comparing, rules) };
 }

@@ -7,7 +7,7 @@ use crate::scan::{Scan, scan_front};
 use crate::version::Version;
 
 /// What stands at the front of some bytes.
-#[derive(Clone, Copy, Debug, PartialEq, Eq)]
+#[derive(Clone, Copy, Debug)]
 pub enum Decoded<'a> {
     /// A valid frame, and how many bytes it has.
     Whole { frame: FrameRef<'a>, used: usize },

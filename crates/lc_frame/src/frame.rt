@@ -8,6 +8,8 @@ use crate::body::Body;
 use crate::channel::Channel;
 use crate::frame_ref::FrameRef;
 use crate::version::Version;
+use std::fmt;
+use std::fmt::{Debug, Formatter};
 
 /// The longest message of either version, in bytes.
 pub const MAX_BODY: usize = 1_048_576;
@@ -18,7 +20,7 @@ pub const MAX_AMOUNT: u32 = 16_777_216;
 pub const MAX_TOTAL: u64 = 4_611_686_018_427_387_904;
 
 /// A frame that owns its body. Numbers count bytes of messages.
-#[derive(Clone, Debug, PartialEq, Eq, Drop)]
+#[derive(Drop)]
 pub enum Frame {
     /// A message of the client.
     Send { channel: Channel, body: Body },
@@ -34,6 +36,12 @@ pub enum Frame {
     LimitReceiving { channel: Channel, bound: u64 },
     /// The client sends nothing more, and gives up all guarantees that it holds or that still come.
     Finish { channel: Channel },
+}
+
+impl Debug for Frame {
+    fn fmt<W: fmt::Write>(&self, f: &mut Formatter<W>) -> fmt::Result {
+        self.view().fmt(f)
+    }
 }
 
 impl Frame {

@@ -10,7 +10,7 @@ use crate::progress::{Progress, resume};
 use crate::version::{GREETING, Version};
 
 /// What the first bytes of a stream are known to be, and how many of a piece were taken.
-#[derive(Clone, Copy, Debug)]
+#[derive(Clone, Copy)]
 pub(crate) enum Opening {
     /// The first byte begins no greeting, so the stream is of version One. None was taken.
     One,
@@ -55,7 +55,7 @@ pub(crate) fn take_greeting(buffer: &mut Hold, piece: &[u8]) -> Opening
 }
 
 /// The version of a stream as far as it is known, and how many bytes were taken.
-#[derive(Clone, Copy, Debug)]
+#[derive(Clone, Copy)]
 pub(crate) struct Start {
     pub(crate) version: Version,
     pub(crate) taken: usize,

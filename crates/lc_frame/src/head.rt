@@ -10,7 +10,7 @@ use crate::kind::Kind;
 use crate::version::Version;
 
 /// The tag and the number of a frame, which is 0 where it has none.
-#[derive(Clone, Copy, Debug)]
+#[derive(Clone, Copy)]
 pub(crate) struct Head {
     pub(crate) number: u64,
     pub(crate) kind: Kind,

@@ -7,8 +7,6 @@ ghost use Rattle.lc_frame.specs.Fill.{fill_len, FillsFrom};
 use crate::encoding::MAX_FRAME;
 use crate::fill::Fill;
 use std::alloc::{AllocError, Global};
-use std::fmt;
-use std::fmt::{Debug, Formatter};
 use std::marker::Model;
 
 /// The bytes of a body that are asked for at once.
@@ -30,12 +28,6 @@ impl Model for Hold {
     ghost view = { λ hold. hold.bytes.items };
 
     ghost invariant = { λ hold. max_frame Two ≤ vec_capacity hold.bytes };
-}
-
-impl Debug for Hold {
-    fn fmt<W: fmt::Write>(&self, f: &mut Formatter<W>) -> fmt::Result {
-        f.debug_list().entries(self.as_slice().iter()).finish()
-    }
 }
 
 // Puts as many zeros last as bytes are asked for at once.

@@ -7,7 +7,7 @@ use crate::frame_fault::FrameFault;
 use crate::version::Version;
 
 /// What a frame does.
-#[derive(Clone, Copy, Debug, PartialEq, Eq)]
+#[derive(Clone, Copy)]
 pub(crate) enum Kind {
     Send,
     Issue,

@@ -10,7 +10,7 @@ use crate::scan::{Scan, scan_front};
 use crate::version::Version;
 
 /// What the last scan said of the bytes stored.
-#[derive(Clone, Copy, Debug)]
+#[derive(Clone, Copy)]
 pub(crate) enum Progress {
     /// Part of a frame, or nothing: how many bytes there have to be before more is known.
     Wants(usize),
@@ -28,7 +28,7 @@ pub(crate) enum Progress {
 const FEW: usize = 16;
 
 // How many bytes were taken, and what is known then.
-#[derive(Clone, Copy, Debug)]
+#[derive(Clone, Copy)]
 struct Step {
     taken: usize,
     progress: Progress,

@@ -13,7 +13,7 @@ use crate::kind::Kind;
 use crate::version::Version;
 
 /// What the front of some bytes is known to be.
-#[derive(Clone, Copy, Debug)]
+#[derive(Clone, Copy)]
 pub(crate) enum Scan {
     /// A whole frame, by its head, and how many bytes it has.
     Whole { head: Head, used: usize },

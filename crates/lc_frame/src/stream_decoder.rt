@@ -22,12 +22,14 @@ use crate::progress::{Progress, take_in};
 use crate::scan::{Scan, scan_front};
 use crate::version::Version;
 use std::alloc::{AllocError, Global};
+use std::fmt;
+use std::fmt::{Debug, Formatter};
 use std::marker::Model;
 
 /// Finds the frames of a stream that comes in pieces, and by its first bytes the version. Contracts
 /// see it as the version, where it is known, and the bytes that it took since then and since its last
 /// whole frame was cleared.
-#[derive(Debug, Drop)]
+#[derive(Drop)]
 pub struct StreamDecoder {
     buffer: Hold,
     progress: Progress,
@@ -43,6 +45,15 @@ impl Model for StreamDecoder {
     ghost view = { λ decoder. record { version = known_version decoder.version decoder.progress; bytes = decoder.buffer } };
 
     ghost invariant = { λ decoder. Remembers decoder.version decoder.progress decoder.buffer };
+}
+
+impl Debug for StreamDecoder {
+    fn fmt<W: fmt::Write>(&self, f: &mut Formatter<W>) -> fmt::Result {
+        f.debug_struct("StreamDecoder")
+            .field("version", &self.version())
+            .field("held", &self.buffer.as_slice())
+            .finish()
+    }
 }
 
 impl StreamDecoder {

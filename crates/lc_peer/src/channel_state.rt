@@ -15,7 +15,7 @@ use lc_frame::{CHANNELS, FrameRef, Version};
 use lc_ring::NewFault;
 use std::alloc::Global;
 
-#[derive(Debug, Drop)]
+#[derive(Drop)]
 pub(crate) struct ChannelState {
     pub client: ClientBook,
     pub inbox: Inbox,

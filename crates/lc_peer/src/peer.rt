@@ -33,10 +33,11 @@ use circular_buffer::HeapCircularBuffer;
 use lc_book::{ClientBook, Refusal, ServerBook, Violation};
 use lc_frame::{Body, CHANNELS, Channel, Frame, FrameRef, Version};
 use std::alloc::Global;
+use std::fmt;
+use std::fmt::{Debug, Formatter};
 use std::marker::Model;
 
 /// One side of a session as one value.
-#[derive(Debug)]
 pub struct Peer {
     alloc: Global,
     version: Version,
@@ -101,6 +102,12 @@ pub(crate) fn judge_spend(book: &ClientBook, len: usize) -> Result<(), Refusal>
 {
     // A length of more than 32 bits is too long as well.
     book.judge_spend(u32::try_from(len).unwrap_or(u32::MAX))
+}
+
+impl Debug for Peer {
+    fn fmt<W: fmt::Write>(&self, f: &mut Formatter<W>) -> fmt::Result {
+        f.debug_struct("Peer").finish_non_exhaustive()
+    }
 }
 
 impl Peer {

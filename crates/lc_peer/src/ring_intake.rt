@@ -16,13 +16,15 @@ use crate::unkept::Unkept;
 use lc_book::Violation;
 use lc_frame::{CHANNELS, Fill, Filled, FrameFault, StreamDecoder};
 use std::alloc::{AllocError, Global};
+use std::fmt;
+use std::fmt::{Debug, Formatter};
 use std::marker::Model;
 
 /// What [`Intake`](crate::Intake) is, for one sink whose rings keep their sizes. It answers the same,
 /// and of a Send that is longer than its ring it keeps the tag and the length, and no byte of the
 /// message: it counts them to their end. So it never keeps more than the greatest ring has, and the
 /// 9 bytes of the longest tag and number.
-#[derive(Debug, Drop)]
+#[derive(Drop)]
 pub struct RingIntake {
     decoder: StreamDecoder,
     rings: [u32; CHANNELS],
@@ -147,6 +149,12 @@ fn fill_begun<R, F: Fill<R>>(decoder: &mut StreamDecoder, filler: &F, source: &m
             filled
         }
         _ => Filled::Few,
+    }
+}
+
+impl Debug for RingIntake {
+    fn fmt<W: fmt::Write>(&self, f: &mut Formatter<W>) -> fmt::Result {
+        f.debug_struct("RingIntake").finish_non_exhaustive()
     }
 }
 

@@ -10,7 +10,7 @@ use lc_frame::{Channel, Version};
 
 /// A Send whose message is longer than its ring, so that nothing of it is kept but how many bytes are
 /// missing.
-#[derive(Debug, Drop)]
+#[derive(Drop)]
 pub(crate) struct Skip {
     pub version: Version,
     pub channel: Channel,

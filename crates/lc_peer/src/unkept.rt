@@ -2,8 +2,6 @@
 ghost use Rattle.std.specs.Prelude.{◌≡◌, ℕ, List, [], ◌++◌};
 ghost use Rattle.std.specs.Borrow.{ftrue};
 
-use std::fmt;
-use std::fmt::{Debug, Formatter};
 use std::marker::Model;
 
 /// Bytes that were read and then let go: only clauses know them, and it takes no memory.
@@ -18,12 +16,6 @@ impl Model for Unkept {
 
 // It owns nothing.
 unsafe impl Send for Unkept {}
-
-impl Debug for Unkept {
-    fn fmt<W: fmt::Write>(&self, f: &mut Formatter<W>) -> fmt::Result {
-        f.write_str("Unkept")
-    }
-}
 
 impl Unkept {
     /// No bytes.

@@ -6,7 +6,7 @@ const SHORT: u32 = 3;
 
 /// What a call answers.
 #[repr(C)]
-#[derive(Clone, Copy, Debug, PartialEq, Eq)]
+#[derive(Clone, Copy)]
 pub struct LcmuxPlayed {
     /// As the program's exit status: 0 done, 1 memory failed, 2 the arguments or the input are bad. 3: the
     /// buffer is shorter than the sum of the two numbers, and unchanged.

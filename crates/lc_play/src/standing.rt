@@ -28,7 +28,7 @@ pub(crate) fn write_standing<W: Write>(
         return Err(Fault::InputTooLong);
     }
     let world = played(alloc, capacity, version, script)?;
-    write_world(&world, version, out).map_err(|_| Fault::WriteFailed)
+    write_world(&world, version, out).or(Err(Fault::WriteFailed))
 }
 
 // The peers once the script was replayed.
@@ -133,7 +133,7 @@ fn write_bounds<W: Write>(
 
 /// Where the bytes of a ring are: promised and held by the client, promised and on the wire either way,
 /// buffered, and free.
-#[derive(Clone, Copy, Debug, PartialEq, Eq)]
+#[derive(Clone, Copy)]
 pub struct Ring {
     pub held: u64,
     pub wire: u64,
@@ -164,7 +164,7 @@ pub(crate) fn write_places<W: Write>(bytes: &[u8], out: &mut W) -> Result<(), Fa
     let mut frames = Frames::new(bytes);
     for _ in 0..bytes.len() {
         match frames.next_frame()? {
-            Some(placed) => write_placed(&placed, out).map_err(|_| Fault::WriteFailed)?,
+            Some(placed) => write_placed(&placed, out).or(Err(Fault::WriteFailed))?,
             None => return Ok(()),
         }
     }

@@ -45,10 +45,20 @@ pub enum NewFault {
 /// The messages that came and were not taken yet, in order, in a ring of bytes. A message has 1 to
 /// `MAX_BODY` bytes, a ring has room for 1 to `MAX_AMOUNT`. Contracts see the list of the messages
 /// and the capacity.
-#[derive(Debug, Drop)]
+#[derive(Debug)]
 pub struct RecvRing {
     bytes: LapBytes,
     lengths: HeapCircularBuffer<u32>,
+}
+
+// One call, wherever a ring is dropped.
+impl Drop for RecvRing {
+    fn drop(self) {
+        let RecvRing {
+            bytes: _,
+            lengths: _,
+        } = self;
+    }
 }
 
 impl Model for RecvRing {

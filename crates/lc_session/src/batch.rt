@@ -13,7 +13,7 @@ use std::marker::Model;
 
 /// The bytes of frames that were popped and are not written yet, and how many of them are left of
 /// the one that was begun, or of the greeting of a new stream.
-#[derive(Debug, Drop)]
+#[derive(Drop)]
 pub(crate) struct Batch {
     version: Version,
     encoder: StreamEncoder,

@@ -26,7 +26,6 @@ pub enum Wake {
 }
 
 /// What an end waits by. One thread at a time has it.
-#[derive(Drop)]
 pub struct Waiter {
     shared: Arc<Wakers, Global>,
     parker: Parker,
@@ -38,6 +37,21 @@ pub struct Waiter {
     wants_slot: bool,
     // How often it did since it last put a frame, up to where it starves.
     refused: u32,
+}
+
+// One call, wherever one is dropped.
+impl Drop for Waiter {
+    fn drop(self) {
+        let Waiter {
+            shared: _,
+            parker: _,
+            lane: _,
+            told: _,
+            freed: _,
+            wants_slot: _,
+            refused: _,
+        } = self;
+    }
 }
 
 impl Waiter {

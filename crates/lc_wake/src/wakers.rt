@@ -116,7 +116,6 @@ impl Waker {
 }
 
 /// What the threads of a session share to wake one another.
-#[derive(Drop)]
 pub struct Wakers {
     sending: [Waker; CHANNELS],
     receiving: [Waker; CHANNELS],
@@ -132,6 +131,23 @@ pub struct Wakers {
     // A bit for each pump whose run has ended.
     over: AtomicU64,
     stopped: AtomicBool,
+}
+
+// One call, wherever they are dropped.
+impl Drop for Wakers {
+    fn drop(self) {
+        let Wakers {
+            sending: _,
+            receiving: _,
+            pump: _,
+            pump_sleeps: _,
+            freed: _,
+            wanting: _,
+            starved: _,
+            over: _,
+            stopped: _,
+        } = self;
+    }
 }
 
 impl Wakers {

@@ -13,7 +13,7 @@ use lc_peer::{Config, Peer, PeerFault};
 use lc_ring::NewFault;
 use std::alloc::Global;
 
-#[derive(Debug, Drop)]
+#[derive(Drop)]
 pub(crate) struct Endpoint {
     pub peer: Peer,
     /// The greeting of the peer's version, and the bytes of all frames that it put.

@@ -10,7 +10,7 @@ pub enum Side {
 }
 
 /// What happens at a side. Numbers count bytes of messages.
-#[derive(Clone, Debug, PartialEq, Eq, Drop)]
+#[derive(Debug, Drop)]
 pub enum Act {
     /// The client sends a message.
     Send { channel: Channel, body: Body },
@@ -39,14 +39,14 @@ pub enum Act {
 }
 
 /// An act at a side.
-#[derive(Clone, Debug, PartialEq, Eq, Drop)]
+#[derive(Debug, Drop)]
 pub struct Event {
     pub side: Side,
     pub act: Act,
 }
 
 /// What is answered.
-#[derive(Clone, Debug, PartialEq, Eq, Drop)]
+#[derive(Debug, Drop)]
 pub enum Answer {
     /// An own event was accepted, and its frame put last on the side's stream.
     Accepted,

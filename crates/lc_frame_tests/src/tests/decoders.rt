@@ -316,7 +316,7 @@ fn a_decoder_shows_what_is_held(rt: HostRuntime) -> Result<(), Fail> {
     let _whole = decoder.feed(b"\x11\x00\x02hi");
     decoder.clear();
     let _open = decoder.feed(b"\x21\x00");
-    let wanted = "StreamDecoder { buffer: [33, 0], progress: Wants(5), version: One }";
+    let wanted = "StreamDecoder { version: Some(One), held: [33, 0] }";
     same(&rt, "a decoder", text(rt.alloc(), &decoder), wanted);
     Ok(())
 }

@@ -97,19 +97,6 @@ fn body(alloc: Global, bytes: &[u8]) -> Result<Body, AllocError> {
     Ok(Body::from_vec(Vec::from_slice(alloc, bytes)?))
 }
 
-fn are_equal(alloc: Global, one: &[u8], other: &[u8]) -> Result<bool, AllocError> {
-    Ok(body(alloc, one)? == body(alloc, other)?)
-}
-
-#[test]
-fn bodies_are_equal_by_their_bytes(rt: HostRuntime) -> Result<(), Fail> {
-    let is_equal = are_equal(rt.alloc(), &[1, 2, 3], &[1, 2, 3])?;
-    let is_other = are_equal(rt.alloc(), &[1, 2, 3], &[1, 2, 4])?;
-    let found = text(rt.alloc(), &(is_equal, is_other));
-    same(&rt, "bodies", found, "(true, false)");
-    Ok(())
-}
-
 #[test]
 fn bodies_are_their_bytes(rt: HostRuntime) -> Result<(), Fail> {
     let body = body(rt.alloc(), &[1, 2, 4])?;
@@ -117,24 +104,6 @@ fn bodies_are_their_bytes(rt: HostRuntime) -> Result<(), Fail> {
     same(&rt, "bytes", found, "[1, 2, 4]");
     let found = text(rt.alloc(), &body.into_vec());
     same(&rt, "bytes", found, "[1, 2, 4]");
-    Ok(())
-}
-
-fn message(alloc: Global) -> Result<Frame, AllocError> {
-    let (channel, body) = (Channel::DataChannel, body(alloc, &[1, 2, 3])?);
-    Ok(Frame::Send { channel, body })
-}
-
-#[test]
-fn frames_are_equal_by_their_fields(rt: HostRuntime) -> Result<(), Fail> {
-    let frame = message(rt.alloc())?;
-    let issue = Frame::Issue {
-        channel: Channel::DataChannel,
-        amount: 3,
-    };
-    let is_equal = frame == message(rt.alloc())?;
-    let found = text(rt.alloc(), &(is_equal, frame == issue));
-    same(&rt, "frames", found, "(true, false)");
     Ok(())
 }
 

@@ -1,5 +1,0 @@
-use Rattle.std.proofs.Common.{rules}
-use Rattle.lc_frame.proofs.body.BodyPartialEq.eq.Goals as goal
-
-pub returns : goal.returns
-returns c = search rules
