@@ -9,19 +9,31 @@ use lc_session::{RecvEnd, SendEnd};
 use lc_wake::Wake;
 use std::sync::Wait;
 
+// The fault that a refusal is, unless what the end waits for may lift it. What is refused once a pump
+// has ended may be refused for good.
+fn fault_of(refusal: Refusal, wake: Wake) -> Option<Fault> {
+    if wake == Wake::Over {
+        return Some(Fault::Over);
+    }
+    match refusal {
+        Refusal::NoGuarantee { .. } | Refusal::QueueFull => None,
+        _ => Some(Fault::Refused(refusal)),
+    }
+}
+
 /// Sends a message as soon as the other side has room for it, which it says by guarantees.
 pub fn send<R: Wait>(rt: &R, end: &mut SendEnd, body: &[u8]) -> Result<(), Fault>
     ensures { IsSameOutbox end.old end.new }
 {
     let mut wake = Wake::Again;
     for _ in rt.forever() {
-        match end.send(rt, body) {
-            Ok(()) => return Ok(()),
-            // What is refused once a pump has ended may be refused for good.
-            Err(_) if wake == Wake::Over => return Err(Fault::Over),
-            Err(Refusal::NoGuarantee { .. } | Refusal::QueueFull) => wake = end.wait(rt),
-            Err(refusal) => return Err(Fault::Refused(refusal)),
+        let Err(refusal) = end.send(rt, body) else {
+            return Ok(());
+        };
+        if let Some(fault) = fault_of(refusal, wake) {
+            return Err(fault);
         }
+        wake = end.wait(rt);
     }
     unreachable!()
 }
@@ -32,30 +44,34 @@ pub fn end_sending<R: Wait>(rt: &R, end: &mut SendEnd) -> Result<(), Fault>
 {
     let mut wake = Wake::Again;
     for _ in rt.forever() {
-        match end.limit(rt, 0) {
-            Ok(()) => return Ok(()),
-            Err(_) if wake == Wake::Over => return Err(Fault::Over),
-            Err(Refusal::QueueFull) => wake = end.wait(rt),
-            Err(refusal) => return Err(Fault::Refused(refusal)),
+        let Err(refusal) = end.limit(rt, 0) else {
+            return Ok(());
+        };
+        if let Some(fault) = fault_of(refusal, wake) {
+            return Err(fault);
         }
+        wake = end.wait(rt);
     }
     unreachable!()
 }
 
-/// Promises the other side room for so many bytes. On a channel that it finished it wants none.
+/// Promises the other side room for so many bytes. On a channel that it finished it wants none, and
+/// once a pump has ended nothing more comes, or can go out.
 pub fn issue<R: Wait>(rt: &R, end: &mut RecvEnd, amount: u32) -> Result<(), Fault>
     ensures { IsSameSide end.old end.new }
 {
+    let mut wake = Wake::Again;
     for _ in rt.forever() {
-        match end.issue(rt, amount) {
-            Ok(()) | Err(Refusal::ChannelFinished) => return Ok(()),
-            Err(Refusal::QueueFull) => {}
-            Err(refusal) => return Err(Fault::Refused(refusal)),
-        }
-        if end.wait(rt) == Wake::Over {
-            // Nothing more comes, or can go out.
+        let Err(refusal) = end.issue(rt, amount) else {
+            return Ok(());
+        };
+        if wake == Wake::Over || refusal == Refusal::ChannelFinished {
             return Ok(());
         }
+        if let Some(fault) = fault_of(refusal, wake) {
+            return Err(fault);
+        }
+        wake = end.wait(rt);
     }
     unreachable!()
 }
@@ -67,16 +83,15 @@ pub fn take<R: Wait>(rt: &R, end: &mut RecvEnd, buffer: &mut [u8]) -> Result<Opt
 {
     let mut wake = Wake::Again;
     for _ in rt.forever() {
-        match end.take_into(rt, buffer) {
-            Ok(Take::Took(len)) => {
+        // The error is that it is longer than any that this side's rules allow.
+        match end.take_into(rt, buffer).or(Err(Fault::NoSync))? {
+            Take::Took(len) => {
                 issue(rt, end, len as u32)?;
                 return Ok(Some(len));
             }
-            Ok(Take::Ended) => return Ok(None),
-            Ok(Take::Empty) if wake == Wake::Over => return Err(Fault::Over),
-            Ok(Take::Empty) => wake = end.wait(rt),
-            // It is longer than any that this side's rules allow.
-            Err(_) => return Err(Fault::NoSync),
+            Take::Ended => return Ok(None),
+            Take::Empty if wake == Wake::Over => return Err(Fault::Over),
+            Take::Empty => wake = end.wait(rt),
         }
     }
     unreachable!()

@@ -34,11 +34,12 @@ impl From<io::Error> for Fault {
     }
 }
 
-/// Both answers, or the fault that says more. A thread that fails ends the session for the others.
-pub fn both<A: Drop, B: Drop>(a: Result<A, Fault>, b: Result<B, Fault>) -> Result<(A, B), Fault> {
-    match (a, b) {
-        (Ok(a), Ok(b)) => Ok((a, b)),
+/// The other answer where one is well, or the fault that says more. A thread that fails ends the session for
+/// the others.
+pub fn both<T: Drop>(one: Result<(), Fault>, other: Result<T, Fault>) -> Result<T, Fault> {
+    match (one, other) {
+        (Ok(()), other) => other,
         (Err(Fault::Over), Err(fault)) => Err(fault),
-        (Err(fault), _) | (Ok(_), Err(fault)) => Err(fault),
+        (Err(fault), _) => Err(fault),
     }
 }

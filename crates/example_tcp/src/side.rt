@@ -82,7 +82,8 @@ fn read<R: Wait + Clock>(
     let Ok(socket) = BufReader::with_capacity(alloc, READ_AHEAD, hold.patient(rt)) else {
         return Err(Fault::OutOfMemory);
     };
-    match pump.run(rt, &mut Counted::new(Uninterrupted::new(socket)), u64::MAX) {
+    let end = pump.run(rt, &mut Counted::new(Uninterrupted::new(socket)), u64::MAX);
+    match end {
         ReadEnd::Clean => Ok(()),
         _ => Err(Fault::Over),
     }
@@ -93,7 +94,8 @@ fn write<R: Wait + Clock>(rt: &R, hold: &Hold, pump: &mut WritePump) -> Result<(
     ensures { IsSamePump pump.old pump.new }
 {
     let socket = Uninterrupted::new(hold.patient(rt));
-    match pump.run(rt, &mut Counted::new(socket)) {
+    let end = pump.run(rt, &mut Counted::new(socket));
+    match end {
         WriteEnd::Stopped => {
             // It fails where the other side has gone, as the reading pump says.
             let _ = hold.socket.shutdown(Shutdown::Write);
@@ -121,8 +123,7 @@ fn give<'a, R: Threads + Wait + Sync>(
         &mut || hold.give_up_at(offer(rt, names, items)),
         &mut || hold.give_up_at(serve(rt, requests, answers, items)),
     );
-    both(offered, served)?;
-    Ok(())
+    both(offered, served)
 }
 
 // Asks for the items that this side lacks, and answers them.
@@ -144,8 +145,7 @@ fn gain<'a, R: Threads + Wait + Sync>(
         &mut || hold.give_up_at(ask(rt, names, requests, items)),
         &mut || hold.give_up_at(collect(rt, alloc, answers, items)),
     );
-    let ((), lacked) = both(asked, collected)?;
-    Ok(lacked)
+    both(asked, collected)
 }
 
 // All tasks, each with ends of its own. When they are done the session is stopped: what is queued is
@@ -188,10 +188,9 @@ fn work<'a, R: Threads + Wait + Sync>(
         ),
     );
     hold.session.stop();
-    let lacked = both(gave, gained).map(|((), lacked)| lacked);
     let send_ends = [names, answers, a, b, c, requests, d];
     let recv_ends = [their_names, their_answers, e, f, g, their_requests, h];
-    (lacked, send_ends, recv_ends)
+    (both(gave, gained), send_ends, recv_ends)
 }
 
 // Both pumps, until the session is stopped and the other side's stream has ended.
@@ -210,7 +209,7 @@ fn pump<'a, R: Threads + Wait + Clock + Sync>(
         &mut || write(rt, hold, &mut writing),
         &mut || hold.give_up_at(read(rt, alloc, hold, &mut reading)),
     );
-    (both(wrote, heard).map(|((), ())| ()), reading, writing)
+    (both(wrote, heard), reading, writing)
 }
 
 // All parts of a session at work, until both sides are done: the items that this one lacked, and the
@@ -260,7 +259,7 @@ fn exchange<'a, R: Threads + Wait + Clock + Sync>(
         read_pump,
         write_pump,
     };
-    (both(worked, pumped).map(|(lacked, ())| lacked), parts)
+    (both(pumped, worked), parts)
 }
 
 /// Makes the lists of both sides equal, and finishes the session.

@@ -23,6 +23,27 @@ pub fn offer<R: Wait>(rt: &R, names: &mut SendEnd, items: &str) -> Result<(), Fa
     end_sending(rt, names)
 }
 
+// Asks for the next item that the other side names, where this one lacks it. Whether there was one.
+fn ask_next<R: Wait>(
+    rt: &R,
+    names: &mut RecvEnd,
+    requests: &mut SendEnd,
+    items: &str,
+) -> Result<bool, Fault>
+    ensures names { IsSameSide names.old names.new }
+    ensures requests { IsSameOutbox requests.old requests.new }
+{
+    let mut name = [0; LONGEST];
+    let Some(len) = take(rt, names, &mut name)? else {
+        return Ok(false);
+    };
+    let name = name.get(..len).ok_or(Fault::NoSync)?;
+    if find(items, name).is_none() {
+        send(rt, requests, name)?;
+    }
+    Ok(true)
+}
+
 /// Asks for each item that the other side names and this one lacks.
 pub fn ask<R: Wait>(
     rt: &R,
@@ -34,17 +55,32 @@ pub fn ask<R: Wait>(
     ensures requests { IsSameOutbox requests.old requests.new }
 {
     issue(rt, names, RING)?;
-    let mut name = [0; LONGEST];
     for _ in 0..MOST {
-        let Some(len) = take(rt, names, &mut name)? else {
+        if !ask_next(rt, names, requests, items)? {
             return end_sending(rt, requests);
-        };
-        let name = name.get(..len).ok_or(Fault::NoSync)?;
-        if find(items, name).is_none() {
-            send(rt, requests, name)?;
         }
     }
     Err(Fault::NoSync)
+}
+
+// Sends the next item that the other side asks for. Whether there was one.
+fn serve_next<R: Wait>(
+    rt: &R,
+    requests: &mut RecvEnd,
+    answers: &mut SendEnd,
+    items: &str,
+) -> Result<bool, Fault>
+    ensures requests { IsSameSide requests.old requests.new }
+    ensures answers { IsSameOutbox answers.old answers.new }
+{
+    let mut name = [0; LONGEST];
+    let Some(len) = take(rt, requests, &mut name)? else {
+        return Ok(false);
+    };
+    let name = name.get(..len).ok_or(Fault::NoSync)?;
+    let item = find(items, name).ok_or(Fault::NoSync)?;
+    send(rt, answers, item.as_bytes())?;
+    Ok(true)
 }
 
 /// Sends each item that the other side asks for.
@@ -58,14 +94,10 @@ pub fn serve<R: Wait>(
     ensures answers { IsSameOutbox answers.old answers.new }
 {
     issue(rt, requests, RING)?;
-    let mut name = [0; LONGEST];
     for _ in 0..MOST {
-        let Some(len) = take(rt, requests, &mut name)? else {
+        if !serve_next(rt, requests, answers, items)? {
             return end_sending(rt, answers);
-        };
-        let name = name.get(..len).ok_or(Fault::NoSync)?;
-        let item = find(items, name).ok_or(Fault::NoSync)?;
-        send(rt, answers, item.as_bytes())?;
+        }
     }
     Err(Fault::NoSync)
 }

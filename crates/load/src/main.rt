@@ -11,12 +11,21 @@
 //! `finishes MESSAGES` sends so many messages each way through each channel of two sessions, finishes
 //! all of them behind the last one, and takes until each has ended.
 //!
+//! `beside MESSAGES` sends so many messages through each of six channels, beside one whose ends are slow, over
+//! one slot and over 64, and says whether one of them was longer on its way than a minute. `turns SCHEDULES`
+//! lets the ends and the writing pump of a session go on by so many made schedules, and says whether any frame
+//! was passed by more than may pass it.
+//!
 //! `lanes SLOTS` makes a queue, and `inboxes SLOTS` seven inboxes over one, which then end: both say
 //! whether there was memory.
 #![tactic(auto)]
 
+mod beside;
+mod turns;
 mod waking;
 
+use crate::beside::longest_beside;
+use crate::turns::go_in_turn;
 use crate::waking::{Load, wakes_all, wakes_at_ends};
 use lc_frame::{CHANNELS, Version};
 use lc_inbox::{finish_all, share_all};
@@ -36,6 +45,9 @@ const SLOTS: u32 = 4;
 
 /// The bytes of each ring.
 const CAPACITY: u32 = 8;
+
+/// The milliseconds from which on a message was late.
+const LATE: u64 = 60_000;
 
 fn run_queue<R>(rt: R, alloc: Global, frames: u32) -> &'static str
 where
@@ -109,6 +121,29 @@ where
     }
 }
 
+fn go_beside<R, F>(rt: &R, files: &F, alloc: Global, messages: u32) -> &'static str
+where
+    R: Threads + Wait + Clock + Sync,
+    F: Files,
+{
+    for slots in [1, 64] {
+        match longest_beside(rt, files, alloc, slots, messages) {
+            Some(longest) if longest < LATE => {}
+            Some(_) => return "one was late",
+            None => return "some did not arrive",
+        }
+    }
+    "none was late"
+}
+
+fn took_turns(answer: Option<bool>) -> &'static str {
+    match answer {
+        Some(true) => "each frame in turn",
+        Some(false) => "a frame was passed too often",
+        None => "no session",
+    }
+}
+
 fn make_inboxes(alloc: Global, slots: u32) -> &'static str {
     let Ok(parts) = lanes(alloc, slots, Version::One) else {
         return "out of memory";
@@ -151,6 +186,8 @@ where
         }
         "over" => waked(wakes_at_ends(&rt, host, alloc, count)),
         "finishes" => finish_channels(host, rt, alloc, count),
+        "beside" => go_beside(&rt, host, alloc, count),
+        "turns" => took_turns(go_in_turn(&rt, alloc, count)),
         _ => "not known",
     }
 }
