@@ -18,7 +18,7 @@ use crate::tests::ticks::Ticks;
 use lc_driver::Counted;
 use lc_frame::{CHANNELS, Channel, Version};
 use lc_peer::Take;
-use lc_session::{Parts, ReadPump, RecvEnd, Report, SendEnd, WritePump, finish};
+use lc_session::{Parts, ReadPump, RecvEnd, Report, SendEnd, WriteEnd, WritePump, finish};
 use std::alloc::Global;
 use std::mem::replace;
 use std::process::Abort;
@@ -48,24 +48,56 @@ fn micros(word: &str) -> Option<Duration> {
     Some(Duration::from_micros(number(word)?))
 }
 
+fn send<R: Wait>(rt: &R, alloc: Global, end: &mut SendEnd, digits: &str) -> Option<String>
+    ensures { IsSameOutbox end.old end.new }
+{
+    let body = hex::decode(alloc, digits).ok()?;
+    text(alloc, &end.send(rt, &body))
+}
+
+fn absolve<R: Wait>(rt: &R, alloc: Global, end: &mut SendEnd, amount: &str) -> Option<String>
+    ensures { IsSameOutbox end.old end.new }
+{
+    let amount = amount.parse::<u32>().ok()?;
+    text(alloc, &end.absolve(rt, amount))
+}
+
+fn limit_sending<R: Wait>(rt: &R, alloc: Global, end: &mut SendEnd, bound: &str) -> Option<String>
+    ensures { IsSameOutbox end.old end.new }
+{
+    let bound = number(bound)?;
+    text(alloc, &end.limit(rt, bound))
+}
+
+fn nap_sending<R: Wait>(rt: &R, alloc: Global, end: &mut SendEnd, most: &str) -> Option<String>
+    ensures { IsSameOutbox end.old end.new }
+{
+    let most = micros(most)?;
+    let clock = Ticks::new(rt);
+    let wake = end.wait_timeout(&clock, most);
+    clock.told(alloc, wake)
+}
+
 // What a call of a sending end answers.
-fn send<R: Wait>(rt: &R, alloc: Global, end: &mut SendEnd, verb: &str, word: &str) -> Option<String>
+fn sends<R: Wait>(
+    rt: &R,
+    alloc: Global,
+    end: &mut SendEnd,
+    verb: &str,
+    word: &str,
+) -> Option<String>
     ensures { IsSameOutbox end.old end.new }
 {
     match verb {
-        "send" => text(alloc, &end.send(rt, &hex::decode(alloc, word).ok()?)),
-        "absolve" => text(alloc, &end.absolve(rt, word.parse::<u32>().ok()?)),
-        "limit-sending" => text(alloc, &end.limit(rt, number(word)?)),
+        "send" => send(rt, alloc, end, word),
+        "absolve" => absolve(rt, alloc, end, word),
+        "limit-sending" => limit_sending(rt, alloc, end, word),
         "honour" => text(alloc, &end.honour(rt)),
         "finish" => text(alloc, &end.finish(rt)),
         "finished" => text(alloc, &end.is_finished()),
         "held" => text(alloc, &end.held()),
         "wait" => text(alloc, &end.wait(rt)),
-        "nap-sending" => {
-            let clock = Ticks::new(rt);
-            let wake = end.wait_timeout(&clock, micros(word)?);
-            clock.told(alloc, wake)
-        }
+        "nap-sending" => nap_sending(rt, alloc, end, word),
         _ => None,
     }
 }
@@ -90,8 +122,38 @@ fn server<R: Wait>(rt: &R, alloc: Global, end: &mut RecvEnd) -> Option<String>
     format!(in alloc; "outstanding {outstanding} buffered {buffered} {left:?}").ok()
 }
 
+fn issue<R: Wait>(rt: &R, alloc: Global, end: &mut RecvEnd, amount: &str) -> Option<String>
+    ensures { IsSameSide end.old end.new }
+{
+    let amount = amount.parse::<u32>().ok()?;
+    text(alloc, &end.issue(rt, amount))
+}
+
+fn plead<R: Wait>(rt: &R, alloc: Global, end: &mut RecvEnd, target: &str) -> Option<String>
+    ensures { IsSameSide end.old end.new }
+{
+    let target = target.parse::<u32>().ok()?;
+    text(alloc, &end.plead(rt, target))
+}
+
+fn limit_receiving<R: Wait>(rt: &R, alloc: Global, end: &mut RecvEnd, bound: &str) -> Option<String>
+    ensures { IsSameSide end.old end.new }
+{
+    let bound = number(bound)?;
+    text(alloc, &end.limit(rt, bound))
+}
+
+fn nap_receiving<R: Wait>(rt: &R, alloc: Global, end: &mut RecvEnd, most: &str) -> Option<String>
+    ensures { IsSameSide end.old end.new }
+{
+    let most = micros(most)?;
+    let clock = Ticks::new(rt);
+    let wake = end.wait_timeout(&clock, most);
+    clock.told(alloc, wake)
+}
+
 // What a call of a receiving end answers.
-fn receive<R: Wait>(
+fn receives<R: Wait>(
     rt: &R,
     alloc: Global,
     end: &mut RecvEnd,
@@ -101,16 +163,12 @@ fn receive<R: Wait>(
     ensures { IsSameSide end.old end.new }
 {
     match verb {
-        "issue" => text(alloc, &end.issue(rt, word.parse::<u32>().ok()?)),
-        "plead" => text(alloc, &end.plead(rt, word.parse::<u32>().ok()?)),
-        "limit-receiving" => text(alloc, &end.limit(rt, number(word)?)),
+        "issue" => issue(rt, alloc, end, word),
+        "plead" => plead(rt, alloc, end, word),
+        "limit-receiving" => limit_receiving(rt, alloc, end, word),
         "take" => take(rt, alloc, end),
         "server" => server(rt, alloc, end),
-        "nap-receiving" => {
-            let clock = Ticks::new(rt);
-            let wake = end.wait_timeout(&clock, micros(word)?);
-            clock.told(alloc, wake)
-        }
+        "nap-receiving" => nap_receiving(rt, alloc, end, word),
         _ => None,
     }
 }
@@ -127,7 +185,7 @@ pub fn at_sender<R: Wait>(
     ensures { AllZip IsSameOutbox ends.old ends.new }
 {
     let end = &mut ends[at.index()];
-    send(rt, alloc, end, verb, word)
+    sends(rt, alloc, end, verb, word)
 }
 
 /// What a call of a channel's receiving end answers.
@@ -142,7 +200,7 @@ pub fn at_receiver<R: Wait>(
     ensures { AllZip IsSameSide ends.old ends.new }
 {
     let end = &mut ends[at.index()];
-    receive(rt, alloc, end, verb, word)
+    receives(rt, alloc, end, verb, word)
 }
 
 // What a call of an end answers.
@@ -164,6 +222,12 @@ fn end<R: Wait>(
     }
 }
 
+// How many reads there are at most, and the reader's plan.
+fn reads_of(words: &str) -> Option<(u64, Plan)> {
+    let (max_reads, plan) = words.split_once(' ')?;
+    Some((number(max_reads)?, plan_of(plan)?))
+}
+
 // How a run of the reading pump ends, and how many reads it made. What it leaves of the input stays.
 fn read<R: Wait>(
     rt: &R,
@@ -174,8 +238,7 @@ fn read<R: Wait>(
 ) -> Option<String>
     ensures { IsSameReading pump.old.side pump.new.side }
 {
-    let (max_reads, plan) = rest.split_once(' ')?;
-    let (max_reads, plan) = (number(max_reads)?, plan_of(plan)?);
+    let (max_reads, plan) = reads_of(rest)?;
     let pipe = replace(input, Pipe::of(Vec::new(alloc)));
     let mut reader = Counted::new(PipeReader { plan, pipe });
     let end = pump.run(rt, &mut reader, max_reads);
@@ -190,6 +253,10 @@ fn write<R: Wait>(rt: &R, alloc: Global, pump: &mut WritePump, writer: PipeWrite
     let mut writer = Counted::new(writer);
     let end = pump.run(rt, &mut writer);
     let writer = writer.into_inner();
+    written(alloc, end, &writer)
+}
+
+fn written(alloc: Global, end: WriteEnd, writer: &PipeWriter) -> Option<String> {
     let bytes = hex::encode(alloc, &writer.pipe.bytes).ok()?;
     let (calls, flushes) = (writer.plan.calls, writer.flushes.calls);
     format!(in alloc; "{end:?} {bytes} calls {calls} flushes {flushes}").ok()

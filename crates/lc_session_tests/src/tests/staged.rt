@@ -115,14 +115,25 @@ fn add(all: &mut String, kind: &str, at: Channel, nap: Option<String>) -> Option
     Some(())
 }
 
+// Names the ends of a channel whose wait would not sleep.
+fn tell<R: Wait>(
+    rt: &R,
+    alloc: Global,
+    ends: &mut Ends,
+    at: Channel,
+    all: &mut String,
+) -> Option<()> {
+    let sending = at_sender(rt, alloc, &mut ends.sending, at, "nap-sending", "1");
+    add(all, "sending", at, sending)?;
+    let receiving = at_receiver(rt, alloc, &mut ends.receiving, at, "nap-receiving", "1");
+    add(all, "receiving", at, receiving)
+}
+
 // The ends whose wait would not sleep.
 fn told<R: Wait>(rt: &R, alloc: Global, ends: &mut Ends) -> Option<String> {
     let mut all = String::from_str(alloc, "told").ok()?;
     for at in Channel::ALL {
-        let sending = at_sender(rt, alloc, &mut ends.sending, at, "nap-sending", "1");
-        add(&mut all, "sending", at, sending)?;
-        let receiving = at_receiver(rt, alloc, &mut ends.receiving, at, "nap-receiving", "1");
-        add(&mut all, "receiving", at, receiving)?;
+        tell(rt, alloc, ends, at, &mut all)?;
     }
     Some(all)
 }
