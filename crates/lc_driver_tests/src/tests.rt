@@ -1,11 +1,9 @@
-//! One side of a session, over devices that follow a plan, and an inbox by itself.
+//! One side of a session, over devices that follow a plan.
 mod bounds;
 mod buffered;
 mod counted;
 mod failing;
 mod failing_link;
-mod hostile;
-mod inbox;
 mod interrupted;
 mod long_messages;
 mod longer;

@@ -1,4 +1,4 @@
-//! Tests of `lc_queue` and `lc_credit`.
+//! Tests of `lc_queue`, `lc_credit` and `lc_inbox`.
 #![tactic(auto)]
 
 #[cfg(test)]

@@ -28,9 +28,8 @@ use crate::beside::longest_beside;
 use crate::turns::go_in_turn;
 use crate::waking::{Load, wakes_all, wakes_at_ends};
 use lc_frame::{CHANNELS, Version};
-use lc_inbox::{finish_all, share_all};
 use lc_loopback::{LoopFault, loopback_as};
-use lc_queue::{LanesFault, lanes};
+use lc_queue::LanesFault;
 use std::alloc::{AllocError, Global};
 use std::fs::Files;
 use std::net::Net;
@@ -38,6 +37,7 @@ use std::sync::Wait;
 use std::thread::Threads;
 use std::time::Clock;
 use std::{env, io};
+use test_parts::{finished_inboxes, joined_queue};
 use test_threads::{balances_agree, keeps_order, takes_what_arrives};
 
 /// The slots through which fourteen threads push.
@@ -144,25 +144,16 @@ fn took_turns(answer: Option<bool>) -> &'static str {
     }
 }
 
-fn make_inboxes(alloc: Global, slots: u32) -> &'static str {
-    let Ok(parts) = lanes(alloc, slots, Version::One) else {
-        return "out of memory";
-    };
-    let ends = parts.ends;
-    match share_all(alloc, [CAPACITY; CHANNELS], ends) {
-        Ok(inboxes) => {
-            let incoming = inboxes.incoming;
-            let outgoing = inboxes.outgoing;
-            let _ended = finish_all(incoming, outgoing);
-            "made and ended"
-        }
-        Err(_) => "out of memory",
+fn end_inboxes(alloc: Global, slots: u32) -> &'static str {
+    match finished_inboxes(alloc, CAPACITY, slots) {
+        Some(_) => "made and ended",
+        None => "out of memory",
     }
 }
 
-fn make_lanes(alloc: Global, slots: u32) -> &'static str {
-    match lanes(alloc, slots, Version::One) {
-        Ok(_) => "made",
+fn end_lanes(alloc: Global, slots: u32) -> &'static str {
+    match joined_queue(alloc, slots) {
+        Ok(_) => "made and ended",
         Err(LanesFault::BadSlots) => "bad slots",
         Err(LanesFault::OutOfMemory) => "out of memory",
     }
@@ -179,8 +170,8 @@ where
         "queue" => run_queue(rt, alloc, count),
         "credits" => run_credits(&rt, alloc, count),
         "inbox" => run_inbox(&rt, alloc, count),
-        "lanes" => make_lanes(alloc, count),
-        "inboxes" => make_inboxes(alloc, count),
+        "lanes" => end_lanes(alloc, count),
+        "inboxes" => end_inboxes(alloc, count),
         "ends" | "pump" | "both" | "slot" | "slots" => {
             waked(wakes_all(&rt, host, alloc, load_of(what, count)))
         }

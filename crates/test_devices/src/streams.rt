@@ -20,8 +20,6 @@ pub struct Hostile {
     pub server: &'static str,
     /// What its client holds.
     pub held: u64,
-    /// What is left of the limit on what its client receives.
-    pub receive_left: Option<u64>,
     /// What a take answers: the bytes of a message, or that there is none.
     pub taken: &'static str,
 }
@@ -35,7 +33,6 @@ const NOTHING: Hostile = Hostile {
     channel: 1,
     server: "outstanding 0 buffered 0 None",
     held: 0,
-    receive_left: None,
     taken: "Ok(Empty)",
 };
 
@@ -76,7 +73,6 @@ pub const HOSTILE: [Hostile; 13] = [
         bytes: "6100000000000000002100000001",
         in_two: "4c434d026100000000000000002100000001",
         end: "Violated(IssuedPastLimit)",
-        receive_left: Some(0),
         ..NOTHING
     },
     Hostile {
@@ -90,7 +86,6 @@ pub const HOSTILE: [Hostile; 13] = [
         bytes: "610000000000000005610000000000000006",
         in_two: "4c434d02610000000000000005610000000000000006",
         end: "Violated(ReceiveLimitRaised)",
-        receive_left: Some(5),
         ..NOTHING
     },
     // What is not guaranteed comes before a limit that is passed.
@@ -135,7 +130,6 @@ pub const HOSTILE: [Hostile; 13] = [
         bytes: "604000000000000000",
         in_two: "4c434d02604000000000000000",
         channel: 0,
-        receive_left: Some(4_611_686_018_427_387_904),
         ..NOTHING
     },
 ];
@@ -184,7 +178,6 @@ pub const FINISHED: [Hostile; 7] = [
         in_two: "4c434d02110000000261627121000000054100000003610000000000000002",
         server: "outstanding 0 buffered 2 None",
         held: 5,
-        receive_left: Some(2),
         taken: "6162",
         ..NOTHING
     },

@@ -1,5 +1,5 @@
-//! Bounds of peers, and the calls that take memory.
-use crate::tests::{equal, inbox, ran, same};
+//! Bounds of inboxes and peers, and the calls that take memory.
+use crate::tests::{equal, ran, same};
 use lc_frame::{CHANNELS, Channel, FrameRef, Version};
 use lc_peer::{Config, Inbox, NewFault, Peer, PeerFault, Refusal, Take, Violation};
 use std::alloc::Global;
@@ -50,6 +50,14 @@ fn fault(alloc: Global, capacities: [u32; CHANNELS], slots: u32) -> Option<PeerF
 fn fault_text(alloc: Global, capacities: [u32; CHANNELS], slots: u32) -> Option<String> {
     let fault = fault(alloc, capacities, slots)?;
     format!(in alloc; "{fault:?}: {fault}").ok()
+}
+
+#[test]
+fn inboxes_of_other_bounds(rt: HostRuntime) {
+    for capacity in [0, 16_777_217] {
+        let found = Inbox::new(rt.alloc(), capacity).err();
+        equal(&rt, "new", found, Some(NewFault::BadCapacity));
+    }
 }
 
 #[test]
@@ -107,7 +115,7 @@ fn the_longest_message_of_each_version(rt: HostRuntime) {
 
 // Bad bounds are named before memory is asked for.
 fn are_bad(rt: &impl Abort, alloc: Global) {
-    let inbox = inbox::fault(alloc, 0);
+    let inbox = Inbox::new(alloc, 0).err();
     let capacity = fault(alloc, [8, 8, 8, 8, 8, 8, 0], 7);
     let slots = fault(alloc, [8; CHANNELS], 0);
     let channel = Channel::StaticTokenChannel;

@@ -56,8 +56,8 @@ fn is_same(one: &Frame, other: &Frame) -> bool {
     one.view() == other.view()
 }
 
-// Pops this frame.
-fn pop(rt: &(impl Wait + Abort), drain: &mut Drain, wanted: &Frame) {
+/// Pops this frame.
+pub fn pop(rt: &(impl Wait + Abort), drain: &mut Drain, wanted: &Frame) {
     let is_popped = match drain.pop(rt) {
         Some(frame) => is_same(&frame, wanted),
         None => false,

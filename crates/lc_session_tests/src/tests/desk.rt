@@ -1,7 +1,8 @@
 //! A session in one thread, and the calls of a script on its parts: a call a line, and after `=>` what
-//! it answers. The first word names the call, the next the channel of an end. `read` names how many
-//! reads there are at most and the reader's plan, `write` the writer's; `unflushed` writes to one
-//! whose first flush fails. After the calls the session ends, and further lines ask its report.
+//! it answers. The first word names the call, the next the channel of an end. `long` sends so many
+//! zeros, and `take` may name the room of its buffer. `read` names how many reads there are at most and
+//! the reader's plan, `write` the writer's; `unflushed` writes to one whose first flush fails. After the
+//! calls the session ends, and further lines ask its report.
 ghost use Rattle.std.specs.Prelude.{IfSome};
 ghost use Rattle.lc_outbox.specs.Outbox.{IsSameOutbox};
 ghost use Rattle.lc_inbox.specs.Sides.{IsSameSide};
@@ -55,6 +56,13 @@ fn send<R: Wait>(rt: &R, alloc: Global, end: &mut SendEnd, digits: &str) -> Opti
     text(alloc, &end.send(rt, &body))
 }
 
+fn send_long<R: Wait>(rt: &R, alloc: Global, end: &mut SendEnd, len: &str) -> Option<String>
+    ensures { IsSameOutbox end.old end.new }
+{
+    let body = vec![in alloc; 0_u8; len.parse::<usize>().ok()?].ok()?;
+    text(alloc, &end.send(rt, &body))
+}
+
 fn absolve<R: Wait>(rt: &R, alloc: Global, end: &mut SendEnd, amount: &str) -> Option<String>
     ensures { IsSameOutbox end.old end.new }
 {
@@ -90,6 +98,7 @@ fn sends<R: Wait>(
 {
     match verb {
         "send" => send(rt, alloc, end, word),
+        "long" => send_long(rt, alloc, end, word),
         "absolve" => absolve(rt, alloc, end, word),
         "limit-sending" => limit_sending(rt, alloc, end, word),
         "honour" => text(alloc, &end.honour(rt)),
@@ -103,11 +112,13 @@ fn sends<R: Wait>(
 }
 
 // What the first message of an inbox is.
-fn take<R: Wait>(rt: &R, alloc: Global, end: &mut RecvEnd) -> Option<String>
+fn take<R: Wait>(rt: &R, alloc: Global, end: &mut RecvEnd, room: &str) -> Option<String>
     ensures { IsSameSide end.old end.new }
 {
     let mut buffer = [0; 8];
-    match end.take_into(rt, &mut buffer) {
+    let room = room.parse::<usize>().unwrap_or(buffer.len());
+    let buffer = buffer.get_mut(..room)?;
+    match end.take_into(rt, buffer) {
         Ok(Take::Took(len)) => hex::encode(alloc, buffer.get(..len).unwrap_or(&[])).ok(),
         other => text(alloc, &other),
     }
@@ -166,7 +177,7 @@ fn receives<R: Wait>(
         "issue" => issue(rt, alloc, end, word),
         "plead" => plead(rt, alloc, end, word),
         "limit-receiving" => limit_receiving(rt, alloc, end, word),
-        "take" => take(rt, alloc, end),
+        "take" => take(rt, alloc, end, word),
         "server" => server(rt, alloc, end),
         "nap-receiving" => nap_receiving(rt, alloc, end, word),
         _ => None,

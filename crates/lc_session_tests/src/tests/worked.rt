@@ -8,7 +8,7 @@ use std::sync::Wait;
 
 /// Of each: the slots of the queue, the bytes that come, the calls with what they answer, and what
 /// the report says then.
-const WORKED: [(u32, &str, &str, &str); 8] = [
+const WORKED: [(u32, &str, &str, &str); 17] = [
     // All that was put goes out in one write.
     (
         4,
@@ -65,6 +65,8 @@ const WORKED: [(u32, &str, &str, &str); 8] = [
         absolve 1 5 => Err(QueueFull)
         limit-sending 1 0 => Err(QueueFull)
         issue 1 8 => Err(QueueFull)
+        plead 2 0 => Err(QueueFull)
+        limit-receiving 1 9 => Err(QueueFull)
         held 1 => 5
         server 1 => outstanding 0 buffered 0 None
         stop => ()
@@ -92,6 +94,138 @@ const WORKED: [(u32, &str, &str, &str); 8] = [
         server 3 => (3, 0, 3)
         server 6 => (2, 0, 2)
         left => (0, 0)",
+    ),
+    // A plead that finds no slot is kept until the next call, or until a newer one comes.
+    (
+        1,
+        "210000000541000000024100000004",
+        "read 10 1 => TurnsSpent
+        limit-sending 2 9 => Ok(())
+        honour 1 => Err(QueueFull)
+        read 10 all => Clean
+        honour 1 => Err(QueueFull)
+        held 1 => 5
+        stop => ()
+        write all => Stopped 520000000000000009 calls 1 flushes 1
+        honour 1 => Ok(Some(1))
+        honour 1 => Ok(None)
+        held 1 => 4",
+        "client 1 => (5, 4, 0, 1, 0)
+        left => (1, 0)",
+    ),
+    // A plead that asks nothing is forgotten without a slot.
+    (
+        1,
+        "210000000541000000052100000001",
+        "read 10 1 => TurnsSpent
+        limit-sending 2 9 => Ok(())
+        honour 1 => Ok(None)
+        read 10 all => Clean
+        honour 1 => Ok(None)
+        held 1 => 6",
+        "client 1 => (6, 6, 0, 0, 0)
+        left => (1, 0)",
+    ),
+    // No message is empty, or too long.
+    (
+        4,
+        "2100010000",
+        "read 10 all => Clean
+        send 1 => Err(EmptyBody)
+        long 1 65536 => Err(BodyTooLong)
+        long 1 65535 => Ok(())
+        long 1 1 => Ok(())
+        long 1 1 => Err(NoGuarantee { held: 0 })",
+        "client 1 => (65536, 0, 65536, 0, 0)
+        left => (2, 0)",
+    ),
+    // A limit on sending is never raised.
+    (
+        4,
+        "2100000009",
+        "read 10 all => Clean
+        limit-sending 1 4611686018427387905 => Err(BoundTooLarge)
+        limit-sending 1 4611686018427387904 => Ok(())
+        limit-sending 1 4 => Ok(())
+        send 1 0102030405 => Err(PastSendLimit { left: 4 })
+        send 1 010203 => Ok(())
+        limit-sending 1 2 => Err(LimitRaised { left: 1 })
+        limit-sending 1 0 => Ok(())
+        send 1 01 => Err(PastSendLimit { left: 0 })
+        stop => ()
+        write all => Stopped 514000000000000000510000000000000004110003010203510000000000000000 calls 1 flushes 1",
+        "client 1 => (9, 6, 3, 0, 0)
+        left => (0, 0)",
+    ),
+    // Nothing more is absolved than is held.
+    (
+        4,
+        "2101000000",
+        "read 10 all => Clean
+        absolve 1 0 => Err(ZeroAmount)
+        absolve 1 16777217 => Err(NotHeld { held: 16777216 })
+        absolve 1 16777210 => Ok(())
+        absolve 1 7 => Err(NotHeld { held: 6 })
+        absolve 1 6 => Ok(())
+        absolve 1 1 => Err(NotHeld { held: 0 })
+        stop => ()
+        write all => Stopped 3100fffffa3100000006 calls 1 flushes 1",
+        "client 1 => (16777216, 0, 0, 16777216, 0)
+        left => (0, 0)",
+    ),
+    // Nothing more is issued than the ring has room for, nor beyond a limit, which is never raised.
+    (
+        4,
+        "",
+        "issue 1 0 => Err(ZeroAmount)
+        issue 1 9 => Err(NoRoom { room: 8 })
+        issue 1 7 => Ok(())
+        issue 1 2 => Err(NoRoom { room: 1 })
+        limit-receiving 1 4611686018427387905 => Err(BoundTooLarge)
+        limit-receiving 1 0 => Ok(())
+        limit-receiving 1 1 => Err(LimitRaised { left: 0 })
+        issue 1 1 => Err(PastReceiveLimit { left: 0 })
+        server 1 => outstanding 7 buffered 0 None",
+        "server 1 => (7, 0, 7)
+        left => (2, 0)",
+    ),
+    // What is absolved is room again.
+    (
+        4,
+        "3100000008",
+        "issue 1 8 => Ok(())
+        plead 1 0 => Ok(())
+        read 10 all => Clean
+        plead 1 0 => Err(NothingToAsk { outstanding: 0 })
+        issue 1 8 => Ok(())",
+        "server 1 => (8, 0, 16)
+        left => (3, 0)",
+    ),
+    // A message waits for a buffer that has room for it.
+    (
+        4,
+        "1100026869",
+        "issue 1 2 => Ok(())
+        read 10 all => Clean
+        take 1 1 => Err(BufferTooSmall { need: 2 })
+        take 1 2 => 6869
+        take 1 2 => Ok(Empty)",
+        "server 1 => (0, 0, 2)
+        left => (1, 0)",
+    ),
+    // A channel ends with the last message that the other side's limit allows.
+    (
+        4,
+        "510000000000000003110003616263",
+        "issue 1 8 => Ok(())
+        read 9 1 => TurnsSpent
+        take 1 => Ok(Empty)
+        server 1 => outstanding 8 buffered 0 Some(3)
+        read 10 all => Clean
+        take 1 => 616263
+        take 1 => Ok(Ended)",
+        "server 1 => (5, 0, 8)
+        left => (1, 0)",
     ),
     // A stream of version Two is heard like one of version One.
     (
@@ -140,7 +274,7 @@ fn worked_calls(rt: HostRuntime) {
 }
 
 /// The same of sessions of version Two.
-const GREETED: [(u32, &str, &str, &str); 4] = [
+const GREETED: [(u32, &str, &str, &str); 5] = [
     // The greeting goes out once, also where no frame does.
     (
         4,
@@ -175,6 +309,17 @@ const GREETED: [(u32, &str, &str, &str); 4] = [
         stop => ()
         write all => Stopped 4d022100000008 calls 1 flushes 1",
         "left => (0, 0)",
+    ),
+    // Messages are longer.
+    (
+        4,
+        "2100100001",
+        "read 10 all => Clean
+        long 1 1048577 => Err(BodyTooLong)
+        long 1 1048576 => Ok(())
+        send 1 68 => Ok(())",
+        "client 1 => (1048577, 0, 1048577, 0, 0)
+        left => (2, 4)",
     ),
 ];
 

@@ -1,15 +1,13 @@
 //! A side sleeps while the other has the inbox, and does not only yield the processor.
-use crate::tests::pair::{Receiver, await_turn, reads, receives};
 use lc_inbox::{InboxIn, InboxOut, Lent, SharedInbox};
-use std::alloc::{Alloc, Global};
+use std::alloc::Alloc;
 use std::fs::{Files, read_to_string};
-use std::process::Abort;
 use std::sync::Wait;
-use std::sync::atomic::{AtomicU64, Ordering};
+use std::sync::atomic::{AtomicBool, AtomicU64, Ordering};
 use std::test::Fail;
-use std::thread::{join, sleep};
+use std::thread::{join, sleep, yield_now};
 use std::time::{Clock, Duration};
-use test_threads::new_pair;
+use test_threads::{hear, new_pair};
 
 /// How many milliseconds in a row a thread has to be found asleep, and how many are looked at.
 const ASLEEP: u32 = 20;
@@ -51,44 +49,48 @@ fn falls_asleep<R: Files + Alloc + Clock>(rt: &R, thread: &AtomicU64) -> bool {
 fn lends<R: Wait + Files + Alloc + Clock>(
     rt: &R,
     outgoing: &mut InboxOut,
-    turn: &AtomicU64,
+    turn: &AtomicBool,
     reader: &AtomicU64,
 ) -> bool {
     let lent = outgoing.take_with(rt, |_near, _far| {
-        turn.store(1, Ordering::SeqCst);
+        turn.store(true, Ordering::SeqCst);
         falls_asleep(rt, reader)
     });
     matches!(lent, Lent::Read(true))
 }
 
-// A message arrives once the other side has the inbox.
-fn arrives<R: Wait + Files + Alloc + Abort>(
+// A message arrives once the other side has the inbox. Whether it was lawful.
+fn arrives<R: Wait + Files + Alloc>(
     rt: &R,
-    alloc: Global,
-    incoming: InboxIn,
-    turn: &AtomicU64,
+    incoming: &mut InboxIn,
+    turn: &AtomicBool,
     reader: &AtomicU64,
-) -> InboxIn {
+) -> bool {
     reader.store(own_number(rt).unwrap_or(0), Ordering::SeqCst);
-    await_turn(rt, turn, 1);
-    let hears = "hear 110000000162 => Ok(())";
-    reads(rt, alloc, &AtomicU64::new(0), incoming, hears)
+    for _ in rt.forever() {
+        if turn.load(Ordering::SeqCst) {
+            break;
+        }
+        yield_now();
+    }
+    hear(rt, incoming, b"b")
 }
 
 #[test]
 fn a_side_sleeps_while_the_other_has_the_inbox(rt: HostRuntime) -> Result<(), Fail> {
-    let (SharedInbox { incoming, outgoing }, drain) = new_pair(rt.alloc(), 8, 8, 4)?;
-    let receiver = Receiver { outgoing, drain };
-    let issues = "issue 8 => Ok(())";
-    let mut receiver = receives(&rt, rt.alloc(), &AtomicU64::new(0), receiver, issues);
-    let hears = "hear 110000000161 => Ok(())";
-    let incoming = reads(&rt, rt.alloc(), &AtomicU64::new(0), incoming, hears);
-    let (turn, reader) = (AtomicU64::new(0), AtomicU64::new(0));
-    let (slept, _incoming) = join(
+    let (shared, _drain) = new_pair(rt.alloc(), 8, 8, 4)?;
+    let SharedInbox {
+        mut incoming,
+        mut outgoing,
+    } = shared;
+    assert!(rt; outgoing.issue(&rt, 8).is_ok() && hear(&rt, &mut incoming, b"a"));
+    let (turn, reader) = (AtomicBool::new(false), AtomicU64::new(0));
+    let (slept, heard) = join(
         &rt,
-        || lends(&rt, &mut receiver.outgoing, &turn, &reader),
-        || arrives(&rt, rt.alloc(), incoming, &turn, &reader),
+        || lends(&rt, &mut outgoing, &turn, &reader),
+        || arrives(&rt, &mut incoming, &turn, &reader),
     );
     assert!(rt; slept, "the reading side never slept");
+    assert!(rt; heard, "the second message was refused");
     Ok(())
 }
