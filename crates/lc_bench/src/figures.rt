@@ -91,10 +91,7 @@ impl Figure<'_> {
 
 /// The nanoseconds of a duration, at least 1.
 pub fn nanoseconds(took: Duration) -> u64 {
-    let seconds = took.as_secs().saturating_mul(1_000_000_000);
-    seconds
-        .saturating_add(u64::from(took.subsec_nanos()))
-        .max(1)
+    u64::try_from(took.as_nanos()).unwrap_or(u64::MAX).max(1)
 }
 
 /// The seconds of one turn, by the middle of some repetitions of so many turns in nanoseconds.

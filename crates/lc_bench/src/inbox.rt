@@ -113,33 +113,38 @@ fn pass_all<R: Wait, H: Hearing, T: Taking>(rt: &R, hearing: &mut H, taking: &mu
     went_well
 }
 
-// The messages of a turn arrive. A refused one would never be taken: it comes again for ever.
-fn hear_all<R: Wait, H: Hearing>(rt: &R, mut hearing: H) -> H {
-    let mut heard = 0;
+// A message arrives. A refused one would never be taken: it comes again for ever.
+fn hear_one<R: Wait, H: Hearing>(rt: &R, hearing: &mut H) {
     for _ in rt.forever() {
-        if heard >= MESSAGES {
-            break;
-        }
         if hearing.hear(rt, &[7; LENGTH]) {
-            heard += 1;
+            return;
         }
+    }
+}
+
+// The messages of a turn arrive.
+fn hear_all<R: Wait, H: Hearing>(rt: &R, mut hearing: H) -> H {
+    for _ in 0..MESSAGES {
+        hear_one(rt, &mut hearing);
     }
     hearing
 }
 
-// Takes the messages of a turn, and yields the processor where none waits.
-fn take_all<R: Wait, T: Taking>(rt: &R, taking: &mut T) {
-    let mut buffer = [0; LENGTH];
-    let mut taken = 0;
+// Takes a message, and yields the processor while none waits.
+fn take_one<R: Wait, T: Taking>(rt: &R, taking: &mut T, buffer: &mut Message) {
     for _ in rt.forever() {
-        if taken >= MESSAGES {
+        if taking.take(rt, buffer) {
             return;
         }
-        if taking.take(rt, &mut buffer) {
-            taken += 1;
-        } else {
-            thread::yield_now();
-        }
+        thread::yield_now();
+    }
+}
+
+// Takes the messages of a turn.
+fn take_all<R: Wait, T: Taking>(rt: &R, taking: &mut T) {
+    let mut buffer = [0; LENGTH];
+    for _ in 0..MESSAGES {
+        take_one(rt, taking, &mut buffer);
     }
 }
 

@@ -19,16 +19,14 @@ pub struct Plan {
 
 // The number in a variable of the environment.
 fn number(rt: &HostRuntime, variable: &str) -> Option<u64> {
-    match env::var(rt, variable) {
-        Ok(text) => text.parse::<u64>().ok(),
-        Err(_) => None,
-    }
+    env::var(rt, variable).ok()?.parse::<u64>().ok()
 }
 
 impl Plan {
     /// The plan of this process.
     pub fn from_environment(rt: &HostRuntime) -> io::Result<Plan> {
-        let arguments = env::args(rt)?.skip(1);
+        let mut arguments = env::args(rt)?;
+        let _program = arguments.next();
         let mut listing = false;
         let mut prefix = String::new(rt.alloc());
         for argument in arguments {

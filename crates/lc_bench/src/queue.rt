@@ -32,34 +32,36 @@ impl<I: Inlet, O: Outlet, R: Wait + Copy> Turns for Passing<I, O, R> {
     }
 }
 
-// Puts so many frames, and yields the processor where there is no room.
-fn put_all<R: Wait, I: Inlet>(rt: &R, mut inlet: I, count: u64) -> I {
-    let mut put = 0u64;
+// Puts a frame, and yields the processor while there is no room.
+fn put_one<R: Wait, I: Inlet>(rt: &R, inlet: &mut I) {
     for _ in rt.forever() {
-        if put >= count {
-            break;
-        }
         if inlet.put(rt) {
-            put += 1;
-        } else {
-            thread::yield_now();
+            return;
         }
+        thread::yield_now();
+    }
+}
+
+fn put_all<R: Wait, I: Inlet>(rt: &R, mut inlet: I, count: u64) -> I {
+    for _ in 0..count {
+        put_one(rt, &mut inlet);
     }
     inlet
 }
 
-// Takes so many frames out, and yields the processor where there is none.
-fn take_all<R: Wait, O: Outlet>(rt: &R, outlet: &mut O, count: u64) {
-    let mut taken = 0u64;
+// Takes a frame out, and yields the processor while there is none.
+fn take_one<R: Wait, O: Outlet>(rt: &R, outlet: &mut O) {
     for _ in rt.forever() {
-        if taken >= count {
-            break;
-        }
         if outlet.take(rt) {
-            taken += 1;
-        } else {
-            thread::yield_now();
+            return;
         }
+        thread::yield_now();
+    }
+}
+
+fn take_all<R: Wait, O: Outlet>(rt: &R, outlet: &mut O, count: u64) {
+    for _ in 0..count {
+        take_one(rt, outlet);
     }
 }
 
