@@ -25,6 +25,7 @@ use links::Traffic;
 use random::Random;
 use scripts::Task;
 use std::alloc::Global;
+use std::env::Args;
 use std::fs::Files;
 use std::net::{Net, TcpListener, TcpStream};
 use std::sync::Wait;
@@ -39,52 +40,90 @@ struct Outcome {
     latency: Option<Latency>,
 }
 
-// Does so much work of a kind. `None` where there is no such kind, or where it failed.
-fn work<R, H>(rt: R, host: &H, alloc: Global, kind: &str, seed: u32, count: u32) -> Option<Outcome>
-where
-    R: Threads + Wait + Clock + Copy + Send + Sync + 'static,
-    H: Files + Net<Listener = TcpListener, Stream = TcpStream>,
-{
-    let random = Random::new(seed);
-    let digest = match kind {
-        "small" => links::exchange(alloc, Traffic::SMALL, random, count),
-        "bulk" => links::exchange(alloc, Traffic::BULK, random, count),
-        "crumbs" => links::exchange(alloc, Traffic::CRUMBS, random, count),
-        "uneven" => links::exchange(alloc, Traffic::UNEVEN, random, count),
-        "session" => sessions::exchange(&rt, host, alloc, random, count),
-        "replay" => scripts::run_all(alloc, Task::Replay, random, count),
-        "chart" => scripts::run_all(alloc, Task::Draw, random, count),
-        "frames" => streams::list_all(alloc, random, count),
-        "latency" => {
-            let latency = latency::measure(&rt, host, alloc, random, count)?;
-            return Some(Outcome {
-                digest: latency.digest,
-                latency: Some(latency),
-            });
+impl Outcome {
+    fn of(digest: Digest) -> Outcome {
+        Outcome {
+            digest,
+            latency: None,
         }
-        _ => None,
-    };
-    Some(Outcome {
-        digest: digest?,
-        latency: None,
-    })
+    }
+
+    fn of_latency(latency: Latency) -> Outcome {
+        Outcome {
+            digest: latency.digest,
+            latency: Some(latency),
+        }
+    }
+
+    fn print(&self, rt: &HostRuntime, kind: &str) -> io::Result<()> {
+        println!(rt; "{kind} {:016x}", self.digest.value())?;
+        match &self.latency {
+            Some(latency) => {
+                let (median, most) = (latency.within(50), latency.within(99));
+                eprintln!(rt; "median {median}\np99 {most}")
+            }
+            None => Ok(()),
+        }
+    }
+}
+
+// So much work of a kind, and a number that its input grows from.
+#[derive(Drop)]
+struct Work {
+    kind: String,
+    seed: u32,
+    count: u32,
 }
 
 fn number(word: &str) -> u32 {
     word.parse::<u32>().unwrap_or(0)
 }
 
-fn main(rt: HostRuntime) -> io::Result<()> {
-    let mut words = env::args(&rt)?.skip(1);
-    while let (Some(kind), Some(seed), Some(count)) = (words.next(), words.next(), words.next()) {
-        let (seed, count) = (number(seed.as_str()), number(count.as_str()));
-        let Some(outcome) = work(rt, &rt, rt.alloc(), kind.as_str(), seed, count) else {
-            println!(rt; "{kind} failed")?;
-            continue;
+impl Work {
+    // By the next three words, if there are so many.
+    fn by_words(words: &mut Args) -> Option<Work> {
+        let kind = words.next()?;
+        let seed = number(words.next()?.as_str());
+        let count = number(words.next()?.as_str());
+        Some(Work { kind, seed, count })
+    }
+
+    // Does it. `None` where there is no such kind, or where it failed.
+    fn outcome<R, H>(&self, rt: R, host: &H, alloc: Global) -> Option<Outcome>
+    where
+        R: Threads + Wait + Clock + Copy + Send + Sync + 'static,
+        H: Files + Net<Listener = TcpListener, Stream = TcpStream>,
+    {
+        let (random, count) = (Random::new(self.seed), self.count);
+        let digest = match self.kind.as_str() {
+            "small" => links::exchange(alloc, Traffic::SMALL, random, count),
+            "bulk" => links::exchange(alloc, Traffic::BULK, random, count),
+            "crumbs" => links::exchange(alloc, Traffic::CRUMBS, random, count),
+            "uneven" => links::exchange(alloc, Traffic::UNEVEN, random, count),
+            "session" => sessions::exchange(&rt, host, alloc, random, count),
+            "replay" => scripts::run_all(alloc, Task::Replay, random, count),
+            "chart" => scripts::run_all(alloc, Task::Draw, random, count),
+            "frames" => streams::list_all(alloc, random, count),
+            "latency" => {
+                let latency = latency::measure(&rt, host, alloc, random, count)?;
+                return Some(Outcome::of_latency(latency));
+            }
+            _ => None,
         };
-        println!(rt; "{kind} {:016x}", outcome.digest.value())?;
-        if let Some(latency) = &outcome.latency {
-            eprintln!(rt; "median {}\np99 {}", latency.within(50), latency.within(99))?;
+        Some(Outcome::of(digest?))
+    }
+}
+
+fn main(rt: HostRuntime) -> io::Result<()> {
+    let mut words = env::args(&rt)?;
+    let _program = words.next();
+    for _ in 0..u64::MAX {
+        let Some(work) = Work::by_words(&mut words) else {
+            break;
+        };
+        match work.outcome(rt, &rt, rt.alloc()) {
+            Some(outcome) => outcome.print(&rt, work.kind.as_str())?,
+            None => println!(rt; "{} failed", work.kind)?,
         }
     }
     Ok(())

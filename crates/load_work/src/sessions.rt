@@ -46,12 +46,11 @@ impl Job {
 /// Sends a message as soon as there are guarantees and a slot for it. Whether it did.
 pub fn send<R: Wait>(rt: &R, end: &mut SendEnd, body: &[u8]) -> bool {
     for _ in rt.forever() {
-        match end.send(rt, body) {
-            Ok(()) => return true,
-            Err(_) => match end.wait(rt) {
-                Wake::Again => {}
-                Wake::Over => return false,
-            },
+        if let Ok(()) = end.send(rt, body) {
+            return true;
+        }
+        if let Wake::Over = end.wait(rt) {
+            return false;
         }
     }
     unreachable!()
@@ -73,11 +72,11 @@ pub fn issue<R: Wait>(rt: &R, end: &mut RecvEnd, amount: u32) -> bool {
     for _ in rt.forever() {
         match end.issue(rt, amount) {
             Ok(()) => return true,
-            Err(Refusal::QueueFull) => match end.wait(rt) {
-                Wake::Again => {}
-                Wake::Over => return false,
-            },
+            Err(Refusal::QueueFull) => {}
             Err(_) => return false,
+        }
+        if let Wake::Over = end.wait(rt) {
+            return false;
         }
     }
     unreachable!()
@@ -88,11 +87,11 @@ pub fn take<R: Wait>(rt: &R, end: &mut RecvEnd, buffer: &mut [u8]) -> Option<usi
     for _ in rt.forever() {
         match end.take_into(rt, buffer) {
             Ok(Take::Took(len)) => return Some(len),
-            Ok(_) => match end.wait(rt) {
-                Wake::Again => {}
-                Wake::Over => return None,
-            },
+            Ok(_) => {}
             Err(_) => return None,
+        }
+        if let Wake::Over = end.wait(rt) {
+            return None;
         }
     }
     unreachable!()
