@@ -127,34 +127,21 @@ pub(crate) fn key<W: Write>(out: &mut W, at: Point, words: &str) -> io::Result<(
     text(out, Paint::plain("soft"), base, &words)
 }
 
-/// A line of the legend that shows a bar.
-pub(crate) fn bar_key<W: Write>(
-    out: &mut W,
-    name: &'static str,
-    at: Point,
-    words: &str,
-) -> io::Result<()>
-    requires x { (10 ≤ at.x) × (at.x ≤ 10000000) }
-    requires y { (10 ≤ at.y) × (at.y ≤ 10000000) }
+/// What the legend shows of a bar.
+pub(crate) fn bar_sample<W: Write>(out: &mut W, name: &'static str, at: Point) -> io::Result<()>
+    requires { (10 ≤ at.x) × (6 ≤ at.y) }
 {
     let corner = Point::new(at.x - 10, at.y - 6);
-    rect(out, Paint::plain(name), corner, 22, 12)?;
-    key(out, at, words)
+    rect(out, Paint::plain(name), corner, 22, 12)
 }
 
-/// A line of the legend that shows a line.
-pub(crate) fn line_key<W: Write>(
-    out: &mut W,
-    name: &'static str,
-    at: Point,
-    words: &str,
-) -> io::Result<()>
-    requires { (10 ≤ at.x) × (at.x ≤ 10000000) × (at.y ≤ 10000000) }
+/// What the legend shows of a frame in flight.
+pub(crate) fn flight_sample<W: Write>(out: &mut W, at: Point) -> io::Result<()>
+    requires { (10 ≤ at.x) × (at.x ≤ 10000000) }
 {
     let from = Point::new(at.x - 10, at.y);
     let to = Point::new(at.x + 12, at.y);
-    line(out, Paint::plain(name), from, to)?;
-    key(out, at, words)
+    line(out, Paint::plain("flight key"), from, to)
 }
 
 /// The name of a channel.

@@ -2,18 +2,17 @@
 ghost use Rattle.std.specs.Prelude.{◌≤◌, ◌≡◌};
 
 use crate::page::{
-    MARGIN, bar_key, close, close_description, frame_mark, key, line_key, name_of, open, row,
-    take_mark, wrong_mark,
+    MARGIN, bar_sample, close, close_description, flight_sample, frame_mark, key, name_of, open,
+    row, take_mark, wrong_mark,
 };
 use crate::session::{Arrow, Bar, Session, Span, channel_of, client_of, other};
 use crate::shapes;
 use crate::shapes::{Paint, Point, disc, line, number, rect, text};
 use crate::words::{Asked, Happened, Phrase, Told};
-use lc_frame::{CHANNELS, Channel, Lane};
+use lc_frame::{Channel, Lane};
 use lc_world::{Answer, Event, Side};
-use std::fmt::Display;
+use std::io;
 use std::io::Write;
-use std::{fmt, io};
 
 // The width of a bar, and from the left of one to that of the next.
 const BAR: u64 = 84;
@@ -138,7 +137,8 @@ pub(crate) fn draw_session<W: Write>(
 // The events and where frames arrived, one a line.
 fn describe<W: Write>(session: &Session, events: &[Event], out: &mut W) -> io::Result<()> {
     for ((number, event), answer) in (1..=u16::MAX).zip(events).zip(&session.answers) {
-        let (side, asked, told) = (Name(event.side), Asked(&event.act), Told(answer));
+        let (side, asked) = (name_of_side(event.side), Asked::by_act(&event.act));
+        let told = Told(answer);
         write!(out, "{number}. {side}: {asked}")?;
         if let Some(channel) = channel_of(&event.act) {
             let channel = channel.number();
@@ -156,51 +156,72 @@ fn describe<W: Write>(session: &Session, events: &[Event], out: &mut W) -> io::R
     Ok(())
 }
 
-#[derive(Clone, Copy)]
-struct Name(Side);
+fn name_of_side(side: Side) -> &'static str {
+    match side {
+        Side::A => "A",
+        Side::B => "B",
+    }
+}
 
-impl Display for Name {
-    fn fmt<W: fmt::Write>(&self, f: &mut fmt::Formatter<W>) -> fmt::Result {
-        match self.0 {
-            Side::A => write!(f, "A"),
-            Side::B => write!(f, "B"),
+// What the legend explains.
+#[derive(Clone, Copy)]
+enum Sample {
+    Frame,
+    Taken,
+    Refused,
+    Flight,
+    Bar(&'static str),
+}
+
+impl Sample {
+    fn draw<W: Write>(self, at: Point, out: &mut W) -> io::Result<()>
+        requires x { (30 ≤ at.x) × (at.x ≤ 100000) }
+        requires y { (78 ≤ at.y) × (at.y ≤ 100000) }
+    {
+        match self {
+            Sample::Frame => frame_mark(out, Channel::DataChannel, at),
+            Sample::Taken => take_mark(out, Channel::DataChannel, at),
+            Sample::Refused => wrong_mark(out, 4, at),
+            Sample::Flight => flight_sample(out, at),
+            Sample::Bar(name) => bar_sample(out, name, at),
         }
     }
 }
 
-fn legend_place(column: u8, line: u8) -> Point
-    ensures x { (30 ≤ result.x) × (result.x ≤ 100000) }
-    ensures y { (78 ≤ result.y) × (result.y ≤ 100000) }
+// What stands in every legend, in its first two lines.
+const SAMPLES: [(Sample, &str); 8] = [
+    (Sample::Frame, "frame put"),
+    (Sample::Taken, "message taken"),
+    (Sample::Refused, "refused"),
+    (Sample::Flight, "in flight at the end"),
+    (Sample::Bar("held key"), "held by the client"),
+    (Sample::Bar("buffered key"), "buffered"),
+    (Sample::Bar("outstanding key"), "outstanding"),
+    (Sample::Bar("room"), "room"),
+];
+
+// A place in the legend, which has four in each line.
+fn legend_place(place: u8) -> Point
+    ensures left { 30 ≤ result.x }
+    ensures right { result.x ≤ 100000 }
+    ensures top { 78 ≤ result.y }
+    ensures bottom { result.y ≤ 100000 }
 {
-    Point::new(
-        MARGIN + 10 + 170 * u64::from(column),
-        82 + 24 * u64::from(line),
-    )
+    let (column, line) = (u64::from(place % 4), u64::from(place / 4));
+    Point::new(MARGIN + 10 + 170 * column, 82 + 24 * line)
 }
 
 fn draw_legend<W: Write>(session: &Session, out: &mut W) -> io::Result<()> {
-    let channel = Channel::DataChannel;
-    frame_mark(out, channel, legend_place(0, 0))?;
-    key(out, legend_place(0, 0), "frame put")?;
-    take_mark(out, channel, legend_place(1, 0))?;
-    key(out, legend_place(1, 0), "message taken")?;
-    wrong_mark(out, 4, legend_place(2, 0))?;
-    key(out, legend_place(2, 0), "refused")?;
-    line_key(
-        out,
-        "flight key",
-        legend_place(3, 0),
-        "in flight at the end",
-    )?;
-    bar_key(out, "held key", legend_place(0, 1), "held by the client")?;
-    bar_key(out, "buffered key", legend_place(1, 1), "buffered")?;
-    bar_key(out, "outstanding key", legend_place(2, 1), "outstanding")?;
-    bar_key(out, "room", legend_place(3, 1), "room")?;
+    for (place, (sample, words)) in (0..=u8::MAX).zip(&SAMPLES) {
+        let at = legend_place(place);
+        sample.draw(at, out)?;
+        key(out, at, words)?;
+    }
     let occurring = Channel::ALL
         .iter()
         .filter(|channel| occurs(session, **channel));
-    for (place, channel) in (0..CHANNELS as u8).zip(occurring) {
-        let at = legend_place(place % 4, 2 + place / 4);
+    for (place, channel) in (SAMPLES.len() as u8..=u8::MAX).zip(occurring) {
+        let at = legend_place(place);
         frame_mark(out, *channel, at)?;
         key(out, at, name_of(*channel))?;
     }
@@ -216,7 +237,7 @@ fn draw_frame<W: Write>(session: &Session, layout: Layout, out: &mut W) -> io::R
     for side in [Side::A, Side::B] {
         let top = layout.on_line(side, 0);
         let head = Point::new(top.x, top.y - 12);
-        text(out, Paint::plain("head mid"), head, &Name(side))?;
+        text(out, Paint::plain("head mid"), head, &name_of_side(side))?;
         let end = layout.on_line(side, layout.end);
         line(out, Paint::plain("life"), top, end)?;
     }
@@ -423,8 +444,7 @@ fn draw_mark<W: Write>(event: &Event, answer: &Answer, at: Point, out: &mut W) -
         (Answer::Refused(refusal), _) => wrong_mark(out, refusal.number(), at),
         (Answer::Violated(violation), _) => wrong_mark(out, violation.number(), at),
         (Answer::Took(_), Some(channel)) => take_mark(out, channel, at),
-        (Answer::Accepted, Some(channel)) => frame_mark(out, channel, at),
-        (Answer::Absolved(_), Some(channel)) => frame_mark(out, channel, at),
+        (Answer::Accepted | Answer::Absolved(_), Some(channel)) => frame_mark(out, channel, at),
         _ => disc(out, Paint::plain("dot"), at, 4),
     }
 }

@@ -107,14 +107,20 @@ impl Session {
         };
         let mut session = Session::empty(alloc, capacity);
         for (number, event) in (1..=MAX_EVENTS).zip(events) {
-            let answer = world.step(event);
-            let channel = session.note_event(number, event, &answer)?;
-            session.note_bars(number, channel, &world)?;
-            session.answers.push(answer)?;
-            session.end = number.saturating_add(1);
+            session.step(&mut world, number, event)?;
         }
         session.close()?;
         Ok(session)
+    }
+
+    // Answers the event of this number, and notes what it changed.
+    fn step(&mut self, world: &mut World, number: u16, event: &Event) -> Result<(), ChartFault> {
+        let answer = world.step(event);
+        let channel = self.note_event(number, event, &answer)?;
+        self.note_bars(number, channel, world)?;
+        self.answers.push(answer)?;
+        self.end = number.saturating_add(1);
+        Ok(())
     }
 
     fn empty(alloc: Global, capacity: u32) -> Session {

@@ -5,12 +5,11 @@ use crate::fault::ChartFault;
 use crate::page::{MARGIN, close, close_description, frame_mark, key, name_of, open, row};
 use crate::session::MAX_EVENTS;
 use crate::shapes::{Paint, Point, disc, line, text};
-use crate::words::{Bytes, Phrase};
+use crate::words::{Asked, Phrase};
 use lc_cli::Fault;
 use lc_frame::{Decoded, FrameFault, FrameRef, GREETING, Version, decode};
-use std::fmt::Display;
+use std::io;
 use std::io::Write;
-use std::{fmt, io};
 
 // The lifeline, where an arrow ends, and where the rows begin.
 const LINE: u64 = 140;
@@ -116,27 +115,6 @@ fn fault_at(fault: FrameFault, offset: usize) -> Fault {
     }
 }
 
-// A frame's kind and number.
-#[derive(Clone, Copy)]
-struct Kind<'a>(FrameRef<'a>);
-
-impl Display for Kind<'_> {
-    fn fmt<W: fmt::Write>(&self, f: &mut fmt::Formatter<W>) -> fmt::Result {
-        match self.0 {
-            FrameRef::Send { body, .. } => {
-                let size = Bytes(body.len() as u64);
-                write!(f, "send {size}")
-            }
-            FrameRef::Issue { amount, .. } => write!(f, "issue {amount}"),
-            FrameRef::Absolve { amount, .. } => write!(f, "absolve {amount}"),
-            FrameRef::Plead { target, .. } => write!(f, "plead to hold {target}"),
-            FrameRef::LimitSending { bound, .. } => write!(f, "limit sending to {bound}"),
-            FrameRef::LimitReceiving { bound, .. } => write!(f, "limit receiving to {bound}"),
-            FrameRef::Finish { .. } => write!(f, "finish"),
-        }
-    }
-}
-
 /// Draws the frames that were counted, and the fault behind them.
 pub(crate) fn draw_stream<W: Write>(bytes: &[u8], survey: Survey, out: &mut W) -> io::Result<()> {
     let frames = survey.frames;
@@ -164,7 +142,7 @@ fn describe<W: Write>(bytes: &[u8], survey: Survey, out: &mut W) -> io::Result<(
         let Ok(Some(Placed { frame, offset, .. })) = frames.next_frame() else {
             return Ok(());
         };
-        let (kind, channel) = (Kind(frame), frame.channel().number());
+        let (kind, channel) = (Asked::by_frame(&frame), frame.channel().number());
         writeln!(
             out,
             "{number}. At byte {offset}: {kind} on channel {channel}."
@@ -191,7 +169,12 @@ fn draw_frame<W: Write>(number: u16, placed: Placed<'_>, out: &mut W) -> io::Res
     line(out, Paint::of("arrow", channel), at, tip)?;
     frame_mark(out, channel, at)?;
     let above = Point::new(LINE + 18, at.y - 8);
-    text(out, Paint::of("asked", channel), above, &Kind(frame))?;
+    text(
+        out,
+        Paint::of("asked", channel),
+        above,
+        &Asked::by_frame(&frame),
+    )?;
     let before = Point::new(LINE - 18, at.y + 4);
     text(
         out,

@@ -1,4 +1,5 @@
 //! What a picture says of an event, in words.
+use lc_frame::FrameRef;
 use lc_world::{Act, Answer};
 use std::fmt;
 use std::fmt::Display;
@@ -11,36 +12,62 @@ impl Display for Bytes {
     fn fmt<W: fmt::Write>(&self, f: &mut fmt::Formatter<W>) -> fmt::Result {
         let Bytes(count) = *self;
         match count {
-            1 => write!(f, "1 byte"),
+            1 => f.write_str("1 byte"),
             _ => write!(f, "{count} bytes"),
         }
     }
 }
 
-/// What was asked for: of what puts a frame, its kind and number.
+/// What was asked for: words alone, or words that end in a space and a number or a size behind them.
 #[derive(Clone, Copy)]
-pub(crate) struct Asked<'a>(pub &'a Act);
+pub(crate) enum Asked {
+    Alone(&'static str),
+    Number(&'static str, u64),
+    Size(&'static str, Bytes),
+}
 
-impl Display for Asked<'_> {
+impl Asked {
+    /// By an act: of what puts a frame, its kind and number.
+    pub(crate) fn by_act(act: &Act) -> Asked {
+        match act {
+            Act::Send { body, .. } => Asked::send(body.as_slice()),
+            Act::Issue { amount, .. } => Asked::Number("issue ", u64::from(*amount)),
+            Act::Plead { target, .. } => Asked::Number("plead to hold ", u64::from(*target)),
+            Act::Absolve { amount, .. } => Asked::Number("absolve ", u64::from(*amount)),
+            Act::Honour { .. } => Asked::Alone("honour"),
+            Act::LimitSending { bound, .. } => Asked::Number("limit sending to ", *bound),
+            Act::LimitReceiving { bound, .. } => Asked::Number("limit receiving to ", *bound),
+            Act::Finish { .. } => Asked::Alone("finish"),
+            Act::Arrive => Asked::Alone("arrive"),
+            Act::Deliver { count } => Asked::Size("deliver ", Bytes(u64::from(*count))),
+            Act::Take { .. } => Asked::Alone("take"),
+        }
+    }
+
+    /// By a frame: its kind and number.
+    pub(crate) fn by_frame(frame: &FrameRef<'_>) -> Asked {
+        match frame {
+            FrameRef::Send { body, .. } => Asked::send(body),
+            FrameRef::Issue { amount, .. } => Asked::Number("issue ", u64::from(*amount)),
+            FrameRef::Plead { target, .. } => Asked::Number("plead to hold ", u64::from(*target)),
+            FrameRef::Absolve { amount, .. } => Asked::Number("absolve ", u64::from(*amount)),
+            FrameRef::LimitSending { bound, .. } => Asked::Number("limit sending to ", *bound),
+            FrameRef::LimitReceiving { bound, .. } => Asked::Number("limit receiving to ", *bound),
+            FrameRef::Finish { .. } => Asked::Alone("finish"),
+        }
+    }
+
+    fn send(body: &[u8]) -> Asked {
+        Asked::Size("send ", Bytes(body.len() as u64))
+    }
+}
+
+impl Display for Asked {
     fn fmt<W: fmt::Write>(&self, f: &mut fmt::Formatter<W>) -> fmt::Result {
-        match self.0 {
-            Act::Send { body, .. } => {
-                let size = Bytes(body.as_slice().len() as u64);
-                write!(f, "send {size}")
-            }
-            Act::Issue { amount, .. } => write!(f, "issue {amount}"),
-            Act::Plead { target, .. } => write!(f, "plead to hold {target}"),
-            Act::Absolve { amount, .. } => write!(f, "absolve {amount}"),
-            Act::Honour { .. } => write!(f, "honour"),
-            Act::LimitSending { bound, .. } => write!(f, "limit sending to {bound}"),
-            Act::LimitReceiving { bound, .. } => write!(f, "limit receiving to {bound}"),
-            Act::Finish { .. } => write!(f, "finish"),
-            Act::Arrive => write!(f, "arrive"),
-            Act::Deliver { count } => {
-                let size = Bytes(u64::from(*count));
-                write!(f, "deliver {size}")
-            }
-            Act::Take { .. } => write!(f, "take"),
+        match self {
+            Asked::Alone(words) => f.write_str(words),
+            Asked::Number(words, number) => write!(f, "{words}{number}"),
+            Asked::Size(words, size) => write!(f, "{words}{size}"),
         }
     }
 }
@@ -51,14 +78,14 @@ pub(crate) struct Happened<'a>(pub &'a Act, pub &'a Answer);
 
 impl Display for Happened<'_> {
     fn fmt<W: fmt::Write>(&self, f: &mut fmt::Formatter<W>) -> fmt::Result {
-        let asked = Asked(self.0);
+        let asked = Asked::by_act(self.0);
         match self.1 {
             Answer::Absolved(amount) => write!(f, "{asked}: absolve {amount}"),
             Answer::Took(body) => {
                 let size = Bytes(body.as_slice().len() as u64);
                 write!(f, "{asked} {size}")
             }
-            _ => write!(f, "{asked}"),
+            _ => asked.fmt(f),
         }
     }
 }
@@ -69,31 +96,29 @@ pub struct Told<'a>(pub &'a Answer);
 
 impl Display for Told<'_> {
     fn fmt<W: fmt::Write>(&self, f: &mut fmt::Formatter<W>) -> fmt::Result {
-        match self.0 {
-            Answer::Accepted => write!(f, "accepted"),
-            Answer::Absolved(amount) => write!(f, "absolve {amount}"),
-            Answer::NothingToAbsolve => write!(f, "nothing to absolve"),
-            Answer::Arrived => write!(f, "arrived"),
+        let words = match self.0 {
+            Answer::Accepted => "accepted",
+            Answer::NothingToAbsolve => "nothing to absolve",
+            Answer::Arrived => "arrived",
+            Answer::NothingInFlight => "nothing in flight",
+            Answer::Empty => "empty",
+            Answer::Ended => "ended: none will come",
+            Answer::Absolved(amount) => return write!(f, "absolve {amount}"),
+            Answer::Took(body) => return Bytes(body.as_slice().len() as u64).fmt(f),
             Answer::Delivered { bytes, frames } => {
                 let size = Bytes(*bytes);
-                write!(f, "{size} came, whole frames: {frames}")
+                return write!(f, "{size} came, whole frames: {frames}");
             }
-            Answer::NothingInFlight => write!(f, "nothing in flight"),
             Answer::Violated(violation) => {
                 let number = violation.number();
-                write!(f, "violation V{number}: {violation}")
+                return write!(f, "violation V{number}: {violation}");
             }
-            Answer::Took(body) => {
-                let size = Bytes(body.as_slice().len() as u64);
-                write!(f, "{size}")
-            }
-            Answer::Empty => write!(f, "empty"),
-            Answer::Ended => write!(f, "ended: none will come"),
             Answer::Refused(refusal) => {
                 let number = refusal.number();
-                write!(f, "refused {number}: {refusal}")
+                return write!(f, "refused {number}: {refusal}");
             }
-        }
+        };
+        f.write_str(words)
     }
 }
 
@@ -120,9 +145,9 @@ pub(crate) enum Phrase {
 
 impl Display for Phrase {
     fn fmt<W: fmt::Write>(&self, f: &mut fmt::Formatter<W>) -> fmt::Result {
-        match *self {
+        match self {
             Phrase::Peers { capacity, events } => {
-                let size = Bytes(u64::from(capacity));
+                let size = Bytes(u64::from(*capacity));
                 write!(
                     f,
                     "Two peers with receiving rings of {size}: {events} events"
