@@ -4,19 +4,14 @@ use Rattle.std.specs.Prelude.{IfSome}
 use Rattle.std.specs.List.{All, AllZip}
 use Rattle.std.proofs.lemmas.List.Elements.{All-cons, All-head, All-nil, All-tail}
 use Rattle.lc_frame.specs.Stored.{Stored}
-use Rattle.lc_history.specs.Places.{ChangesAt}
-use Rattle.lc_frame.specs.declared.channel.Channel.{Channel}
 use Rattle.lc_frame.specs.declared.frame.Frame.{Frame}
-use Rattle.lc_frame.specs.declared.frame.Frame.TheVariants.{Send, Issue, Absolve, Plead, LimitSending, LimitReceiving, Finish}
 use Rattle.lc_frame.specs.Channel.{channel_count, number_of}
 use Rattle.lc_book.specs.declared.fault.Violation.{Violation}
-use Rattle.lc_book.specs.declared.fault.Violation.TheVariants.{NotGuaranteed, SentPastLimit, AbsolvedTooMuch, SendLimitRaised, IssuedPastLimit, TooManyGuarantees, ReceiveLimitRaised, TotalPassed, AfterFinish}
 use Rattle.lc_peer.specs.declared.delivery.Stop.{Stop}
 use Rattle.lc_peer.specs.Deliveries.{violation_of}
 use Rattle.lc_peer.specs.Sinks.{AllArrive, IsNext}
 use Rattle.lc_queue.specs.Parts.{Outlet}
-use Rattle.lc_credit.specs.Sides.{Incoming, IsAdded, IsNotAdded, IsLimited, IsPastLimit, IsAsked}
-use Rattle.lc_credit.specs.Channels.{credit_in, credit_out}
+use Rattle.lc_credit.specs.Channels.{credit_out}
 use Rattle.lc_inbox.specs.declared.rule.Key.{Key}
 use Rattle.lc_inbox.specs.Sides.{InboxId, InboxSide, IsSameSide}
 use Rattle.lc_inbox.specs.Inboxes.{origin_of, AreSameSides}
@@ -26,7 +21,7 @@ use Rattle.lc_driver.specs.declared.reading.ReadEnd.{ReadEnd}
 use Rattle.lc_peer.specs.Intake.{IntakeState}
 use Rattle.lc_driver.specs.Reading.{ReadsInto, stop_of, end_of}
 use Rattle.lc_session.specs.Pumping.{Pumping, Pumps, IsSamePump}
-use Rattle.lc_session.specs.Reading.{ReadingSide, channel_of_side, ToCredit, ToInbox, Hears, Refuses, Arrives, Violates, IsSameReading}
+use Rattle.lc_session.specs.Reading.{ReadingSide, channel_of_side, Arrives, Violates, IsSameReading}
 use Rattle.lc_session.specs.Report.{channel_of_outbox, credit_of_outbox, PutsOn, ServesOn}
 use Rattle.lc_session.specs.Same.{SessionsStay}
 use Rattle.lc_session.specs.Keeps.{arrives_same, violates_same}

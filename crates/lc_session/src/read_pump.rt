@@ -15,10 +15,16 @@ use std::sync::Wait;
 
 /// Reads frames and lets each arrive at its channel's inbox or credit. One thread has it. It keeps no
 /// message that is longer than its ring.
-#[derive(Drop)]
 pub struct ReadPump {
     pub(crate) side: ReadingSide,
     intake: RingIntake,
+}
+
+// One call, wherever one is dropped.
+impl Drop for ReadPump {
+    fn drop(self) {
+        let ReadPump { side: _, intake: _ } = self;
+    }
 }
 
 impl Model for ReadPump {

@@ -17,11 +17,21 @@ use std::time::{Clock, Duration};
 
 /// The receiving end of a channel, which one thread has: the receiving side of its shared inbox,
 /// which wakes the writing pump, and what that thread waits by. All numbers count bytes of messages.
-#[derive(Drop)]
 pub struct RecvEnd {
     channel: Channel,
     inbox: InboxOut,
     waiter: Waiter,
+}
+
+// One call, wherever one is dropped.
+impl Drop for RecvEnd {
+    fn drop(self) {
+        let RecvEnd {
+            channel: _,
+            inbox: _,
+            waiter: _,
+        } = self;
+    }
 }
 
 impl Model for RecvEnd {

@@ -18,10 +18,19 @@ use std::time::{Clock, Duration};
 
 /// The sending end of a channel, which one thread has: an outbox that wakes the writing pump, and
 /// what that thread waits by. All numbers count bytes of messages.
-#[derive(Drop)]
 pub struct SendEnd {
     outbox: Outbox,
     waiter: Waiter,
+}
+
+// One call, wherever one is dropped.
+impl Drop for SendEnd {
+    fn drop(self) {
+        let SendEnd {
+            outbox: _,
+            waiter: _,
+        } = self;
+    }
 }
 
 impl Model for SendEnd {

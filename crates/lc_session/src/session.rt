@@ -34,9 +34,15 @@ use std::sync::Arc;
 
 /// Who has this can stop the session's writing pump. It can be cloned, for any thread that may fail.
 /// Contracts see nothing of it, and no clause speaks of its two calls.
-#[derive(Drop)]
 pub struct Session {
     wakers: Arc<Wakers, Global>,
+}
+
+// One call, wherever one is dropped.
+impl Drop for Session {
+    fn drop(self) {
+        let Session { wakers: _ } = self;
+    }
 }
 
 // A new sending end of the lane's channel.

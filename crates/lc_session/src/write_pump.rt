@@ -25,11 +25,21 @@ pub enum WriteEnd {
 
 /// Writes the greeting, and then the frames of all lanes, several in one write where several are
 /// queued. One thread has it.
-#[derive(Drop)]
 pub struct WritePump {
     drain: Drain,
     batch: Batch,
     waiter: PumpWaiter,
+}
+
+// One call, wherever one is dropped.
+impl Drop for WritePump {
+    fn drop(self) {
+        let WritePump {
+            drain: _,
+            batch: _,
+            waiter: _,
+        } = self;
+    }
 }
 
 impl Model for WritePump {

@@ -117,7 +117,7 @@ impl Work {
 fn main(rt: HostRuntime) -> io::Result<()> {
     let mut words = env::args(&rt)?;
     let _program = words.next();
-    for _ in 0..u64::MAX {
+    for _ in rt.forever() {
         let Some(work) = Work::by_words(&mut words) else {
             break;
         };

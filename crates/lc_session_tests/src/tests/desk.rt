@@ -214,17 +214,18 @@ pub fn at_receiver<R: Wait>(
     receives(rt, alloc, end, verb, word)
 }
 
-// What a call of an end answers.
+// What a call of an end answers, behind whose verb its channel stands.
 fn end<R: Wait>(
     rt: &R,
     alloc: Global,
     parts: &mut Parts,
-    at: Channel,
     verb: &str,
-    word: &str,
+    rest: &str,
 ) -> Option<String>
     ensures { StaysOfOne parts.old parts.new }
 {
+    let (first, word) = rest.split_once(' ').unwrap_or((rest, ""));
+    let at = channel(first)?;
     match verb {
         "issue" | "plead" | "limit-receiving" | "take" | "server" => {
             at_receiver(rt, alloc, &mut parts.recv_ends, at, verb, word)
@@ -267,6 +268,19 @@ fn write<R: Wait>(rt: &R, alloc: Global, pump: &mut WritePump, writer: PipeWrite
     written(alloc, end, &writer)
 }
 
+// The same to a writer with this plan.
+fn write_by<R: Wait>(rt: &R, alloc: Global, pump: &mut WritePump, plan: &str) -> Option<String>
+    ensures { IsSamePump pump.old pump.new }
+{
+    let plan = plan_of(plan)?;
+    write(
+        rt,
+        alloc,
+        pump,
+        PipeWriter::new(plan, Pipe::of(Vec::new(alloc))),
+    )
+}
+
 fn written(alloc: Global, end: WriteEnd, writer: &PipeWriter) -> Option<String> {
     let bytes = hex::encode(alloc, &writer.pipe.bytes).ok()?;
     let (calls, flushes) = (writer.plan.calls, writer.flushes.calls);
@@ -291,14 +305,8 @@ fn answer<R: Wait>(rt: &R, alloc: Global, desk: &mut Desk, call: &str) -> Option
         "stop" => text(alloc, &parts.session.stop()),
         "read" => read(rt, alloc, &mut parts.read_pump, &mut desk.input, rest),
         "unflushed" => write(rt, alloc, &mut parts.write_pump, unflushed(alloc)),
-        "write" => {
-            let writer = PipeWriter::new(plan_of(rest)?, Pipe::of(Vec::new(alloc)));
-            write(rt, alloc, &mut parts.write_pump, writer)
-        }
-        _ => {
-            let (first, last) = rest.split_once(' ').unwrap_or((rest, ""));
-            end(rt, alloc, parts, channel(first)?, verb, last)
-        }
+        "write" => write_by(rt, alloc, &mut parts.write_pump, rest),
+        _ => end(rt, alloc, parts, verb, rest),
     }
 }
 

@@ -1,5 +1,4 @@
-use Rattle.std.proofs.Common.{ap, sym, ◌∙◌}
-use Rattle.lc_frame.specs.Channel.{number_of}
+use Rattle.std.proofs.Common.{ap, ◌∙◌}
 use Rattle.lc_inbox.specs.declared.rule.Key.{Key}
 use Rattle.lc_session.specs.Reading.{channel_of_side}
 use Rattle.lc_session.proofs.Places.{channel_here, channels_kept, longer_here}
