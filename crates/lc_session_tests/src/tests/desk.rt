@@ -215,13 +215,7 @@ pub fn at_receiver<R: Wait>(
 }
 
 // What a call of an end answers, behind whose verb its channel stands.
-fn end<R: Wait>(
-    rt: &R,
-    alloc: Global,
-    parts: &mut Parts,
-    verb: &str,
-    rest: &str,
-) -> Option<String>
+fn end<R: Wait>(rt: &R, alloc: Global, parts: &mut Parts, verb: &str, rest: &str) -> Option<String>
     ensures { StaysOfOne parts.old parts.new }
 {
     let (first, word) = rest.split_once(' ').unwrap_or((rest, ""));
