@@ -116,7 +116,10 @@ fn take<R: Wait>(rt: &R, alloc: Global, end: &mut RecvEnd, room: &str) -> Option
     ensures { IsSameSide end.old end.new }
 {
     let mut buffer = [0; 8];
-    let room = room.parse::<usize>().unwrap_or(buffer.len());
+    let room = match room {
+        "" => buffer.len(),
+        _ => room.parse::<usize>().ok()?,
+    };
     let buffer = buffer.get_mut(..room)?;
     match end.take_into(rt, buffer) {
         Ok(Take::Took(len)) => hex::encode(alloc, buffer.get(..len).unwrap_or(&[])).ok(),

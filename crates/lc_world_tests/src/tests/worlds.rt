@@ -24,7 +24,7 @@ fn books(alloc: Global, world: &World) -> Option<String> {
 }
 
 // Of ten guarantees five are spent, three absolved, since a plead asks for that, and two are still held.
-fn begins(rt: &impl Abort, world: &mut World, alloc: Global, body: Body) {
+fn begins(rt: &impl Abort, alloc: Global, world: &mut World, body: Body) {
     let (channel, amount, target) = (CHANNEL, 10, 2);
     let events = [
         (Side::B, Act::Issue { channel, amount }, "Accepted"),
@@ -57,7 +57,7 @@ fn events_leave_their_books(rt: HostRuntime) -> Result<(), Fail> {
     let alloc = rt.alloc();
     let body = Body::from_vec(Vec::from_slice(alloc, b"hello")?);
     let mut world = World::new_as(alloc, 16, [Version::Two; 2])?;
-    begins(&rt, &mut world, alloc, body);
+    begins(&rt, alloc, &mut world, body);
     let found = books(alloc, &world);
     same(&rt, "books", found, "(2, (5, 3, 0), (2, 5, 9), 0)");
     finishes(&rt, alloc, &mut world);
