@@ -2,6 +2,7 @@
 mod block;
 mod closed;
 mod config;
+mod coop;
 mod driver;
 mod frames;
 mod io;
@@ -26,7 +27,7 @@ pub use stats::Stats;
 use crate::Channel;
 use block::{block_on, block_until};
 use shared::Shared;
-use state::{State, KEPT};
+use state::{State, CONTROL, OWN};
 use std::fmt::{self, Formatter};
 use std::future::Future;
 use std::pin::Pin;
@@ -134,8 +135,8 @@ pub struct Mux {
 }
 
 impl Mux {
-    /// The least number of slots of a session: the 7 that messages leave free, and one for them.
-    pub const LEAST_SLOTS: u32 = KEPT as u32 + 1;
+    /// The least number of slots of a session: 7 for control frames, and one of its own for each channel.
+    pub const LEAST_SLOTS: u32 = (CONTROL + OWN) as u32;
 
     /// A session on which nothing has happened but that, by policy, whole rings wait to be issued; and the
     /// driver that is to run it. Faults come in this order: those of [`Peer::new`](crate::Peer::new), slots

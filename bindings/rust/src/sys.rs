@@ -110,7 +110,7 @@ struct Pieces {
 
 /// A message where it lies, in one piece: the first one of a channel, until it is taken, or that of the frame
 /// that goes out next, until that is written or counted as sent. Who keeps one longer than a call sees to it that
-/// this does not happen before, and that the handle is not dropped.
+/// this does not happen before, and that the handle is not dropped. Or a slice of a caller's, who waits until it was read.
 #[derive(Clone, Copy, Debug, PartialEq, Eq)]
 pub(crate) struct Lent {
     bytes: NonNull<u8>,
@@ -125,6 +125,16 @@ impl Lent {
     fn of(bytes: *const u8, len: usize) -> Option<Lent> {
         let bytes = NonNull::new(bytes.cast_mut())?;
         Some(Lent { bytes, len })
+    }
+}
+
+/// The caller keeps the slice as it is as long as the copy of it is used.
+impl From<&[u8]> for Lent {
+    fn from(bytes: &[u8]) -> Lent {
+        Lent {
+            bytes: NonNull::from(bytes).cast(),
+            len: bytes.len(),
+        }
     }
 }
 

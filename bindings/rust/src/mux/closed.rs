@@ -4,7 +4,11 @@ use std::fmt::{self, Display, Formatter};
 use std::io;
 use std::sync::Arc;
 
-/// Why a session is over. It has one reason, the first, and every call that waits answers it.
+/// Why a call can't go on: the session, or its part that the call needs, has ended.
+///
+/// A session ends *in order* once both sides have finished all their channels and ended their streams, as
+/// [`Mux::close`](crate::Mux::close) does. Every other end is a failure: it has one reason, the first, which every call
+/// then answers. Which call answers what is one table in the repository's `docs/sessions.md`.
 ///
 /// ```
 /// use lcmux::{Closed, Config, Mux};
@@ -14,43 +18,62 @@ use std::sync::Arc;
 /// assert_eq!(mux.closed_blocking(), Err(Closed::Aborted));
 /// # Ok::<(), lcmux::MuxFault>(())
 /// ```
-#[derive(Clone, Debug, PartialEq, Eq)]
+#[derive(Clone, Debug)]
 #[non_exhaustive]
 pub enum Closed {
-    /// In order: this side closed, or the other side's stream ended after a whole frame.
-    Clean,
-    /// This side gave up: by [`Mux::abort`](crate::Mux::abort), by an end or a
-    /// [`Mux`](crate::Mux) that a panic dropped, or by a [`Driver`](crate::Driver) that was dropped.
+    /// This side closed the session: by [`Mux::close`](crate::Mux::close), or by dropping all its handles.
+    Local,
+    /// The peer closed the session in order: it finished all its channels, ended its stream, and issues no more
+    /// guarantees. What this side holds guarantees for may still be sent.
+    Remote,
+    /// The peer's stream ended while channels of it were unfinished: the peer crashed, was aborted, or dropped the
+    /// connection. What arrived before may still be received.
+    Cut,
+    /// This side gave up: by [`Mux::abort`](crate::Mux::abort), by a handle that a panic dropped, or by a
+    /// [`Driver`](crate::Driver) that was dropped before the session was over.
     Aborted,
-    /// A read or a write failed.
-    Transport {
-        /// Of what kind the error is.
-        kind: io::ErrorKind,
-        /// What it says.
-        message: Arc<str>,
-    },
-    /// What came is no frame.
+    /// A read or a write of the transport failed, or a timeout expired, which is an error of the kind
+    /// [`TimedOut`](io::ErrorKind::TimedOut). It is the [`source`](Error::source) of this error.
+    Transport(Arc<io::Error>),
+    /// The peer's stream broke the framing.
     Fault(Fault),
-    /// A frame of the other side breaks the rules.
+    /// A frame of the peer broke a rule of the protocol.
     Violated(Violation),
 }
 
 impl Closed {
     pub(crate) fn result(self) -> Result<(), Closed> {
         match self {
-            Closed::Clean => Ok(()),
+            Closed::Local => Ok(()),
             closed => Err(closed),
         }
     }
 }
 
+/// Two failures of a transport are equal where they are of one kind and one text.
+impl PartialEq for Closed {
+    fn eq(&self, other: &Closed) -> bool {
+        match (self, other) {
+            (Closed::Local, Closed::Local)
+            | (Closed::Remote, Closed::Remote)
+            | (Closed::Cut, Closed::Cut)
+            | (Closed::Aborted, Closed::Aborted) => true,
+            (Closed::Transport(one), Closed::Transport(other)) => {
+                one.kind() == other.kind() && one.to_string() == other.to_string()
+            }
+            (Closed::Fault(one), Closed::Fault(other)) => one == other,
+            (Closed::Violated(one), Closed::Violated(other)) => one == other,
+            _ => false,
+        }
+    }
+}
+
+impl Eq for Closed {}
+
 /// The transport failed.
 impl From<io::Error> for Closed {
     fn from(error: io::Error) -> Closed {
-        Closed::Transport {
-            kind: error.kind(),
-            message: error.to_string().into(),
-        }
+        Closed::Transport(Arc::new(error))
     }
 }
 
@@ -66,26 +89,35 @@ impl From<Stop> for Closed {
 impl Display for Closed {
     fn fmt(&self, f: &mut Formatter<'_>) -> fmt::Result {
         match self {
-            Closed::Clean => f.write_str("the session is closed"),
+            Closed::Local => f.write_str("the session is closed"),
+            Closed::Remote => f.write_str("the peer closed the session"),
+            Closed::Cut => f.write_str("the peer's stream ended before its channels did"),
             Closed::Aborted => f.write_str("the session was aborted"),
-            Closed::Transport { message, .. } => write!(f, "the transport failed: {message}"),
+            Closed::Transport(error) => write!(f, "the transport failed: {error}"),
             Closed::Fault(fault) => write!(f, "F{}: {fault}", fault.number()),
             Closed::Violated(violation) => write!(f, "V{}: {violation}", violation.number()),
         }
     }
 }
 
-impl Error for Closed {}
+impl Error for Closed {
+    fn source(&self) -> Option<&(dyn Error + 'static)> {
+        match self {
+            Closed::Transport(error) => Some(&**error),
+            _ => None,
+        }
+    }
+}
 
-/// A transport's failure keeps its kind. A fault or a violation is of kind `InvalidData`, a stream that
-/// ended within a frame of kind `UnexpectedEof`, and the rest is of kind `ConnectionAborted`.
+/// A failure of the transport keeps its kind. A fault or a violation is of the kind `InvalidData`, a stream that
+/// was cut, also within a frame, of the kind `UnexpectedEof`, and the rest of the kind `ConnectionAborted`.
 impl From<Closed> for io::Error {
     fn from(closed: Closed) -> io::Error {
         let kind = match &closed {
-            Closed::Transport { kind, .. } => *kind,
-            Closed::Fault(Fault::Truncated) => io::ErrorKind::UnexpectedEof,
+            Closed::Transport(error) => error.kind(),
+            Closed::Cut | Closed::Fault(Fault::Truncated) => io::ErrorKind::UnexpectedEof,
             Closed::Fault(_) | Closed::Violated(_) => io::ErrorKind::InvalidData,
-            Closed::Clean | Closed::Aborted => io::ErrorKind::ConnectionAborted,
+            Closed::Local | Closed::Remote | Closed::Aborted => io::ErrorKind::ConnectionAborted,
         };
         io::Error::new(kind, closed)
     }
@@ -120,7 +152,14 @@ impl Display for CallError {
     }
 }
 
-impl Error for CallError {}
+impl Error for CallError {
+    fn source(&self) -> Option<&(dyn Error + 'static)> {
+        match self {
+            CallError::Closed(closed) => closed.source(),
+            CallError::Refused(_) => None,
+        }
+    }
+}
 
 impl From<Refusal> for CallError {
     fn from(refusal: Refusal) -> CallError {
@@ -158,7 +197,7 @@ pub enum SendError {
         /// How many the other side may still issue.
         left: u64,
     },
-    /// The session is over.
+    /// The session is closed or over, or, where guarantees are missing, the peer closed it and issues none any more.
     Closed(Closed),
 }
 
@@ -175,7 +214,14 @@ impl Display for SendError {
     }
 }
 
-impl Error for SendError {}
+impl Error for SendError {
+    fn source(&self) -> Option<&(dyn Error + 'static)> {
+        match self {
+            SendError::Closed(closed) => closed.source(),
+            SendError::Refused(_) | SendError::Unwanted { .. } => None,
+        }
+    }
+}
 
 impl From<Refusal> for SendError {
     fn from(refusal: Refusal) -> SendError {
@@ -221,7 +267,14 @@ impl Display for TrySendError {
     }
 }
 
-impl Error for TrySendError {}
+impl Error for TrySendError {
+    fn source(&self) -> Option<&(dyn Error + 'static)> {
+        match self {
+            TrySendError::Failed(error) => error.source(),
+            TrySendError::Full(_) => None,
+        }
+    }
+}
 
 impl<E: Into<SendError>> From<E> for TrySendError {
     fn from(error: E) -> TrySendError {
@@ -259,7 +312,14 @@ impl Display for SendTimeoutError {
     }
 }
 
-impl Error for SendTimeoutError {}
+impl Error for SendTimeoutError {
+    fn source(&self) -> Option<&(dyn Error + 'static)> {
+        match self {
+            SendTimeoutError::Failed(error) => error.source(),
+            SendTimeoutError::Timeout => None,
+        }
+    }
+}
 
 impl From<SendError> for SendTimeoutError {
     fn from(error: SendError) -> SendTimeoutError {
@@ -297,7 +357,14 @@ impl Display for TryRecvError {
     }
 }
 
-impl Error for TryRecvError {}
+impl Error for TryRecvError {
+    fn source(&self) -> Option<&(dyn Error + 'static)> {
+        match self {
+            TryRecvError::Closed(closed) => closed.source(),
+            TryRecvError::Empty => None,
+        }
+    }
+}
 
 impl From<Closed> for TryRecvError {
     fn from(closed: Closed) -> TryRecvError {
@@ -335,7 +402,14 @@ impl Display for RecvTimeoutError {
     }
 }
 
-impl Error for RecvTimeoutError {}
+impl Error for RecvTimeoutError {
+    fn source(&self) -> Option<&(dyn Error + 'static)> {
+        match self {
+            RecvTimeoutError::Closed(closed) => closed.source(),
+            RecvTimeoutError::Timeout => None,
+        }
+    }
+}
 
 impl From<Closed> for RecvTimeoutError {
     fn from(closed: Closed) -> RecvTimeoutError {
@@ -349,7 +423,7 @@ impl From<Closed> for RecvTimeoutError {
 /// use lcmux::{Config, Mux, MuxFault};
 /// let fault = Mux::new(Config::new([64; 7], 7)).unwrap_err();
 /// assert_eq!(fault, MuxFault::TooFewSlots);
-/// assert_eq!(fault.to_string(), "the slots are fewer than 8");
+/// assert_eq!(fault.to_string(), "there have to be 14 slots or more");
 /// ```
 #[derive(Clone, Copy, Debug, PartialEq, Eq)]
 #[non_exhaustive]
@@ -371,7 +445,7 @@ impl Display for MuxFault {
         match self {
             MuxFault::Peer(fault) => fault.fmt(f),
             MuxFault::TooFewSlots => {
-                write!(f, "the slots are fewer than {}", crate::Mux::LEAST_SLOTS)
+                write!(f, "there have to be {} slots or more", crate::Mux::LEAST_SLOTS)
             }
             MuxFault::BadMark { channel } => {
                 write!(

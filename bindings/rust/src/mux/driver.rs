@@ -71,6 +71,8 @@ struct Writing {
     message: Option<Lent>,
     written: usize,
     is_flushed: bool,
+    // Whether it waits for a frame, for which its waker was kept when none was found.
+    is_idle: bool,
     scanner: Scanner,
     result: Option<Result<(), Closed>>,
 }
@@ -94,6 +96,7 @@ impl Driver {
                 message: None,
                 written: 0,
                 is_flushed: true,
+                is_idle: false,
                 scanner: Scanner::new(Direction::Out),
                 result: None,
             },
@@ -367,6 +370,7 @@ impl Writing {
     ) -> Poll<Result<(), Closed>> {
         if self.result.is_none() {
             let result = match self.poll_out(cx, writer) {
+                Poll::Pending if self.is_idle => return Poll::Pending,
                 Poll::Pending => {
                     // The transport wakes it, or the end of the session does.
                     let waits = self.shared.with(|state| state.wait_to_write(cx.waker()));
@@ -398,16 +402,17 @@ impl Writing {
                 continue;
             }
             let may_lend = writer.is_write_vectored();
-            match self
+            let pulled = self
                 .shared
-                .with(|state| state.pull(&mut self.buffer, may_lend, cx.waker()))
-            {
+                .with(|state| state.pull(&mut self.buffer, may_lend, cx.waker()));
+            self.is_idle = matches!(pulled, Pulled::Idle) && self.is_flushed;
+            match pulled {
                 Pulled::Bytes(count, message) => {
                     (self.start, self.end) = (0, count);
                     (self.message, self.written) = (message, 0);
                     grow(&mut self.buffer, count);
                 }
-                Pulled::Idle if self.is_flushed => return Poll::Pending,
+                Pulled::Idle if self.is_idle => return Poll::Pending,
                 Pulled::Idle => ready!(self.poll_flush(cx, writer))?,
                 Pulled::End => {
                     ready!(self.poll_flush(cx, writer))?;

@@ -1,4 +1,5 @@
 use super::block::{block_on, block_until};
+use super::coop::Coop;
 use super::shared::Shared;
 use super::state::{State, Taken};
 use crate::sys::Lent;
@@ -38,6 +39,7 @@ use std::time::{Duration, Instant};
 pub struct Receiver {
     shared: Arc<Shared>,
     channel: Channel,
+    coop: Coop,
 }
 
 // One try, which keeps the waker where nothing waits.
@@ -65,6 +67,7 @@ impl Receiver {
         Receiver {
             shared: Arc::clone(shared),
             channel,
+            coop: Coop::default(),
         }
     }
 
@@ -89,9 +92,18 @@ impl Receiver {
 
     /// [`Receiver::recv`], polled. The last waker is kept, and woken once; it takes nothing before it is ready.
     pub fn poll_recv(&mut self, cx: &mut Context<'_>) -> Poll<Result<Option<Vec<u8>>, Closed>> {
+        self.coop.poll(cx, |cx| self.poll_take(cx))
+    }
+
+    fn poll_take(&self, cx: &mut Context<'_>) -> Poll<Result<Option<Vec<u8>>, Closed>> {
         let channel = self.channel;
         poll_take(&self.shared, channel, cx, |state| state.take(channel))
             .map_ok(|taken| taken.map(|taken| self.copied(taken)))
+    }
+
+    fn poll_lend(&self, cx: &mut Context<'_>) -> Poll<Result<Option<Lent>, Closed>> {
+        let channel = self.channel;
+        poll_take(&self.shared, channel, cx, |state| state.lend(channel))
     }
 
     // A message in a vector of its own: a long one is copied while others go on.
@@ -108,13 +120,13 @@ impl Receiver {
 
     /// [`Receiver::recv`] for a thread, which sleeps meanwhile. It is not for a task of an executor.
     pub fn recv_blocking(&mut self) -> Result<Option<Vec<u8>>, Closed> {
-        block_on(self.recv())
+        block_on(poll_fn(|cx| self.poll_take(cx)))
     }
 
     /// [`Receiver::recv_blocking`] that waits so long at most, and then has taken nothing.
     pub fn recv_timeout(&mut self, timeout: Duration) -> Result<Option<Vec<u8>>, RecvTimeoutError> {
         let deadline = Instant::now().checked_add(timeout);
-        match block_until(self.recv(), deadline) {
+        match block_until(poll_fn(|cx| self.poll_take(cx)), deadline) {
             Some(taken) => Ok(taken?),
             None => Err(RecvTimeoutError::Timeout),
         }
@@ -134,18 +146,19 @@ impl Receiver {
     ///
     /// *Cancel-safe*, as [`Receiver::recv`].
     pub async fn recv_ref(&mut self) -> Result<Option<Message<'_>>, Closed> {
-        let (shared, channel) = (&self.shared, self.channel);
-        let lent = poll_fn(|cx| poll_take(shared, channel, cx, |state| state.lend(channel)));
-        let front = lent.await?;
-        Ok(front.map(|front| Message {
-            receiver: self,
-            front,
-        }))
+        let front = poll_fn(|cx| self.coop.poll(cx, |cx| self.poll_lend(cx))).await?;
+        Ok(self.borrowed(front))
+    }
+
+    fn borrowed(&mut self, front: Option<Lent>) -> Option<Message<'_>> {
+        let receiver = self;
+        front.map(|front| Message { receiver, front })
     }
 
     /// [`Receiver::recv_ref`] for a thread, which sleeps meanwhile.
     pub fn recv_ref_blocking(&mut self) -> Result<Option<Message<'_>>, Closed> {
-        block_on(self.recv_ref())
+        let front = block_on(poll_fn(|cx| self.poll_lend(cx)))?;
+        Ok(self.borrowed(front))
     }
 
     /// The room of the ring that was not issued yet, but for a message that is lent.

@@ -1,4 +1,5 @@
 use super::block::block_until;
+use super::coop::Coop;
 use super::shared::Shared;
 use super::state::{Ask, Call};
 use crate::TrySendError;
@@ -35,22 +36,23 @@ use std::time::{Duration, Instant};
 pub struct Sender {
     shared: Arc<Shared>,
     channel: Channel,
+    coop: Coop,
 }
 
 /// A call that waits, from its first poll until it is ready or dropped.
 struct Sending<'a> {
-    shared: &'a Shared,
-    channel: Channel,
+    sender: &'a Sender,
     call: Call<'a>,
 }
 
 impl Sending<'_> {
     // Whether it was given up: one that was done meanwhile is not.
     fn give_up(&mut self) -> bool {
+        let Sender {
+            shared, channel, ..
+        } = self.sender;
         match self.call.ticket.take() {
-            Some(ticket) => self
-                .shared
-                .with(|state| state.forget_send(self.channel, ticket)),
+            Some(ticket) => shared.with(|state| state.forget_send(*channel, ticket)),
             None => true,
         }
     }
@@ -60,12 +62,17 @@ impl Future for Sending<'_> {
     type Output = Result<(), SendError>;
 
     fn poll(mut self: Pin<&mut Self>, cx: &mut Context<'_>) -> Poll<Self::Output> {
-        let Sending {
-            shared,
-            channel,
-            call,
-        } = &mut *self;
-        shared.with(|state| state.poll_send(*channel, call, cx.waker()))
+        let Sending { sender, call } = &mut *self;
+        let is_blocked = call.is_left;
+        let mut poll = |cx: &mut Context<'_>| {
+            sender
+                .shared
+                .with(|state| state.poll_send(sender.channel, call, cx.waker()))
+        };
+        match is_blocked {
+            true => poll(cx),
+            false => sender.coop.poll(cx, poll),
+        }
     }
 }
 
@@ -73,7 +80,10 @@ impl Drop for Sending<'_> {
     fn drop(&mut self) {
         if let (false, Ask::Permit(len)) = (self.give_up(), self.call.ask) {
             // It was given to a thread that a panic took away.
-            self.shared.with(|state| state.give_back(self.channel, len));
+            let Sender {
+                shared, channel, ..
+            } = self.sender;
+            shared.with(|state| state.give_back(*channel, len));
         }
     }
 }
@@ -87,13 +97,13 @@ impl Sender {
         Sender {
             shared: Arc::clone(shared),
             channel,
+            coop: Coop::default(),
         }
     }
 
     fn sending<'a>(&'a self, ask: Ask<'a>, is_left: bool) -> Sending<'a> {
         Sending {
-            shared: &self.shared,
-            channel: self.channel,
+            sender: self,
             call: Call {
                 ask,
                 is_left,
@@ -247,6 +257,14 @@ impl Sender {
     }
 }
 
+/// The channel is finished once the last clone is dropped.
+impl Clone for Sender {
+    fn clone(&self) -> Sender {
+        self.shared.with(|state| state.join(self.channel));
+        Sender::new(&self.shared, self.channel)
+    }
+}
+
 impl Drop for Sender {
     fn drop(&mut self) {
         self.shared.with(|state| match thread::panicking() {
@@ -340,7 +358,7 @@ mod tests {
     // As it is where a panic unwinds a thread that waits.
     #[test]
     fn a_permit_that_was_given_to_who_is_gone_is_given_back() {
-        let (mut mux, _driver) = Mux::new(Config::new([64; 7], 8)).unwrap();
+        let (mut mux, _driver) = Mux::new(Config::new([64; 7], 14)).unwrap();
         let sender = mux.sender(Data).unwrap();
         let mut call = sender.sending(Ask::Permit(5), true);
         let waker = Arc::new(Noop).into();

@@ -1,18 +1,19 @@
-//! What a session knows and who waits in it: no threads, no lock and no transport.
+//! A session as a pure state machine: no threads, no lock and no transport.
 //!
-//! Each change ends with `settle`, which puts what is owed into the queue, makes the calls of threads that may
-//! go now, and wakes these; a thread looks before it gives up. Nothing is handed over to a task: the one whose
-//! call may go now is woken, looks again when it is polled, and settles, too, where it is dropped instead. So no
-//! wake-up is lost with a call that was given up.
+//! Each change ends with `settle`: it enqueues pending control frames, completes the calls of blocked threads that can
+//! proceed, and notifies the others that can. A wake-up carries no grant: a woken task looks again when it is polled,
+//! and where its future is dropped instead, `Drop` settles once more. So no wake-up is lost to a cancelled future.
 mod control;
 mod line;
 mod receiving;
 mod sending;
+mod slots;
 #[cfg(test)]
 mod tests;
 
 pub(crate) use receiving::Taken;
 pub(crate) use sending::{Ask, Call};
+pub(crate) use slots::{CONTROL, OWN};
 
 use super::config::MuxConfig;
 use super::io::Breaker;
@@ -24,41 +25,31 @@ use crate::{
 };
 use control::{ClientOwed, Pleaded, ServerOwed};
 use line::Line;
+use slots::Slots;
 use std::iter;
 use std::mem;
 use std::task::Waker;
 use std::time::Instant;
 
-/// How many slots messages leave free: one for a frame of control on each channel.
-pub(crate) const KEPT: usize = 7;
-
-/// The ends that a session has, and its `Mux`.
+/// The handles that a session has at first: a sender and a receiver for each channel, and its `Mux`.
 const USERS: usize = 15;
 
+/// All channels, as bits.
 const ALL: u8 = 0x7f;
 
 /// A channel in the direction in which this side sends.
 #[derive(Default)]
 struct Outgoing {
     line: Line,
-    /// The guarantees that permits own.
+    /// The guarantees that permits hold.
     reserved: u64,
-    /// When the sender went last, counted in turns; 0 before.
+    /// When the channel sent last, counted in messages and permits of all; 0 before.
     went: u64,
+    /// How many senders of the channel there are, clones among them.
+    senders: usize,
     policy: PleadPolicy,
     pleaded: Option<Pleaded>,
     owed: ClientOwed,
-}
-
-/// Channels by the call at the front of their line, as bits.
-#[derive(Default)]
-struct Fronts {
-    /// Of these it may have changed, so nothing is known.
-    stale: u8,
-    /// Of these it waits for a slot and its turn, and nothing else.
-    able: u8,
-    /// Of these it will never go.
-    hopeless: u8,
 }
 
 /// A channel in the direction in which this side receives.
@@ -73,8 +64,8 @@ struct Incoming {
     owed: ServerOwed,
 }
 
-/// The shortest message that a transport is given where it lies. Those of the tests are short.
-const LONG: usize = if cfg!(debug_assertions) { 8 } else { 4_096 };
+/// The shortest message that a transport is given where it lies; a shorter one is copied.
+const BORROWED_FROM: usize = 4_096;
 
 /// What the writing half does next.
 pub(crate) enum Pulled {
@@ -95,31 +86,36 @@ pub(crate) struct State {
     out: [Outgoing; 7],
     inc: [Incoming; 7],
     stats: [Stats; 7],
-    /// Slots that permits own.
-    permits: usize,
+    slots: Slots,
     /// The bytes of messages in the queue, or fewer: what was pulled counts as theirs.
     queued: usize,
-    /// How many messages in the queue are long, or more.
+    /// The shortest message that counts as long, and how many in the queue do, or more.
+    borrowed_from: usize,
     long: usize,
     /// Whether the first frame in the queue is lent to the writing half.
     is_lent: bool,
-    /// The turns of all senders so far.
+    /// How many messages and permits there were so far.
     turns: u64,
     /// Channels on which a receiver or a sender may owe something, as bits, and the one that is looked at first.
     owing_in: u8,
     owing_out: u8,
     first: usize,
-    fronts: Fronts,
+    /// Channels by their first waiting call, as bits: those of which it may have changed, so that nothing is known;
+    /// whose call has its guarantees; whose call will never proceed; and whose call was woken to proceed, and was
+    /// neither polled nor dropped since.
+    stale: u8,
+    able: u8,
+    hopeless: u8,
+    notified: u8,
     users: usize,
     closing: bool,
     out_ended: bool,
     in_ended: bool,
     closed: Option<Closed>,
     reader: Option<Waker>,
-    /// The writing half, that waits until something is to go out.
+    /// The writing half, whatever it waits for: its transport, or, where it is idle, a frame to write.
     writer: Option<Waker>,
-    /// The writing half, whatever it waits for: that, or its transport.
-    stuck: Option<Waker>,
+    is_idle: bool,
     /// Calls that wait for the end.
     over: Vec<(u64, Waker)>,
     tickets: u64,
@@ -129,6 +125,10 @@ pub(crate) struct State {
 
 fn at(channel: Channel) -> usize {
     usize::from(channel.number())
+}
+
+fn bit(channel: Channel) -> u8 {
+    1 << at(channel)
 }
 
 // The channels of these bits.
@@ -157,15 +157,19 @@ impl State {
             out: Default::default(),
             inc: Default::default(),
             stats: Default::default(),
-            permits: 0,
+            slots: Slots::new(config.peer.slots as usize),
             queued: 0,
+            borrowed_from: BORROWED_FROM,
             long: 0,
             is_lent: false,
             turns: 0,
             owing_in: ALL,
             owing_out: ALL,
             first: 0,
-            fronts: Fronts::default(),
+            stale: 0,
+            able: 0,
+            hopeless: 0,
+            notified: 0,
             users: USERS,
             closing: false,
             out_ended: false,
@@ -173,7 +177,7 @@ impl State {
             closed: None,
             reader: None,
             writer: None,
-            stuck: None,
+            is_idle: false,
             over: Vec::new(),
             tickets: 0,
             breaker: None,
@@ -182,6 +186,7 @@ impl State {
         for channel in Channel::ALL.map(at) {
             state.inc[channel].policy = config.issue[channel];
             state.out[channel].policy = config.plead[channel];
+            state.out[channel].senders = 1;
         }
         state.settle();
         Ok(state)
@@ -211,32 +216,42 @@ impl State {
         self.closing || self.closed.is_some()
     }
 
-    /// Whether the writing half waits until something is to go out.
+    /// Whether the writing half waits for a frame to write.
     pub fn is_idle(&self) -> bool {
-        self.writer.is_some()
+        self.is_idle
+    }
+
+    /// From which length on a message is given to the transport where it lies.
+    pub fn borrow_from(&mut self, len: usize) {
+        self.borrowed_from = len;
     }
 
     // Why a call that puts something on the stream is refused.
     fn is_open(&self) -> Result<(), Closed> {
         match &self.closed {
             Some(closed) => Err(closed.clone()),
-            None if self.closing => Err(Closed::Clean),
+            None if self.closing => Err(Closed::Local),
             None => Ok(()),
         }
     }
 
-    // What follows from a change: what is owed goes into the queue, and whoever may go on is woken.
+    // What follows from a change: pending control frames are enqueued, and whoever can proceed is woken.
     fn settle(&mut self) {
         self.flush();
         self.wake_senders();
-        if self.writer.is_some() && self.peer.wants_write() {
-            self.wakes.wake(self.writer.take());
+        if self.is_idle && self.peer.wants_write() {
+            self.wake_writer();
         }
+    }
+
+    fn wake_writer(&mut self) {
+        self.is_idle = false;
+        self.wakes.wake(self.writer.take());
     }
 
     // Anything may have changed.
     fn look_everywhere(&mut self) {
-        (self.owing_in, self.owing_out, self.fronts.stale) = (ALL, ALL, ALL);
+        (self.owing_in, self.owing_out, self.stale) = (ALL, ALL, ALL);
     }
 
     /// The next bytes that go out, to the front of an empty buffer; before a long message they end, and where the
@@ -245,6 +260,7 @@ impl State {
         if let Some(closed) = &self.closed {
             return Pulled::Over(closed.clone());
         }
+        self.is_idle = false;
         match mem::take(&mut self.is_lent) {
             true => self.count_sent(),
             false => self.flush(),
@@ -263,19 +279,32 @@ impl State {
         if self.closing {
             return Pulled::End;
         }
+        self.is_idle = true;
         keep(&mut self.writer, waker, &mut self.wakes);
         Pulled::Idle
     }
 
-    // The message that was lent went out.
+    // The message that was lent was written.
     fn count_sent(&mut self) {
-        self.peer.sent();
+        self.sent();
         self.long = self.long.saturating_sub(1);
         self.settle();
     }
 
+    // The first frame in the queue was written.
+    fn sent(&mut self) {
+        self.peer.sent();
+        self.follow_queue();
+    }
+
+    // What a call of the peer did to the queue is known to the slots.
+    fn follow_queue(&mut self) {
+        self.slots.follow(self.peer.slots_left());
+    }
+
     fn write(&mut self, buffer: &mut [u8]) -> usize {
         let count = self.peer.write(buffer);
+        self.follow_queue();
         if count < buffer.len() {
             self.long = 0;
         }
@@ -287,7 +316,7 @@ impl State {
         let mut count = 0;
         while let Some(next) = self.peer.next() {
             let (header, message) = (next.header(), next.message);
-            self.is_lent = message.len() >= LONG;
+            self.is_lent = message.len() >= self.borrowed_from;
             let copied = if self.is_lent { &[][..] } else { &*message };
             let end = count + header.len() + copied.len();
             let Some(room) = buffer.get_mut(count..end) else {
@@ -300,7 +329,7 @@ impl State {
             if self.is_lent {
                 return (count, Some(message));
             }
-            self.peer.sent();
+            self.sent();
         }
         match count {
             0 => (self.write(buffer), None), // the rest of a frame that was cut, or one that fits no buffer
@@ -345,11 +374,11 @@ impl State {
 
     /// Keeps the waker of a writing half that waits for its transport, unless the session is over.
     pub fn wait_to_write(&mut self, waker: &Waker) -> Result<(), Closed> {
-        keep(&mut self.stuck, waker, &mut self.wakes);
+        keep(&mut self.writer, waker, &mut self.wakes);
         self.closed.clone().map_or(Ok(()), Err)
     }
 
-    /// The other side ended its stream.
+    /// The peer ended its stream: in order, where it had finished all its channels, and else it was cut.
     pub fn input_ended(&mut self) -> Result<(), Closed> {
         if let Some(closed) = &self.closed {
             return closed.clone().result();
@@ -358,14 +387,24 @@ impl State {
             self.fail(stop.into());
             return Err(stop.into());
         }
+        if !Channel::ALL.into_iter().all(|it| self.is_finished_there(it)) {
+            self.fail(Closed::Cut);
+            return Err(Closed::Cut);
+        }
         self.in_ended = true;
         for inc in &mut self.inc {
             self.wakes.wake(inc.waker.take());
         }
-        self.fronts.stale = ALL;
+        self.stale = ALL;
         self.settle();
         self.end_if_done();
         Ok(())
+    }
+
+    // Whether the peer sends nothing more on the channel: by a Finish, or by a limit that is used up.
+    fn is_finished_there(&self, channel: Channel) -> bool {
+        let book = self.peer.server(channel);
+        book.finished || book.send_left == Some(0)
     }
 
     /// This side's stream is written and ended.
@@ -376,21 +415,24 @@ impl State {
 
     fn end_if_done(&mut self) {
         if self.in_ended && self.out_ended {
-            self.fail(Closed::Clean);
+            self.fail(Closed::Local);
         }
     }
 
-    /// What waits is written out, and then this side's direction ends.
+    /// What was accepted is written, every channel is finished, and then this side's stream ends.
     pub fn close(&mut self) {
-        if self.closing || self.closed.is_some() {
+        if self.is_closing() {
             return;
         }
         self.flush(); // from here on nothing is issued
+        for channel in Channel::ALL {
+            self.finish_once(channel);
+        }
         self.closing = true;
-        self.look_everywhere(); // also at what is owed behind calls that wait, none of which will go
         self.wake_waiting();
-        // Also where it waits for its transport: who drives the session may bound how long the end takes.
-        self.wakes.wake(self.stuck.take());
+        self.look_everywhere(); // also at what is pending behind calls that wait, none of which will proceed
+        // Whatever the writing half waits for: it ends the stream, and may bound how long that takes.
+        self.wake_writer();
         self.settle();
     }
 
@@ -399,7 +441,7 @@ impl State {
         if self.closed.is_some() {
             return;
         }
-        if reason != Closed::Clean {
+        if reason != Closed::Local {
             self.wakes.break_by(self.breaker.take());
         }
         self.closed = Some(reason);
@@ -408,8 +450,7 @@ impl State {
         }
         self.wake_waiting();
         self.wakes.wake(self.reader.take());
-        self.wakes.wake(self.writer.take());
-        self.wakes.wake(self.stuck.take());
+        self.wake_writer();
         for (_, waker) in mem::take(&mut self.over) {
             self.wakes.wake(Some(waker));
         }
@@ -418,7 +459,7 @@ impl State {
     /// What ends the transport's calls where the session fails: at once, where it has.
     pub fn set_breaker(&mut self, breaker: Option<Breaker>) {
         match &self.closed {
-            Some(reason) if *reason != Closed::Clean => self.wakes.break_by(breaker),
+            Some(reason) if *reason != Closed::Local => self.wakes.break_by(breaker),
             _ => self.breaker = breaker,
         }
     }
@@ -428,7 +469,13 @@ impl State {
         self.breaker.take()
     }
 
-    /// One of the ends, or the `Mux`, is dropped. The last one closes the session.
+    /// One more handle: a clone of a sender.
+    pub fn join(&mut self, channel: Channel) {
+        self.users += 1;
+        self.out[at(channel)].senders += 1;
+    }
+
+    /// One of the handles, or the `Mux`, is dropped. The last one closes the session.
     pub fn leave(&mut self) {
         self.users -= 1;
         if self.users == 0 {

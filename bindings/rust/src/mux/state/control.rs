@@ -1,10 +1,9 @@
-//! What is owed beside messages: issues, absolves, limits, pleads and finishes. Each goes into the queue at
-//! once, into the slots that messages leave free, but for room that was freed while the writing half is on its
-//! way: that is issued when it comes. What finds no slot waits as one amount for each channel and kind, into
-//! which later calls are joined, and goes before any message.
+//! Control frames: issues, absolves, limits, pleads and finishes. Each is enqueued at once, into a slot that messages
+//! leave free; room that was freed while the writing half is active is issued when it comes for more. What finds no
+//! slot stays pending as one amount for each channel and kind, which later calls add to, and precedes any message.
 use super::line::Place;
-use super::{at, State};
-use crate::{CallError, Channel, IssuePolicy, PleadPolicy, Refusal, Version};
+use super::{at, bit, State};
+use crate::{CallError, Channel, IssuePolicy, Peer, PleadPolicy, Refusal, Version};
 
 /// The largest bound of a limit, and as many guarantees as a channel ever has: so it bounds nothing.
 const NO_LIMIT: u64 = 1 << 62;
@@ -254,45 +253,81 @@ impl State {
     fn repeat_receiving(&mut self, channel: Channel) -> bool {
         let left = self.peer.server(channel).receive_left;
         let bound = left.unwrap_or(NO_LIMIT);
-        self.peer.limit_receiving(channel, bound).is_ok()
+        let repeated = self.peer.limit_receiving(channel, bound).is_ok();
+        self.follow_queue();
+        repeated
     }
 
     // It goes before calls that wait, and takes nothing from them.
     fn repeat_sending(&mut self, channel: Channel) -> bool {
         let left = self.peer.client(channel).send_left;
         let bound = left.unwrap_or(NO_LIMIT);
-        self.peer.limit_sending(channel, bound).is_ok()
+        let repeated = self.peer.limit_sending(channel, bound).is_ok();
+        self.follow_queue();
+        repeated
     }
 }
 
-/// Ends that are dropped, which the other side is told.
+/// Handles that are dropped, of which the peer is notified.
 impl State {
     pub fn drop_sender(&mut self, channel: Channel) {
-        // A channel that is finished already, or a session that is over, needs no telling.
-        let _ = self.finish(channel);
+        let senders = &mut self.out[at(channel)].senders;
+        *senders -= 1;
+        if *senders == 0 {
+            self.finish_once(channel);
+        }
         self.leave();
     }
 
+    /// Ends the channel, unless it is finished, or the session is closed or over.
+    pub fn finish_once(&mut self, channel: Channel) {
+        let finished = self.finish(channel);
+        debug_assert!(is_done_or_ended(&finished), "{finished:?}");
+    }
+
     pub fn drop_receiver(&mut self, channel: Channel) {
-        // From then on no policy issues, either.
-        let _ = self.limit_receiving(channel, 0);
+        // From here on no policy issues, either.
+        let limited = self.limit_receiving(channel, 0);
+        debug_assert!(is_done_or_ended(&limited), "{limited:?}");
         self.leave();
     }
+}
+
+// Whether a call that ends a direction of a channel did, or the channel or the session had ended before.
+fn is_done_or_ended(call: &Result<(), CallError>) -> bool {
+    matches!(
+        call,
+        Ok(()) | Err(CallError::Refused(Refusal::ChannelFinished) | CallError::Closed(_))
+    )
 }
 
 /// What goes into the queue.
 impl State {
     fn owes_in(&mut self, channel: Channel) {
-        self.owing_in |= 1 << at(channel);
+        self.owing_in |= bit(channel);
         self.settle();
     }
 
     pub(super) fn owes_out(&mut self, channel: Channel) {
-        self.owing_out |= 1 << at(channel);
+        self.owing_out |= bit(channel);
         self.settle();
     }
 
-    // What is owed goes into the queue, each channel in turn, as long as there are slots.
+    // Enqueues a control frame that was judged when it was asked for. By now it may not apply any more: the channel may
+    // be finished, and its call may name another refusal that means as much.
+    fn enqueue<T>(
+        &mut self,
+        call: impl FnOnce(&mut Peer) -> Result<T, Refusal>,
+        is_stale: impl FnOnce(Refusal) -> bool,
+    ) {
+        match call(&mut self.peer) {
+            Ok(_) => self.follow_queue(),
+            Err(Refusal::ChannelFinished) => {}
+            Err(refusal) => debug_assert!(is_stale(refusal), "{refusal}"),
+        }
+    }
+
+    // Pending control frames are enqueued, each channel in turn, as long as there are slots.
     pub(super) fn flush(&mut self) {
         if self.owing_in | self.owing_out == 0 || self.closed.is_some() {
             return;
@@ -309,14 +344,14 @@ impl State {
 
     // `None` where slots ran out.
     fn flush_channel(&mut self, channel: Channel) -> Option<()> {
-        let this = 1 << at(channel);
+        let this = bit(channel);
         if self.owing_in & this != 0 {
             self.flush_receiver(channel)?;
             self.issue_by_policy(channel)?;
             self.owing_in &= !this;
         }
         if self.owing_out & this != 0 {
-            self.fronts.stale |= this;
+            self.stale |= this;
             self.flush_sender(channel)?;
             self.owing_out &= !this;
         }
@@ -332,28 +367,28 @@ impl State {
         self.flush_line(channel)
     }
 
-    // A slot that no permit owns.
+    // A slot for a control frame.
     fn slot(&self) -> Option<()> {
-        (self.peer.slots_left() > self.permits).then_some(())
+        self.slots.has_control().then_some(())
     }
 
-    // What is owed was judged when it was asked for. Where that no longer holds, as the other side finished
-    // the channel or used what it was pleaded for, there is nothing to be done.
     fn flush_receiver(&mut self, channel: Channel) -> Option<()> {
         let amount = self.inc[at(channel)].owed.issue;
         if amount > 0 {
             self.slot()?;
-            let _ = self.peer.issue(channel, amount);
+            self.enqueue(|peer| peer.issue(channel, amount), |_| false);
             self.inc[at(channel)].owed.issue = 0;
         }
         if let Some(bound) = self.inc[at(channel)].owed.limit {
             self.slot()?;
-            let _ = self.peer.limit_receiving(channel, bound);
+            self.enqueue(|peer| peer.limit_receiving(channel, bound), |_| false);
             self.inc[at(channel)].owed.limit = None;
         }
         if let Some(target) = self.inc[at(channel)].owed.plead {
             self.slot()?;
-            let _ = self.peer.plead(channel, target);
+            // The peer may have used meanwhile what it was to give up.
+            let is_met = |refusal| matches!(refusal, Refusal::NothingToAsk { .. });
+            self.enqueue(|peer| peer.plead(channel, target), is_met);
             self.inc[at(channel)].owed.plead = None;
         }
         Some(())
@@ -363,7 +398,8 @@ impl State {
         let amount = self.due_by_policy(channel);
         if amount > 0 {
             self.slot()?;
-            let _ = self.peer.issue(channel, amount);
+            let is_last = |refusal| refusal == Refusal::TotalReached;
+            self.enqueue(|peer| peer.issue(channel, amount), is_last);
         }
         Some(())
     }
@@ -387,7 +423,7 @@ impl State {
         let amount = self.out[at(channel)].owed.absolve;
         if amount > 0 {
             self.slot()?;
-            let _ = self.peer.absolve(channel, amount as u32);
+            self.enqueue(|peer| peer.absolve(channel, amount as u32), |_| false);
             self.out[at(channel)].owed.absolve = 0;
         }
         Some(())
@@ -435,14 +471,14 @@ impl State {
         if amount > 0 {
             self.slot()?;
         }
-        let _ = self.peer.honour(channel);
+        self.enqueue(|peer| peer.honour(channel), |_| false);
         Some(())
     }
 
     fn absolve_now(&mut self, channel: Channel, amount: u64) -> Option<()> {
         if amount > 0 {
             self.slot()?;
-            let _ = self.peer.absolve(channel, amount as u32);
+            self.enqueue(|peer| peer.absolve(channel, amount as u32), |_| false);
         }
         Some(())
     }
@@ -451,10 +487,12 @@ impl State {
     fn flush_line(&mut self, channel: Channel) -> Option<()> {
         while let Some(place) = self.out[at(channel)].line.owed(self.closing) {
             self.slot()?;
-            let _ = match self.out[at(channel)].line.remove(place) {
-                Some(Place::Limit(bound)) => self.peer.limit_sending(channel, bound),
-                _ => self.peer.finish(channel),
-            };
+            match self.out[at(channel)].line.remove(place) {
+                Some(Place::Limit(bound)) => {
+                    self.enqueue(|peer| peer.limit_sending(channel, bound), |_| false)
+                }
+                _ => self.enqueue(|peer| peer.finish(channel), |_| false),
+            }
         }
         Some(())
     }

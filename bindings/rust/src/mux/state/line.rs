@@ -1,5 +1,6 @@
 //! The line of a sender: the calls that wait, and the limits and the finish behind them, in their order.
 use crate::mux::stats::Lacking;
+use crate::sys::Lent;
 use crate::Refusal;
 use std::collections::VecDeque;
 use std::task::Waker;
@@ -22,9 +23,10 @@ pub(super) struct Waiter {
     pub left: Option<Left>,
 }
 
-/// What a thread that waits wants, kept where whoever has the lock can do it.
+/// What a blocked thread asks for, so that whoever holds the lock completes its call. The thread borrows the message
+/// out: it leaves the line before it goes on.
 pub(super) enum Left {
-    Message(Vec<u8>),
+    Message(Lent),
     Permit,
 }
 

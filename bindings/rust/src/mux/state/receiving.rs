@@ -1,5 +1,5 @@
-//! Receivers: what is taken, and what was lent.
-use super::{at, channels, keep, State};
+//! Receivers: what is taken, and what is borrowed.
+use super::{at, bit, channels, keep, State};
 use crate::sys::Lent;
 use crate::{Channel, Closed, Take};
 use std::mem;
@@ -8,7 +8,8 @@ use std::task::Waker;
 /// The longest message that is copied at once: a longer one is lent, and copied without the lock.
 const MOST_COPIED: usize = 4_096;
 
-/// A message that a call takes.
+/// A message that a call takes: a copy, or, where it is long, a view to copy without the lock, after which it is given
+/// back. A call that panics before loses no message: the next one finds it again.
 pub(crate) enum Taken {
     Copied(Vec<u8>),
     Lent(Lent),
@@ -17,10 +18,10 @@ pub(crate) enum Taken {
 impl State {
     /// The next message, to be had in a vector of its own.
     pub fn take(&mut self, channel: Channel) -> Result<Take<Taken>, Closed> {
-        Ok(match self.lend(channel)? {
+        Ok(match self.front(channel)? {
             Take::Took(front) if front.len() <= MOST_COPIED => {
                 let message = front.to_vec();
-                self.take_lent(channel);
+                self.pop(channel);
                 Take::Took(Taken::Copied(message))
             }
             Take::Took(front) => Take::Took(Taken::Lent(front)),
@@ -31,26 +32,35 @@ impl State {
 
     /// The next message where it lies, until it is given back.
     pub fn lend(&mut self, channel: Channel) -> Result<Take<Lent>, Closed> {
+        let front = self.front(channel)?;
+        self.inc[at(channel)].is_lent = matches!(front, Take::Took(_));
+        Ok(front)
+    }
+
+    fn front(&mut self, channel: Channel) -> Result<Take<Lent>, Closed> {
         self.may_take()?;
-        self.take_lent(channel); // whose end was forgotten
-        let Some(front) = self.peer.lend(channel) else {
-            return self.why_none(channel);
-        };
-        self.inc[at(channel)].is_lent = true;
-        let stats = &mut self.stats[at(channel)];
-        stats.messages_received += 1;
-        stats.bytes_received += front.len() as u64;
-        Ok(Take::Took(front))
-    }
-
-    /// What was lent on these channels is room again.
-    pub fn give_back_lent(&mut self, bits: u8) {
-        channels(bits).for_each(|channel| self.take_lent(channel));
-    }
-
-    fn take_lent(&mut self, channel: Channel) {
         if mem::take(&mut self.inc[at(channel)].is_lent) {
-            let _ = self.peer.pop(channel);
+            self.pop(channel); // its view was forgotten
+        }
+        match self.peer.lend(channel) {
+            Some(front) => Ok(Take::Took(front)),
+            None => self.why_none(channel),
+        }
+    }
+
+    /// The views of the first messages of these channels are dropped: the messages are taken.
+    pub fn give_back_lent(&mut self, bits: u8) {
+        for channel in channels(bits) {
+            self.inc[at(channel)].is_lent = false;
+            self.pop(channel);
+        }
+    }
+
+    fn pop(&mut self, channel: Channel) {
+        if let Take::Took(len) = self.peer.pop(channel) {
+            let stats = &mut self.stats[at(channel)];
+            stats.messages_received += 1;
+            stats.bytes_received += len as u64;
             self.freed(channel);
         }
     }
@@ -73,7 +83,6 @@ impl State {
         match (self.peer.pop(channel), &self.closed) {
             (Take::Ended, _) => Ok(Take::Ended),
             (_, Some(closed)) => Err(closed.clone()),
-            (_, None) if self.in_ended => Err(Closed::Clean),
             (_, None) => Ok(Take::Empty),
         }
     }
@@ -81,8 +90,8 @@ impl State {
     // There is room. A writing half that is on its way finds it there, so all that is freed before it comes goes
     // in one issue.
     fn freed(&mut self, channel: Channel) {
-        self.owing_in |= 1 << at(channel);
-        if self.writer.is_some() {
+        self.owing_in |= bit(channel);
+        if self.is_idle {
             self.settle();
         }
     }

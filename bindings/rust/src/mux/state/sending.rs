@@ -1,23 +1,25 @@
-//! Senders: what a message lacks, whose turn it is, and who waits.
+//! Senders: what a message lacks, which waiting call proceeds next, and how it learns of that.
+//!
+//! The first waiting call of a channel *can proceed* once its guarantees are there, there is a slot for it, and its
+//! bytes fit into the queue. What [`State::settle`] leaves: each such call was completed, where a thread made it, or
+//! else notified, and no call that was notified stands in the way of another one. So a future that is not polled holds
+//! up its own channel alone.
 use super::line::{Left, Place, Waiter};
-use super::{at, channels, keep, State, KEPT, LONG};
+use super::{at, bit, channels, keep, State, ALL};
 use crate::mux::stats::Lack;
+use crate::sys::Lent;
 use crate::{Channel, Closed, Needs, Refusal, SendError, TrySendError};
 use std::mem;
 use std::task::{Poll, Waker};
 
-/// The longest message that is copied for another thread to send: to copy a longer one takes as long as to wake
-/// who waits.
-const MOST_LEFT: usize = 4_096;
-
-/// The most bytes of messages in the queue, where there is more than one: a short message goes behind all of them,
-/// and more would only lie there until the driver comes.
+/// The most bytes of messages in the queue, where there is more than one: a short message is written after all of
+/// them, and more would only lie there until the driver writes.
 const MOST_QUEUED: usize = 65_536;
 
-/// What a call of a sender wants.
+/// What a call of a sender asks for.
 #[derive(Clone, Copy)]
 pub(crate) enum Ask<'a> {
-    /// That this message goes.
+    /// To send this message.
     Message(&'a [u8]),
     /// A permit for a message of so many bytes.
     Permit(usize),
@@ -31,34 +33,33 @@ impl Ask<'_> {
         }
     }
 
-    // What is kept of it, so that it can be done by another thread.
-    fn left(self) -> Option<Left> {
+    // What is kept of it, so that another thread can complete the call.
+    fn left(self) -> Left {
         match self {
-            Ask::Message(body) if body.len() > MOST_LEFT => None,
-            Ask::Message(body) => Some(Left::Message(body.into())),
-            Ask::Permit(_) => Some(Left::Permit),
+            Ask::Message(body) => Left::Message(Lent::from(body)),
+            Ask::Permit(_) => Left::Permit,
         }
     }
 }
 
-/// A call that waits, between two looks at it.
+/// A call that waits, between two polls of it.
 pub(crate) struct Call<'a> {
     pub ask: Ask<'a>,
-    /// Whether it may be done for the one that makes it, who then has to look before it gives up.
+    /// Whether it may be completed on behalf of its caller, who then asks before it gives up, and keeps the message
+    /// until it has: a blocked thread does, and a future, which may be forgotten, does not.
     pub is_left: bool,
     pub ticket: Option<u64>,
 }
 
 impl State {
-    /// Makes a call that does not wait. It may go before calls of other senders that went later, and
-    /// before none of its own.
+    /// Makes a call that does not wait.
     pub fn try_send(&mut self, channel: Channel, ask: Ask) -> Result<(), TrySendError> {
         self.go(channel, ask, None)?;
         self.settle();
         Ok(())
     }
 
-    /// Makes a call that waits. Where it has to, it keeps its place by the ticket.
+    /// Makes a call that waits. Where it has to, it keeps its place in the line by the ticket.
     pub fn poll_send(
         &mut self,
         channel: Channel,
@@ -69,12 +70,16 @@ impl State {
             call.ticket = None;
             return Poll::Ready(Ok(()));
         }
+        let is_first = self.is_first(channel, call.ticket);
+        if is_first {
+            self.notified &= !bit(channel);
+        }
         let answer = match self.go(channel, call.ask, call.ticket) {
             Ok(()) => Ok(()),
             Err(TrySendError::Failed(error)) => Err(error),
             Err(TrySendError::Full(needs)) => {
                 self.wait(channel, call, waker);
-                if self.is_first(channel, call.ticket) {
+                if is_first {
                     self.front_needs(channel, needs);
                 }
                 return Poll::Pending;
@@ -87,12 +92,12 @@ impl State {
         Poll::Ready(answer)
     }
 
-    // Whether a call that waited was done for who made it: no other way leads out of the line without it.
+    // Whether a call that waited was completed on behalf of its caller: no other way leads out of the line without it.
     fn was_done(&self, channel: Channel, ticket: Option<u64>) -> bool {
         ticket.is_some_and(|ticket| !self.out[at(channel)].line.has(ticket))
     }
 
-    /// A call that waited is given up. Whether it was: one that was done meanwhile is not.
+    /// A call that waited is given up. Whether it was: one that was completed meanwhile is not.
     pub fn forget_send(&mut self, channel: Channel, ticket: u64) -> bool {
         if self.was_done(channel, Some(ticket)) {
             return false;
@@ -109,13 +114,14 @@ impl State {
         len: usize,
         body: &[u8],
     ) -> Result<(), SendError> {
+        self.slots.release(channel);
         let answer = self.put_reserved(channel, len, body);
         let used = if answer.is_ok() { body.len() } else { 0 };
         self.unreserve(channel, len as u64, used as u64);
         answer
     }
 
-    // It goes before a limit that is owed, and counts for it all the same.
+    // It precedes a limit that is pending, and counts for it all the same.
     fn put_reserved(&mut self, channel: Channel, len: usize, body: &[u8]) -> Result<(), SendError> {
         self.is_open()?;
         self.out[at(channel)].line.allows(body.len(), None)?;
@@ -129,12 +135,12 @@ impl State {
 
     /// A permit for so many bytes is dropped.
     pub fn give_back(&mut self, channel: Channel, len: usize) {
+        self.slots.release(channel);
         self.unreserve(channel, len as u64, 0);
     }
 
     // What a permit did not use is given back: to the other side, where that pleaded for it.
     fn unreserve(&mut self, channel: Channel, len: u64, used: u64) {
-        self.permits -= 1;
         let out = &mut self.out[at(channel)];
         out.reserved -= len;
         if let Some(pleaded) = &mut out.pleaded {
@@ -143,10 +149,11 @@ impl State {
         self.owes_out(channel);
     }
 
-    // The call goes, if nothing is in its way.
+    // The call proceeds, if it can.
     fn go(&mut self, channel: Channel, ask: Ask, ticket: Option<u64>) -> Result<(), TrySendError> {
-        match self.judge(channel, ask.len(), ticket)? {
-            Needs::Nothing if self.is_first(channel, ticket) && self.is_its_turn(channel) => {}
+        let needs = self.lacks(channel, ask.len(), ticket)?;
+        match needs {
+            Needs::Nothing if self.is_first(channel, ticket) && self.fits(channel, ask.len()) => {}
             Needs::Nothing => return Err(TrySendError::Full(Needs::Slot)),
             needs => return Err(TrySendError::Full(needs)),
         }
@@ -159,18 +166,19 @@ impl State {
 
     fn reserve(&mut self, channel: Channel, len: usize) {
         self.out[at(channel)].reserved += len as u64;
-        self.permits += 1;
+        self.slots.hold(channel);
         self.went(channel);
     }
 
     fn put(&mut self, channel: Channel, body: &[u8]) -> Result<(), SendError> {
         self.peer.send(channel, body)?;
+        self.slots.enter(channel);
         self.queued += body.len();
-        self.long += usize::from(body.len() >= LONG);
+        self.long += usize::from(body.len() >= self.borrowed_from);
         self.went(channel);
         if self.out[at(channel)].pleaded.is_some() {
             // Its target may be all that is held now: then the next one is not taken for it.
-            self.owing_out |= 1 << at(channel);
+            self.owing_out |= bit(channel);
         }
         let stats = &mut self.stats[at(channel)];
         stats.messages_sent += 1;
@@ -183,16 +191,8 @@ impl State {
         self.out[at(channel)].went = self.turns;
     }
 
-    // What a message of so many bytes needs, beside its turn, or why it will never go.
-    fn judge(&self, channel: Channel, len: usize, ticket: Option<u64>) -> Result<Needs, SendError> {
-        match self.lacks(channel, len, ticket)? {
-            Needs::Nothing if !self.has_place(len) => Ok(Needs::Slot),
-            needs => Ok(needs),
-        }
-    }
-
-    // What it needs beside a place in the queue, too.
-    fn lacks(&self, channel: Channel, len: usize, ticket: Option<u64>) -> Result<Needs, SendError> {
+    // The guarantees that a message of so many bytes lacks, or why it will never be sent.
+    pub(super) fn lacks(&self, channel: Channel, len: usize, ticket: Option<u64>) -> Result<Needs, SendError> {
         self.is_open()?;
         let needs = self.peer.needs(channel, len);
         if needs == Needs::Never {
@@ -200,7 +200,7 @@ impl State {
         }
         self.out[at(channel)].line.allows(len, ticket)?;
         match needs {
-            Needs::Guarantees(_) if self.in_ended => Err(Closed::Clean.into()),
+            Needs::Guarantees(_) if self.in_ended => Err(Closed::Remote.into()),
             Needs::Guarantees(more) => Ok(Needs::Guarantees(more + self.set_aside(channel))),
             _ => Ok(self.needs_beside(channel, len)),
         }
@@ -230,10 +230,27 @@ impl State {
         most.saturating_sub(self.set_aside(channel))
     }
 
-    // Whether a message of so many bytes may take a slot.
-    fn has_place(&self, len: usize) -> bool {
-        let fits = self.queued == 0 || self.queued + len <= MOST_QUEUED;
-        fits && self.peer.slots_left() > KEPT + self.permits
+    // Whether a message of so many bytes, for which the guarantees are there, may enter the queue now: there is a slot,
+    // its bytes fit, and they are no other channel's, which waits for bytes and sent less recently.
+    pub(super) fn fits(&mut self, channel: Channel, len: usize) -> bool {
+        self.slots.has_place(channel) && self.has_bytes(len) && self.is_its_turn(channel)
+    }
+
+    fn has_bytes(&self, len: usize) -> bool {
+        self.queued == 0 || self.queued + len <= MOST_QUEUED
+    }
+
+    fn is_its_turn(&mut self, channel: Channel) -> bool {
+        self.look_at_fronts();
+        let went = |channel: Channel| self.out[at(channel)].went;
+        self.waiting_for_bytes()
+            .all(|other| went(other) >= went(channel))
+    }
+
+    // Channels whose first call has its guarantees and a slot, and was not notified: after `settle`, it is the bytes
+    // that it waits for.
+    fn waiting_for_bytes(&self) -> impl Iterator<Item = Channel> + '_ {
+        channels(self.able & !self.notified).filter(|it| self.slots.has_place(*it))
     }
 
     #[cold]
@@ -254,23 +271,16 @@ impl State {
         held.saturating_sub(self.set_aside(channel))
     }
 
-    // Whether no earlier call of the same sender waits.
+    // Whether no earlier call of the same channel waits.
     fn is_first(&self, channel: Channel, ticket: Option<u64>) -> bool {
         self.out[at(channel)].line.is_first(ticket)
     }
 
-    // Whether no other sender that could go has not gone since this one went.
-    fn is_its_turn(&mut self, channel: Channel) -> bool {
-        self.look_at_fronts();
-        let went = |channel: Channel| self.out[at(channel)].went;
-        channels(self.fronts.able).all(|other| went(other) >= went(channel))
-    }
-
-    // Looks anew at the fronts that may have changed.
+    // Looks anew at the first calls that may have changed.
     fn look_at_fronts(&mut self) {
-        let stale = mem::take(&mut self.fronts.stale);
-        self.fronts.able &= !stale;
-        self.fronts.hopeless &= !stale;
+        let stale = mem::take(&mut self.stale);
+        self.able &= !stale;
+        self.hopeless &= !stale;
         for channel in channels(stale) {
             self.look_at_front(channel);
         }
@@ -282,16 +292,16 @@ impl State {
         };
         match self.lacks(channel, first.len, Some(first.ticket)) {
             Ok(needs) => self.front_needs(channel, needs),
-            Err(_) => self.fronts.hopeless |= 1 << at(channel),
+            Err(_) => self.hopeless |= bit(channel),
         }
     }
 
     fn front_needs(&mut self, channel: Channel, needs: Needs) {
         self.note(channel, needs);
-        self.fronts.stale &= !(1 << at(channel));
+        self.stale &= !bit(channel);
         match needs {
-            Needs::Guarantees(_) => self.fronts.able &= !(1 << at(channel)),
-            _ => self.fronts.able |= 1 << at(channel),
+            Needs::Guarantees(_) => self.able &= !bit(channel),
+            _ => self.able |= bit(channel),
         }
     }
 
@@ -306,7 +316,7 @@ impl State {
                 ticket,
                 len: call.ask.len(),
                 waker: Some(waker.clone()),
-                left: call.is_left.then(|| call.ask.left()).flatten(),
+                left: call.is_left.then(|| call.ask.left()),
             })),
         }
     }
@@ -318,11 +328,14 @@ impl State {
 
     // The call's waker, unless it was woken.
     fn leave_line(&mut self, channel: Channel, ticket: u64) -> Option<Waker> {
-        self.fronts.stale |= 1 << at(channel);
+        if self.is_first(channel, Some(ticket)) {
+            self.notified &= !bit(channel);
+        }
+        self.stale |= bit(channel);
         let line = &mut self.out[at(channel)].line;
         let removed = line.remove_call(ticket);
         if line.owed(false).is_some() {
-            self.owing_out |= 1 << at(channel);
+            self.owing_out |= bit(channel);
         }
         if !line.has_calls() {
             line.lacking.note(None, &mut self.stats[at(channel)]);
@@ -340,34 +353,34 @@ impl State {
         lacking.note(Some(lack), &mut self.stats[at(channel)]);
     }
 
-    // Does what calls left whose turn it is, as long as there are slots, and wakes them; then the next one that
-    // has to go by itself, and those that will never go.
+    // Completes or notifies each first call that can proceed, the channel that sent least recently first, and wakes
+    // those that never will.
     pub(super) fn wake_senders(&mut self) {
         while let Some(channel) = self.next() {
-            if !self.do_left(channel) {
+            if self.complete(channel) {
+                self.flush(); // limits and a finish behind it
+            } else {
+                self.notified |= bit(channel);
                 self.wake_first(channel);
-                break;
             }
-            self.flush(); // limits and a finish behind it
         }
-        for channel in channels(self.fronts.hopeless) {
+        for channel in channels(self.hopeless) {
             self.wake_first(channel);
         }
     }
 
-    // The sender whose call goes next.
+    // The channel whose first call proceeds next. Where its bytes don't fit, no later one's are taken.
     fn next(&mut self) -> Option<Channel> {
         self.look_at_fronts();
-        let went = |channel: &Channel| self.out[at(*channel)].went;
-        let next = channels(self.fronts.able).min_by_key(went);
-        next.filter(|channel| {
-            let first = self.out[at(*channel)].line.first();
-            first.is_some_and(|first| self.has_place(first.len))
-        })
+        let waiting = self.waiting_for_bytes();
+        let next = waiting.min_by_key(|channel| self.out[at(*channel)].went)?;
+        let first = self.out[at(next)].line.first()?;
+        self.has_bytes(first.len).then_some(next)
     }
 
-    // Whether what the first call left could be done. Where memory was refused, it is for that call to say so.
-    fn do_left(&mut self, channel: Channel) -> bool {
+    // Whether the first call could be completed on behalf of its thread. Where memory was refused, it is for that call
+    // to say so.
+    fn complete(&mut self, channel: Channel) -> bool {
         let line = &mut self.out[at(channel)].line;
         let (Some(left), Some(first)) = (line.take_left(), line.first()) else {
             return false;
@@ -389,8 +402,9 @@ impl State {
         }
     }
 
-    // Wakes all calls of senders, none of which will go.
+    // Wakes all calls of senders, none of which will proceed.
     pub(super) fn wake_waiting(&mut self) {
+        (self.able, self.stale) = (0, ALL);
         let calls = self.out.iter_mut().flat_map(|out| out.line.calls());
         calls.for_each(|waiter| self.wakes.wake(waiter.waker.take()));
     }

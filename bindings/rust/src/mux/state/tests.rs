@@ -1,19 +1,29 @@
-//! Calls of senders by chance: those of tasks, which may be given up unheard, beside those of threads, which
-//! whoever changes the session makes for them.
-use super::{Ask, Call, Pulled, State, LONG};
-use crate::{Channel, Config, MuxConfig, Needs, SendError, TrySendError, Version};
+//! Calls of senders by chance: those of tasks, which may be given up or never polled again, beside those of threads,
+//! which whoever changes the session completes for them; and the rules one by one.
+use super::{Ask, Call, Pulled, State, BORROWED_FROM};
+use crate::{Channel, Closed, Config, MuxConfig, Needs, SendError, TrySendError, Version};
 use std::collections::VecDeque;
 use std::env;
-use std::sync::atomic::{AtomicBool, Ordering::Relaxed};
+use std::sync::atomic::{AtomicU64, Ordering::Relaxed};
 use std::sync::Arc;
 use std::task::{Poll, Wake, Waker};
 
+/// The order of all wake-ups.
+static WAKES: AtomicU64 = AtomicU64::new(1);
+
+/// When a task was woken, or 0.
 #[derive(Default)]
-struct Flag(AtomicBool);
+struct Flag(AtomicU64);
+
+impl Flag {
+    fn is_woken(&self) -> bool {
+        self.0.load(Relaxed) != 0
+    }
+}
 
 impl Wake for Flag {
     fn wake(self: Arc<Flag>) {
-        self.0.store(true, Relaxed);
+        self.0.store(WAKES.fetch_add(1, Relaxed), Relaxed);
     }
 }
 
@@ -35,6 +45,8 @@ struct Caller {
     waits: Option<Waiting>,
     woken: Arc<Flag>,
     calls: u8,
+    /// Whether its call waits and is forgotten: neither polled nor dropped.
+    is_stuck: bool,
 }
 
 struct Waiting {
@@ -54,7 +66,11 @@ struct Play {
     state: State,
     chance: Chance,
     callers: Vec<Caller>,
+    slots: usize,
+    /// Whether all guarantees are there from the beginning.
     is_rich: bool,
+    /// Whether each task is polled as soon as it is woken, before anything else happens.
+    is_prompt: bool,
     began: Vec<Sent>,
     /// What calls answered to have been sent.
     answered: Vec<Vec<u8>>,
@@ -64,52 +80,53 @@ struct Play {
     lent: usize,
 }
 
-const RING: u32 = 64;
 const LONGEST: u64 = 9;
+/// A message that counts as long here.
+const LONG: usize = 8;
+
+/// A session whose first issues are written.
+fn written(slots: u32) -> State {
+    let mut state = State::new(&MuxConfig::from(Config::new([64; 7], slots))).unwrap();
+    state.borrow_from(LONG);
+    assert!(matches!(pull(&mut state, 128), Pulled::Bytes(35, None)));
+    state
+}
 
 impl Play {
     fn new(seed: u64) -> Play {
         let mut chance = Chance(seed.wrapping_mul(0x9e37_79b9_7f4a_7c15) | 1);
-        let slots = 8 + chance.below(6) as u32;
-        let config = MuxConfig::from(Config::new([RING; 7], slots));
-        let mut state = State::new(&config).unwrap();
-        let waker = Waker::from(Arc::new(Flag::default()));
-        let pulled = state.pull(&mut [0; 128], false, &waker);
-        assert!(
-            matches!(pulled, Pulled::Bytes(35, None)),
-            "the first issues"
-        );
+        let slots = 14 + chance.below(8);
         let count = 2 + chance.below(12);
         let callers = (0..count).map(|_| Caller {
             channel: Channel::ALL[chance.below(7)],
-            is_thread: chance.below(4) > 0,
+            is_thread: chance.below(2) > 0,
             waits: None,
             woken: Arc::default(),
             calls: 0,
+            is_stuck: false,
         });
         let callers = callers.collect();
-        let is_rich = chance.below(2) == 0;
         let mut play = Play {
-            state,
-            chance,
+            state: written(slots as u32),
             callers,
-            is_rich,
+            slots,
+            is_rich: chance.below(2) == 0,
+            is_prompt: chance.below(2) == 0,
+            chance,
             began: Vec::new(),
             answered: Vec::new(),
             wire: VecDeque::new(),
             sent: Vec::new(),
             lent: 0,
         };
-        if is_rich {
+        if play.is_rich {
             play.issue_to_all();
         }
         play
     }
 
     fn issue(&mut self, channel: Channel, amount: u32) {
-        let tag = [0x20 | channel.number()];
-        let frame = [&tag[..], &amount.to_be_bytes()].concat();
-        self.state.deliver(&frame).unwrap();
+        self.state.deliver(&issue(channel, amount)).unwrap();
         self.wake();
     }
 
@@ -121,6 +138,21 @@ impl Play {
 
     fn wake(&mut self) {
         drop(std::mem::take(&mut self.state.wakes));
+        assert_settled(&mut self.state);
+    }
+
+    // Polls the tasks that were woken, in the order in which they were, until none is.
+    fn poll_woken(&mut self) {
+        loop {
+            let woken = (0..self.callers.len()).filter(|at| {
+                let caller = &self.callers[*at];
+                caller.waits.is_some() && !caller.is_stuck && caller.woken.is_woken()
+            });
+            match woken.min_by_key(|at| self.callers[*at].woken.0.load(Relaxed)) {
+                Some(at) => self.poll(at),
+                None => return,
+            }
+        }
     }
 
     fn begin(&mut self, at: usize) {
@@ -140,7 +172,7 @@ impl Play {
     fn poll(&mut self, at: usize) {
         let caller = &mut self.callers[at];
         let mut waiting = caller.waits.take().unwrap();
-        caller.woken.0.store(false, Relaxed);
+        caller.woken.0.store(0, Relaxed);
         let mut call = Call {
             ask: Ask::Message(&waiting.body),
             is_left: caller.is_thread,
@@ -200,44 +232,51 @@ impl Play {
 
     fn step(&mut self) {
         let at = self.chance.below(self.callers.len() as u64);
-        let (waits, is_thread) = (self.callers[at].waits.is_some(), self.callers[at].is_thread);
-        let is_woken = self.callers[at].woken.0.load(Relaxed);
-        match self.chance.below(12) {
-            0..=6 if !waits => self.begin(at),
-            0..=6 if is_woken || !is_thread => self.poll(at),
-            7 if waits => self.give_up(at),
-            8 | 9 => {
+        let caller = &self.callers[at];
+        let (waits, is_thread) = (caller.waits.is_some(), caller.is_thread);
+        let is_woken = caller.woken.is_woken();
+        match self.chance.below(64) {
+            _ if caller.is_stuck => {}
+            0..=36 if !waits => self.begin(at),
+            0..=36 if is_woken || !is_thread => self.poll(at),
+            37..=41 if waits => self.give_up(at),
+            42 if waits && !is_thread => self.callers[at].is_stuck = true,
+            43..=53 => {
                 let most = 1 + self.chance.below(40);
                 self.pull(most);
             }
-            10 if !self.is_rich => {
+            54..=59 if !self.is_rich => {
                 let channel = Channel::ALL[self.chance.below(7)];
                 let amount = 1 + self.chance.below(12) as u32;
                 self.issue(channel, amount);
             }
             _ => {}
         }
+        if self.is_prompt {
+            self.poll_woken();
+        }
     }
 
-    // There is room for all, and whoever was woken goes on: so all calls are answered.
+    // There are guarantees for all, and whoever was woken is polled: so all calls are answered, but for those that are
+    // forgotten, and those of the same channel behind them.
     fn finish(&mut self) {
         if !self.is_rich {
             self.issue_to_all();
         }
-        let most = 40 * self.callers.len();
-        for _ in 0..most {
-            for at in 0..self.callers.len() {
-                if self.callers[at].waits.is_some() && self.callers[at].woken.0.load(Relaxed) {
-                    self.poll(at);
-                }
-            }
+        for _ in 0..40 * self.callers.len() {
+            self.poll_woken();
             self.pull(256);
         }
-        assert!(self.callers.iter().all(|it| it.waits.is_none()), "asleep");
+        let is_stuck = |it: &Caller| {
+            let mut same = self.callers.iter().filter(|other| other.channel == it.channel);
+            same.any(|other| other.is_stuck)
+        };
+        let mut waiting = self.callers.iter().filter(|it| it.waits.is_some());
+        assert!(waiting.all(is_stuck), "asleep");
         assert!(self.wire.is_empty());
     }
 
-    // Each message that was answered went, and each that went was answered.
+    // Each message that was answered was sent, and each that was sent was answered, but for a forgotten one.
     fn assert_each_once(&self) {
         let mut sent: Vec<_> = self.sent.iter().map(|it| it.body.clone()).collect();
         let mut answered = self.answered.clone();
@@ -247,149 +286,404 @@ impl Play {
         assert_eq!(sent.len() as u64, self.state.turns);
     }
 
-    // Between two messages of a channel each other goes of which a call waits.
-    fn assert_fair(&self) {
+    // How many messages of others were at most between two of a channel of which a call waited all the time.
+    fn longest_wait(&self) -> usize {
         let mut last = [None; 7];
-        for (at, sent) in self.sent.iter().enumerate() {
+        let waits = self.sent.iter().enumerate().map(|(at, sent)| {
             let before = last[usize::from(sent.channel.number())].replace(at);
-            let behind = &self.sent[at + 1..];
-            let waits = |it: &&Sent| it.channel != sent.channel && it.began <= at as u64;
-            for other in behind.iter().filter(waits) {
-                let theirs = last[usize::from(other.channel.number())];
-                assert!(theirs >= before, "{other:?} is passed twice by {sent:?}");
+            match before {
+                Some(before) if sent.began <= before as u64 => at - before - 1,
+                _ => 0,
             }
+        });
+        waits.max().unwrap_or(0)
+    }
+}
+
+// What holds between two changes: whoever can proceed was notified, and who waits for bytes waits for the writing half.
+fn assert_settled(state: &mut State) {
+    let places_left = state.peer.slots_left();
+    state.slots.follow(places_left);
+    for channel in Channel::ALL {
+        let Some(first) = state.out[usize::from(channel.number())].line.first() else {
+            continue;
+        };
+        let (ticket, len) = (first.ticket, first.len);
+        let bit = 1 << channel.number();
+        match state.lacks(channel, len, Some(ticket)) {
+            Ok(Needs::Nothing) if state.notified & bit != 0 => {}
+            Ok(Needs::Nothing) => {
+                assert!(!state.fits(channel, len), "{channel:?} can proceed and was not notified");
+                let waits_for_bytes = state.slots.has_place(channel);
+                assert!(!waits_for_bytes || state.queued > 0, "{channel:?} waits for no one");
+            }
+            _ => assert_eq!(state.notified & bit, 0, "{channel:?} can't proceed and was notified"),
         }
     }
 }
 
 #[test]
-fn calls_that_others_make_go_once_and_in_turn() {
+fn each_call_is_answered_once_whatever_others_do() {
     let asked = env::var("LCMUX_SCHEDULES").ok();
     let most = asked.and_then(|count| count.parse().ok()).unwrap_or(2_000);
-    let (mut messages, mut given_up, mut lent) = (0, 0, 0);
+    let (mut messages, mut given_up, mut lent, mut stuck) = (0, 0, 0, 0);
     for seed in 0..most {
         let mut play = Play::new(seed);
         (0..150).for_each(|_| play.step());
         play.finish();
         play.assert_each_once();
-        if play.is_rich {
-            play.assert_fair();
+        if play.is_rich && play.is_prompt {
+            let most = play.slots - 1;
+            assert!(play.longest_wait() <= most, "{seed}: {} of others", play.longest_wait());
         }
         messages += play.sent.len();
         given_up += play.began.len() - play.sent.len();
         lent += play.lent;
+        stuck += play.callers.iter().filter(|it| it.is_stuck).count();
     }
     assert!(messages as u64 > 20 * most, "{messages}");
     assert!(given_up as u64 > most, "{given_up}");
-    assert!(lent as u64 > most || LONG as u64 > LONGEST, "{lent}");
-}
-
-/// A message of 4,096 bytes is copied for others to send, and one that is longer is not: its thread is woken.
-#[test]
-fn a_long_message_is_sent_by_who_made_the_call() {
-    for (len, is_sent) in [(4_096, true), (4_097, false)] {
-        let config = MuxConfig::from(Config::new([1; 7], 16));
-        let mut state = State::new(&config).unwrap();
-        let woken = Arc::new(Flag::default());
-        let waker = Waker::from(Arc::clone(&woken));
-        let body = vec![7; len];
-        let mut call = Call {
-            ask: Ask::Message(&body),
-            is_left: true,
-            ticket: None,
-        };
-        let channel = Channel::Data;
-        assert!(state.poll_send(channel, &mut call, &waker).is_pending());
-        state.deliver(&[0x21, 0, 0, 0x10, 1]).unwrap();
-        assert_eq!(state.stats(channel).messages_sent, u64::from(is_sent));
-        drop(std::mem::take(&mut state.wakes));
-        assert!(woken.0.load(Relaxed));
-        let answer = state.poll_send(channel, &mut call, &waker);
-        assert_eq!(answer, Poll::Ready(Ok(())));
-        assert_eq!(state.stats(channel).messages_sent, 1);
-    }
+    assert!(lent as u64 > most, "{lent}");
+    assert!(stuck as u64 > most / 2, "{stuck}");
 }
 
 /// A session in version Two with guarantees for all that is sent here.
-fn rich() -> State {
-    let mut config = MuxConfig::from(Config::new([1; 7], 64));
+fn rich(slots: u32) -> State {
+    let mut config = MuxConfig::from(Config::new([1; 7], slots));
     config.peer.version = Version::Two;
     let mut state = State::new(&config).unwrap();
+    state.borrow_from(LONG);
     assert!(matches!(pull(&mut state, 128), Pulled::Bytes(39, None)));
-    for tag in 0x20..0x27 {
-        state.deliver(&[tag, 0, 0x20, 0, 0]).unwrap();
+    for channel in Channel::ALL {
+        state.deliver(&issue(channel, 0x20_0000)).unwrap();
     }
     state
 }
 
-fn pull(state: &mut State, most: usize) -> Pulled {
-    let waker = Waker::from(Arc::new(Flag::default()));
-    state.pull(&mut vec![0; most], false, &waker)
+fn issue(channel: Channel, amount: u32) -> Vec<u8> {
+    [&[0x20 | channel.number()], &amount.to_be_bytes()[..]].concat()
 }
 
-fn goes(state: &mut State, channel: Channel, len: usize) -> bool {
-    match state.try_send(channel, Ask::Message(&vec![7; len])) {
+fn pull(state: &mut State, most: usize) -> Pulled {
+    let waker = Waker::from(Arc::new(Flag::default()));
+    let pulled = state.pull(&mut vec![0; most], false, &waker);
+    drop(std::mem::take(&mut state.wakes));
+    assert_settled(state);
+    pulled
+}
+
+fn is_sent(state: &mut State, channel: Channel, len: usize) -> bool {
+    let sent = match state.try_send(channel, Ask::Message(&vec![7; len])) {
         Ok(()) => true,
         Err(TrySendError::Full(Needs::Slot)) => false,
         Err(other) => panic!("{other}"),
+    };
+    assert_settled(state);
+    sent
+}
+
+fn is_reserved(state: &mut State, channel: Channel) -> bool {
+    state.try_send(channel, Ask::Permit(1)).is_ok()
+}
+
+/// A call that waits: the future of a task, or a thread.
+struct Waits {
+    channel: Channel,
+    body: Vec<u8>,
+    is_thread: bool,
+    ticket: Option<u64>,
+    woken: Arc<Flag>,
+}
+
+impl Waits {
+    fn new(state: &mut State, channel: Channel, len: usize, is_thread: bool) -> Waits {
+        let mut waits = Waits {
+            channel,
+            body: vec![7; len],
+            is_thread,
+            ticket: None,
+            woken: Arc::default(),
+        };
+        assert!(waits.poll(state).is_pending());
+        waits
+    }
+
+    fn task(state: &mut State, channel: Channel, len: usize) -> Waits {
+        Waits::new(state, channel, len, false)
+    }
+
+    fn thread(state: &mut State, channel: Channel, len: usize) -> Waits {
+        Waits::new(state, channel, len, true)
+    }
+
+    fn poll(&mut self, state: &mut State) -> Poll<Result<(), SendError>> {
+        self.woken.0.store(0, Relaxed);
+        let mut call = Call {
+            ask: Ask::Message(&self.body),
+            is_left: self.is_thread,
+            ticket: self.ticket,
+        };
+        let waker = Waker::from(Arc::clone(&self.woken));
+        let polled = state.poll_send(self.channel, &mut call, &waker);
+        self.ticket = call.ticket;
+        drop(std::mem::take(&mut state.wakes));
+        assert_settled(state);
+        polled
+    }
+
+    fn is_woken(&self) -> bool {
+        self.woken.is_woken()
     }
 }
 
-/// Behind others a message goes into the queue as long as they have 65,536 bytes together. One that is longer
-/// goes where none waits.
+const DONE: Poll<Result<(), SendError>> = Poll::Ready(Ok(()));
+
+use Channel::{Capability, Data, Overlap, Reconciliation};
+
+/// Beside others a message enters the queue as long as they have 65,536 bytes together. One that is longer enters where
+/// none waits.
 #[test]
 fn so_many_bytes_of_messages_wait() {
-    let mut state = rich();
-    for (channel, len, goes_now) in [
-        (Channel::Data, 60_000, true),
-        (Channel::Data, 5_537, false),
-        (Channel::Overlap, 5_535, true),
-        (Channel::Overlap, 2, false),
-        (Channel::Capability, 1, true),
-        (Channel::Capability, 1, false),
+    let mut state = rich(64);
+    for (channel, len, is_now) in [
+        (Data, 60_000, true),
+        (Data, 5_537, false),
+        (Overlap, 5_535, true),
+        (Overlap, 2, false),
+        (Capability, 1, true),
+        (Capability, 1, false),
     ] {
-        assert_eq!(goes(&mut state, channel, len), goes_now, "{len} bytes");
+        assert_eq!(is_sent(&mut state, channel, len), is_now, "{len} bytes");
     }
     assert!(matches!(
         pull(&mut state, 30_000),
         Pulled::Bytes(30_000, None)
     ));
-    assert!(!goes(&mut state, Channel::Data, 30_001));
-    assert!(goes(&mut state, Channel::Data, 30_000));
+    assert!(!is_sent(&mut state, Data, 30_001));
+    assert!(is_sent(&mut state, Data, 30_000));
     assert!(matches!(
         pull(&mut state, 1 << 20),
         Pulled::Bytes(65_556, None)
     ));
-    assert!(goes(&mut state, Channel::Data, 1_048_576));
-    assert!(!goes(&mut state, Channel::Overlap, 1));
+    assert!(is_sent(&mut state, Data, 1_048_576));
+    assert!(!is_sent(&mut state, Overlap, 1));
 }
 
-/// Who waits for the bytes before it is woken once they went, and a permit is refused as long.
+/// A call that waits for bytes is completed for a thread, of whatever length, and a task is notified; a permit is
+/// refused as long.
 #[test]
-fn who_waits_for_bytes_to_go_is_woken() {
-    let mut state = rich();
-    assert!(goes(&mut state, Channel::Data, 65_536));
-    let permit = state.try_send(Channel::Overlap, Ask::Permit(1));
-    assert_eq!(permit, Err(TrySendError::Full(Needs::Slot)));
-    for is_left in [false, true] {
-        let woken = Arc::new(Flag::default());
-        let waker = Waker::from(Arc::clone(&woken));
-        let mut call = Call {
-            ask: Ask::Message(b"now"),
-            is_left,
-            ticket: None,
-        };
-        let channel = Channel::Overlap;
-        assert!(state.poll_send(channel, &mut call, &waker).is_pending());
-        drop(std::mem::take(&mut state.wakes));
-        assert!(!woken.0.load(Relaxed));
+fn a_call_that_waits_for_bytes_learns_that_they_are_free() {
+    let mut state = rich(64);
+    for (is_thread, len) in [(false, 3), (true, 3), (false, 65_536), (true, 65_536)] {
+        assert!(is_sent(&mut state, Data, 65_536));
+        assert!(!is_reserved(&mut state, Overlap));
+        let mut call = Waits::new(&mut state, Overlap, len, is_thread);
+        assert!(!call.is_woken());
+        assert!(matches!(pull(&mut state, 1 << 20), Pulled::Bytes(65_541, None)));
+        assert!(call.is_woken());
+        assert_eq!(state.queued, if is_thread { len } else { 0 });
+        assert_eq!(call.poll(&mut state), DONE);
+        assert_eq!(state.queued, len);
         assert!(matches!(pull(&mut state, 1 << 20), Pulled::Bytes(_, None)));
-        drop(std::mem::take(&mut state.wakes));
-        assert!(woken.0.load(Relaxed));
-        let answer = state.poll_send(channel, &mut call, &waker);
-        assert_eq!(answer, Poll::Ready(Ok(())));
-        assert!(matches!(pull(&mut state, 1 << 20), Pulled::Bytes(8, None)));
-        assert!(goes(&mut state, Channel::Data, 65_536));
+    }
+}
+
+/// Of 16 slots 7 are for control frames, 7 the channels' own, and 2 shared.
+#[test]
+fn each_channel_has_a_slot_of_its_own() {
+    let mut state = rich(16);
+    for is_now in [true, true, true, false] {
+        assert_eq!(is_sent(&mut state, Data, 1), is_now, "own, shared, shared");
+    }
+    for channel in Channel::ALL.into_iter().filter(|it| *it != Data) {
+        assert!(is_sent(&mut state, channel, 1), "{channel:?} has its own");
+        assert!(!is_sent(&mut state, channel, 1));
+    }
+    // The first frame of six bytes had the slot of Data's own.
+    assert!(matches!(pull(&mut state, 6), Pulled::Bytes(6, None)));
+    assert!(!is_sent(&mut state, Overlap, 1), "it is no one else's");
+    assert!(is_sent(&mut state, Data, 1));
+    assert!(!is_sent(&mut state, Data, 1));
+    // The next two had the shared ones.
+    assert!(matches!(pull(&mut state, 12), Pulled::Bytes(12, None)));
+    assert!(is_sent(&mut state, Overlap, 1));
+    assert!(is_sent(&mut state, Overlap, 1));
+    assert!(!is_sent(&mut state, Data, 1));
+}
+
+/// Control frames take the seven slots of theirs and the shared ones, and no channel's own.
+#[test]
+fn control_frames_leave_the_channels_their_own_slots() {
+    let mut state = rich(16);
+    for slots_left in (7..16).rev().chain([7, 7]) {
+        state.limit_receiving(Capability, 1 << 20).unwrap(); // the last two stay pending
+        assert_eq!(state.peer.slots_left(), slots_left);
+    }
+    for channel in Channel::ALL {
+        assert!(is_sent(&mut state, channel, 1), "{channel:?} has its own");
+        assert!(!is_sent(&mut state, channel, 1));
+    }
+    assert_eq!(state.peer.slots_left(), 0);
+}
+
+/// The first permit of a channel holds the channel's own slot, a second one a shared one, until it is used or dropped.
+#[test]
+fn permits_hold_slots() {
+    let mut state = rich(15);
+    assert!(is_reserved(&mut state, Data));
+    assert!(is_reserved(&mut state, Data));
+    assert!(!is_reserved(&mut state, Data));
+    assert!(is_reserved(&mut state, Overlap), "its own");
+    assert!(!is_sent(&mut state, Overlap, 1));
+    state.give_back(Data, 1);
+    assert!(is_sent(&mut state, Data, 1), "its own");
+    assert!(!is_sent(&mut state, Overlap, 1));
+    state.give_back(Data, 1);
+    assert!(is_sent(&mut state, Overlap, 1), "a shared one");
+    state.send_reserved(Overlap, 1, b"x").unwrap();
+    assert!(!is_sent(&mut state, Overlap, 1));
+    assert!(!is_sent(&mut state, Data, 1));
+    assert!(matches!(pull(&mut state, 128), Pulled::Bytes(18, None)));
+    assert_settled(&mut state);
+    for is_now in [true, true, false] {
+        assert_eq!(is_sent(&mut state, Data, 1), is_now);
+    }
+}
+
+/// Six channels have calls that were notified and are never polled, and permits that are never used: the seventh sends.
+#[test]
+fn forgotten_calls_hold_up_no_other_channel() {
+    for len in [1, 60_000, 1_048_576] {
+        let mut state = rich(20);
+        let mut forgotten = Vec::new();
+        for channel in Channel::ALL.into_iter().filter(|it| *it != Data) {
+            assert!(is_reserved(&mut state, channel));
+            while is_sent(&mut state, channel, len) {}
+            forgotten.push(Waits::task(&mut state, channel, len));
+        }
+        for _ in 0..100 {
+            state.deliver(&issue(Data, len as u32)).unwrap();
+            let mut call = match is_sent(&mut state, Data, len) {
+                true => None,
+                false => Some(Waits::task(&mut state, Data, len)),
+            };
+            let mut pulls = 0;
+            while call.as_ref().is_some_and(|call| !call.is_woken()) {
+                assert!(matches!(pull(&mut state, 1 << 20), Pulled::Bytes(_, None)));
+                pulls += 1;
+            }
+            assert!(pulls <= 1 + 7 * (len + 5) / (1 << 20), "{pulls} pulls");
+            if let Some(call) = &mut call {
+                assert_eq!(call.poll(&mut state), DONE);
+            }
+        }
+        assert!(forgotten.iter().all(|call| call.is_woken()));
+        assert_eq!(state.stats[1].messages_sent, 100);
+    }
+}
+
+/// Of calls that wait for a shared slot, that of the channel that sent least recently gets it.
+#[test]
+fn a_shared_slot_goes_to_the_channel_that_sent_least_recently() {
+    for is_thread in [false, true] {
+        let mut state = rich(15);
+        for channel in [Overlap, Data, Capability] {
+            assert!(is_sent(&mut state, channel, 1));
+        }
+        assert!(is_sent(&mut state, Reconciliation, 1));
+        assert!(is_sent(&mut state, Reconciliation, 1), "the shared one");
+        let [data, overlap] = [Data, Overlap].map(|it| Waits::new(&mut state, it, 1, is_thread));
+        // The fourth frame had Reconciliation's own slot, the fifth the shared one; the three before the channels' own.
+        assert!(matches!(pull(&mut state, 5 * 6), Pulled::Bytes(30, None)));
+        let wakes = [&overlap, &data].map(|call| call.woken.0.load(Relaxed));
+        assert!(0 < wakes[0] && wakes[0] < wakes[1], "{wakes:?}");
+    }
+}
+
+/// Once a message waits for bytes, channels that sent more recently leave them to it, and one that sent less recently
+/// does not.
+#[test]
+fn bytes_are_left_to_the_channel_that_sent_least_recently() {
+    let mut state = rich(64);
+    assert!(is_sent(&mut state, Overlap, 1));
+    assert!(is_sent(&mut state, Data, 60_000));
+    let mut long = Waits::task(&mut state, Overlap, 60_000);
+    assert!(!is_sent(&mut state, Data, 1), "it sent more recently");
+    assert!(is_sent(&mut state, Capability, 1), "it sent less recently");
+    assert!(!is_sent(&mut state, Capability, 1));
+    // A part of the first frames: the long message does not fit yet.
+    assert!(matches!(pull(&mut state, 50_000), Pulled::Bytes(50_000, None)));
+    assert!(!long.is_woken());
+    assert!(!is_sent(&mut state, Data, 1));
+    assert!(matches!(pull(&mut state, 10_000), Pulled::Bytes(10_000, None)));
+    assert!(long.is_woken());
+    // It was woken and is not waited for.
+    assert!(is_sent(&mut state, Data, 60_000));
+    assert!(long.poll(&mut state).is_pending());
+    assert!(!is_sent(&mut state, Data, 1));
+    assert!(matches!(pull(&mut state, 1 << 20), Pulled::Bytes(_, None)));
+    assert_eq!(long.poll(&mut state), DONE);
+}
+
+/// A call that can't proceed for want of guarantees stands in no one's way, nor does one behind it.
+#[test]
+fn a_channel_without_guarantees_waits_alone() {
+    let mut state = rich(14);
+    let most = state.held(Data) as usize;
+    for len in [1_048_576, most - 1_048_576 - 1, 1] {
+        state.absolve(Data, 0).unwrap_err();
+        assert!(is_sent(&mut state, Data, len));
+        pull(&mut state, 1 << 21);
+    }
+    let waits = [1_048_576, 1].map(|len| Waits::task(&mut state, Data, len));
+    for channel in Channel::ALL.into_iter().filter(|it| *it != Data) {
+        assert!(is_sent(&mut state, channel, 1));
+    }
+    assert!(waits.iter().all(|call| !call.is_woken()));
+}
+
+/// Calls of one channel keep their order, whoever polls first.
+#[test]
+fn a_later_call_of_a_channel_waits_for_the_earlier_ones() {
+    let mut state = rich(14);
+    assert!(is_sent(&mut state, Data, 1));
+    let [mut first, mut second] = [2, 3].map(|len| Waits::task(&mut state, Data, len));
+    let mut third = Waits::thread(&mut state, Data, 4);
+    assert!(matches!(pull(&mut state, 128), Pulled::Bytes(6, None)));
+    assert!(first.is_woken() && !second.is_woken());
+    assert!(second.poll(&mut state).is_pending());
+    assert_eq!(state.stats[1].messages_sent, 1);
+    assert!(!is_sent(&mut state, Data, 1));
+    assert_eq!(first.poll(&mut state), DONE);
+    assert!(matches!(pull(&mut state, 128), Pulled::Bytes(7, None)));
+    assert!(state.forget_send(Data, second.ticket.unwrap()));
+    drop(std::mem::take(&mut state.wakes));
+    assert!(third.is_woken());
+    assert_eq!(third.poll(&mut state), DONE);
+    assert!(matches!(pull(&mut state, 128), Pulled::Bytes(9, None)));
+}
+
+/// No waiting call is completed once the session is over, whatever frees slots then, and none counts as sent.
+#[test]
+fn a_call_that_waits_is_not_completed_after_the_end() {
+    for is_aborted in [true, false] {
+        let mut state = rich(14);
+        assert!(is_reserved(&mut state, Data));
+        let mut call = Waits::thread(&mut state, Data, 1);
+        let closed = match is_aborted {
+            true => {
+                state.fail(Closed::Aborted);
+                Closed::Aborted
+            }
+            false => {
+                state.close();
+                Closed::Local
+            }
+        };
+        state.give_back(Data, 1);
+        assert_eq!(state.stats(Data).messages_sent, 0);
+        assert_eq!(call.poll(&mut state), Poll::Ready(Err(SendError::Closed(closed))));
+        assert_eq!(state.stats(Data).messages_sent, 0);
     }
 }
 
@@ -401,12 +695,12 @@ fn header(tag: u8, len: usize) -> Vec<u8> {
 /// A long message is lent behind the bytes before it, keeps its slot until the next pull, and is one that waits no more.
 #[test]
 fn a_long_message_is_lent_where_it_lies() {
-    let mut state = rich();
+    let mut state = rich(64);
     let waker = Waker::from(Arc::new(Flag::default()));
     let mut buffer = vec![0; 2 * LONG + 64];
     let slots = state.peer.slots_left();
-    for (channel, len) in [(Channel::Data, LONG - 1), (Channel::Overlap, LONG)] {
-        assert!(goes(&mut state, channel, len));
+    for (channel, len) in [(Data, LONG - 1), (Overlap, LONG)] {
+        assert!(is_sent(&mut state, channel, len));
     }
     let Pulled::Bytes(count, Some(message)) = state.pull(&mut buffer, true, &waker) else {
         panic!("nothing is lent");
@@ -415,8 +709,8 @@ fn a_long_message_is_lent_where_it_lies() {
     assert_eq!(buffer[..count], [short, header(0x12, LONG)].concat());
     assert_eq!(*message, [7; LONG]);
     assert_eq!((state.peer.slots_left(), state.queued), (slots - 1, 0));
-    assert!(goes(&mut state, Channel::Data, 1));
-    assert!(goes(&mut state, Channel::Overlap, LONG));
+    assert!(is_sent(&mut state, Data, 1));
+    assert!(is_sent(&mut state, Overlap, LONG));
     let Pulled::Bytes(count, Some(_)) = state.pull(&mut buffer, true, &waker) else {
         panic!("nothing is lent");
     };
@@ -426,4 +720,17 @@ fn a_long_message_is_lent_where_it_lies() {
     let pulled = state.pull(&mut buffer, true, &waker);
     assert!(matches!(pulled, Pulled::Idle));
     assert_eq!((state.peer.slots_left(), state.long), (slots, 0));
+}
+
+/// From 4,096 bytes on a message is lent, where no test says otherwise.
+#[test]
+fn a_message_of_a_page_is_long() {
+    for (len, is_lent) in [(4_095, false), (4_096, true)] {
+        let mut state = rich(14);
+        state.borrow_from(BORROWED_FROM);
+        assert!(is_sent(&mut state, Data, len));
+        let waker = Waker::from(Arc::new(Flag::default()));
+        let pulled = state.pull(&mut [0; 8_192], true, &waker);
+        assert!(matches!(pulled, Pulled::Bytes(_, lent) if lent.is_some() == is_lent));
+    }
 }
