@@ -122,6 +122,12 @@ impl Driver {
         self.writing.scanner.hook(hook);
     }
 
+    /// From which length on a message is given to the transport where it lies: for tests alone.
+    #[doc(hidden)]
+    pub fn borrow_from(&self, len: usize) {
+        self.writing.shared.with(|state| state.borrow_from(len));
+    }
+
     /// Runs the session on this thread, which reads, and on one of its own, which writes. Both sleep in
     /// their calls of the transport, or until something is to be written; what was written is flushed
     /// before the thread sleeps. It returns once both directions ended, or the session failed.
@@ -189,8 +195,10 @@ impl Driver {
     /// let (mut mux, driver) = Mux::new(Config::new([64; 7], 16))?;
     /// let mut receiver = mux.receiver(Data).unwrap();
     /// mux.close();
-    /// let came: &[u8] = b"\x11\0\x02hi"; // the message `hi` on channel 1, and the end of the stream
-    /// block_on(driver.run(came, Vec::new()))?;
+    /// // The message `hi` on channel 1, a limit of 0 on each channel, and the end of the stream.
+    /// let mut came = b"\x11\0\x02hi".to_vec();
+    /// (0x50..0x57).for_each(|tag| came.extend([tag, 0, 0, 0, 0, 0, 0, 0, 0]));
+    /// block_on(driver.run(&came[..], Vec::new()))?;
     /// assert_eq!(block_on(receiver.recv())?, Some(b"hi".to_vec()));
     /// # Ok::<(), Box<dyn std::error::Error>>(())
     /// ```

@@ -101,12 +101,13 @@ pub(crate) struct State {
     owing_out: u8,
     first: usize,
     /// Channels by their first waiting call, as bits: those of which it may have changed, so that nothing is known;
-    /// whose call has its guarantees; whose call will never proceed; and whose call was woken to proceed, and was
-    /// neither polled nor dropped since.
+    /// whose call has its guarantees; whose call will never proceed; whose call was woken to proceed, and was neither
+    /// polled nor dropped since; and of these, whose call was since the writing half last took frames.
     stale: u8,
     able: u8,
     hopeless: u8,
     notified: u8,
+    fresh: u8,
     users: usize,
     closing: bool,
     out_ended: bool,
@@ -170,6 +171,7 @@ impl State {
             able: 0,
             hopeless: 0,
             notified: 0,
+            fresh: 0,
             users: USERS,
             closing: false,
             out_ended: false,
@@ -264,6 +266,9 @@ impl State {
         match mem::take(&mut self.is_lent) {
             true => self.count_sent(),
             false => self.flush(),
+        }
+        if !self.slots.is_empty() {
+            self.fresh = 0;
         }
         let (count, lent) = match self.long {
             0 => (self.write(buffer), None),

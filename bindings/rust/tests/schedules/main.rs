@@ -243,7 +243,7 @@ fn judge(model: &Model, ending: Ending) {
         assert_eq!(model.reasons, [vec![], vec![]]);
     }
     for reasons in &model.reasons {
-        let mut kinds: Vec<&Closed> = reasons.iter().filter(|it| **it != Closed::Clean).collect();
+        let mut kinds: Vec<&Closed> = reasons.iter().filter(|it| **it != Closed::Local).collect();
         kinds.dedup();
         assert!(kinds.len() <= 1, "more reasons than one: {kinds:?}");
     }

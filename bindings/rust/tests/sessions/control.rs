@@ -14,15 +14,15 @@ fn a_session_begins_with_the_room_of_all_rings() {
     let mut config = narrow();
     config.issue = [IssuePolicy::LowWater(1); 7];
     assert_eq!(Hand::new(config).written(), greeted(&rooms));
-    assert_eq!(Hand::new(by_caller(8)).written(), GREETING);
+    assert_eq!(Hand::new(by_caller(14)).written(), GREETING);
 }
 
 #[test]
 fn bounds_of_a_session() {
     let made = |config: MuxConfig| Mux::new(config).err();
-    assert_eq!(Mux::LEAST_SLOTS, 8);
+    assert_eq!(Mux::LEAST_SLOTS, 14);
     assert_eq!(made(narrow()), None);
-    assert_eq!(made(with_slots(7)), Some(MuxFault::TooFewSlots));
+    assert_eq!(made(with_slots(13)), Some(MuxFault::TooFewSlots));
     let peer = lcmux::PeerFault::BadSlots;
     assert_eq!(made(with_slots(0)), Some(MuxFault::Peer(peer)));
     for (mark, channel) in [
@@ -100,7 +100,7 @@ fn a_lent_message_is_room_once_it_is_dropped() {
 
 #[test]
 fn what_finds_no_slot_is_joined_and_goes_before_messages() {
-    let mut hand = Hand::started(by_caller(8));
+    let mut hand = Hand::started(by_caller(14));
     hand.feed(&greeted("issue 1 64"));
     let sender = hand.mux.sender(Data).unwrap();
     let receivers: Vec<_> = ALL
@@ -137,7 +137,7 @@ fn what_finds_no_slot_is_joined_and_goes_before_messages() {
 /// up meanwhile forgets neither.
 #[test]
 fn a_later_issue_is_counted_onto_a_plead_that_waits() {
-    let mut hand = Hand::started(by_caller(8));
+    let mut hand = Hand::started(by_caller(14));
     hand.feed(&greeted("issue 1 1"));
     let sender = hand.mux.sender(Data).unwrap();
     sender.try_send(b"a").unwrap();
@@ -153,7 +153,7 @@ fn a_later_issue_is_counted_onto_a_plead_that_waits() {
 
 #[test]
 fn what_is_owed_is_counted_in_refusals() {
-    let mut hand = Hand::started(by_caller(8));
+    let mut hand = Hand::started(by_caller(14));
     hand.feed(&greeted("issue 1 10"));
     let sender = hand.mux.sender(Data).unwrap();
     let receivers: Vec<_> = ALL
@@ -280,7 +280,7 @@ fn a_limit_that_waits_for_a_slot_bounds_what_its_policy_issues() {
 /// that is written frees one slot.
 #[test]
 fn channels_owe_in_turn() {
-    let mut hand = Hand::started(by_caller(10));
+    let mut hand = Hand::started(by_caller(16));
     hand.feed(&greeted("issue 1 400000"));
     let sender = hand.mux.sender(Data).unwrap();
     let receivers: Vec<_> = ALL
@@ -300,6 +300,6 @@ fn channels_owe_in_turn() {
     written.extend(hand.written());
     let rooms = (0..7).map(|channel| format!("issue {channel} 1"));
     let rooms = rooms.collect::<Vec<_>>().join(", ");
-    let last = frames(&format!("{rooms}, issue 0 2, issue 5 2, issue 0 3"));
+    let last = frames(&format!("{rooms}, issue 0 5, issue 5 2"));
     assert_eq!(written[3 * 131_077..], last);
 }

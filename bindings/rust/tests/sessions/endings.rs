@@ -52,8 +52,7 @@ impl PollWrite for Bad {
 }
 
 fn transport(kind: ErrorKind, message: &str) -> Closed {
-    let message = message.into();
-    Closed::Transport { kind, message }
+    io::Error::new(kind, message).into()
 }
 
 type End = fn(&mut Hand);
@@ -311,24 +310,25 @@ fn a_close_writes_out_what_was_accepted_and_reads_on() {
     assert_eq!(hand.mux.closed_timeout(std::time::Duration::ZERO), None);
     hand.mux.close();
     assert_eq!((waits.wakes(), later.wakes()), (1, 1));
-    assert_eq!(waits.woken(), Err(SendError::Closed(Closed::Clean)));
-    assert_eq!(later.woken(), Err(SendError::Closed(Closed::Clean)));
-    assert_eq!(receiver.issue(1), Err(CallError::Closed(Closed::Clean)));
+    assert_eq!(waits.woken(), Err(SendError::Closed(Closed::Local)));
+    assert_eq!(later.woken(), Err(SendError::Closed(Closed::Local)));
+    assert_eq!(receiver.issue(1), Err(CallError::Closed(Closed::Local)));
     assert_eq!(recv.wakes(), 0);
     assert!(hand.write_wakes() > 0);
 
     let mut log = Log::default();
     assert_eq!(hand.write(&mut log), Poll::Ready(Ok(())));
-    assert_eq!(log.0, ["w18", "f", "c"]);
+    let words = "a message of 9 bytes, and of a limit of 9 and seven finishes seven at once";
+    assert_eq!(log.0, ["w24", "w1", "f", "c"], "{words}");
     assert_eq!(hand.write(&mut log), Poll::Ready(Ok(())));
     hand.feed(&frames("send 3 6869"));
     assert_eq!(recv.woken(), Ok(Some(b"hi".to_vec())));
     assert_eq!(hand.mux.closed_timeout(std::time::Duration::ZERO), None);
     let recv = Call::waiting(other.recv());
-    assert_eq!(hand.read(&mut &[][..]), Poll::Ready(Ok(())));
-    assert_eq!(recv.woken(), Err(Closed::Clean));
+    assert_eq!(hand.read(&mut &finishes()[..]), Poll::Ready(Ok(())));
+    assert_eq!(recv.woken(), Ok(None));
     assert_eq!(hand.mux.closed_blocking(), Ok(()));
-    assert_eq!(log.0.len(), 3);
+    assert_eq!(log.0.len(), 4);
 }
 
 #[test]
@@ -344,7 +344,7 @@ fn no_room_is_issued_after_a_close() {
     );
     let mut bytes = Vec::new();
     assert!(hand.write(&mut bytes).is_ready());
-    assert_eq!(bytes, []);
+    assert_eq!(bytes, finishes());
 }
 
 #[test]
@@ -371,21 +371,22 @@ fn a_stream_that_ends_in_order_ends_what_waits_for_it_alone() {
     );
     let mut receiver = hand.mux.receiver(Data).unwrap();
     hand.feed(&greeted("issue 1 3, issue 2 1, send 1 6869"));
+    hand.feed(&finishes());
     let poor = Call::waiting(sender.send(b"four"));
     let slot = {
         other.try_send(b"o").unwrap();
         Call::waiting(other.reserve(1))
     };
     assert_eq!(hand.read(&mut &[][..]), Poll::Ready(Ok(())));
-    assert_eq!(poor.woken(), Err(SendError::Closed(Closed::Clean)));
-    assert_eq!(slot.woken().err(), Some(SendError::Closed(Closed::Clean)));
+    assert_eq!(poor.woken(), Err(SendError::Closed(Closed::Remote)));
+    assert_eq!(slot.woken().err(), Some(SendError::Closed(Closed::Remote)));
     let again = hand.read(&mut Bad::Fails);
     assert_eq!(again, Poll::Ready(Ok(())), "it is read no more");
     hand.written();
     sender.try_send(b"two").unwrap();
     assert_eq!(hand.written(), frames("send 1 74776f"));
     assert_eq!(receiver.try_recv(), Ok(Some(b"hi".to_vec())));
-    assert_eq!(receiver.recv_blocking(), Err(Closed::Clean));
+    assert_eq!(receiver.recv_blocking(), Ok(None));
     hand.mux.close();
     assert_eq!(hand.write(&mut Vec::new()), Poll::Ready(Ok(())));
     assert_eq!(hand.mux.closed_blocking(), Ok(()));
@@ -466,8 +467,8 @@ fn the_last_end_that_is_dropped_closes_the_session() {
         call.poll()
     };
     assert_eq!(write(&mut log), None);
-    let words = "six finishes of 1 byte and six limits of 9, in queues of eight";
-    assert_eq!(log.0, ["w24", "w36", "f"], "{words}");
+    let words = "six finishes of 1 byte and six limits of 9, seven at once";
+    assert_eq!(log.0, ["w15", "w45", "f"], "{words}");
     drop(sender);
     assert_eq!(write(&mut log), None);
     drop(receiver);
@@ -617,7 +618,7 @@ fn a_waker_that_is_dropped_may_call_the_session() {
 #[test]
 fn a_reason_is_an_error_of_a_device() {
     let kinds = [
-        (Closed::Clean, ErrorKind::ConnectionAborted),
+        (Closed::Local, ErrorKind::ConnectionAborted),
         (Closed::Aborted, ErrorKind::ConnectionAborted),
         (transport(ErrorKind::TimedOut, "late"), ErrorKind::TimedOut),
         (Closed::Fault(Fault::Truncated), ErrorKind::UnexpectedEof),

@@ -9,7 +9,7 @@ fn each_error_says_its_sentence() {
     let refused = || SendError::Refused(Refusal::NoGuarantee { held: 6 });
     let closed = Closed::Aborted;
     let errors: [(Box<dyn Error>, &str); 17] = [
-        (Box::new(Closed::Clean), "the session is closed"),
+        (Box::new(Closed::Local), "the session is closed"),
         (Box::new(closed.clone()), "the session was aborted"),
         (
             Box::new(CallError::Refused(Refusal::ZeroAmount)),

@@ -13,15 +13,16 @@ mod frames;
 mod keeping;
 mod lent;
 mod receiving;
+mod scheduling;
 mod sending;
 mod sockets;
-mod turns;
 
-use lcmux::{Channel, Config, IssuePolicy, MuxConfig, Version};
 
-/// Version Two, with rings of 64 bytes and the fewest slots: one for messages.
+use lcmux::{Channel, Config, IssuePolicy, Mux, MuxConfig, Version};
+
+/// Version Two, with rings of 64 bytes and the fewest slots: one for the messages of each channel.
 fn narrow() -> MuxConfig {
-    with_slots(8)
+    with_slots(Mux::LEAST_SLOTS)
 }
 
 fn with_slots(slots: u32) -> MuxConfig {
@@ -81,6 +82,12 @@ fn room_on_all() -> Vec<u8> {
         .map(|channel| format!("issue {channel} 64"))
         .collect();
     greeted(&rooms.join(", "))
+}
+
+/// The end of all channels.
+fn finishes() -> Vec<u8> {
+    let finishes: Vec<_> = (0..7).map(|channel| format!("finish {channel}")).collect();
+    frames(&finishes.join(", "))
 }
 
 const ALL: [Channel; 7] = Channel::ALL;

@@ -185,7 +185,8 @@ fn room_that_is_freed_meanwhile_is_issued_as_one() {
     hand.mux.close();
     let mut bytes = Vec::new();
     assert!(hand.write(&mut bytes).is_ready());
-    assert_eq!(bytes, frames("issue 1 1, issue 1 5"));
+    let issues = frames("issue 1 1, issue 1 5");
+    assert_eq!(bytes, [issues, finishes()].concat());
 }
 
 /// To who asks, and before what the caller has go out, it is issued.

@@ -32,12 +32,13 @@ fn a_send_waits_for_a_slot_and_is_woken_once() {
     hand.feed(&room_on_all());
     let sender = hand.mux.sender(Data).unwrap();
     let other = hand.mux.sender(Overlap).unwrap();
-    other.try_send(b"a").unwrap();
+    sender.try_send(b"a").unwrap();
     let call = Call::waiting(sender.send(b"b"));
     let full = Err(TrySendError::Full(Needs::Slot));
-    assert_eq!(other.try_send(b"c"), full);
+    assert_eq!(sender.try_send(b"c"), full);
+    other.try_send(b"d").unwrap(); // which has a slot of its own
     assert_eq!(call.wakes(), 0);
-    assert_eq!(hand.written(), frames("send 2 61"));
+    assert_eq!(hand.written(), frames("send 1 61, send 2 64"));
     assert_eq!(call.woken(), Ok(()));
     assert_eq!(hand.written(), frames("send 1 62"));
 }
@@ -125,13 +126,10 @@ fn a_call_that_waits_learns_that_it_never_goes() {
 /// So it does where no slot is left, and a channel before owes a frame.
 #[test]
 fn a_call_that_waits_learns_that_it_never_goes_where_no_slot_is_left() {
-    let mut hand = Hand::started(by_caller(8));
-    hand.feed(&greeted("issue 1 1, issue 2 5"));
-    let (sender, other) = (
-        hand.mux.sender(Data).unwrap(),
-        hand.mux.sender(Overlap).unwrap(),
-    );
-    sender.try_send(b"x").unwrap();
+    let mut hand = Hand::started(by_caller(14));
+    hand.feed(&greeted("issue 2 6"));
+    let other = hand.mux.sender(Overlap).unwrap();
+    other.try_send(b"x").unwrap();
     let receivers = ALL.map(|channel| hand.mux.receiver(channel).unwrap());
     for receiver in receivers.iter().chain(&receivers[..1]) {
         receiver.issue(1).unwrap();
@@ -147,7 +145,7 @@ fn a_call_that_waits_learns_that_it_never_goes_where_no_slot_is_left() {
 /// Where no slot is left, a limit waits for one, and the call behind it for the limit.
 #[test]
 fn a_call_behind_a_limit_goes_once_that_has_a_slot() {
-    let mut hand = Hand::started(by_caller(8));
+    let mut hand = Hand::started(by_caller(14));
     hand.feed(&greeted("issue 1 5"));
     let sender = hand.mux.sender(Data).unwrap();
     sender.try_send(b"x").unwrap();
@@ -227,17 +225,18 @@ fn a_close_sends_a_finish_that_waits_behind_calls() {
     hand.mux.close();
     let mut bytes = Vec::new();
     assert!(hand.write(&mut bytes).is_ready());
-    assert_eq!(bytes, frames("finish 1"));
+    bytes.sort();
+    assert_eq!(bytes, finishes(), "the one that waited among them");
     assert_eq!(
         waits.poll(),
-        Some(Err(SendError::Closed(lcmux::Closed::Clean)))
+        Some(Err(SendError::Closed(lcmux::Closed::Local)))
     );
 }
 
 /// A message by a permit goes before a limit that finds no slot, and counts for it.
 #[test]
 fn a_permit_counts_for_a_limit_that_is_owed() {
-    let mut hand = Hand::started(with_slots(9));
+    let mut hand = Hand::started(with_slots(15));
     hand.feed(&room_on_all());
     let sender = hand.mux.sender(Data).unwrap();
     let receivers: Vec<_> = ALL
@@ -286,25 +285,16 @@ fn a_permit_owns_guarantees_and_a_slot() {
     assert_eq!(sender.try_send(b"five5"), full(Needs::Guarantees(1)));
     assert_eq!(sender.try_send(&[0; 70]), full(Needs::Guarantees(66)));
     assert_eq!(sender.try_send(b"four"), full(Needs::Slot));
-    assert_eq!(other.try_send(b"four"), full(Needs::Slot));
+    other.try_send(b"four").unwrap(); // which has a slot of its own
     let not_held = lcmux::CallError::Refused(Refusal::NotHeld { held: 4 });
     assert_eq!(sender.absolve(5), Err(not_held));
-    let (five, four) = (
-        Call::waiting(sender.send(b"five5")),
-        Call::waiting(other.send(b"four")),
-    );
+    let five = Call::waiting(sender.send(b"five5"));
 
     permit.send(b"the message").unwrap();
     assert_eq!(sender.held(), 53);
-    assert_eq!((five.wakes(), four.wakes()), (0, 0));
-    assert_eq!(hand.written(), frames("send 1 746865206d657373616765"));
-    assert_eq!(
-        (five.wakes(), four.wakes()),
-        (0, 1),
-        "its turn is that of the other"
-    );
-    assert_eq!(four.woken(), Ok(()));
-    hand.written();
+    assert_eq!(five.wakes(), 0);
+    let written = "send 2 666f7572, send 1 746865206d657373616765";
+    assert_eq!(hand.written(), frames(written));
     assert_eq!(five.woken(), Ok(()));
 }
 
@@ -313,9 +303,8 @@ fn a_permit_that_is_dropped_gives_both_back() {
     let mut hand = Hand::started(narrow());
     hand.feed(&room_on_all());
     let sender = hand.mux.sender(Data).unwrap();
-    let other = hand.mux.sender(Overlap).unwrap();
     let permit = sender.try_reserve(60).unwrap();
-    let slot = Call::waiting(other.send(b"four"));
+    let slot = Call::waiting(sender.send(b"four"));
     drop(permit);
     assert_eq!(slot.woken(), Ok(()));
     hand.written();
@@ -325,7 +314,7 @@ fn a_permit_that_is_dropped_gives_both_back() {
     assert_eq!(guarantees.wakes(), 0);
     drop(permit);
     assert_eq!(guarantees.woken(), Ok(()));
-    assert_eq!(sender.held(), 59);
+    assert_eq!(sender.held(), 55);
 }
 
 #[test]
@@ -416,7 +405,7 @@ fn a_permit_is_refused_only_for_its_own_message_or_an_end() {
     hand.mux.close();
     assert_eq!(
         held.send(b"two"),
-        Err(SendError::Closed(lcmux::Closed::Clean))
+        Err(SendError::Closed(lcmux::Closed::Local))
     );
 }
 
@@ -496,6 +485,7 @@ fn the_time_of_a_wait_is_that_of_what_lacks() {
     hand.feed(&room_on_all());
     let sender = hand.mux.sender(Data).unwrap();
     let other = hand.mux.sender(Overlap).unwrap();
+    sender.try_send(b"a").unwrap();
     other.try_send(b"a").unwrap();
     let wait = Duration::from_millis(20);
     let call = Call::waiting(sender.send(b"b"));

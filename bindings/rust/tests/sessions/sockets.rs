@@ -239,12 +239,13 @@ fn a_breaker_is_called_or_dropped() {
     ];
     for (end, result, count) in ends {
         let (mux, driver) = Mux::new(narrow()).unwrap();
+        let ended = [GREETING, &finishes()].concat();
         let breaks = Arc::new(AtomicUsize::new(0));
         let counted = Arc::clone(&breaks);
         let breaker = move || counted.store(1, Ordering::Relaxed);
         end(&mux);
         let writer = Pipe::with_breaker(Vec::new(), breaker);
-        assert_eq!(driver.run_blocking(&b""[..], writer), result);
+        assert_eq!(driver.run_blocking(&ended[..], writer), result);
         assert_eq!(breaks.load(Ordering::Relaxed), count);
         assert_eq!(Arc::strong_count(&breaks), 1);
     }
@@ -338,12 +339,11 @@ fn a_connection_that_is_cut_is_told() {
         there.shutdown(Shutdown::Write).unwrap();
         let reason = recv.join().unwrap().unwrap_err();
         match bytes {
-            b"" => assert_eq!(reason, Closed::Clean),
+            b"" => assert_eq!(reason, Closed::Cut),
             _ => assert_eq!(reason, Closed::Fault(lcmux::Fault::Truncated)),
         }
         drop(mux);
-        let ran = run.join().unwrap();
-        assert_eq!(ran.is_ok(), bytes.is_empty(), "{ran:?}");
+        assert_eq!(run.join().unwrap(), Err(reason));
     }
 }
 

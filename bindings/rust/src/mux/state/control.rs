@@ -489,7 +489,9 @@ impl State {
             self.slot()?;
             match self.out[at(channel)].line.remove(place) {
                 Some(Place::Limit(bound)) => {
-                    self.enqueue(|peer| peer.limit_sending(channel, bound), |_| false)
+                    // Messages before it may have left less of an earlier limit.
+                    let is_met = |refusal| matches!(refusal, Refusal::LimitRaised { .. });
+                    self.enqueue(|peer| peer.limit_sending(channel, bound), is_met)
                 }
                 _ => self.enqueue(|peer| peer.finish(channel), |_| false),
             }

@@ -71,9 +71,7 @@ impl State {
             return Poll::Ready(Ok(()));
         }
         let is_first = self.is_first(channel, call.ticket);
-        if is_first {
-            self.notified &= !bit(channel);
-        }
+        let was_fresh = is_first && self.came(channel);
         let answer = match self.go(channel, call.ask, call.ticket) {
             Ok(()) => Ok(()),
             Err(TrySendError::Failed(error)) => Err(error),
@@ -81,6 +79,9 @@ impl State {
                 self.wait(channel, call, waker);
                 if is_first {
                     self.front_needs(channel, needs);
+                }
+                if was_fresh {
+                    self.settle();
                 }
                 return Poll::Pending;
             }
@@ -90,6 +91,14 @@ impl State {
         }
         self.settle();
         Poll::Ready(answer)
+    }
+
+    // The first call of the channel was polled, or is given up. Whether others left a shared slot to it until then.
+    fn came(&mut self, channel: Channel) -> bool {
+        let was_fresh = self.fresh & bit(channel) != 0;
+        self.notified &= !bit(channel);
+        self.fresh &= !bit(channel);
+        was_fresh
     }
 
     // Whether a call that waited was completed on behalf of its caller: no other way leads out of the line without it.
@@ -233,7 +242,23 @@ impl State {
     // Whether a message of so many bytes, for which the guarantees are there, may enter the queue now: there is a slot,
     // its bytes fit, and they are no other channel's, which waits for bytes and sent less recently.
     pub(super) fn fits(&mut self, channel: Channel, len: usize) -> bool {
-        self.slots.has_place(channel) && self.has_bytes(len) && self.is_its_turn(channel)
+        self.has_slot(channel) && self.has_bytes(len) && self.is_its_turn(channel)
+    }
+
+    // The channel's own slot, or a shared one, unless that is left to a call that was notified since the writing half
+    // last took frames: others have sent so many messages since its channel did as may precede one.
+    fn has_slot(&self, channel: Channel) -> bool {
+        self.slots.is_own_free(channel) || self.slots.has_shared() && !self.leaves_shared(channel)
+    }
+
+    fn leaves_shared(&self, channel: Channel) -> bool {
+        let is_passed = |other: Channel| {
+            let others = self.turns - self.out[at(other)].went;
+            others >= self.slots.others()
+        };
+        let fresh = self.fresh & !bit(channel);
+        // In an empty queue nothing waits for the writing half.
+        fresh != 0 && !self.slots.is_empty() && channels(fresh).any(is_passed)
     }
 
     fn has_bytes(&self, len: usize) -> bool {
@@ -250,7 +275,7 @@ impl State {
     // Channels whose first call has its guarantees and a slot, and was not notified: after `settle`, it is the bytes
     // that it waits for.
     fn waiting_for_bytes(&self) -> impl Iterator<Item = Channel> + '_ {
-        channels(self.able & !self.notified).filter(|it| self.slots.has_place(*it))
+        channels(self.able & !self.notified).filter(|it| self.has_slot(*it))
     }
 
     #[cold]
@@ -329,7 +354,7 @@ impl State {
     // The call's waker, unless it was woken.
     fn leave_line(&mut self, channel: Channel, ticket: u64) -> Option<Waker> {
         if self.is_first(channel, Some(ticket)) {
-            self.notified &= !bit(channel);
+            self.came(channel);
         }
         self.stale |= bit(channel);
         let line = &mut self.out[at(channel)].line;
@@ -361,6 +386,7 @@ impl State {
                 self.flush(); // limits and a finish behind it
             } else {
                 self.notified |= bit(channel);
+                self.fresh |= bit(channel);
                 self.wake_first(channel);
             }
         }

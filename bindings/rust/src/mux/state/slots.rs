@@ -55,9 +55,24 @@ impl Slots {
         self.free() > self.kept()
     }
 
-    /// Whether a message or a permit of the channel finds a slot.
-    pub fn has_place(&self, channel: Channel) -> bool {
-        self.is_own_free(channel) || self.has_shared()
+    /// Whether a shared slot is free for a message or a permit.
+    pub fn has_shared(&self) -> bool {
+        self.free() > CONTROL + self.kept()
+    }
+
+    /// Whether the channel's own slot is.
+    pub fn is_own_free(&self, channel: Channel) -> bool {
+        self.own_permits & 1 << at(channel) == 0 && !self.is_own_queued(channel)
+    }
+
+    /// Whether no frame waits to be written.
+    pub fn is_empty(&self) -> bool {
+        self.queued == 0
+    }
+
+    /// How many messages of other channels there may be in the queue beside one.
+    pub fn others(&self) -> u64 {
+        (self.total - CONTROL - 1) as u64
     }
 
     /// A message of the channel entered the queue, into the channel's own slot where that is free.
@@ -86,14 +101,6 @@ impl Slots {
 
     fn free(&self) -> usize {
         self.total - self.queued
-    }
-
-    fn has_shared(&self) -> bool {
-        self.free() > CONTROL + self.kept()
-    }
-
-    fn is_own_free(&self, channel: Channel) -> bool {
-        self.own_permits & 1 << at(channel) == 0 && !self.is_own_queued(channel)
     }
 
     fn is_own_queued(&self, channel: Channel) -> bool {

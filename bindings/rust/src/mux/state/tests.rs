@@ -45,6 +45,8 @@ struct Caller {
     waits: Option<Waiting>,
     woken: Arc<Flag>,
     calls: u8,
+    /// Whether it makes one call after the other, until one waits.
+    loops: bool,
     /// Whether its call waits and is forgotten: neither polled nor dropped.
     is_stuck: bool,
 }
@@ -103,6 +105,7 @@ impl Play {
             waits: None,
             woken: Arc::default(),
             calls: 0,
+            loops: chance.below(2) == 0,
             is_stuck: false,
         });
         let callers = callers.collect();
@@ -190,6 +193,15 @@ impl Play {
             }
         }
         self.wake();
+        self.go_on(at);
+    }
+
+    // A caller that loops makes its next call at once, until one waits.
+    fn go_on(&mut self, at: usize) {
+        let caller = &self.callers[at];
+        if caller.waits.is_none() && caller.loops && caller.calls < 40 {
+            self.begin(at);
+        }
     }
 
     fn give_up(&mut self, at: usize) {
@@ -263,7 +275,7 @@ impl Play {
         if !self.is_rich {
             self.issue_to_all();
         }
-        for _ in 0..40 * self.callers.len() {
+        for _ in 0..60 * self.callers.len() {
             self.poll_woken();
             self.pull(256);
         }
@@ -314,8 +326,8 @@ fn assert_settled(state: &mut State) {
             Ok(Needs::Nothing) if state.notified & bit != 0 => {}
             Ok(Needs::Nothing) => {
                 assert!(!state.fits(channel, len), "{channel:?} can proceed and was not notified");
-                let waits_for_bytes = state.slots.has_place(channel);
-                assert!(!waits_for_bytes || state.queued > 0, "{channel:?} waits for no one");
+                let waits_for_slot = !state.slots.is_own_free(channel) && !state.slots.has_shared();
+                assert!(waits_for_slot || !state.slots.is_empty(), "{channel:?} waits for no one");
             }
             _ => assert_eq!(state.notified & bit, 0, "{channel:?} can't proceed and was notified"),
         }
@@ -511,6 +523,25 @@ fn each_channel_has_a_slot_of_its_own() {
     assert!(!is_sent(&mut state, Data, 1));
 }
 
+/// The example of `docs/sessions.md`, step by step: frames of six bytes each.
+#[test]
+fn the_example_of_the_page() {
+    let mut state = rich(16);
+    for _ in 0..3 {
+        assert!(is_sent(&mut state, Data, 1));
+    }
+    let forgotten = Waits::task(&mut state, Data, 1);
+    assert!(is_sent(&mut state, Overlap, 1));
+    assert!(matches!(pull(&mut state, 6), Pulled::Bytes(6, None)));
+    assert!(forgotten.is_woken());
+    let mut waits = Waits::task(&mut state, Overlap, 1);
+    assert!(matches!(pull(&mut state, 18), Pulled::Bytes(18, None)));
+    assert!(waits.is_woken());
+    assert_eq!(waits.poll(&mut state), DONE);
+    assert!(matches!(pull(&mut state, 18), Pulled::Bytes(6, None)));
+    assert_eq!(state.stats(Data).messages_sent, 3);
+}
+
 /// Control frames take the seven slots of theirs and the shared ones, and no channel's own.
 #[test]
 fn control_frames_leave_the_channels_their_own_slots() {
@@ -557,7 +588,10 @@ fn forgotten_calls_hold_up_no_other_channel() {
         let mut state = rich(20);
         let mut forgotten = Vec::new();
         for channel in Channel::ALL.into_iter().filter(|it| *it != Data) {
+            state.deliver(&issue(channel, 0x80_0000)).unwrap();
             assert!(is_reserved(&mut state, channel));
+        }
+        for channel in Channel::ALL.into_iter().filter(|it| *it != Data) {
             while is_sent(&mut state, channel, len) {}
             forgotten.push(Waits::task(&mut state, channel, len));
         }
