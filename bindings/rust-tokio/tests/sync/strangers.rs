@@ -1,0 +1,269 @@
+//! Peers that break the rules of the exchange, and files that change after they were offered.
+use super::folder::{bytes, files, Entry, Folder, Tree};
+use super::stranger::{Stranger, FAILED, WHOLE};
+use super::{both, Watchdog, PARTIAL};
+use std::fs::{self, OpenOptions};
+use std::io::Write;
+use std::os::unix::ffi::OsStrExt;
+use std::path::Path;
+use std::thread;
+use std::time::Duration;
+
+/// What the peer asks for, beside an offered file, is not sent, and the session is given up.
+#[test]
+fn only_what_was_offered_is_served() {
+    let _watchdog = Watchdog::new("requests of what was not offered");
+    let outside = Folder::new(&files([("secret", "secret")]));
+    let secret = outside.join("secret");
+    let sub = Entry::Folder(files([("inside", "inside")]));
+    let others = [
+        ("link".into(), Entry::Link(secret.clone())),
+        ("sub".into(), sub),
+    ];
+    let tree = both(files([("offered", "offered")]), others.into());
+    let folder = Folder::new(&tree);
+    let up = Path::new("..").join(
+        secret
+            .strip_prefix(outside.path().parent().unwrap())
+            .unwrap(),
+    );
+    let names = [
+        b"link",
+        b"sub/inside",
+        b"./offered",
+        b"nothing",
+        b"sub",
+        secret.as_os_str().as_bytes(),
+        up.as_os_str().as_bytes(),
+    ] as [&[u8]; 7];
+    for name in names {
+        let mut stranger = Stranger::meet(&folder);
+        assert_eq!(stranger.offered(), ["offered"]);
+        stranger.request(b"offered");
+        stranger.gets(b"offered", WHOLE);
+        stranger.request(name);
+        let name = String::from_utf8_lossy(name);
+        stranger.given_up().broke(&format!(
+            "the other side requests what was not offered: {name}"
+        ));
+    }
+    folder.has(&tree);
+}
+
+/// What happens to a file.
+type Change<'a> = &'a dyn Fn(&Path);
+
+/// What comes after the listing is not served either, though it has an offered file's name, or is that file no more.
+#[test]
+fn a_file_that_changed_since_it_was_offered_fails_alone() {
+    let _watchdog = Watchdog::new("requests of what changed");
+    let outside = Folder::new(&files([("secret", "01234567")]));
+    let secret = outside.join("secret");
+    let changes: [(&str, Change); 6] = [
+        ("No such file or directory (os error 2)", &|path| {
+            fs::remove_file(path).unwrap()
+        }),
+        ("the file changed after it was offered", &|path| {
+            append(path, b"more")
+        }),
+        ("the file changed after it was offered", &|path| {
+            fs::write(path, "76543210").unwrap()
+        }),
+        ("the file changed after it was offered", &|path| {
+            replace(path, |path| fs::copy(&secret, path).map(drop))
+        }),
+        ("the file changed after it was offered", &|path| {
+            replace(path, make_pipe)
+        }),
+        ("Too many levels of symbolic links (os error 40)", &|path| {
+            let moved = outside.join("moved");
+            fs::rename(path, &moved).unwrap(); // the same file, but by a link
+            std::os::unix::fs::symlink(moved, path).unwrap();
+        }),
+    ];
+    for (why, change) in changes {
+        let folder = Folder::new(&files([("changing", "01234567"), ("stays", "file")]));
+        let mut stranger = Stranger::meet(&folder);
+        assert_eq!(stranger.offered(), ["changing", "stays"]);
+        thread::sleep(Duration::from_millis(20)); // beyond the grain of the file system's times
+        change(&folder.join("changing"));
+        stranger.request(b"changing");
+        stranger.request(b"stays");
+        stranger.gets(b"", FAILED);
+        stranger.gets(b"file", WHOLE);
+        stranger.finish().failed(0, "changing", why);
+    }
+}
+
+fn append(path: &Path, bytes: &[u8]) {
+    let mut file = OpenOptions::new().append(true).open(path).unwrap();
+    file.write_all(bytes).unwrap();
+}
+
+fn replace(path: &Path, make: impl Fn(&Path) -> std::io::Result<()>) {
+    fs::remove_file(path).unwrap();
+    make(path).unwrap();
+}
+
+fn make_pipe(path: &Path) -> std::io::Result<()> {
+    let path = std::ffi::CString::new(path.as_os_str().as_bytes())?;
+    // SAFETY: the path ends with a NUL, and outlives the call.
+    match unsafe { libc::mkfifo(path.as_ptr(), 0o600) } {
+        0 => Ok(()),
+        _ => Err(std::io::Error::last_os_error()),
+    }
+}
+
+#[test]
+fn a_file_that_changes_while_it_is_sent_fails_alone() {
+    let _watchdog = Watchdog::new("files that change while they are sent");
+    const LENGTH: usize = 1_000_000;
+    let changes: [Change; 3] = [
+        &|path| append(path, &[7; 100]),
+        &|path| {
+            OpenOptions::new()
+                .write(true)
+                .open(path)
+                .unwrap()
+                .set_len(500_000)
+                .unwrap()
+        },
+        &|path| {
+            let mut file = OpenOptions::new().write(true).open(path).unwrap();
+            file.write_all(&[7; 100]).unwrap();
+        },
+    ];
+    for change in changes {
+        let folder = Folder::new(&files([("changing", bytes(LENGTH)), ("stays", bytes(5))]));
+        let mut stranger = Stranger::meet(&folder);
+        assert_eq!(stranger.offered(), ["changing", "stays"]);
+        stranger.request(b"changing");
+        stranger.request(b"stays");
+        assert_eq!(stranger.piece()[1..], bytes(LENGTH)[..32_768]);
+        change(&folder.join("changing")); // most of it finds no room yet on this side
+        let (rest, end) = stranger.contents();
+        assert!(rest.len() <= LENGTH - 32_768, "more than was offered");
+        assert_eq!(end, FAILED);
+        stranger.gets(&bytes(5), WHOLE);
+        stranger
+            .finish()
+            .failed(0, "changing", "the file changed after it was offered");
+    }
+}
+
+/// A peer that offers what is no plain name is told off, and nothing of that name is made.
+#[test]
+fn names_that_lead_elsewhere_are_refused() {
+    let _watchdog = Watchdog::new("offers of bad names");
+    let partial = format!("{PARTIAL}/a");
+    let names = [
+        "../other", "a/b", "a/", "/tmp/a", "..", ".", "", "a\0b", "a\0", PARTIAL, &partial,
+    ];
+    for name in names
+        .map(str::as_bytes)
+        .into_iter()
+        .chain([&b"\xff"[..], b"a\xc3"])
+    {
+        let folder = Folder::new(&files([("kept", "kept")]));
+        let stranger = Stranger::meet(&folder);
+        stranger.offer(5, name);
+        let shown = name.escape_ascii();
+        stranger.given_up().broke(&format!("sync: the other side offers what is no file: \\x00\\x00\\x00\\x00\\x00\\x00\\x00\\x05{shown}\n"));
+        folder.has(&files([("kept", "kept")]));
+    }
+    let folder = Folder::new(&Tree::new());
+    let stranger = Stranger::meet(&folder);
+    stranger.offers.0.send_blocking(b"1234567").unwrap(); // no whole length
+    stranger
+        .given_up()
+        .broke("the other side offers what is no file: 1234567");
+}
+
+/// No file of this machine can have the name; the next one can.
+#[test]
+fn a_name_that_cannot_be_made_fails_alone() {
+    let _watchdog = Watchdog::new("offers of a name too long");
+    let folder = Folder::new(&Tree::new());
+    let mut stranger = Stranger::meet(&folder);
+    let long = "n".repeat(256);
+    stranger.offer(4, long.as_bytes());
+    stranger.offer(4, b"good");
+    assert_eq!(
+        stranger.requests.1.recv_blocking().unwrap().unwrap(),
+        b"good"
+    );
+    stranger.send_chunk("file");
+    stranger.send(WHOLE);
+    stranger
+        .finish()
+        .failed(1, &long, "File name too long (os error 36)");
+    folder.has(&files([("good", "file")]));
+}
+
+#[test]
+fn contents_of_another_length_than_offered_fail_alone() {
+    let _watchdog = Watchdog::new("contents of another length");
+    let wrong = "what arrived has not the length that was offered";
+    let cases: [(&[&str], &[u8], &str); 5] = [
+        (&["123456"], WHOLE, wrong),
+        (&["123", "45", "6", "7"], WHOLE, wrong),
+        (&["123"], WHOLE, wrong),
+        (&[], WHOLE, wrong),
+        (&["12345"], FAILED, "the other side could not read the file"),
+    ];
+    for (chunks, end, why) in cases {
+        let folder = Folder::new(&Tree::new());
+        let stranger = Stranger::meet(&folder);
+        stranger.offer(5, b"wrong");
+        stranger.offer(4, b"good");
+        chunks.iter().for_each(|chunk| stranger.send_chunk(chunk));
+        stranger.send(end);
+        ["fi", "le"]
+            .iter()
+            .for_each(|chunk| stranger.send_chunk(chunk));
+        stranger.send(WHOLE);
+        stranger.finish().failed(1, "wrong", why);
+        folder.has(&files([("good", "file")]));
+    }
+}
+
+#[test]
+fn contents_that_are_none_end_the_session() {
+    let _watchdog = Watchdog::new("contents that are none");
+    for piece in [&[3][..], &[1, 0], &[2, 0], &[255]] {
+        let folder = Folder::new(&Tree::new());
+        let stranger = Stranger::meet(&folder);
+        stranger.offer(5, b"name");
+        stranger.send_chunk("123");
+        stranger.send(piece);
+        stranger
+            .given_up()
+            .broke("the other side sends contents of no known kind");
+        folder.has(&Tree::new());
+    }
+    let folder = Folder::new(&Tree::new());
+    let stranger = Stranger::meet(&folder);
+    stranger.offer(5, b"name");
+    stranger.send_chunk("12345");
+    stranger.contents.0.finish().unwrap();
+    stranger
+        .given_up()
+        .broke("the other side ends before a file that was requested");
+    folder.has(&Tree::new());
+}
+
+/// A name that a peer chose reaches no terminal as it is.
+#[test]
+fn control_characters_of_a_name_are_escaped() {
+    let _watchdog = Watchdog::new("names with control characters");
+    let folder = Folder::new(&Tree::new());
+    let stranger = Stranger::meet(&folder);
+    stranger.offer(1, b"\x1b[2Jname");
+    stranger.send(FAILED);
+    let ended = stranger.finish();
+    assert!(
+        ended.said.contains(r"\u{1b}[2Jname") && !ended.said.contains('\x1b'),
+        "{}",
+        ended.said
+    );
+}
