@@ -114,14 +114,14 @@ fn both_folders_get_all_files() {
 fn many_files_hold_up_none() {
     let _watchdog = Watchdog::new("the sync of many files");
     let of_side = |side: &str| {
-        let named = (0..1_500).map(|at| (format!("{side} {at:0>100}"), format!("{at}")));
+        let named = (0..400).map(|at| (format!("{side} {at:0>240}"), format!("{at}")));
         files(named)
     };
     let (here, there) = (of_side("here"), of_side("there"));
     let folders = [Folder::new(&here), Folder::new(&there)];
     sync(&folders[0], &folders[1])
         .iter()
-        .for_each(|ended| ended.got(1_500));
+        .for_each(|ended| ended.got(400));
     let all = both(here, there);
     folders.iter().for_each(|folder| folder.has(&all));
 }
@@ -213,8 +213,13 @@ fn a_name_that_is_no_text_fails_alone() {
 /// A command of a user who may not read all files, and whose the folder is.
 fn of_plain_user(folder: &Folder, programs: &Folder) -> Command {
     const NOBODY: u32 = 65_534;
-    // Where cargo builds may be closed to others.
-    fs::copy(built("sync"), programs.join("sync")).unwrap();
+    // Where cargo builds may be closed to others. This process does not write the program itself: a child that
+    // another test starts meanwhile would have the file open to be written, and then it cannot be executed.
+    let copied = Command::new("cp")
+        .arg(built("sync"))
+        .arg(programs.path())
+        .status();
+    assert!(copied.unwrap().success());
     let mut command = Command::new(programs.join("sync"));
     if fs::metadata(folder.path()).unwrap().uid() == 0 {
         let inside = folder

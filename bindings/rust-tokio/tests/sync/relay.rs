@@ -26,6 +26,8 @@ impl Relay {
         thread::spawn(move || {
             let near = listener.accept().unwrap().0;
             let far = TcpStream::connect(target).unwrap();
+            near.set_nodelay(true).unwrap();
+            far.set_nodelay(true).unwrap();
             let (from, to) = (near.try_clone().unwrap(), far.try_clone().unwrap());
             thread::spawn(move || pass(from, to));
             stall(far, near, bytes, &stalls, &told);

@@ -100,7 +100,7 @@ impl Stranger {
 
     /// Sees the example give the session up: it ends neither its requests nor its contents in order.
     pub fn given_up(mut self) -> Ended {
-        for receiver in [&mut self.requests.1, &mut self.contents.1] {
+        for receiver in [&mut self.contents.1, &mut self.requests.1] {
             let channel = receiver.channel();
             loop {
                 match receiver.recv_blocking() {
