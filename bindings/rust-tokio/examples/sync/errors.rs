@@ -9,13 +9,13 @@ use std::io;
 #[derive(Debug)]
 pub enum FileError {
     Io(io::Error),
-    /// The name is not text, or is that of the folder of partial files.
+    /// The name is not UTF-8, or is that of the folder of partial files.
     BadName,
-    /// The file is another one than was offered, or its contents are.
+    /// Another file has the name now, or the file has other contents than when it was offered.
     Changed,
-    /// The contents that arrived are shorter or longer than was offered.
+    /// The contents that arrived are shorter or longer than the offer said.
     WrongLength,
-    /// A folder, a link or the like has the file's name, or a file that came meanwhile has.
+    /// A folder or a link has the file's name, or a file that was created meanwhile.
     NameTaken,
     /// The other side could not read the file.
     NotSent,
@@ -27,7 +27,7 @@ impl Display for FileError {
             FileError::Io(error) => return error.fmt(f),
             FileError::BadName => "no file of this name can be offered",
             FileError::Changed => "the file changed after it was offered",
-            FileError::WrongLength => "what arrived has not the length that was offered",
+            FileError::WrongLength => "the contents do not have the length that was offered",
             FileError::NameTaken => "something else has this name here",
             FileError::NotSent => "the other side could not read the file",
         })
@@ -55,13 +55,19 @@ impl Display for ProtocolError {
         f.write_str("the other side ")?;
         match self {
             ProtocolError::BadOffer(offer) => {
-                write!(f, "offers what is no file: {}", offer.escape_ascii())
+                write!(f, "sends a malformed offer: {}", offer.escape_ascii())
             }
             ProtocolError::NotOffered(name) => {
-                write!(f, "requests what was not offered: {}", name.escape_ascii())
+                write!(
+                    f,
+                    "requests a file that was not offered: {}",
+                    name.escape_ascii()
+                )
             }
-            ProtocolError::BadPiece => f.write_str("sends contents of no known kind"),
-            ProtocolError::MissingContents => f.write_str("ends before a file that was requested"),
+            ProtocolError::BadPiece => f.write_str("sends contents of an unknown kind"),
+            ProtocolError::MissingContents => {
+                f.write_str("ended the contents before a requested file")
+            }
         }
     }
 }

@@ -8,7 +8,7 @@ use std::os::unix::ffi::OsStrExt;
 use std::os::unix::fs::MetadataExt;
 use std::path::{Path, PathBuf};
 
-/// The name of a file that lies in the folder itself: joined to the folder it leads nowhere else.
+/// The plain name of a file: joined to a folder, it leads to an entry of that very folder.
 #[derive(Clone, Debug, PartialEq, Eq, PartialOrd, Ord)]
 pub struct Name(String);
 
@@ -25,8 +25,8 @@ impl Name {
     }
 }
 
-/// What tells a file, with its contents, from all others: it differs once something else has the file's name, and
-/// once the file was written to.
+/// Identifies a file and the state of its contents: it changes when another file takes the name, and when the file
+/// is written to.
 #[derive(Clone, Copy, PartialEq, Eq)]
 pub struct FileVersion {
     device: u64,
@@ -75,7 +75,7 @@ impl Listing<'_> {
     }
 }
 
-/// `None` for a folder, a link and the like: `DirEntry::metadata` follows no link.
+/// The name and version of a regular file, `None` for other entries: `DirEntry::metadata` follows no link.
 fn regular_file(entry: &DirEntry) -> Result<Option<(Name, FileVersion)>, FileError> {
     let metadata = entry.metadata()?;
     if !metadata.is_file() {

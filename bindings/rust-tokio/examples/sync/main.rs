@@ -3,13 +3,14 @@
 //!
 //! Offers, requests and contents have a channel each, so a long file delays no offer. Both directions run at once.
 //!
-//! - Files are told apart by their names alone. Folders, links, pipes and devices are neither offered nor followed,
-//!   and nothing that is in a folder is changed, replaced or removed.
-//! - A file arrives in the folder [`partial::FOLDER`] and gets its name, by a hard link, once it is whole and on
-//!   disk. So the folder's file system must have hard links. What a crashed run left there is removed by the next
-//!   run, so only one run at a time may work on a folder.
-//! - A file that fails is named on standard error, the others go on, and the exit status is 1. So it is where the
-//!   session fails. It is 0 where this side got each file that it lacked, and sent each that it was asked for.
+//! - A file is identified by its name alone: the contents of two files of one name are not compared. Only regular
+//!   files are offered. Links are not followed. No file of either folder is changed, replaced or removed.
+//! - An inbound file is written in the folder [`partial::FOLDER`]. Once it is whole and on disk, a hard link gives it
+//!   its name, so the file system must have hard links. The next run removes the partial files of a crashed run, so
+//!   two runs on one folder at the same time may make files of each other fail.
+//! - A file that fails is named on standard error, and the others go on. The exit status is 0 if this side received
+//!   each file that it lacked, and sent each file that the other side requested. It is 1 if a file or the session
+//!   failed.
 mod errors;
 mod fetch;
 mod listing;
@@ -33,10 +34,10 @@ use tokio::sync::mpsc;
 
 const USAGE: &str = "usage: sync listen|connect ADDRESS FOLDER";
 
-/// How many requests may be unanswered: their offers are in memory.
+/// The most requests without an answer. Their offers are kept in memory, which a peer must not be able to fill.
 const REQUESTS: usize = 256;
 
-/// How much a run did.
+/// How many files a run received, and how many failed.
 struct Outcome {
     fetched: u32,
     failed: u32,
@@ -83,9 +84,9 @@ async fn sync(
     let exchanged = exchange(&mut channels, &listing, &fetch).await;
     match exchanged {
         Ok(_) => mux.close(),
-        // While `channels` has the senders: one that is dropped ends its channel in order, and the other side
-        // would take this failure for the end of the offers or of the contents. (One that a panic drops aborts
-        // the session by itself.)
+        // Abort while `channels` still owns the senders. A dropped sender ends its channel in order, so the other
+        // side would take this failure for the end of the offers or of the contents. A panic aborts by itself: it
+        // drops the senders while the thread unwinds.
         Err(_) => mux.abort(),
     }
     let closed = run.await?;
@@ -97,8 +98,8 @@ async fn sync(
     })
 }
 
-/// Four tasks, none of which waits for another one's channel. Each that sends finishes its channel when it is done;
-/// the first error ends all.
+/// Runs four tasks at once: two send this side's files, two fetch those of the other side. Each task finishes its
+/// outbound channel once it is done, and the first error ends all four.
 async fn exchange(
     [offers, requests, contents]: &mut [Handles; 3],
     listing: &Listing<'_>,

@@ -30,8 +30,8 @@ impl Offer {
     }
 }
 
-/// The contents of a file are chunks and one of the other two. Those of two files follow each other in the order of
-/// the requests.
+/// A part of a file's contents: any number of chunks, and then one of the other two. Files are sent one after the
+/// other, in the order of the requests.
 pub enum Piece<'a> {
     /// A byte 0, and the next bytes of the file.
     Chunk(&'a [u8]),

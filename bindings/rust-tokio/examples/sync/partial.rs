@@ -1,5 +1,5 @@
-//! Files that arrive. Until one is whole it lies in a folder of its own, where no name of a peer can lead to, under a
-//! name that does not depend on the file's.
+//! Partial files: inbound files that are not whole yet. They lie in a folder of their own, which no name of a peer
+//! leads to, and their own names do not depend on the names of the files.
 use crate::errors::FileError;
 use std::cell::Cell;
 use std::collections::hash_map::RandomState;
@@ -10,7 +10,7 @@ use std::path::{Path, PathBuf};
 use tokio::fs::{self, File, OpenOptions};
 use tokio::io::AsyncWriteExt;
 
-/// The folder of partial files, in the folder of the files: on one file system, so a hard link leads out of it.
+/// The folder of partial files. It lies beside the files, on the same file system, or a hard link would fail.
 pub const FOLDER: &str = ".sync-partial";
 
 /// The end of the names of partial files. A run removes nothing of another name.
@@ -19,14 +19,14 @@ const SUFFIX: &str = ".partial";
 /// The partial files of a run.
 pub struct Partials {
     folder: PathBuf,
-    /// In the names of this run's partial files, by chance: no two runs open the same.
+    /// A random part of the names, so two runs never write to the same partial file.
     run: u64,
     count: Cell<u64>,
 }
 
 impl Partials {
-    /// Removes what a crashed run left, and refuses to work where something else has the folder's name. The folder
-    /// is made with the first partial file: who fetches nothing needs no right to write.
+    /// Removes the partial files of a crashed run. Fails where a file or a link has the folder's name. The folder is
+    /// created with the first partial file, so a folder can also be served by a user who may not write to it.
     pub fn open(folder: &Path) -> io::Result<Partials> {
         let in_folder = |error: io::Error| {
             io::Error::new(error.kind(), format!("{}: {error}", folder.display()))
@@ -74,7 +74,7 @@ impl Partials {
 
 impl Drop for Partials {
     fn drop(&mut self) {
-        let _ = std::fs::remove_dir(&self.folder); // which fails where something is left in it
+        let _ = std::fs::remove_dir(&self.folder); // fails, as it should, if the folder is not empty
     }
 }
 
@@ -92,7 +92,7 @@ fn remove_leftovers(folder: &Path) -> io::Result<()> {
     Ok(())
 }
 
-/// A file that arrives. It is removed when this is dropped, by whatever error.
+/// An inbound file. Its drop removes the partial file, after an error as after the hard link.
 pub struct Partial {
     path: PathBuf,
     file: File,
@@ -107,13 +107,13 @@ impl Partial {
         Ok(self)
     }
 
-    /// Gives the file its name, if it is whole. A rename would replace a file that came meanwhile; a hard link does
-    /// not.
+    /// Links a whole file to its name. A rename would replace a file that was created there meanwhile; a hard link
+    /// fails instead.
     pub async fn place(mut self, path: &Path) -> Result<(), FileError> {
         if self.missing > 0 {
             return Err(FileError::WrongLength);
         }
-        self.file.flush().await?; // of tokio's file only this answers whether the last write failed
+        self.file.flush().await?; // reports an error of the last write, which `sync_all` of tokio does not
         self.file.sync_all().await?;
         match fs::hard_link(&self.path, path).await {
             Err(error) if error.kind() == ErrorKind::AlreadyExists => Err(FileError::NameTaken),

@@ -9,10 +9,10 @@ use std::path::Path;
 use tokio::fs::{File, OpenOptions};
 use tokio::io::{AsyncReadExt, Take};
 
-/// The most bytes of a file in a message: half of what the other side's ring holds.
+/// The most bytes of a file in a message: half of a ring, so one chunk is in transit while another one is written.
 const CHUNK: u64 = 32_768;
 
-/// Why the contents of a file end early.
+/// Why the contents of a file end early: the file failed, or the session.
 enum Trouble {
     File(FileError),
     Session(SendError),
@@ -69,7 +69,7 @@ async fn send_chunks(path: &Path, offered: FileVersion, contents: &Sender) -> Re
     Ok(())
 }
 
-/// A file that was offered, as it was then.
+/// An open file, with the version that was offered.
 struct Source {
     file: Take<File>,
     offered: FileVersion,
@@ -77,7 +77,7 @@ struct Source {
 
 impl Source {
     async fn open(path: &Path, offered: FileVersion) -> Result<Source, FileError> {
-        // Where a link took the file's place it is not followed, and where a pipe did it does not block.
+        // A link that took the file's place is not followed, and a pipe does not block the open.
         let mut options = OpenOptions::new();
         options
             .read(true)
@@ -88,7 +88,7 @@ impl Source {
         Ok(source)
     }
 
-    /// The next bytes; none behind the last, if the file did not change while it was read.
+    /// The next chunk, and `None` at the end of a file that did not change while it was read.
     async fn next(&mut self) -> Result<Option<Vec<u8>>, FileError> {
         let mut chunk = Vec::new();
         (&mut self.file).take(CHUNK).read_to_end(&mut chunk).await?;

@@ -9,7 +9,7 @@ use std::path::Path;
 use std::thread;
 use std::time::Duration;
 
-/// What the peer asks for, beside an offered file, is not sent, and the session is given up.
+/// A request for anything but an offered file fails the session, and no contents are sent for it.
 #[test]
 fn only_what_was_offered_is_served() {
     let _watchdog = Watchdog::new("requests of what was not offered");
@@ -44,7 +44,7 @@ fn only_what_was_offered_is_served() {
         stranger.request(name);
         let name = String::from_utf8_lossy(name);
         stranger.given_up().broke(&format!(
-            "the other side requests what was not offered: {name}"
+            "the other side requests a file that was not offered: {name}"
         ));
     }
     folder.has(&tree);
@@ -53,7 +53,7 @@ fn only_what_was_offered_is_served() {
 /// What happens to a file.
 type Change<'a> = &'a dyn Fn(&Path);
 
-/// What comes after the listing is not served either, though it has an offered file's name, or is that file no more.
+/// A file that was changed or replaced after the listing is not served under the name that was offered.
 #[test]
 fn a_file_that_changed_since_it_was_offered_fails_alone() {
     let _watchdog = Watchdog::new("requests of what changed");
@@ -151,24 +151,25 @@ fn a_file_that_changes_while_it_is_sent_fails_alone() {
     }
 }
 
-/// A peer that offers what is no plain name is told off, and nothing of that name is made.
+/// The session fails with an error that shows the name, and nothing of that name is created.
 #[test]
 fn names_that_lead_elsewhere_are_refused() {
     let _watchdog = Watchdog::new("offers of bad names");
     let partial = format!("{PARTIAL}/a");
-    let names = [
+    let texts = [
         "../other", "a/b", "a/", "/tmp/a", "..", ".", "", "a\0b", "a\0", PARTIAL, &partial,
     ];
-    for name in names
-        .map(str::as_bytes)
-        .into_iter()
-        .chain([&b"\xff"[..], b"a\xc3"])
-    {
+    let no_texts = [&b"\xff"[..], b"a\xc3"];
+    let zeros = r"\x00".repeat(7);
+    for name in texts.map(str::as_bytes).into_iter().chain(no_texts) {
         let folder = Folder::new(&files([("kept", "kept")]));
         let stranger = Stranger::meet(&folder);
         stranger.offer(5, name);
+        let _ = stranger.contents.0.finish(); // so an example that requests the file does not wait for it
         let shown = name.escape_ascii();
-        stranger.given_up().broke(&format!("sync: the other side offers what is no file: \\x00\\x00\\x00\\x00\\x00\\x00\\x00\\x05{shown}\n"));
+        stranger.given_up().broke(&format!(
+            "sync: the other side sends a malformed offer: {zeros}\\x05{shown}\n"
+        ));
         folder.has(&files([("kept", "kept")]));
     }
     let folder = Folder::new(&Tree::new());
@@ -176,7 +177,7 @@ fn names_that_lead_elsewhere_are_refused() {
     stranger.offers.0.send_blocking(b"1234567").unwrap(); // no whole length
     stranger
         .given_up()
-        .broke("the other side offers what is no file: 1234567");
+        .broke("the other side sends a malformed offer: 1234567");
 }
 
 /// No file of this machine can have the name; the next one can.
@@ -203,7 +204,7 @@ fn a_name_that_cannot_be_made_fails_alone() {
 #[test]
 fn contents_of_another_length_than_offered_fail_alone() {
     let _watchdog = Watchdog::new("contents of another length");
-    let wrong = "what arrived has not the length that was offered";
+    let wrong = "the contents do not have the length that was offered";
     let cases: [(&[&str], &[u8], &str); 5] = [
         (&["123456"], WHOLE, wrong),
         (&["123", "45", "6", "7"], WHOLE, wrong),
@@ -238,7 +239,7 @@ fn contents_that_are_none_end_the_session() {
         stranger.send(piece);
         stranger
             .given_up()
-            .broke("the other side sends contents of no known kind");
+            .broke("the other side sends contents of an unknown kind");
         folder.has(&Tree::new());
     }
     let folder = Folder::new(&Tree::new());
@@ -248,7 +249,7 @@ fn contents_that_are_none_end_the_session() {
     stranger.contents.0.finish().unwrap();
     stranger
         .given_up()
-        .broke("the other side ends before a file that was requested");
+        .broke("the other side ended the contents before a requested file");
     folder.has(&Tree::new());
 }
 
