@@ -90,7 +90,7 @@ async fn sync(
         Err(_) => mux.abort(),
     }
     let closed = run.await?;
-    let fetched = exchanged?;
+    let fetched = exchanged.map_err(|error| format!("the session ended early: {error}"))?;
     closed?;
     Ok(Outcome {
         fetched,

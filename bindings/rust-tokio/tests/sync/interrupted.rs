@@ -1,10 +1,9 @@
 //! Sessions of two processes that stop in the middle of a file.
 use super::folder::{bytes, files, Folder, Tree};
 use super::relay::{Relay, Then};
-use super::{both, connect, example, listen, sync, Ended, Watchdog, PARTIAL};
+use super::{both, connect, example, listen, sync, Ended, Running, Watchdog, PARTIAL};
 use std::ffi::OsStr;
 use std::fs;
-use std::process::Child;
 use std::thread;
 use std::time::Duration;
 
@@ -12,7 +11,7 @@ const LENGTH: usize = 4_000_000;
 
 /// Both sides in the middle of a file.
 struct Halfway {
-    children: [Child; 2],
+    children: [Running; 2],
     relay: Relay,
 }
 
@@ -66,9 +65,9 @@ fn a_killed_run_leaves_nothing_that_looks_whole() {
     for killed in [0, 1] {
         let folders = both_folders();
         let mut halfway = Halfway::reach(&folders);
-        halfway.children[killed].kill().unwrap();
+        halfway.children[killed].kill();
         let ended = halfway.then(Then::Cut);
-        ended[1 - killed].broke("sync: ");
+        ended[1 - killed].broke("sync: the session ended early: ");
         folders[0].has(&here());
         let mut left = folders[1].tree();
         let partial = left.remove(OsStr::new(PARTIAL));
@@ -91,7 +90,9 @@ fn both_sides_fail_where_the_stream_is_cut() {
     let _watchdog = Watchdog::new("the cut sync");
     let folders = both_folders();
     let ended = Halfway::reach(&folders).then(Then::Cut);
-    ended.iter().for_each(|ended| ended.broke("sync: "));
+    ended
+        .iter()
+        .for_each(|ended| ended.broke("sync: the session ended early: "));
     folders[0].has(&here());
     folders[1].has(&there());
 }

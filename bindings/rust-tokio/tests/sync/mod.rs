@@ -25,8 +25,24 @@ struct Ended {
     success: bool,
 }
 
+/// A run of the example. It is killed if a test fails before the run ends.
+struct Running(Option<Child>);
+
+impl Running {
+    fn kill(&mut self) {
+        self.0.iter_mut().for_each(|child| child.kill().unwrap());
+    }
+}
+
+impl Drop for Running {
+    fn drop(&mut self) {
+        self.kill();
+    }
+}
+
 impl Ended {
-    fn of(child: Child) -> Ended {
+    fn of(mut running: Running) -> Ended {
+        let child = running.0.take().unwrap();
         let output = child.wait_with_output().unwrap();
         Ended {
             printed: String::from_utf8(output.stdout).unwrap(),
@@ -58,15 +74,16 @@ impl Ended {
     }
 }
 
-fn listen(folder: &Folder) -> (Child, String) {
+fn listen(folder: &Folder) -> (Running, String) {
     let words = ["listen", "127.0.0.1:0"].map(OsStr::new);
-    listening(example("sync").args(words).arg(folder.path()))
+    let (child, address) = listening(example("sync").args(words).arg(folder.path()));
+    (Running(Some(child)), address)
 }
 
-fn connect(mut command: Command, address: &str, folder: &Folder) -> Child {
+fn connect(mut command: Command, address: &str, folder: &Folder) -> Running {
     command.args(["connect", address]).arg(folder.path());
     command.stdout(Stdio::piped()).stderr(Stdio::piped());
-    command.spawn().unwrap()
+    Running(Some(command.spawn().unwrap()))
 }
 
 /// Runs both sides, the second by a command.

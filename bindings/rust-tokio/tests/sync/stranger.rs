@@ -1,10 +1,9 @@
 //! A peer of the example that keeps to the rules of a session, and to those of the example as a test wants it.
 use super::folder::Folder;
-use super::{listen, Ended};
+use super::{listen, Ended, Running};
 use lcmux_tokio::lcmux::Channel::{Data, PayloadRequest, Reconciliation};
 use lcmux_tokio::lcmux::{Closed, Config, Mux, Receiver, Sender};
 use std::net::TcpStream;
-use std::process::Child;
 use std::thread::{self, JoinHandle};
 
 /// The messages behind the last chunk of a file.
@@ -14,7 +13,7 @@ pub const FAILED: &[u8] = &[2];
 pub struct Stranger {
     mux: Mux,
     run: JoinHandle<Result<(), Closed>>,
-    example: Child,
+    example: Running,
     pub offers: (Sender, Receiver),
     pub requests: (Sender, Receiver),
     pub contents: (Sender, Receiver),
@@ -87,11 +86,16 @@ impl Stranger {
         self.contents.0.send_blocking(piece).unwrap();
     }
 
-    /// Asks for nothing more, and sees the session end in order on both sides.
-    pub fn finish(self) -> Ended {
+    /// Sends nothing more. Channels of a session that is over cannot be finished.
+    pub fn finish_channels(&self) {
         for sender in [&self.offers.0, &self.requests.0, &self.contents.0] {
             let _ = sender.finish();
         }
+    }
+
+    /// Sends nothing more, and sees the session end in order on both sides.
+    pub fn finish(self) -> Ended {
+        self.finish_channels();
         self.mux.close();
         let ended = Ended::of(self.example);
         assert_eq!(self.run.join().unwrap(), Ok(()));

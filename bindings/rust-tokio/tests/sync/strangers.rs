@@ -165,10 +165,10 @@ fn names_that_lead_elsewhere_are_refused() {
         let folder = Folder::new(&files([("kept", "kept")]));
         let stranger = Stranger::meet(&folder);
         stranger.offer(5, name);
-        let _ = stranger.contents.0.finish(); // so an example that requests the file does not wait for it
+        stranger.finish_channels(); // an example that accepts the offer would not wait, and the test would fail
         let shown = name.escape_ascii();
         stranger.given_up().broke(&format!(
-            "sync: the other side sends a malformed offer: {zeros}\\x05{shown}\n"
+            "sync: the session ended early: the other side sends a malformed offer: {zeros}\\x05{shown}\n"
         ));
         folder.has(&files([("kept", "kept")]));
     }
