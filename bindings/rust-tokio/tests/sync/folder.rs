@@ -1,10 +1,11 @@
 //! Folders of a test, and all that lies in one.
 use std::collections::BTreeMap;
+use std::env;
 use std::ffi::OsString;
 use std::fs;
 use std::path::{Path, PathBuf};
+use std::process::{self, Command};
 use std::sync::atomic::{AtomicU32, Ordering};
-use std::{env, process};
 
 pub type Tree = BTreeMap<OsString, Entry>;
 
@@ -25,6 +26,13 @@ pub fn files<N: Into<OsString>, B: Into<Vec<u8>>>(files: impl IntoIterator<Item 
 /// Bytes of which no two neighbouring chunks are equal.
 pub fn bytes(length: usize) -> Vec<u8> {
     (0..length).map(|at| (at * 31 + at / 256) as u8).collect()
+}
+
+/// Copies a file by `cp`, which also sets the times of files; the standard library of the oldest Rust that the crate
+/// is for does not.
+pub fn copy(options: &[&str], from: &Path, to: &Path) {
+    let status = Command::new("cp").args(options).args([from, to]).status();
+    assert!(status.unwrap().success());
 }
 
 /// A folder that is removed in the end.

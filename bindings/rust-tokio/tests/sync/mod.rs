@@ -1,4 +1,5 @@
 //! The folder sync: what it makes, what it leaves alone, and what it says.
+mod changes;
 mod folder;
 mod interrupted;
 mod relay;
@@ -7,7 +8,7 @@ mod strangers;
 
 use super::watchdog::Watchdog;
 use super::{built, example, listening};
-use folder::{bytes, files, Entry, Folder, Tree};
+use folder::{bytes, copy, files, Entry, Folder, Tree};
 use std::ffi::OsStr;
 use std::fs::{self, Permissions};
 use std::os::unix::ffi::OsStrExt;
@@ -232,11 +233,7 @@ fn of_plain_user(folder: &Folder, programs: &Folder) -> Command {
     const NOBODY: u32 = 65_534;
     // Where cargo builds may be closed to others. This process does not write the program itself: a child that
     // another test starts meanwhile would have the file open to be written, and then it cannot be executed.
-    let copied = Command::new("cp")
-        .arg(built("sync"))
-        .arg(programs.path())
-        .status();
-    assert!(copied.unwrap().success());
+    copy(&[], &built("sync"), programs.path());
     let mut command = Command::new(programs.join("sync"));
     if fs::metadata(folder.path()).unwrap().uid() == 0 {
         let inside = folder

@@ -1,13 +1,9 @@
-//! Peers that break the rules of the exchange, and files that change after they were offered.
-use super::folder::{bytes, files, Entry, Folder, Tree};
+//! Peers that break the rules of the exchange.
+use super::folder::{files, Entry, Folder, Tree};
 use super::stranger::{Stranger, FAILED, WHOLE};
 use super::{both, Watchdog, PARTIAL};
-use std::fs::{self, OpenOptions};
-use std::io::Write;
 use std::os::unix::ffi::OsStrExt;
 use std::path::Path;
-use std::thread;
-use std::time::Duration;
 
 /// A request for anything but an offered file fails the session, and no contents are sent for it.
 #[test]
@@ -48,107 +44,6 @@ fn only_what_was_offered_is_served() {
         ));
     }
     folder.has(&tree);
-}
-
-/// What happens to a file.
-type Change<'a> = &'a dyn Fn(&Path);
-
-/// A file that was changed or replaced after the listing is not served under the name that was offered.
-#[test]
-fn a_file_that_changed_since_it_was_offered_fails_alone() {
-    let _watchdog = Watchdog::new("requests of what changed");
-    let outside = Folder::new(&files([("secret", "01234567")]));
-    let secret = outside.join("secret");
-    let changes: [(&str, Change); 6] = [
-        ("No such file or directory (os error 2)", &|path| {
-            fs::remove_file(path).unwrap()
-        }),
-        ("the file changed after it was offered", &|path| {
-            append(path, b"more")
-        }),
-        ("the file changed after it was offered", &|path| {
-            fs::write(path, "76543210").unwrap()
-        }),
-        ("the file changed after it was offered", &|path| {
-            replace(path, |path| fs::copy(&secret, path).map(drop))
-        }),
-        ("the file changed after it was offered", &|path| {
-            replace(path, make_pipe)
-        }),
-        ("Too many levels of symbolic links (os error 40)", &|path| {
-            let moved = outside.join("moved");
-            fs::rename(path, &moved).unwrap(); // the same file, but by a link
-            std::os::unix::fs::symlink(moved, path).unwrap();
-        }),
-    ];
-    for (why, change) in changes {
-        let folder = Folder::new(&files([("changing", "01234567"), ("stays", "file")]));
-        let mut stranger = Stranger::meet(&folder);
-        assert_eq!(stranger.offered(), ["changing", "stays"]);
-        thread::sleep(Duration::from_millis(20)); // beyond the grain of the file system's times
-        change(&folder.join("changing"));
-        stranger.request(b"changing");
-        stranger.request(b"stays");
-        stranger.gets(b"", FAILED);
-        stranger.gets(b"file", WHOLE);
-        stranger.finish().failed(0, "changing", why);
-    }
-}
-
-fn append(path: &Path, bytes: &[u8]) {
-    let mut file = OpenOptions::new().append(true).open(path).unwrap();
-    file.write_all(bytes).unwrap();
-}
-
-fn replace(path: &Path, make: impl Fn(&Path) -> std::io::Result<()>) {
-    fs::remove_file(path).unwrap();
-    make(path).unwrap();
-}
-
-fn make_pipe(path: &Path) -> std::io::Result<()> {
-    let path = std::ffi::CString::new(path.as_os_str().as_bytes())?;
-    // SAFETY: the path ends with a NUL, and outlives the call.
-    match unsafe { libc::mkfifo(path.as_ptr(), 0o600) } {
-        0 => Ok(()),
-        _ => Err(std::io::Error::last_os_error()),
-    }
-}
-
-#[test]
-fn a_file_that_changes_while_it_is_sent_fails_alone() {
-    let _watchdog = Watchdog::new("files that change while they are sent");
-    const LENGTH: usize = 1_000_000;
-    let changes: [Change; 3] = [
-        &|path| append(path, &[7; 100]),
-        &|path| {
-            OpenOptions::new()
-                .write(true)
-                .open(path)
-                .unwrap()
-                .set_len(500_000)
-                .unwrap()
-        },
-        &|path| {
-            let mut file = OpenOptions::new().write(true).open(path).unwrap();
-            file.write_all(&[7; 100]).unwrap();
-        },
-    ];
-    for change in changes {
-        let folder = Folder::new(&files([("changing", bytes(LENGTH)), ("stays", bytes(5))]));
-        let mut stranger = Stranger::meet(&folder);
-        assert_eq!(stranger.offered(), ["changing", "stays"]);
-        stranger.request(b"changing");
-        stranger.request(b"stays");
-        assert_eq!(stranger.piece()[1..], bytes(LENGTH)[..32_768]);
-        change(&folder.join("changing")); // most of it finds no room yet on this side
-        let (rest, end) = stranger.contents();
-        assert!(rest.len() <= LENGTH - 32_768, "more than was offered");
-        assert_eq!(end, FAILED);
-        stranger.gets(&bytes(5), WHOLE);
-        stranger
-            .finish()
-            .failed(0, "changing", "the file changed after it was offered");
-    }
 }
 
 /// The session fails with an error that shows the name, and nothing of that name is created.
