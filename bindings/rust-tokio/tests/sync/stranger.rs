@@ -86,16 +86,11 @@ impl Stranger {
         self.contents.0.send_blocking(piece).unwrap();
     }
 
-    /// Sends nothing more. Channels of a session that is over cannot be finished.
-    pub fn finish_channels(&self) {
-        for sender in [&self.offers.0, &self.requests.0, &self.contents.0] {
-            let _ = sender.finish();
-        }
-    }
-
     /// Sends nothing more, and sees the session end in order on both sides.
     pub fn finish(self) -> Ended {
-        self.finish_channels();
+        for sender in [&self.offers.0, &self.requests.0, &self.contents.0] {
+            sender.finish().unwrap();
+        }
         self.mux.close();
         let ended = Ended::of(self.example);
         assert_eq!(self.run.join().unwrap(), Ok(()));

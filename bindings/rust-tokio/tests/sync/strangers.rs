@@ -60,7 +60,9 @@ fn names_that_lead_elsewhere_are_refused() {
         let folder = Folder::new(&files([("kept", "kept")]));
         let stranger = Stranger::meet(&folder);
         stranger.offer(5, name);
-        stranger.finish_channels(); // an example that accepts the offer would not wait, and the test would fail
+        // An example that accepts the offer does not wait for contents. (The requests do not end, or the example's
+        // contents might end in order before the offer arrives.)
+        let _ = stranger.contents.0.finish();
         let shown = name.escape_ascii();
         stranger.given_up().broke(&format!(
             "sync: the session ended early: the other side sends a malformed offer: {zeros}\\x05{shown}\n"
