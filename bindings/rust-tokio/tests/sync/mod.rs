@@ -132,14 +132,14 @@ fn both_folders_get_all_files() {
 fn many_files_hold_up_none() {
     let _watchdog = Watchdog::new("the sync of many files");
     let of_side = |side: &str| {
-        let named = (0..400).map(|at| (format!("{side} {at:0>240}"), format!("{at}")));
+        let named = (0..300).map(|at| (format!("{side} {at:0>240}"), format!("{at}")));
         files(named)
     };
     let (here, there) = (of_side("here"), of_side("there"));
     let folders = [Folder::new(&here), Folder::new(&there)];
     sync(&folders[0], &folders[1])
         .iter()
-        .for_each(|ended| ended.got(400));
+        .for_each(|ended| ended.got(300));
     let all = both(here, there);
     folders.iter().for_each(|folder| folder.has(&all));
 }
