@@ -107,7 +107,7 @@ fn receive(receiver: &mut Receiver, watchdog: &Watchdog) -> Result<u32, Closed> 
 }
 
 fn side(stream: UnixStream, issue: IssuePolicy, watchdog: &Arc<Watchdog>) -> Vec<JoinHandle<()>> {
-    let mut config = MuxConfig::from(Config::new([64; 7], 10));
+    let mut config = MuxConfig::from(Config::new([64; 7], 16));
     config.issue = [issue; 7];
     let (mut mux, driver) = Mux::new(config).unwrap();
     let mut threads = Vec::new();

@@ -445,7 +445,11 @@ impl Display for MuxFault {
         match self {
             MuxFault::Peer(fault) => fault.fmt(f),
             MuxFault::TooFewSlots => {
-                write!(f, "there have to be {} slots or more", crate::Mux::LEAST_SLOTS)
+                write!(
+                    f,
+                    "there have to be {} slots or more",
+                    crate::Mux::LEAST_SLOTS
+                )
             }
             MuxFault::BadMark { channel } => {
                 write!(

@@ -392,7 +392,10 @@ impl State {
             self.fail(stop.into());
             return Err(stop.into());
         }
-        if !Channel::ALL.into_iter().all(|it| self.is_finished_there(it)) {
+        if !Channel::ALL
+            .into_iter()
+            .all(|it| self.is_finished_there(it))
+        {
             self.fail(Closed::Cut);
             return Err(Closed::Cut);
         }
@@ -436,7 +439,7 @@ impl State {
         self.closing = true;
         self.wake_waiting();
         self.look_everywhere(); // also at what is pending behind calls that wait, none of which will proceed
-        // Whatever the writing half waits for: it ends the stream, and may bound how long that takes.
+                                // Whatever the writing half waits for: it ends the stream, and may bound how long that takes.
         self.wake_writer();
         self.settle();
     }

@@ -1,7 +1,7 @@
 //! The tasks of a channel's ends.
 use crate::choices::Choices;
 use crate::executor::Yield;
-use crate::model::{body, Model, Waits};
+use crate::model::{body, Model};
 use lcmux::{
     CallError, Closed, IssuePolicy, Permit, Receiver, SendError, Sender, TryRecvError, TrySendError,
 };
@@ -31,7 +31,6 @@ pub struct End {
 struct Fickle<'a, F> {
     call: Pin<&'a mut F>,
     end: &'a End,
-    waits: Option<usize>,
 }
 
 impl<F: Future> Future for Fickle<'_, F> {
@@ -44,10 +43,6 @@ impl<F: Future> Future for Fickle<'_, F> {
         if self.end.one_in(8) {
             self.end.model.borrow_mut().dropped += 1;
             return Poll::Ready(None);
-        }
-        if self.waits.is_some() {
-            let mut model = self.end.model.borrow_mut();
-            model.ways[self.end.side][self.end.channel].waits = self.waits;
         }
         Poll::Pending
     }
@@ -68,18 +63,12 @@ impl End {
         }
     }
 
-    // Makes a call, which may be given up; `waits` is the length of what it sends.
-    async fn fickle<F: Future>(&self, call: F, waits: Option<usize>) -> Option<F::Output> {
+    // Makes a call, which may be given up.
+    async fn fickle<F: Future>(&self, call: F) -> Option<F::Output> {
         let mut call = pin!(call);
-        let _waits = Waits {
-            model: &self.model,
-            side: self.side,
-            channel: self.channel,
-        };
         let fickle = Fickle {
             call: call.as_mut(),
             end: self,
-            waits,
         };
         fickle.await
     }
@@ -96,10 +85,6 @@ impl End {
         model.accepted(self.side, self.channel, message);
     }
 
-    fn turn(&self) {
-        self.model.borrow_mut().turn(self.side, self.channel);
-    }
-
     fn closed(&self, closed: Closed) {
         self.model.borrow_mut().reasons[self.side].push(closed);
     }
@@ -113,7 +98,6 @@ fn allowed(call: Result<(), CallError>) -> Result<(), Closed> {
 }
 
 pub async fn send_all(end: End, sender: Rc<Sender>, count: u32) {
-    end.model.borrow_mut().ways[end.side][end.channel].sender = Rc::downgrade(&sender);
     match send_some(&end, &sender, count).await {
         Ok(()) => {}
         Err(SendError::Closed(closed)) => end.closed(closed),
@@ -133,7 +117,6 @@ async fn send_some(end: &End, sender: &Sender, count: u32) -> Result<(), SendErr
             0..=3 => send_one(end, sender, message).await?,
             4 => match sender.try_send(&message) {
                 Ok(()) => {
-                    end.turn();
                     end.accepted(message);
                 }
                 Err(TrySendError::Full(_)) => {}
@@ -154,11 +137,10 @@ async fn send_some(end: &End, sender: &Sender, count: u32) -> Result<(), SendErr
 }
 
 async fn send_one(end: &End, sender: &Sender, message: Vec<u8>) -> Result<(), SendError> {
-    match end.fickle(sender.send(&message), Some(message.len())).await {
+    match end.fickle(sender.send(&message)).await {
         None => Ok(()),
         Some(Err(error)) => Err(error),
         Some(Ok(())) => {
-            end.turn();
             end.accepted(message);
             Ok(())
         }
@@ -175,10 +157,9 @@ async fn send_two(end: &End, sender: &Sender, messages: [Vec<u8>; 2]) -> Result<
         sent
     };
     let second = async {
-        let sent = end.fickle(sender.send(&other), None).await.transpose()?;
+        let sent = end.fickle(sender.send(&other)).await.transpose()?;
         if sent.is_some() {
             assert!(is_first_over.get(), "a later call goes first");
-            end.turn();
             end.accepted(other.clone());
         }
         Ok(())
@@ -216,12 +197,11 @@ fn step<F: Future>(call: Pin<&mut F>, result: &mut Option<F::Output>, cx: &mut C
 // Reserves, may send or try to meanwhile, and uses the permit or drops it.
 async fn send_by_permit(end: &End, sender: &Sender, message: Vec<u8>) -> Result<(), SendError> {
     let len = (message.len() + end.below(3) as usize).min(LONGEST);
-    let permit: Permit = match end.fickle(sender.reserve(len), Some(len)).await {
+    let permit: Permit = match end.fickle(sender.reserve(len)).await {
         None => return Ok(()),
         Some(Err(error)) => return Err(error),
         Some(Ok(permit)) => permit,
     };
-    end.turn();
     end.rest().await;
     if end.one_in(3) {
         drop(permit);
@@ -271,7 +251,7 @@ fn took(end: &End, message: &[u8]) {
 }
 
 async fn recv_one(end: &End, receiver: &mut Receiver) -> Result<bool, Closed> {
-    match end.fickle(receiver.recv(), None).await.transpose()? {
+    match end.fickle(receiver.recv()).await.transpose()? {
         None => Ok(false),
         Some(None) => Ok(true),
         Some(Some(message)) => {
@@ -282,7 +262,7 @@ async fn recv_one(end: &End, receiver: &mut Receiver) -> Result<bool, Closed> {
 }
 
 async fn lend_one(end: &End, receiver: &mut Receiver) -> Result<bool, Closed> {
-    match end.fickle(receiver.recv_ref(), None).await.transpose()? {
+    match end.fickle(receiver.recv_ref()).await.transpose()? {
         None => Ok(false),
         Some(None) => Ok(true),
         Some(Some(message)) => {

@@ -44,9 +44,14 @@ impl Executor {
     }
 
     /// Polls until all tasks are done. Panics where some are left that no one woke.
-    pub fn run(mut self, most: usize) {
+    pub fn run(self, most: usize) {
+        self.run_until(most, || false);
+    }
+
+    /// The same, and stops earlier once that holds.
+    pub fn run_until(mut self, most: usize, is_over: impl Fn() -> bool) {
         for _ in 0..most {
-            if self.tasks.is_empty() {
+            if self.tasks.is_empty() || is_over() {
                 return;
             }
             let at = self.next();

@@ -1,6 +1,5 @@
 //! What both sides should have, beside what they have.
-use lcmux::{Closed, Sender};
-use std::rc::{Rc, Weak};
+use lcmux::Closed;
 use std::task::Waker;
 
 /// A channel in one direction.
@@ -8,11 +7,6 @@ use std::task::Waker;
 pub struct Way {
     accepted: Vec<Vec<u8>>,
     taken: usize,
-    pub sender: Weak<Sender>,
-    /// The length of what waits to be sent.
-    pub waits: Option<usize>,
-    /// When the sender went last.
-    went: u64,
 }
 
 #[derive(Default)]
@@ -22,7 +16,6 @@ pub struct Model {
     /// How many tasks are left of each side, and who waits for that.
     pub left: [usize; 2],
     pub closers: [Option<Waker>; 2],
-    pub turns: u64,
     /// Whether bytes may have been changed on their way.
     pub is_garbled: bool,
     /// Calls that were given up, for the tests of the tests.
@@ -39,27 +32,7 @@ impl Model {
         self.ways[side][channel].accepted.len()
     }
 
-    /// A message goes, or a permit for one is given: each other that could have gone has, since the last.
-    pub fn turn(&mut self, side: usize, channel: usize) {
-        let last = self.ways[side][channel].went;
-        for (other, way) in self.ways[side].iter().enumerate() {
-            let Some((len, sender)) = way.waits.zip(way.sender.upgrade()) else {
-                continue;
-            };
-            let could_go = sender.held() >= len as u64;
-            let is_passed = other != channel && could_go && way.went < last;
-            assert!(!is_passed, "{other} is passed twice by {channel}");
-        }
-        self.went(side, channel);
-    }
-
-    fn went(&mut self, side: usize, channel: usize) {
-        self.turns += 1;
-        self.ways[side][channel].went = self.turns;
-    }
-
     pub fn accepted(&mut self, side: usize, channel: usize, message: Vec<u8>) {
-        self.went(side, channel);
         self.ways[side][channel].accepted.push(message);
     }
 
@@ -91,18 +64,5 @@ impl Model {
     pub fn messages(&self) -> usize {
         let ways = self.ways.iter().flatten();
         ways.map(|way| way.taken).sum()
-    }
-}
-
-/// Who waits is in the model as long as this is.
-pub struct Waits<'a> {
-    pub model: &'a Rc<std::cell::RefCell<Model>>,
-    pub side: usize,
-    pub channel: usize,
-}
-
-impl Drop for Waits<'_> {
-    fn drop(&mut self) {
-        self.model.borrow_mut().ways[self.side][self.channel].waits = None;
     }
 }

@@ -29,7 +29,14 @@ struct Stream {
     calls: u32,
 }
 
-const CAPACITY: usize = 200;
+/// How a stream behaves where nothing goes wrong.
+#[derive(Clone, Copy)]
+pub struct Shape {
+    /// How many bytes lie in it at most.
+    pub capacity: usize,
+    /// Whether each call does what it can, and wakes no one for nothing.
+    pub is_steady: bool,
+}
 
 pub struct Reader(Half);
 /// It takes several slices at once, or one.
@@ -42,15 +49,30 @@ struct Half {
     choices: Rc<RefCell<Choices>>,
     stream: Rc<RefCell<Stream>>,
     fault: Option<Fault>,
+    shape: Shape,
 }
 
 /// The two ends of a stream.
 pub fn wire(choices: &Rc<RefCell<Choices>>, fault: Option<Fault>) -> (Writer, Reader) {
+    let shape = Shape {
+        capacity: 200,
+        is_steady: false,
+    };
+    ends(choices, fault, shape)
+}
+
+/// The two ends of a stream of this shape, on which nothing goes wrong.
+pub fn wire_of(choices: &Rc<RefCell<Choices>>, shape: Shape) -> (Writer, Reader) {
+    ends(choices, None, shape)
+}
+
+fn ends(choices: &Rc<RefCell<Choices>>, fault: Option<Fault>, shape: Shape) -> (Writer, Reader) {
     let stream = Rc::default();
     let half = || Half {
         choices: Rc::clone(choices),
         stream: Rc::clone(&stream),
         fault,
+        shape,
     };
     let is_vectored = choices.borrow_mut().one_in(2);
     let writer = Writer {
@@ -63,7 +85,7 @@ pub fn wire(choices: &Rc<RefCell<Choices>>, fault: Option<Fault>) -> (Writer, Re
 impl Half {
     // A call that is put off, though it could go on.
     fn is_put_off(&self, cx: &Context<'_>) -> bool {
-        let is_put_off = self.choices.borrow_mut().one_in(8);
+        let is_put_off = !self.shape.is_steady && self.choices.borrow_mut().one_in(8);
         if is_put_off {
             cx.waker().wake_by_ref();
         }
@@ -73,6 +95,7 @@ impl Half {
     fn at_most(&self, most: usize) -> usize {
         let mut choices = self.choices.borrow_mut();
         match choices.below(4) {
+            _ if self.shape.is_steady => most,
             0 => most,
             1 => 1,
             _ => 1 + choices.below(most as u32) as usize,
@@ -153,7 +176,11 @@ impl PollWrite for Writer {
             _ if stream.gone => return Poll::Ready(Err(ErrorKind::BrokenPipe.into())),
             _ => {}
         }
-        let room = CAPACITY.saturating_sub(stream.bytes.len() + stream.held.len());
+        let room = self
+            .half
+            .shape
+            .capacity
+            .saturating_sub(stream.bytes.len() + stream.held.len());
         if room == 0 {
             stream.flush();
             stream.writer = Some(cx.waker().clone());

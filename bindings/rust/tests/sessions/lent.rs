@@ -264,5 +264,8 @@ fn a_transport_that_claims_more_than_both_slices_fails_the_session() {
     let Poll::Ready(Err(Closed::Transport(error))) = hand.write(&mut Claims) else {
         panic!("the session goes on");
     };
-    assert_eq!(error.to_string(), "5016 bytes are claimed, where there were 5015");
+    assert_eq!(
+        error.to_string(),
+        "5016 bytes are claimed, where there were 5015"
+    );
 }

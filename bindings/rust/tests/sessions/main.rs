@@ -17,7 +17,6 @@ mod scheduling;
 mod sending;
 mod sockets;
 
-
 use lcmux::{Channel, Config, IssuePolicy, Mux, MuxConfig, Version};
 
 /// Version Two, with rings of 64 bytes and the fewest slots: one for the messages of each channel.

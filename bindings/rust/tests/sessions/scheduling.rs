@@ -61,7 +61,10 @@ fn fewer_than_slots_messages_of_others_come_between_two_of_one() {
         assert!(sent.len() > 600, "{slots} slots: {}", sent.len());
         for (at, channel) in sent.iter().enumerate() {
             let next = sent[at + 1..].iter().position(|other| other == channel);
-            assert!(next.unwrap_or(0) < slots as usize, "{slots} slots, from {at}: {sent:?}");
+            assert!(
+                next.unwrap_or(0) < slots as usize,
+                "{slots} slots, from {at}: {sent:?}"
+            );
         }
     }
 }

@@ -201,7 +201,12 @@ impl State {
     }
 
     // The guarantees that a message of so many bytes lacks, or why it will never be sent.
-    pub(super) fn lacks(&self, channel: Channel, len: usize, ticket: Option<u64>) -> Result<Needs, SendError> {
+    pub(super) fn lacks(
+        &self,
+        channel: Channel,
+        len: usize,
+        ticket: Option<u64>,
+    ) -> Result<Needs, SendError> {
         self.is_open()?;
         let needs = self.peer.needs(channel, len);
         if needs == Needs::Never {

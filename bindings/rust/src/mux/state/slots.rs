@@ -109,7 +109,9 @@ impl Slots {
 
     // The places that only their owners take: own slots that no frame lies in, and shared ones that permits hold.
     fn kept(&self) -> usize {
-        let queued = Channel::ALL.into_iter().filter(|it| self.is_own_queued(*it));
+        let queued = Channel::ALL
+            .into_iter()
+            .filter(|it| self.is_own_queued(*it));
         OWN - queued.count() + self.shared_permits
     }
 }

@@ -280,7 +280,10 @@ impl Play {
             self.pull(256);
         }
         let is_stuck = |it: &Caller| {
-            let mut same = self.callers.iter().filter(|other| other.channel == it.channel);
+            let mut same = self
+                .callers
+                .iter()
+                .filter(|other| other.channel == it.channel);
             same.any(|other| other.is_stuck)
         };
         let mut waiting = self.callers.iter().filter(|it| it.waits.is_some());
@@ -325,11 +328,21 @@ fn assert_settled(state: &mut State) {
         match state.lacks(channel, len, Some(ticket)) {
             Ok(Needs::Nothing) if state.notified & bit != 0 => {}
             Ok(Needs::Nothing) => {
-                assert!(!state.fits(channel, len), "{channel:?} can proceed and was not notified");
+                assert!(
+                    !state.fits(channel, len),
+                    "{channel:?} can proceed and was not notified"
+                );
                 let waits_for_slot = !state.slots.is_own_free(channel) && !state.slots.has_shared();
-                assert!(waits_for_slot || !state.slots.is_empty(), "{channel:?} waits for no one");
+                assert!(
+                    waits_for_slot || !state.slots.is_empty(),
+                    "{channel:?} waits for no one"
+                );
             }
-            _ => assert_eq!(state.notified & bit, 0, "{channel:?} can't proceed and was notified"),
+            _ => assert_eq!(
+                state.notified & bit,
+                0,
+                "{channel:?} can't proceed and was notified"
+            ),
         }
     }
 }
@@ -346,7 +359,11 @@ fn each_call_is_answered_once_whatever_others_do() {
         play.assert_each_once();
         if play.is_rich && play.is_prompt {
             let most = play.slots - 1;
-            assert!(play.longest_wait() <= most, "{seed}: {} of others", play.longest_wait());
+            assert!(
+                play.longest_wait() <= most,
+                "{seed}: {} of others",
+                play.longest_wait()
+            );
         }
         messages += play.sent.len();
         given_up += play.began.len() - play.sent.len();
@@ -491,7 +508,10 @@ fn a_call_that_waits_for_bytes_learns_that_they_are_free() {
         assert!(!is_reserved(&mut state, Overlap));
         let mut call = Waits::new(&mut state, Overlap, len, is_thread);
         assert!(!call.is_woken());
-        assert!(matches!(pull(&mut state, 1 << 20), Pulled::Bytes(65_541, None)));
+        assert!(matches!(
+            pull(&mut state, 1 << 20),
+            Pulled::Bytes(65_541, None)
+        ));
         assert!(call.is_woken());
         assert_eq!(state.queued, if is_thread { len } else { 0 });
         assert_eq!(call.poll(&mut state), DONE);
@@ -646,10 +666,16 @@ fn bytes_are_left_to_the_channel_that_sent_least_recently() {
     assert!(is_sent(&mut state, Capability, 1), "it sent less recently");
     assert!(!is_sent(&mut state, Capability, 1));
     // A part of the first frames: the long message does not fit yet.
-    assert!(matches!(pull(&mut state, 50_000), Pulled::Bytes(50_000, None)));
+    assert!(matches!(
+        pull(&mut state, 50_000),
+        Pulled::Bytes(50_000, None)
+    ));
     assert!(!long.is_woken());
     assert!(!is_sent(&mut state, Data, 1));
-    assert!(matches!(pull(&mut state, 10_000), Pulled::Bytes(10_000, None)));
+    assert!(matches!(
+        pull(&mut state, 10_000),
+        Pulled::Bytes(10_000, None)
+    ));
     assert!(long.is_woken());
     // It was woken and is not waited for.
     assert!(is_sent(&mut state, Data, 60_000));
@@ -716,7 +742,10 @@ fn a_call_that_waits_is_not_completed_after_the_end() {
         };
         state.give_back(Data, 1);
         assert_eq!(state.stats(Data).messages_sent, 0);
-        assert_eq!(call.poll(&mut state), Poll::Ready(Err(SendError::Closed(closed))));
+        assert_eq!(
+            call.poll(&mut state),
+            Poll::Ready(Err(SendError::Closed(closed)))
+        );
         assert_eq!(state.stats(Data).messages_sent, 0);
     }
 }

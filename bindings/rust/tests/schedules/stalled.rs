@@ -1,0 +1,233 @@
+//! Callers of up to six channels that stop polling what they began: for a while, for good, forgotten, dropped late or
+//! holding permits. Meanwhile the seventh channel carries its messages, over streams of any capacity, and in silence,
+//! where nothing else wakes a driver.
+use crate::choices::Choices;
+use crate::executor::{Executor, Yield};
+use crate::watchdog::Watchdog;
+use crate::wire::{wire_of, Shape};
+use crate::{asked, Shared, POLLS};
+use lcmux::{Channel, Config, Driver, Mux, Receiver, Sender, Version};
+use std::cell::{Cell, RefCell};
+use std::future::{poll_fn, Future};
+use std::mem;
+use std::pin::Pin;
+use std::rc::Rc;
+use std::sync::atomic::{AtomicBool, Ordering::Relaxed};
+use std::sync::Arc;
+use std::task::{Context, Wake, Waker};
+
+/// How a caller stops.
+#[derive(Clone, Copy, Debug)]
+enum Stop {
+    /// A call is forgotten once it waits.
+    Waiting,
+    /// A call is forgotten once it was woken to proceed.
+    Woken,
+    /// All permits that are to be had are forgotten.
+    WithPermits,
+    /// A call is not polled for a while, again and again, and then dropped.
+    DroppedLate,
+    /// The same, and then it is polled on.
+    Slow,
+}
+
+const STOPS: [Stop; 5] = [
+    Stop::Waiting,
+    Stop::Woken,
+    Stop::WithPermits,
+    Stop::DroppedLate,
+    Stop::Slow,
+];
+
+#[derive(Default)]
+struct Flag(AtomicBool);
+
+impl Wake for Flag {
+    fn wake(self: Arc<Flag>) {
+        self.0.store(true, Relaxed);
+    }
+}
+
+/// A send that is polled now and then.
+struct Sending {
+    future: Pin<Box<dyn Future<Output = ()>>>,
+    woken: Arc<Flag>,
+}
+
+impl Sending {
+    fn new(sender: &Rc<Sender>, len: usize) -> Sending {
+        let sender = Rc::clone(sender);
+        Sending {
+            future: Box::pin(async move {
+                let _ = sender.send(&vec![7; len]).await;
+            }),
+            woken: Arc::default(),
+        }
+    }
+
+    fn waits(&mut self) -> bool {
+        let waker = Waker::from(Arc::clone(&self.woken));
+        let polled = self.future.as_mut().poll(&mut Context::from_waker(&waker));
+        polled.is_pending()
+    }
+
+    fn is_woken(&self) -> bool {
+        self.woken.0.load(Relaxed)
+    }
+}
+
+/// One caller, and what its choices come from.
+struct Caller {
+    choices: Shared<Choices>,
+    sender: Rc<Sender>,
+    longest: u32,
+}
+
+impl Caller {
+    fn below(&self, n: u32) -> u32 {
+        self.choices.borrow_mut().below(n)
+    }
+
+    fn len(&self) -> usize {
+        1 + self.below(self.longest) as usize
+    }
+
+    async fn rest(&self, most: u32) {
+        for _ in 0..self.below(most) {
+            Yield(false).await;
+        }
+    }
+
+    async fn stop(self, stop: Stop) {
+        if let Stop::WithPermits = stop {
+            while let Ok(permit) = self.sender.try_reserve(self.len()) {
+                mem::forget(permit);
+            }
+            return;
+        }
+        loop {
+            let mut call = Sending::new(&self.sender, self.len());
+            if !call.waits() {
+                Yield(false).await;
+                continue;
+            }
+            match stop {
+                Stop::Waiting if self.below(4) == 0 => return mem::forget(call),
+                Stop::Woken => {
+                    for _ in 0..200 {
+                        if call.is_woken() {
+                            return mem::forget(call);
+                        }
+                        Yield(false).await;
+                    }
+                }
+                _ => self.rest(300).await,
+            }
+            if let Stop::Slow | Stop::Waiting = stop {
+                poll_fn(|cx| call.future.as_mut().poll(cx)).await;
+            }
+        }
+    }
+
+    // Now and then the session falls silent before the next message.
+    async fn send_all(self, count: u32) {
+        for number in 0..count {
+            if self.below(16) == 0 {
+                self.rest(60).await;
+            }
+            let mut message = number.to_be_bytes().to_vec();
+            message.resize(4 + self.below(9) as usize, 9);
+            self.sender.send(&message).await.unwrap();
+        }
+    }
+}
+
+async fn take_any(mut receiver: Receiver) {
+    while let Ok(Some(_)) = receiver.recv().await {}
+}
+
+async fn take_in_order(mut receiver: Receiver, count: u32, is_over: Rc<Cell<bool>>) {
+    for number in 0..count {
+        let message = receiver.recv().await.unwrap().unwrap();
+        assert_eq!(message[..4], number.to_be_bytes());
+    }
+    is_over.set(true);
+}
+
+/// The sizes of a session: its ring, its longest message, and how many messages the seventh channel carries.
+fn sizes(choices: &mut Choices) -> (u32, u32, u32) {
+    match choices.below(8) {
+        0 => (200_000, 65_536, 40),
+        1..=3 => (300, 40, 300),
+        _ => (24, 12, 1_000),
+    }
+}
+
+fn shape(choices: &mut Choices, longest: u32) -> Shape {
+    let narrow = [1, 5, 64, 200][choices.below(4) as usize];
+    Shape {
+        capacity: if longest > 100 { 10_000 } else { narrow },
+        is_steady: choices.below(2) == 0,
+    }
+}
+
+fn spawn_driver(executor: &mut Executor, driver: Driver, wires: (crate::Reader, crate::Writer)) {
+    let run = async { drop(driver.run(wires.0, wires.1).await) };
+    executor.spawn("driver".into(), run);
+}
+
+fn play(seed: u64) {
+    let mut choices = Choices::of_seed(seed);
+    let (ring, longest, count) = sizes(&mut choices);
+    let shape = shape(&mut choices, longest);
+    let carrying = choices.below(7) as usize;
+    let mut config = Config::new([ring; 7], Mux::LEAST_SLOTS + choices.below(12));
+    config.version = Version::Two;
+    let choices = Rc::new(RefCell::new(choices));
+    let [(to_there, from_here), (to_here, from_there)] = [(); 2].map(|()| wire_of(&choices, shape));
+    let (mut here, driver) = Mux::new(config).unwrap();
+    let (mut there, other) = Mux::new(config).unwrap();
+    let mut executor = Executor::new(&choices);
+    spawn_driver(&mut executor, driver, (from_there, to_there));
+    spawn_driver(&mut executor, other, (from_here, to_here));
+    let is_over = Rc::new(Cell::new(false));
+    let mut kept = Vec::new();
+    for (at, channel) in Channel::ALL.into_iter().enumerate() {
+        let sender = Rc::new(here.sender(channel).unwrap());
+        kept.push(Rc::clone(&sender));
+        let receiver = there.receiver(channel).unwrap();
+        let caller = || Caller {
+            choices: Rc::clone(&choices),
+            sender: Rc::clone(&sender),
+            longest,
+        };
+        if at == carrying {
+            executor.spawn(format!("send {at}"), caller().send_all(count));
+            let take = take_in_order(receiver, count, Rc::clone(&is_over));
+            executor.spawn(format!("take {at}"), take);
+            continue;
+        }
+        let stop = STOPS[caller().below(5) as usize];
+        for _ in 0..1 + caller().below(2) {
+            executor.spawn(format!("{stop:?} {at}"), caller().stop(stop));
+        }
+        executor.spawn(format!("take {at}"), take_any(receiver));
+    }
+    let over = Rc::clone(&is_over);
+    executor.run_until(20 * POLLS, || over.get());
+    assert!(is_over.get());
+}
+
+#[test]
+fn callers_that_stop_polling_hold_up_no_other_channel() {
+    let (first, most) = match asked("LCMUX_SEED") {
+        Some(seed) => (seed, seed + 1),
+        None => (0, asked("LCMUX_SCHEDULES").map_or(60, |count| count / 20)),
+    };
+    for seed in first..most {
+        let what = format!("LCMUX_SEED={seed}");
+        let _watchdog = Watchdog::new(what.as_str());
+        let played = std::panic::catch_unwind(|| play(seed));
+        assert!(played.is_ok(), "{what}");
+    }
+}
