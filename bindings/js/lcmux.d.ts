@@ -121,18 +121,39 @@ export declare class LcmuxError extends Error {
   readonly taken?: number;
   /** Of {@link Peer.deliver}: how many frames arrived before it stopped. */
   readonly frames?: number;
+  /**
+   * The error as JSON has it, with its `name` and `message` beside its other members. JSON has no bigint: a number
+   * that is one is a decimal string.
+   */
+  toJSON(): LcmuxErrorJson;
 }
 
-/** The bounds of a peer. */
+/** What `JSON.stringify` writes of an {@link LcmuxError}. */
+export interface LcmuxErrorJson {
+  readonly name: string;
+  readonly message: string;
+  readonly code: Code;
+  readonly kind: Kind;
+  readonly sentence: string;
+  /** A decimal string where the error's number is a bigint. */
+  readonly number: number | string | undefined;
+  readonly taken?: number;
+  readonly frames?: number;
+}
+
+/**
+ * The bounds of a peer. A key that is undefined is one that is left out, here and in all options. A key that there is
+ * not is a TypeError that names it.
+ */
 export interface Config {
   /** The version of the format that goes out, 1 where it is left out. Either may come. */
-  readonly version?: 1 | 2;
+  readonly version?: 1 | 2 | undefined;
   /** How many frames may wait to go out, 1 to 65,536; 16 where it is left out. */
-  readonly slots?: number;
+  readonly slots?: number | undefined;
   /**
    * The bytes of each channel's receiving ring, 1 to 2^24: one number for all, or seven; 65,536 where it is left out.
    */
-  readonly capacities?: number | readonly number[];
+  readonly capacities?: number | readonly number[] | undefined;
 }
 
 /** In place of a message: none waits, and none will come. */
@@ -374,7 +395,7 @@ export declare class SessionClosed extends Error {
 
 /** For a wait that may be given up: it then rejects with the signal's reason, and has done nothing. */
 export interface WaitOptions {
-  readonly signal?: AbortSignal;
+  readonly signal?: AbortSignal | undefined;
 }
 
 /** This side of a session over two streams. */

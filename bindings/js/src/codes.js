@@ -69,6 +69,12 @@ export class LcmuxError extends Error {
   get isStop() {
     return this.code >= FIRST_STOP;
   }
+
+  /** For JSON, which has no bigint: the number is then a decimal string. */
+  toJSON() {
+    const number = typeof this.number === 'bigint' ? String(this.number) : this.number;
+    return { name: this.name, message: this.message, ...this, number };
+  }
 }
 Object.defineProperty(LcmuxError.prototype, 'name', { value: 'LcmuxError', configurable: true, writable: true });
 

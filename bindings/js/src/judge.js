@@ -34,12 +34,21 @@ export function boundOf(value) {
   return value;
 }
 
-const tagOf = Object.getOwnPropertyDescriptor(Object.getPrototypeOf(Uint8Array.prototype), Symbol.toStringTag).get;
-
-/** A Uint8Array, of whichever realm. */
-export function bytesOf(value, name) {
-  if (tagOf.call(value) !== 'Uint8Array') {
-    throw new TypeError(`${name} is a Uint8Array`);
+/**
+ * The values of an object of options, by the names that it may have. One that is undefined is absent, and a name that
+ * there is not is refused, inherited ones as well: so a signal in the place of options is not taken for none.
+ */
+export function optionsOf(given, names, what) {
+  if (given === undefined || given === null) {
+    return {};
   }
-  return value;
+  if (typeof given !== 'object') {
+    throw new TypeError(`${what} are an object, and not a ${typeof given}`);
+  }
+  for (const key in given) {
+    if (!names.includes(key)) {
+      throw new TypeError(`${what} have no key '${key}', but ${names.join(', ')}`);
+    }
+  }
+  return Object.fromEntries(names.map(name => [name, given[name]]).filter(([, value]) => value !== undefined));
 }

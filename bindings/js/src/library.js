@@ -1,3 +1,4 @@
+import { u32 } from './judge.js';
 import { Module } from './module.js';
 import { Peer } from './peer.js';
 import { startSession } from './session.js';
@@ -22,7 +23,7 @@ class Library {
   }
 
   text(code) {
-    return this.#module.text(code);
+    return this.#module.text(u32(code, 'the code'));
   }
 
   peer(config) {

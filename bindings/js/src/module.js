@@ -1,3 +1,4 @@
+import { copyTo, part, sizeOf } from './bytes.js';
 import { Code, LcmuxError, errorOf } from './codes.js';
 
 /** The version of the package, and of the module that it takes. */
@@ -123,14 +124,19 @@ export class Module {
     return errorOf(code, this.long(0));
   }
 
-  /** Bytes go to the place. */
+  /** Bytes go to the place, which has room for them. The answer is how many they are. */
   put(bytes) {
-    this.#bytes.set(bytes, this.place);
+    const size = sizeOf(bytes);
+    if (size > this.room) {
+      throw new RangeError(`the place has ${this.room} bytes, and not ${size}`);
+    }
+    copyTo(this.#bytes, this.place, bytes);
+    return size;
   }
 
   /** The bytes at an address, until the next call. */
   view(at, length) {
-    return this.#bytes.subarray(at, at + length);
+    return part(this.#bytes, at, at + length);
   }
 
   /** The first bytes of the place, until the next call. */

@@ -1,6 +1,7 @@
+import { bytesOf, copyTo, part, sizeOf } from './bytes.js';
 import { CHANNELS } from './channel.js';
 import { Code, LcmuxError } from './codes.js';
-import { boundOf, bytesOf, channelOf, lengthOf, u32 } from './judge.js';
+import { boundOf, channelOf, lengthOf, optionsOf, u32 } from './judge.js';
 
 /** In place of a message: none waits, and none will come. */
 export const ENDED = Symbol('ended');
@@ -28,14 +29,24 @@ const NEEDS = {
 
 const unlessNone = long => (long === NONE ? null : long);
 
+/** A configuration with a value for each key. */
+export function configOf(given) {
+  return { ...DEFAULTS, ...optionsOf(given, Object.keys(DEFAULTS), 'the bounds of a peer') };
+}
+
+/** A capacity for each channel. Whatever an array says of itself, so many are read. */
+function ringsOf(capacities) {
+  const isOne = !Array.isArray(capacities);
+  if (!isOne && capacities.length !== CHANNELS.length) {
+    throw new RangeError(`there are ${CHANNELS.length} capacities, and not ${capacities.length}`);
+  }
+  return CHANNELS.map(channel => u32(isOne ? capacities : capacities[channel], 'a capacity'));
+}
+
 /** The words of an lcmux_config. */
 function wordsOf(config) {
-  const { version, slots, capacities } = { ...DEFAULTS, ...config };
-  const rings = Array.isArray(capacities) ? capacities : CHANNELS.map(() => capacities);
-  if (rings.length !== CHANNELS.length) {
-    throw new RangeError(`there are ${CHANNELS.length} capacities, and not ${rings.length}`);
-  }
-  return [u32(version, 'the version'), u32(slots, 'slots'), ...rings.map(ring => u32(ring, 'a capacity'))];
+  const { version, slots, capacities } = configOf(config);
+  return [u32(version, 'the version'), u32(slots, 'slots'), ...ringsOf(capacities)];
 }
 
 /** One side of a session: bytes in by `deliver`, bytes out by `write`. A call that is refused throws. */
@@ -92,12 +103,11 @@ export class Peer {
 
   send(channel, body) {
     const number = channelOf(channel);
-    const { length } = bytesOf(body, 'the body');
-    if (length > this.#module.room) {
-      throw this.wouldSend(channel, length);
+    const bytes = bytesOf(body, 'the body');
+    if (sizeOf(bytes) > this.#module.room) {
+      throw this.wouldSend(channel, sizeOf(bytes));
     }
-    this.#module.put(body);
-    this.#do('peer_send', number, length);
+    this.#do('peer_send', number, this.#module.put(bytes));
   }
 
   issue(channel, amount) {
@@ -193,18 +203,17 @@ export class Peer {
   }
 
   deliver(bytes) {
-    const { length } = bytesOf(bytes, 'what is delivered');
+    const whole = bytesOf(bytes, 'what is delivered');
+    const size = sizeOf(whole);
     let [taken, frames] = [0, 0];
     do {
-      const piece = bytes.subarray(taken, taken + PIECE);
-      this.#module.put(piece);
-      const code = this.#ask('peer_deliver', piece.length);
+      const code = this.#ask('peer_deliver', this.#module.put(part(whole, taken, taken + PIECE)));
       taken += this.#module.number;
       frames += this.#module.short(1);
       if (code !== 0) {
         throw Object.assign(new LcmuxError(code), { taken, frames });
       }
-    } while (taken < length);
+    } while (taken < size);
     return frames;
   }
 
@@ -217,14 +226,15 @@ export class Peer {
   }
 
   writeInto(buffer) {
-    const { length } = bytesOf(buffer, 'the buffer');
+    const target = bytesOf(buffer, 'the buffer');
+    const length = sizeOf(target);
     const unsent = this.#unsent.subarray(0, length);
-    buffer.set(unsent);
+    copyTo(target, 0, unsent);
     let count = unsent.length;
     while (count < length) {
       const piece = Math.min(PIECE, length - count);
       const wrote = this.#number('peer_write', piece);
-      buffer.set(this.#module.lent(wrote), count);
+      copyTo(target, count, this.#module.lent(wrote));
       count += wrote;
       if (wrote < piece) {
         break;
@@ -279,9 +289,10 @@ export class Peer {
 
   takeInto(channel, buffer) {
     const number = channelOf(channel);
-    const room = Math.min(bytesOf(buffer, 'the buffer').length, this.#module.room);
+    const target = bytesOf(buffer, 'the buffer');
+    const room = Math.min(sizeOf(target), this.#module.room);
     return this.#took(this.#ask('peer_take', number, room), length => {
-      buffer.set(this.#module.lent(length));
+      copyTo(target, 0, this.#module.lent(length));
       return length;
     });
   }

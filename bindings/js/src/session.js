@@ -1,16 +1,15 @@
+import { bytesOf } from './bytes.js';
 import { CHANNELS } from './channel.js';
 import { Code, LcmuxError } from './codes.js';
-import { bytesOf, channelOf, u32 } from './judge.js';
-import { ENDED } from './peer.js';
+import { channelOf, optionsOf, u32 } from './judge.js';
+import { List } from './list.js';
+import { ENDED, configOf } from './peer.js';
 
 /** The bytes that a write gives to the stream, at most. */
 const PIECE = 65_536;
 
 /** Slots that no message takes, so that the promises of room never wait for one behind messages. */
 const KEPT = CHANNELS.length;
-
-/** The slots for messages where the configuration names none. */
-const SLOTS = 16;
 
 /** Why nothing more comes or goes after a close, where nothing was lost. */
 export class SessionClosed extends Error {}
@@ -29,38 +28,77 @@ class Bell {
   }
 }
 
-/** Promises that wait in their order. One whose signal aborts leaves. */
-class Queue {
-  #waits = [];
+/** The signal by which a wait may be given up, undefined where there is none. */
+const signalOf = options => optionsOf(options, ['signal'], 'the options').signal ?? undefined;
 
-  get first() {
-    return this.#waits[0];
+/** Promises that wait in their order. One whose signal aborts leaves, wherever it stands. */
+class Queue {
+  #waits = new List();
+  // Of each signal the waits and the listener: a signal compares each new listener with all that it has.
+  #watched = new Map();
+  #left;
+
+  /** `left` is called once waits have left by their signal. */
+  constructor(left) {
+    this.#left = left;
   }
 
-  // What waits goes on by `settle`, which is given both ways to end the promise.
-  join(wait, signal, left) {
+  get first() {
+    return this.#waits.first;
+  }
+
+  // What waits goes on by `resolve` or `reject`, once it was shifted.
+  join(wait, signal) {
     return new Promise((resolve, reject) => {
-      const leave = () => {
-        this.#waits.splice(this.#waits.indexOf(wait), 1);
-        reject(signal.reason);
-        left();
-      };
-      const stay = () => signal?.removeEventListener('abort', leave);
-      wait.resolve = value => (stay(), resolve(value));
-      wait.reject = reason => (stay(), reject(reason));
-      signal?.addEventListener('abort', leave, { once: true });
-      this.#waits.push(wait);
+      Object.assign(wait, { resolve, reject, signal });
+      if (signal !== undefined) {
+        this.#watch(signal).waits.add(wait);
+      }
+      wait.node = this.#waits.push(wait);
     });
   }
 
   shift() {
-    return this.#waits.shift();
+    const wait = this.#waits.shift();
+    if (wait?.signal !== undefined) {
+      this.#forget(wait);
+    }
+    return wait;
   }
 
   rejectAll(reason) {
-    for (const wait of this.#waits.splice(0)) {
+    for (let wait; (wait = this.shift()) !== undefined; ) {
       wait.reject(reason);
     }
+  }
+
+  #watch(signal) {
+    let watched = this.#watched.get(signal);
+    if (watched === undefined) {
+      watched = { waits: new Set(), leave: () => this.#leave(signal) };
+      signal.addEventListener('abort', watched.leave, { once: true });
+      this.#watched.set(signal, watched);
+    }
+    return watched;
+  }
+
+  #forget(wait) {
+    const { waits, leave } = this.#watched.get(wait.signal);
+    waits.delete(wait);
+    if (waits.size === 0) {
+      this.#watched.delete(wait.signal);
+      wait.signal.removeEventListener('abort', leave);
+    }
+  }
+
+  #leave(signal) {
+    const { waits } = this.#watched.get(signal);
+    this.#watched.delete(signal);
+    for (const wait of waits) {
+      this.#waits.remove(wait.node);
+      wait.reject(signal.reason);
+    }
+    this.#left();
   }
 }
 
@@ -69,13 +107,13 @@ class Lane {
   #link;
   #peer;
   #channel;
-  #outgoing = new Queue();
-  #incoming = new Queue();
+  #outgoing = new Queue(() => this.#link.turn());
+  #incoming = new Queue(() => {});
   // The room that is to be promised.
   #owed;
   #isFinished = false;
   // Once the session is over: the messages that were there to be taken, and whether more were to come.
-  #left = [];
+  #left = new List();
   #hasEnded = false;
 
   constructor(link, peer, channel) {
@@ -89,35 +127,37 @@ class Lane {
     return this.#outgoing.first === undefined;
   }
 
-  async send(body, { signal } = {}) {
-    bytesOf(body, 'the body');
+  async send(body, options) {
+    const bytes = bytesOf(body, 'the body');
     // A body that has to wait is copied, so that the caller may change it meanwhile.
-    let kept = body;
-    const done = this.#goOut(() => this.#sends(kept), signal);
+    let kept = bytes;
+    const done = this.#goOut(() => this.#sends(kept), options);
     if (!this.isIdle) {
-      kept = body.slice();
+      kept = bytes.slice();
     }
     return done;
   }
 
-  async finish({ signal } = {}) {
-    return this.#goOut(() => this.#finishes(), signal);
+  async finish(options) {
+    return this.#goOut(() => this.#finishes(), options);
   }
 
-  async #goOut(attempt, signal) {
+  async #goOut(attempt, options) {
+    const signal = signalOf(options);
     signal?.throwIfAborted();
     this.#link.mayGoOut();
-    const done = this.#outgoing.join({ attempt }, signal, () => this.#link.turn());
+    const done = this.#outgoing.join({ attempt }, signal);
     this.#link.turn();
     return done;
   }
 
-  async receive({ signal } = {}) {
+  async receive(options) {
+    const signal = signalOf(options);
     signal?.throwIfAborted();
     if (this.#link.reason !== null) {
       return this.#afterwards();
     }
-    const message = this.#incoming.join({}, signal, () => {});
+    const message = this.#incoming.join({}, signal);
     this.#link.turn();
     return message;
   }
@@ -236,7 +276,7 @@ class Lane {
   }
 
   #afterwards() {
-    if (this.#left.length === 0 && !this.#hasEnded) {
+    if (this.#left.first === undefined && !this.#hasEnded) {
       throw this.#link.reason;
     }
     return this.#left.shift() ?? null;
@@ -463,11 +503,12 @@ export class Session {
 
 /** A session of a peer that `make` makes. The streams are its own from here on. */
 export function startSession(make, { readable, writable }, config) {
-  const slots = u32(config?.slots ?? SLOTS, 'slots');
+  const bounds = configOf(config);
+  const slots = u32(bounds.slots, 'slots');
   if (slots === 0) {
     throw new LcmuxError(Code.BadSlots);
   }
-  const peer = make({ ...config, slots: slots + KEPT });
+  const peer = make({ ...bounds, slots: slots + KEPT });
   let reader;
   try {
     reader = readable.getReader();

@@ -1,4 +1,4 @@
-import { bytesOf } from './judge.js';
+import { bytesOf } from './bytes.js';
 
 /** So many bytes may wait in a WebSocket before the next write has to. */
 const HIGH = 1 << 20;

@@ -186,6 +186,47 @@ test('a configuration is judged, in this order', () => {
   assert.deepEqual([plain.version, plain.slotsLeft(), plain.server(6).capacity, plain.pending()], [1, 16, 65_536, 0]);
 });
 
+test('a key that is undefined is absent, and one that there is not is refused by its name', () => {
+  const [plain, given] = [lcmux.peer(), lcmux.peer({ version: undefined, slots: undefined, capacities: undefined })];
+  const balances = peer => [peer.version, peer.slotsLeft(), peer.server(6).capacity];
+  assert.deepEqual(balances(given), balances(plain));
+  assert.deepEqual(balances(lcmux.peer({ version: 2, slots: undefined })), [2, 16, 65_536]);
+  const named = key => ({ name: 'TypeError', message: new RegExp(`no key '${key}'`) });
+  assert.throws(() => lcmux.peer({ version: 2, capacity: 8 }), named('capacity'));
+  assert.throws(() => lcmux.peer({ Slots: undefined }), named('Slots'));
+  assert.throws(() => lcmux.peer(Object.create({ capacity: 8 })), named('capacity'));
+  assert.throws(() => lcmux.peer([8]), named('0'));
+  for (const none of ['text', 8, true, 1n, () => 1]) {
+    assert.throws(() => lcmux.peer(none), TypeError);
+  }
+});
+
+test('an error has its name, code and message in JSON, and a bigint as a text', () => {
+  const peer = lcmux.peer();
+  const large = 2n ** 62n - 1n;
+  peer.limitSending(Data, large);
+  const told = run => {
+    try {
+      return run();
+    } catch (error) {
+      return JSON.parse(JSON.stringify({ error })).error;
+    }
+  };
+  assert.deepEqual(told(() => peer.limitSending(Data, 2n ** 62n)), {
+    name: 'LcmuxError',
+    code: 8,
+    kind: 'LimitRaised',
+    message: 'the bound is above what an earlier limit leaves (left 4611686018427387903)',
+    sentence: 'the bound is above what an earlier limit leaves',
+    number: '4611686018427387903',
+  });
+  const held = told(() => peer.send(Data, bytes('hello')));
+  assert.deepEqual([held.code, held.kind, held.number], [4, 'NoGuarantee', 0]);
+  // An issue, and then a byte that is no tag.
+  const stop = told(() => peer.deliver(hex('2100000005' + 'ff')));
+  assert.deepEqual([stop.name, stop.code, stop.kind, 'number' in stop, stop.frames], ['LcmuxError', 201, 'BadTag', false, 1]);
+});
+
 test('numbers above 2^53 are exact', () => {
   const [peer, other] = [lcmux.peer(), lcmux.peer()];
   const large = 2n ** 53n + 1n;

@@ -367,8 +367,9 @@ for (const [name, [lose, reason]] of Object.entries(LOSSES)) {
     }
     const told = (await Promise.all(waits.map(fate))).map(it => it.reason);
     assert.equal(new Set([...told, session.reason]).size, 1);
-    for (const call of ['send', 'receive', 'finish']) {
-      assert.deepEqual(await fate(session.channel(Data)[call](bytes(1))), { reason: session.reason });
+    const channel = session.channel(Data);
+    for (const call of [() => channel.send(bytes(1)), () => channel.receive(), () => channel.finish()]) {
+      assert.deepEqual(await fate(call()), { reason: session.reason });
     }
     assert.deepEqual(await fate(session.close()), { reason: session.reason });
     if (!isTrap) {
@@ -520,6 +521,29 @@ test('a configuration is judged, and the streams are let go', async () => {
   for (const none of [-1, 7, 0.5, NaN]) {
     assert.throws(() => session.channel(none), RangeError);
   }
+});
+
+test('options are judged, and those that are undefined are absent', async () => {
+  const { session, other, put } = await alone({ version: undefined, slots: undefined, capacities: undefined });
+  const channel = session.channel(Data);
+  other.issue(Data, 2);
+  put();
+  await settled();
+  await channel.send(bytes(1), { signal: undefined });
+  await channel.send(bytes(1), undefined);
+  const { signal } = new AbortController();
+  const named = key => ({ name: 'TypeError', message: new RegExp(`no key '${key}'`) });
+  for (const call of [options => channel.send(bytes(1), options), options => channel.receive(options), options => channel.finish(options)]) {
+    await assert.rejects(call({ singal: signal }), named('singal'));
+    // A signal stands in options.
+    await assert.rejects(call(signal), { name: 'TypeError', message: /no key '\w+', but signal/ });
+    await assert.rejects(call({ signal: 5 }), TypeError);
+    await assert.rejects(call(5), TypeError);
+  }
+  assert.deepEqual(await fate(channel.finish({ signal: undefined })), { value: undefined });
+  const [streams] = pipes();
+  await assert.rejects(open(streams, { slot: 5 }), named('slot'));
+  assert.deepEqual([streams.readable.locked, streams.writable.locked], [false, false]);
 });
 
 test('a session that is over lets its streams end', async () => {

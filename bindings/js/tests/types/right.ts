@@ -1,6 +1,6 @@
 // What a program may write, and what it then has.
 import { CHANNELS, Channel, Code, ENDED, LcmuxError, Peer, Session, SessionChannel, SessionClosed, VERSION, fromWebSocket, load, open } from 'lcmux';
-import type { ClientBook, Config, Kind, Library, Needs, Ready, ServerBook, Streams, Take } from 'lcmux';
+import type { ClientBook, Config, Kind, LcmuxErrorJson, Library, Needs, Ready, ServerBook, Streams, Take } from 'lcmux';
 import { fromSocket } from 'lcmux/node';
 
 /** Whether two types are one. */
@@ -14,6 +14,7 @@ export async function peers(): Promise<void> {
   await load(new Uint8Array(1));
   const config: Config = { version: 2, slots: 4, capacities: [1, 2, 3, 4, 5, 6, 7] };
   const peer: Peer = lcmux.peer(config);
+  lcmux.peer({ version: undefined, slots: undefined, capacities: undefined });
   const body = new Uint8Array(1);
   for (const channel of CHANNELS) {
     peer.send(channel, body);
@@ -50,6 +51,7 @@ export async function peers(): Promise<void> {
 export function errors(error: unknown): Kind | undefined {
   if (error instanceof LcmuxError) {
     same<typeof error.number, number | bigint | undefined>(true);
+    same<ReturnType<LcmuxError['toJSON']>, LcmuxErrorJson>(true);
     return error.code === Code.NoGuarantee && !error.isStop ? error.kind : undefined;
   }
   return undefined;
@@ -66,7 +68,7 @@ export async function sessions(socket: WebSocket, tcp: object): Promise<void> {
     same<typeof message, Uint8Array>(true);
   }
   same<Awaited<ReturnType<SessionChannel['receive']>>, Uint8Array | null>(true);
-  await data.finish();
+  await data.finish({ signal: undefined });
   session.abort(new Error('enough'));
   if (session.reason instanceof SessionClosed) {
     await session.close();
