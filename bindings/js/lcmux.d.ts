@@ -455,7 +455,12 @@ export interface WebSocketLike {
 }
 
 /**
- * The two streams of a WebSocket, once it is open. It has no end of one direction alone, so a message of no bytes
- * says that a side writes no more. A write waits while the WebSocket has more than 2^20 bytes to send.
+ * The two streams of a WebSocket, once it is open. It has no end of one direction alone, so a message of no bytes says
+ * that a side writes no more. A write waits while the WebSocket has more than 2^20 bytes to send, and fails where the
+ * WebSocket is closing, which would drop its bytes without a word.
+ *
+ * A message that is no bytes, such as a text, fails both streams and closes the WebSocket, by the code 1003, or 4003
+ * in a browser, which lets a page name no other. A message that arrives before this call is lost: in a server make the
+ * call where the connection is told, before anything is awaited.
  */
 export declare function fromWebSocket(socket: WebSocketLike): Promise<Streams>;

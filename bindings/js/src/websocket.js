@@ -1,4 +1,4 @@
-import { bytesOf } from './bytes.js';
+import { bytesOf, isArrayBuffer, sizeOf } from './bytes.js';
 
 /** So many bytes may wait in a WebSocket before the next write has to. */
 const HIGH = 1 << 20;
@@ -8,6 +8,12 @@ const LOOK = 10;
 
 const OPEN = 1;
 const NORMAL = 1000;
+
+/** The code of RFC 6455 for a message of a kind that is not taken, and the one in its place where a page closes. */
+const UNSUPPORTED = 1003;
+const UNSUPPORTED_FOR_PAGE = 4003;
+
+const gone = ({ code, reason }) => new Error(`the WebSocket closed (${code}${reason && ` ${reason}`})`);
 
 // What went out is answered by what comes, which a browser tells a tab in the background sooner than the time.
 function later(socket) {
@@ -22,59 +28,109 @@ function later(socket) {
   });
 }
 
-/** The events of a WebSocket as a stream of bytes, which ends at a message of no bytes. */
-function readableOf(socket, ends) {
-  return new ReadableStream({
-    start(controller) {
-      socket.addEventListener('message', ({ data }) => {
-        if (ends.heard) {
-          return;
-        }
-        if (!(data instanceof ArrayBuffer)) {
-          ends.fail(new TypeError('a WebSocket message that is no bytes'));
-        } else if (data.byteLength > 0) {
-          controller.enqueue(new Uint8Array(data));
-        } else {
-          ends.heard = true;
-          controller.close();
-          ends.closeIfBoth();
-        }
-      });
-      ends.failed.then(error => ends.heard || controller.error(error));
-    },
-    cancel() {
-      ends.heard = true;
-      socket.close();
-    },
-  });
+// A page may name 1000 and 3000 to 4999 alone.
+function closeUnsupported(socket) {
+  try {
+    socket.close(UNSUPPORTED);
+  } catch {
+    socket.close(UNSUPPORTED_FOR_PAGE);
+  }
 }
 
-/** The other way: a write waits while the WebSocket has much to send. */
-function writableOf(socket, ends) {
-  return new WritableStream({
-    start(controller) {
-      ends.failed.then(error => ends.said || controller.error(error));
-    },
-    async write(bytes) {
-      bytesOf(bytes, 'what is written');
-      if (bytes.length === 0) {
-        return; // it would be the end
-      }
-      socket.send(bytes);
-      while (socket.bufferedAmount > HIGH && socket.readyState === OPEN) {
-        await later(socket);
-      }
-    },
-    close() {
-      socket.send(new Uint8Array(0));
-      ends.said = true;
-      ends.closeIfBoth();
-    },
-    abort() {
-      ends.said = true;
-      socket.close();
-    },
-  });
+/** The two directions of a WebSocket, each with an end of its own. */
+class Directions {
+  #socket;
+  // The controllers of the streams, null once a direction is over: a stream that ended or failed takes no more calls.
+  #incoming = null;
+  #outgoing = null;
+
+  constructor(socket) {
+    this.#socket = socket;
+    this.readable = new ReadableStream({
+      start: controller => void (this.#incoming = controller),
+      cancel: () => {
+        this.#incoming = null;
+        socket.close();
+      },
+    });
+    this.writable = new WritableStream({
+      start: controller => this.#startWriting(controller),
+      write: bytes => this.#write(bytes),
+      close: () => this.#endWriting(),
+      abort: () => this.#giveUp(),
+    });
+    socket.addEventListener('message', ({ data }) => this.#receive(data));
+    socket.addEventListener('close', event => this.#fail(gone(event)), { once: true });
+    socket.addEventListener('error', () => {}); // a close follows, and says it
+  }
+
+  // A WebSocket message is a part of the stream, or its end where it has no bytes.
+  #receive(data) {
+    if (this.#incoming === null) {
+      return;
+    }
+    if (!isArrayBuffer(data)) {
+      this.#fail(new TypeError(`a WebSocket message is bytes, and not a ${typeof data}`));
+      closeUnsupported(this.#socket);
+      return;
+    }
+    const bytes = new Uint8Array(data);
+    if (sizeOf(bytes) > 0) {
+      this.#incoming.enqueue(bytes);
+    } else {
+      this.#incoming.close();
+      this.#incoming = null;
+      this.#closeIfBoth();
+    }
+  }
+
+  // The stream's `abort` waits for the write that is under way, and its signal, which old browsers lack, does not.
+  #startWriting(controller) {
+    this.#outgoing = controller;
+    controller.signal?.addEventListener('abort', () => this.#giveUp());
+  }
+
+  #giveUp() {
+    this.#outgoing = null;
+    this.#socket.close();
+  }
+
+  async #write(bytes) {
+    const given = bytesOf(bytes, 'what is written');
+    if (sizeOf(given) === 0) {
+      return; // it would be the end
+    }
+    this.#send(given);
+    while (this.#socket.bufferedAmount > HIGH && this.#socket.readyState === OPEN) {
+      await later(this.#socket);
+    }
+  }
+
+  #endWriting() {
+    this.#send(new Uint8Array(0));
+    this.#outgoing = null;
+    this.#closeIfBoth();
+  }
+
+  // A WebSocket that is closing drops what it is given, and says nothing of it.
+  #send(bytes) {
+    if (this.#socket.readyState !== OPEN) {
+      throw new Error('the WebSocket is closing, and sends nothing more');
+    }
+    this.#socket.send(bytes);
+  }
+
+  #closeIfBoth() {
+    if (this.#incoming === null && this.#outgoing === null) {
+      this.#socket.close(NORMAL);
+    }
+  }
+
+  #fail(error) {
+    this.#incoming?.error(error);
+    this.#outgoing?.error(error);
+    this.#incoming = this.#outgoing = null;
+  }
 }
 
 /**
@@ -82,22 +138,16 @@ function writableOf(socket, ends) {
  * writes no more; the other side has to read it so, as this function does.
  */
 export async function fromWebSocket(socket) {
-  socket.binaryType = 'arraybuffer';
-  const ends = { heard: false, said: false };
-  ends.failed = new Promise(fail => (ends.fail = fail));
-  ends.closeIfBoth = () => ends.heard && ends.said && socket.close(NORMAL);
-  const gone = ({ code, reason }) => new Error(`the WebSocket closed (${code}${reason && ` ${reason}`})`);
-  socket.addEventListener('close', event => ends.fail(gone(event)), { once: true });
-  socket.addEventListener('error', () => {}); // a close follows, and says it
-  const streams = { readable: readableOf(socket, ends), writable: writableOf(socket, ends) };
   if (socket.readyState > OPEN) {
     throw new Error('the WebSocket is closed');
   }
+  socket.binaryType = 'arraybuffer';
+  const { readable, writable } = new Directions(socket);
   if (socket.readyState < OPEN) {
     await new Promise((resolve, reject) => {
       socket.addEventListener('open', resolve, { once: true });
-      ends.failed.then(reject);
+      socket.addEventListener('close', event => reject(gone(event)), { once: true });
     });
   }
-  return streams;
+  return { readable, writable };
 }

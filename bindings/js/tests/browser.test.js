@@ -1,8 +1,9 @@
 import assert from 'node:assert/strict';
+import { once } from 'node:events';
 import { readFile } from 'node:fs/promises';
 import { after, before, test } from 'node:test';
 import { Chromium } from './chromium.js';
-import { startRelay } from './relay.js';
+import { WebSocket, startRelay } from './relay.js';
 
 let relay;
 let chromium;
@@ -109,4 +110,25 @@ test('10 MB each way at once between two tabs', async () => {
     return right;
   };
   assert.deepEqual(await Promise.all(tabs.map(tab => call(tab, exchange, relay.socket, 100_000, 100))), [100, 100]);
+});
+
+test('a text fails the session of a tab and closes its WebSocket, without an error that nobody catches', async () => {
+  const other = new WebSocket(relay.socket);
+  await once(other, 'open');
+  // The relay keeps them for the tab.
+  ['text', Uint8Array.of(1), new Uint8Array(0)].forEach(it => other.send(it));
+  const tab = await chromium.tab(new URL('/none', relay.page).href);
+  const lose = async address => {
+    const { fromWebSocket, open } = await import('/src/index.js');
+    const uncaught = [];
+    addEventListener('error', ({ message }) => uncaught.push(message));
+    addEventListener('unhandledrejection', ({ reason }) => uncaught.push(String(reason)));
+    const socket = new WebSocket(address);
+    const closed = new Promise(resolve => socket.addEventListener('close', ({ code }) => resolve(code)));
+    const session = await open(await fromWebSocket(socket));
+    const reason = await session.closed.catch(error => String(error));
+    return { reason, code: await closed, uncaught };
+  };
+  const reason = 'TypeError: a WebSocket message is bytes, and not a string';
+  assert.deepEqual(await call(tab, lose, relay.socket), { reason, code: 4003, uncaught: [] });
 });

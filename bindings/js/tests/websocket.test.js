@@ -1,6 +1,7 @@
 import assert from 'node:assert/strict';
 import { once } from 'node:events';
 import { after, before, test } from 'node:test';
+import { runInNewContext } from 'node:vm';
 import { Channel, SessionClosed, fromWebSocket, open } from 'lcmux';
 import { WebSocket, WebSocketServer, startRelay } from './relay.js';
 import { fate } from './streams.js';
@@ -69,6 +70,83 @@ for (const [name, lose] of [['closed', socket => socket.close()], ['cut', socket
   });
 }
 
+/** A connection without a relay: the socket of the server and that of the client, in this order. */
+async function bothSockets(context) {
+  const server = new WebSocketServer({ port: 0, host: '127.0.0.1' });
+  await once(server, 'listening');
+  context.after(() => server.close());
+  const accepted = once(server, 'connection');
+  const client = new WebSocket(`ws://127.0.0.1:${server.address().port}`);
+  const [[socket]] = await Promise.all([accepted, once(client, 'open')]);
+  return [socket, client];
+}
+
+for (const side of ['a server', 'a client']) {
+  for (const [name, next] of [['bytes', bytes(3, 1)], ['an empty message', new Uint8Array(0)], ['a text again', 'text']]) {
+    test(`${side} that receives a text and then ${name} fails its streams and closes`, async context => {
+      const sockets = await bothSockets(context);
+      const [socket, other] = side === 'a server' ? sockets : sockets.reverse();
+      const { readable, writable } = await fromWebSocket(socket);
+      const [closed, closedThere] = [once(socket, 'close'), once(other, 'close')];
+      // What one part of TCP brings is told at once, without a turn between.
+      other._socket.cork();
+      [bytes(2, 7), 'text', next].forEach(it => other.send(it));
+      other._socket.uncork();
+      const reader = readable.getReader();
+      assert.deepEqual((await reader.read()).value, bytes(2, 7));
+      const isReason = { name: 'TypeError', message: 'a WebSocket message is bytes, and not a string' };
+      await assert.rejects(reader.read(), isReason);
+      await assert.rejects(writable.getWriter().closed, isReason);
+      assert.deepEqual([(await closedThere)[0], (await closed)[0]], [1003, 1003]);
+    });
+  }
+}
+
+test('a server goes on with its other clients, whatever some of them send', { timeout: 20_000 }, async context => {
+  const server = new WebSocketServer({ port: 0, host: '127.0.0.1' });
+  await once(server, 'listening');
+  context.after(() => server.close());
+  const echo = async socket => {
+    const session = await open(await fromWebSocket(socket));
+    for await (const message of session.channel(Data)) {
+      await session.channel(Data).send(message);
+    }
+    await session.close();
+  };
+  const served = [];
+  server.on('connection', socket => served.push(echo(socket).then(() => 'in order', () => 'lost')));
+  const address = `ws://127.0.0.1:${server.address().port}`;
+  const BAD = [
+    socket => ['text', bytes(1, 1), new Uint8Array(0)].forEach(it => socket.send(it)),
+    socket => [bytes(3, 0xff), 'text', bytes(3, 0xff)].forEach(it => socket.send(it)),
+    socket => [new Uint8Array(0), bytes(1, 1), 'text', new Uint8Array(0)].forEach(it => socket.send(it)),
+    socket => socket._socket.write(bytes(64, 0xff)),
+    socket => socket._socket.resetAndDestroy(),
+    socket => socket.terminate(),
+    socket => socket.close(),
+  ];
+  const bad = Array.from({ length: 28 }, async (_, k) => {
+    const socket = new WebSocket(address);
+    socket.on('error', () => {});
+    await once(socket, 'open');
+    BAD[k % BAD.length](socket);
+    await once(socket, 'close');
+  });
+  const good = Array.from({ length: 10 }, async (_, k) => {
+    const session = await open(await fromWebSocket(new WebSocket(address)));
+    for (let turn = 0; turn < 20; turn += 1) {
+      await session.channel(Data).send(bytes(100, k));
+      assert.deepEqual(await session.channel(Data).receive(), bytes(100, k));
+    }
+    await session.channel(Data).finish();
+    await session.close();
+  });
+  await Promise.all([...good, ...bad]);
+  // The bad ones that sent an end first had ended in order.
+  const all = await Promise.all(served);
+  assert.deepEqual(['in order', 'lost'].map(how => all.filter(it => it === how).length), [10 + 4, 24]);
+});
+
 /** A WebSocket in which bytes stay until the test lets them go. */
 class Stuck extends EventTarget {
   readyState = 1;
@@ -80,11 +158,79 @@ class Stuck extends EventTarget {
     this.bufferedAmount += message.length;
   }
 
-  close() {
+  // As in a page, which may name few codes.
+  close(code = 1005) {
+    if (code !== 1005 && code !== 1000 && !(code >= 3000 && code <= 4999)) {
+      throw new Error(`the code ${code} is none for a page`);
+    }
     this.readyState = 3;
-    this.dispatchEvent(Object.assign(new Event('close'), { code: 1000, reason: '' }));
+    this.code = code;
+    this.dispatchEvent(Object.assign(new Event('close'), { code, reason: '' }));
+  }
+
+  receive(data) {
+    this.dispatchEvent(Object.assign(new Event('message'), { data }));
   }
 }
+
+for (const data of ['text', '', { size: 3 }, bytes(3, 1), null]) {
+  test(`a page closes by a code that it may name, where it receives ${data === null ? data : data.constructor.name}`, async () => {
+    const socket = new Stuck();
+    const { readable, writable } = await fromWebSocket(socket);
+    socket.receive(data);
+    socket.receive(new ArrayBuffer(3));
+    socket.receive(new ArrayBuffer(0));
+    assert.deepEqual([socket.readyState, socket.code], [3, 4003]);
+    const isReason = { name: 'TypeError', message: /^a WebSocket message is bytes/ };
+    await assert.rejects(readable.getReader().read(), isReason);
+    await assert.rejects(writable.getWriter().write(bytes(1, 1)), isReason);
+    assert.deepEqual(socket.sent, []);
+  });
+}
+
+test('an ArrayBuffer of another realm is bytes', async () => {
+  const socket = new Stuck();
+  const { readable } = await fromWebSocket(socket);
+  socket.receive(runInNewContext('Uint8Array.of(1, 2).buffer'));
+  assert.deepEqual((await readable.getReader().read()).value, Uint8Array.of(1, 2));
+});
+
+for (const [name, state] of [['closing', 2], ['closed', 3]]) {
+  for (const call of ['write', 'close']) {
+    test(`a ${call} while the WebSocket is ${name} fails, since its bytes would be dropped`, async () => {
+      const socket = new Stuck();
+      const { writable } = await fromWebSocket(socket);
+      socket.readyState = state;
+      await assert.rejects(writable.getWriter()[call](bytes(1, 1)), /the WebSocket is closing/);
+      assert.deepEqual(socket.sent, []);
+    });
+  }
+}
+
+test('a send is an error where the WebSocket closes meanwhile', async context => {
+  const sockets = await bothSockets(context);
+  const [alice, bob] = await Promise.all(sockets.map(async socket => open(await fromWebSocket(socket))));
+  bob.closed.catch(() => {});
+  await alice.channel(Data).send(bytes(1, 1));
+  await bob.channel(Data).receive();
+  sockets[0].close();
+  // It has its place before it is known that nothing is sent any more; the session then says so.
+  await alice.channel(Data).send(bytes(1, 2));
+  await assert.rejects(alice.closed, /the WebSocket is closing/);
+  await assert.rejects(alice.channel(Data).send(bytes(1, 3)), /the WebSocket is closing/);
+});
+
+test('an abort closes the WebSocket at once, while a write waits and the other direction has ended', async () => {
+  const socket = new Stuck();
+  const { readable, writable } = await fromWebSocket(socket);
+  socket.receive(new ArrayBuffer(0));
+  assert.equal((await readable.getReader().read()).done, true);
+  const writer = writable.getWriter();
+  const waits = writer.write(bytes(2 ** 20 + 1, 1));
+  assert.equal(await fate(waits), null);
+  writer.abort(new Error('enough')).catch(() => {});
+  assert.equal(socket.readyState, 3);
+});
 
 test('a write waits while the WebSocket has much to send', async () => {
   const socket = new Stuck();
@@ -105,7 +251,7 @@ for (const order of ['heard first', 'said first']) {
   test(`a WebSocket is closed once both directions have ended, ${order}`, async () => {
     const socket = new Stuck();
     const { readable, writable } = await fromWebSocket(socket);
-    const hear = () => socket.dispatchEvent(Object.assign(new Event('message'), { data: new ArrayBuffer(0) }));
+    const hear = () => socket.receive(new ArrayBuffer(0));
     const say = () => writable.getWriter().close();
     const [first, second] = order === 'heard first' ? [hear, say] : [say, hear];
     await first();
