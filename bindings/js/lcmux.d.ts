@@ -416,7 +416,10 @@ export declare class Session {
    * sends meanwhile can be received. The answer is {@link closed}: it waits until the other side has closed, too.
    */
   close(): Promise<void>;
-  /** Ends the session at once, by this reason. What was not written is lost. */
+  /**
+   * Ends the session at once, by this reason. What was not written is lost, and of what was written all that the other
+   * side has not read yet may be.
+   */
   abort(reason?: unknown): void;
 }
 

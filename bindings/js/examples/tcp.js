@@ -11,7 +11,7 @@ const MESSAGES = 1000;
 const config = { capacities: 64 };
 
 async function sendAll(port) {
-  const session = await open(fromSocket(connect({ port, allowHalfOpen: true })), config);
+  const session = await open(fromSocket(connect({ port })), config);
   const data = session.channel(Channel.Data);
   for (let k = 0; k < MESSAGES; k += 1) {
     await data.send(Uint8Array.of(k >> 8, k));
@@ -34,7 +34,7 @@ async function takeAll(socket) {
 }
 
 async function main() {
-  const server = createServer({ allowHalfOpen: true }).listen(0, '127.0.0.1');
+  const server = createServer().listen(0, '127.0.0.1');
   await once(server, 'listening');
   const { port } = server.address();
   spawn(process.execPath, [fileURLToPath(import.meta.url), String(port)], { stdio: 'inherit' });

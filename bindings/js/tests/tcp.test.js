@@ -1,13 +1,17 @@
 import assert from 'node:assert/strict';
 import { execFile } from 'node:child_process';
 import { once } from 'node:events';
+import { mkdtemp, rm } from 'node:fs/promises';
 import { connect, createServer } from 'node:net';
+import { tmpdir } from 'node:os';
 import { after, before, test } from 'node:test';
+import { connect as connectSecurely, createServer as createSecureServer } from 'node:tls';
 import { fileURLToPath } from 'node:url';
 import { promisify } from 'node:util';
 import { Channel, SessionClosed, open } from 'lcmux';
 import { fromSocket } from 'lcmux/node';
 import { buildExchange } from './native.js';
+import { fate, settled } from './streams.js';
 
 const { Data } = Channel;
 const run = promisify(execFile);
@@ -90,6 +94,162 @@ for (const [name, lose] of [['destroyed', socket => socket.destroy()], ['reset',
     }
   });
 }
+
+/** A connection whose sockets are as Node makes them, without `allowHalfOpen`: of the client, and of the server. */
+async function plainSockets(context, serve = createServer, dial = connect, accepts = 'connection', dials = 'connect', how = {}) {
+  const plain = serve(how);
+  await once(plain.listen(0, '127.0.0.1'), 'listening');
+  const accept = once(plain, accepts);
+  const socket = dial({ port: plain.address().port, host: '127.0.0.1', ...how });
+  const [[other]] = await Promise.all([accept, once(socket, dials)]);
+  context.after(() => [socket, other, plain].forEach(it => it.destroy?.() ?? it.close()));
+  return [socket, other];
+}
+
+// A key that both sides have: no certificate is needed.
+const psk = Buffer.alloc(16, 7);
+const SECURE = { ciphers: 'PSK', maxVersion: 'TLSv1.2', checkServerIdentity: () => undefined };
+const secureSockets = context =>
+  plainSockets(
+    context,
+    how => createSecureServer({ ...how, pskCallback: () => psk }),
+    how => connectSecurely({ ...how, pskCallback: () => ({ psk, identity: 'alice' }) }),
+    'secureConnection',
+    'secureConnect',
+    SECURE,
+  );
+
+for (const [name, make] of [['TCP', plainSockets], ['TLS', secureSockets]]) {
+  test(`all of 1,000,000 bytes arrive over ${name} after the other side closed, though its sockets are not half-open`, async context => {
+    const sockets = await make(context);
+    assert.deepEqual(sockets.map(it => it.allowHalfOpen), [false, false]);
+    // All is guaranteed before the close, behind which no more is.
+    const [alice, bob] = await Promise.all(sockets.map(socket => open(fromSocket(socket), { capacities: 2 ** 20 })));
+    const closed = bob.close();
+    assert.equal(await alice.channel(Data).receive(), null);
+    const sent = (async () => {
+      await sendAll(alice.channel(Data), 1000, 1000);
+      await alice.close();
+    })();
+    let length = 0;
+    for await (const body of bob.channel(Data)) {
+      assert.equal(Buffer.compare(message(length / 1000, 1000), body), 0);
+      length += body.length;
+    }
+    assert.equal(length, 1_000_000);
+    await Promise.all([sent, closed]);
+  });
+}
+
+test('a socket of which a direction has ended is refused', async context => {
+  const refused = (socket, pattern) => assert.throws(() => fromSocket(socket), pattern);
+  const [ended, there] = await plainSockets(context);
+  ended.allowHalfOpen = true;
+  there.end();
+  await once(ended.resume(), 'end');
+  refused(ended, /the other side ended its direction/);
+  refused(there, /this side ended its direction/);
+  const [destroyed] = await plainSockets(context);
+  destroyed.destroy();
+  refused(destroyed, /destroyed/);
+  const [decoding] = await plainSockets(context);
+  refused(decoding.setEncoding('utf8'), /decodes what comes as utf8/);
+});
+
+test('an end that has arrived and was not told yet is told', async context => {
+  const [socket, other] = await plainSockets(context);
+  other.end(message(1, 5));
+  await new Promise(resolve => setTimeout(resolve, 20));
+  const reader = fromSocket(socket).readable.getReader();
+  assert.deepEqual([await reader.read(), await reader.read()], [{ done: false, value: message(1, 5) }, { done: true, value: undefined }]);
+  assert.equal(socket.writable, true);
+});
+
+test('a socket that begins to decode fails its streams', async context => {
+  const [socket, other] = await plainSockets(context);
+  const { readable, writable } = fromSocket(socket);
+  socket.setEncoding('latin1');
+  other.on('error', () => {}).write(message(1, 5));
+  await assert.rejects(readable.getReader().read(), { name: 'TypeError', message: /what a socket reads is a Uint8Array/ });
+  await assert.rejects(writable.getWriter().closed);
+  assert.equal(socket.destroyed, true);
+});
+
+// How a socket is lost, there or here. At none of them does the stream end in order.
+const LOST = {
+  'a reset there': (_, other) => other.resetAndDestroy(),
+  'a destroy here': socket => socket.destroy(),
+  'a destroy here by an error': socket => socket.destroy(new Error('the cable is cut')),
+};
+for (const [name, lose] of Object.entries(LOST)) {
+  for (const written of [0, 5, 2 ** 24]) {
+    test(`a stream does not end by ${name}, behind ${written} bytes that were written there`, async context => {
+      const [socket, other] = await plainSockets(context);
+      const { readable, writable } = fromSocket(socket);
+      other.on('error', () => {});
+      other.write(new Uint8Array(written));
+      await new Promise(resolve => setTimeout(resolve, 20));
+      lose(socket, other);
+      const reader = readable.getReader();
+      await assert.rejects(async () => {
+        while (!(await reader.read()).done);
+      });
+      await assert.rejects(writable.getWriter().closed);
+    });
+  }
+}
+
+for (const written of [5, 2 ** 24]) {
+  test(`a session that is aborted does not end in order there, behind ${written} bytes`, async context => {
+    const [alice, bob] = await Promise.all((await plainSockets(context)).map(socket => open(fromSocket(socket), { version: 2, capacities: 2 ** 24 })));
+    const sends = Array.from({ length: written / 5 > 1 ? 16 : 1 }, () => alice.channel(Data).send(message(1, Math.min(written, 2 ** 20))));
+    sends.forEach(it => it.catch(() => {}));
+    await sends[0];
+    await settled();
+    alice.abort(new Error('enough'));
+    await assert.rejects(async () => {
+      while ((await bob.channel(Data).receive()) !== null);
+    }, { code: 'ECONNRESET' });
+  });
+}
+
+test('a write that the system has not taken is no write that is done, once the socket is destroyed', async context => {
+  const [socket, other] = await plainSockets(context);
+  other.pause();
+  const writer = fromSocket(socket).writable.getWriter();
+  const write = writer.write(new Uint8Array(2 ** 25));
+  assert.equal(await fate(write), null);
+  socket.destroy();
+  await assert.rejects(write, /the socket closed/);
+});
+
+test('an abort destroys the socket at once, while a write waits and the other direction has ended', async context => {
+  const [socket, other] = await plainSockets(context);
+  other.on('error', () => {}).end();
+  other.pause();
+  const { readable, writable } = fromSocket(socket);
+  assert.equal((await readable.getReader().read()).done, true);
+  const writer = writable.getWriter();
+  const write = writer.write(new Uint8Array(2 ** 25));
+  assert.equal(await fate(write), null);
+  writer.abort(new Error('enough')).catch(() => {});
+  write.catch(() => {});
+  assert.equal(socket.destroyed, true);
+});
+
+test('an abort destroys a Unix socket, which has no reset', async context => {
+  const folder = await mkdtemp(`${tmpdir()}/lcmux-`);
+  const plain = createServer();
+  context.after(() => [plain.close(), rm(folder, { recursive: true })]);
+  await once(plain.listen(`${folder}/socket`), 'listening');
+  const accepted = once(plain, 'connection');
+  const socket = connect(`${folder}/socket`);
+  const [other] = await accepted;
+  const { writable } = fromSocket(socket);
+  await writable.abort(new Error('enough'));
+  assert.equal(socket.destroyed, true);
+  other.destroy();
+});
 
 test('a socket is read no faster than its stream', async () => {
   const [socket, other] = await bothSockets();
