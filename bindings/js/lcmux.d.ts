@@ -463,7 +463,7 @@ export interface WebSocketLike {
  * WebSocket is closing, which would drop its bytes without a word.
  *
  * A message that is no bytes, such as a text, fails both streams and closes the WebSocket, by the code 1003, or 4003
- * in a browser, which lets a page name no other. A message that arrives before this call is lost: in a server make the
+ * in a browser, where a page may not name 1003. A message that arrives before this call is lost: in a server make the
  * call where the connection is told, before anything is awaited.
  */
 export declare function fromWebSocket(socket: WebSocketLike): Promise<Streams>;

@@ -244,7 +244,7 @@ test('an abort destroys a Unix socket, which has no reset', async context => {
   await once(plain.listen(`${folder}/socket`), 'listening');
   const accepted = once(plain, 'connection');
   const socket = connect(`${folder}/socket`);
-  const [other] = await accepted;
+  const [[other]] = await Promise.all([accepted, once(socket, 'connect')]);
   const { writable } = fromSocket(socket);
   await writable.abort(new Error('enough'));
   assert.equal(socket.destroyed, true);
