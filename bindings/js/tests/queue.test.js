@@ -1,9 +1,10 @@
 // What waits costs the same for each, however many wait: counted in steps.
+// The first import counts how often the blocks of those behind it run.
+import { stepsOf } from './steps.js';
 import assert from 'node:assert/strict';
 import { test } from 'node:test';
 import { Channel } from 'lcmux';
 import { List } from '../src/list.js';
-import { stepsOf } from './steps.js';
 import { alone, settled } from './streams.js';
 
 const { Data } = Channel;
@@ -116,6 +117,17 @@ for (const [name, prepare] of Object.entries(COUNTED)) {
     assert.ok(many < few * 1.5, `${few} steps each, and then ${many}`);
   });
 }
+
+test('what is counted is each turn of a loop, and each element that an array looks at', async () => {
+  const loop = count => {
+    for (let k = 0; k < count; k += 1);
+  };
+  const elements = times(1000, at => at);
+  for (const run of [() => loop(1000), () => elements.indexOf(-1)]) {
+    const steps = await stepsOf(run, import.meta.url);
+    assert.ok(steps >= 1000, `${steps} steps`);
+  }
+});
 
 test('a signal is let go once nothing waits by it', async () => {
   const { session, other, put } = await alone();

@@ -25,19 +25,24 @@ async function movedIn(run) {
   return moved;
 }
 
-/** How often the blocks of the package ran meanwhile, and how many elements arrays moved. */
-export async function stepsOf(run) {
-  const inspector = new Session();
-  inspector.connect();
-  const post = promisify((name, words, done) => inspector.post(name, words, done));
-  try {
-    await post('Profiler.enable', {});
-    await post('Profiler.startPreciseCoverage', { callCount: true, detailed: true });
-    const moved = await movedIn(run);
-    const { result } = await post('Profiler.takePreciseCoverage', {});
-    const ranges = result.filter(({ url }) => url.startsWith(SOURCES)).flatMap(it => it.functions).flatMap(it => it.ranges);
-    return ranges.reduce((sum, { count }) => sum + count, moved);
-  } finally {
-    inspector.disconnect();
-  }
+// V8 counts the blocks of functions that it compiles from here on, which it does at their first call: so this file is
+// to be imported before the package.
+const inspector = new Session();
+inspector.connect();
+const post = promisify((name, words, done) => inspector.post(name, words, done));
+inspector.post('Profiler.enable');
+inspector.post('Profiler.startPreciseCoverage', { callCount: true, detailed: true });
+
+/** How often the blocks of these sources ran since the last such call. */
+async function blocksRun(sources) {
+  const { result } = await post('Profiler.takePreciseCoverage', {});
+  const ranges = result.filter(({ url }) => url.startsWith(sources)).flatMap(it => it.functions).flatMap(it => it.ranges);
+  return ranges.reduce((sum, { count }) => sum + count, 0);
+}
+
+/** How often the blocks of the package, or of other sources, ran meanwhile, and how many elements arrays moved. */
+export async function stepsOf(run, sources = SOURCES) {
+  await blocksRun(sources);
+  const moved = await movedIn(run);
+  return moved + (await blocksRun(sources));
 }
