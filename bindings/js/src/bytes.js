@@ -16,8 +16,8 @@ const set = unbound(typedArray.set);
 /** How many bytes an array has. */
 export const sizeOf = getter(typedArray, 'length');
 
-/** Whether an array has its bytes: its buffer was not transferred, and did not shrink below it. */
-function hasBytes(array) {
+/** Whether an array of no bytes is a whole one: its buffer was not transferred, and did not shrink below it. */
+function isWhole(array) {
   try {
     keysOf(array);
     return true;
@@ -26,24 +26,34 @@ function hasBytes(array) {
   }
 }
 
-/** An array of this package's own over the bytes of a Uint8Array, of whichever realm and class. */
+/**
+ * A Uint8Array, of whichever realm and class, which is to be used by the functions of this file alone. It is no view of
+ * it, since a small array has a buffer only once one asks for it.
+ */
 export function bytesOf(value, name) {
   if (tagOf(value) !== 'Uint8Array') {
     throw new TypeError(`${name} is a Uint8Array`);
   }
-  if (!hasBytes(value)) {
+  if (sizeOf(value) === 0 && !isWhole(value)) {
     throw new TypeError(`${name} is a Uint8Array whose buffer was transferred or has shrunk`);
   }
-  return new Bytes(bufferOf(value), offsetOf(value), sizeOf(value));
+  return value;
 }
 
-/** The bytes of an array from one place up to another, or up to its end where that comes first. */
+/** A view of an array's bytes from one place up to another, or up to its end where that comes first. */
 export function part(bytes, from, to) {
   return new Bytes(bufferOf(bytes), offsetOf(bytes) + from, Math.min(to, sizeOf(bytes)) - from);
 }
 
 /** The bytes of one array go to a place of another, which has room for them. */
 export const copyTo = (target, at, bytes) => set(target, bytes, at);
+
+/** An array of this package's own with the same bytes. */
+export function copyOf(bytes) {
+  const copy = new Bytes(sizeOf(bytes));
+  set(copy, bytes, 0);
+  return copy;
+}
 
 /** Whether a value is an ArrayBuffer, of whichever realm. */
 export function isArrayBuffer(value) {

@@ -1,6 +1,6 @@
 // For Node alone: the streams of a TCP socket. Node's own Duplex.toWeb tells the end of what comes only once this
 // side has ended, too, so that the one who closes last would never know.
-import { bytesOf } from './bytes.js';
+import { bytesOf, part } from './bytes.js';
 
 const gone = () => new Error('the socket closed');
 
@@ -59,7 +59,7 @@ class Incoming {
       return;
     }
     try {
-      controller.enqueue(bytesOf(chunk, 'what a socket reads'));
+      controller.enqueue(part(bytesOf(chunk, 'what a socket reads'), 0, Infinity));
       this.#socket.pause();
     } catch (error) {
       fail(error);

@@ -207,7 +207,8 @@ export class Peer {
     const size = sizeOf(whole);
     let [taken, frames] = [0, 0];
     do {
-      const code = this.#ask('peer_deliver', this.#module.put(part(whole, taken, taken + PIECE)));
+      const piece = taken === 0 && size <= PIECE ? whole : part(whole, taken, taken + PIECE);
+      const code = this.#ask('peer_deliver', this.#module.put(piece));
       taken += this.#module.number;
       frames += this.#module.short(1);
       if (code !== 0) {

@@ -1,4 +1,4 @@
-import { bytesOf } from './bytes.js';
+import { bytesOf, copyOf, sizeOf } from './bytes.js';
 import { CHANNELS } from './channel.js';
 import { Code, LcmuxError } from './codes.js';
 import { channelOf, optionsOf, u32 } from './judge.js';
@@ -133,7 +133,7 @@ class Lane {
     let kept = bytes;
     const done = this.#goOut(() => this.#sends(kept), options);
     if (!this.isIdle) {
-      kept = bytes.slice();
+      kept = copyOf(bytes);
     }
     return done;
   }
@@ -167,9 +167,10 @@ class Lane {
     if (this.#isFinished) {
       throw new LcmuxError(Code.ChannelFinished);
     }
-    switch (this.#peer.needs(this.#channel, body.length).kind) {
+    const length = sizeOf(body);
+    switch (this.#peer.needs(this.#channel, length).kind) {
       case 'never':
-        throw this.#never(body.length);
+        throw this.#never(length);
       case 'guarantees':
         this.#link.mayHear();
         return false;
