@@ -2,50 +2,55 @@
 
 const SHORT = 3;
 
+/** The bytes of the buffers at first. */
+const LEAST_IN = 1 << 12;
+const LEAST_OUT = 1 << 16;
+
 const utf8 = new TextEncoder();
 const latin1 = new TextDecoder('latin1');
 
-const encoded = input => (typeof input === 'string' ? utf8.encode(input) : input);
+// An array of this page's own: its length is what it has room for, whatever another array says of itself.
+const encoded = input => (typeof input === 'string' ? utf8.encode(input) : new Uint8Array(input));
+
+/** A buffer in the module's memory, which has no room until it is widened. */
+class Room {
+  #run;
+  at = 0;
+  size = 0;
+
+  /** `run` makes a call of the module. */
+  constructor(run) {
+    this.#run = run;
+  }
+
+  // The old buffer goes first, and is forgotten before the request, which may be refused.
+  widen(size) {
+    if (size <= this.size) {
+      return;
+    }
+    const old = this.at;
+    this.at = this.size = 0;
+    if (old !== 0) {
+      this.#run('dealloc', [old]);
+    }
+    const at = this.#run('alloc', [size]);
+    if (at === 0) {
+      throw new Error('there is no memory for that');
+    }
+    this.at = at;
+    this.size = size;
+  }
+}
 
 /** The module's memory, and its calls. */
 class Module {
   #calls;
-  #room = 1 << 16;
-  #out;
-  #in = 0;
-  #inRoom = 0;
   #trap = null;
+  #in = new Room((name, words) => this.#run(name, words));
+  #out = new Room((name, words) => this.#run(name, words));
 
   constructor(calls) {
     this.#calls = calls;
-    this.#out = this.#block(this.#room);
-  }
-
-  #block(size) {
-    const at = this.#calls.alloc(size) >>> 0;
-    if (at === 0) {
-      throw new Error('there is no memory for that');
-    }
-    return at;
-  }
-
-  // The buffer for what goes in has room for so many bytes.
-  #widen(length) {
-    if (length > this.#inRoom) {
-      if (this.#in !== 0) {
-        this.#calls.dealloc(this.#in);
-      }
-      [this.#in, this.#inRoom] = [0, 0];
-      const room = Math.max(length, 4096);
-      this.#in = this.#block(room);
-      this.#inRoom = room;
-    }
-  }
-
-  #replaceOut(room) {
-    this.#calls.dealloc(this.#out);
-    this.#out = this.#block(room);
-    this.#room = room;
   }
 
   // After a trap the memory may be half written, so no further call is made.
@@ -64,17 +69,19 @@ class Module {
   /** What a call answers: its status, what it shows, and the line of a fault. */
   call(name, words, input = []) {
     const bytes = encoded(input);
-    this.#widen(bytes.length);
-    new Uint8Array(this.#calls.memory.buffer).set(bytes, this.#in);
-    const given = name === 'text' ? words : [...words, this.#in, bytes.length];
+    this.#in.widen(Math.max(bytes.length, LEAST_IN));
+    this.#out.widen(LEAST_OUT);
+    new Uint8Array(this.#calls.memory.buffer).set(bytes, this.#in.at);
+    const given = name === 'text' ? words : [...words, this.#in.at, bytes.length];
     for (;;) {
-      const status = this.#run(name, [...given, this.#out, this.#room]);
-      const [shown, told] = new Uint32Array(this.#calls.memory.buffer, this.#calls.answered() >>> 0, 2);
+      const { at: out, size } = this.#out;
+      const status = this.#run(name, [...given, out, size]);
+      const [shown, told] = new Uint32Array(this.#calls.memory.buffer, this.#run('answered', []), 2);
       if (status !== SHORT) {
         const text = (at, length) => latin1.decode(new Uint8Array(this.#calls.memory.buffer, at, length));
-        return { status, shown: text(this.#out, shown), told: text(this.#out + shown, told) };
+        return { status, shown: text(out, shown), told: text(out + shown, told) };
       }
-      this.#replaceOut(shown + told);
+      this.#out.widen(shown + told);
     }
   }
 }
