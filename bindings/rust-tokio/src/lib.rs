@@ -46,50 +46,13 @@ mod link;
 
 pub use lcmux;
 
+pub use lcmux::Timeouts;
 use lcmux::{Closed, Driver, Mux, MuxConfig, MuxFault};
 use link::Link;
 use std::future::poll_fn;
 use std::pin::pin;
-use std::time::Duration;
 use tokio::io::{AsyncRead, AsyncWrite};
 use tokio::task::JoinHandle;
-
-/// How long what may last.
-///
-/// Where one of them is set, the runtime's timers have to be enabled, or the session's task panics.
-///
-/// ```
-/// use lcmux_tokio::Timeouts;
-/// use std::time::Duration;
-///
-/// let mut timeouts = Timeouts::default();
-/// timeouts.idle = Some(Duration::from_secs(60));
-/// timeouts.keep_alive = Some(Duration::from_secs(20));
-/// ```
-#[derive(Clone, Copy, Debug, PartialEq, Eq)]
-#[non_exhaustive]
-pub struct Timeouts {
-    /// How long the other side may send nothing, and how long it may take nothing of what is to be written.
-    /// It wants a [`Timeouts::keep_alive`] of the other side, well below. `None` by default.
-    pub idle: Option<Duration>,
-    /// After how long without a write a frame goes out that changes nothing, as [`Driver::keep_alive`]
-    /// tells. `None` by default.
-    pub keep_alive: Option<Duration>,
-    /// How long the end may take: once the session is closed on this side, how long nothing may be written
-    /// of what was accepted, and then, how long the other side may take to end its direction. 30 seconds
-    /// by default; with `None`, as long as it takes.
-    pub grace: Option<Duration>,
-}
-
-impl Default for Timeouts {
-    fn default() -> Timeouts {
-        Timeouts {
-            idle: None,
-            keep_alive: None,
-            grace: Some(Duration::from_secs(30)),
-        }
-    }
-}
 
 /// What a session is made of. A [`lcmux::Config`] and a [`MuxConfig`] are one, with the default timeouts.
 ///
@@ -105,7 +68,8 @@ impl Default for Timeouts {
 pub struct SessionConfig {
     /// Its rings and slots, and what each channel does by itself.
     pub mux: MuxConfig,
-    /// How long what may last.
+    /// How long it waits for its peer. Where one of them is set, the runtime's timers have to be enabled, or the
+    /// session's task panics.
     pub timeouts: Timeouts,
 }
 

@@ -1,6 +1,5 @@
 use crate::alarm::Alarm;
-use crate::Timeouts;
-use lcmux::{Closed, Driver, PollRead, PollWrite};
+use lcmux::{Closed, Driver, PollRead, PollWrite, Timeouts};
 use std::io::{self, ErrorKind, IoSlice};
 use std::pin::Pin;
 use std::task::{Context, Poll};
@@ -110,7 +109,7 @@ impl<'a, S: AsyncRead + AsyncWrite> Link<'a, S> {
             restart(&mut self.stall);
         }
         if is_over(&mut self.stall, cx) || self.is_past(Phase::Closing, cx) {
-            return timed_out("the other side takes nothing");
+            return timed_out(Timeouts::STALLED);
         }
         answer
     }
@@ -122,12 +121,12 @@ impl<S: AsyncRead + AsyncWrite> PollRead for Link<'_, S> {
         let read = self.stream.as_mut().poll_read(cx, &mut buffer)?;
         match (read, buffer.filled().len()) {
             (Poll::Ready(()), 0) => Poll::Ready(Ok(0)),
-            _ if self.is_past(Phase::Ended, cx) => timed_out("the other side did not end in time"),
+            _ if self.is_past(Phase::Ended, cx) => timed_out(Timeouts::UNENDED),
             (Poll::Ready(()), count) => {
                 restart(&mut self.silence);
                 Poll::Ready(Ok(count))
             }
-            _ if is_over(&mut self.silence, cx) => timed_out("the other side is silent"),
+            _ if is_over(&mut self.silence, cx) => timed_out(Timeouts::SILENT),
             _ => Poll::Pending,
         }
     }

@@ -1,5 +1,6 @@
 //! A session for threads and for async: the ends of channels, and the driver that moves their bytes.
 mod block;
+mod blocking;
 mod closed;
 mod config;
 mod coop;
@@ -11,6 +12,7 @@ mod sender;
 mod shared;
 mod state;
 mod stats;
+mod timeouts;
 
 pub use closed::{
     CallError, Closed, MuxFault, RecvTimeoutError, SendError, SendTimeoutError, TryRecvError,
@@ -23,6 +25,7 @@ pub use io::{Breaker, Pipe, PollRead, PollWrite, WriteHalf};
 pub use receiver::{Message, Receiver};
 pub use sender::{Permit, Sender};
 pub use stats::Stats;
+pub use timeouts::Timeouts;
 
 use crate::Channel;
 use block::{block_on, block_until};
@@ -197,11 +200,7 @@ impl Mux {
     ///
     /// *Cancel-safe*: it changes nothing.
     pub async fn closed(&self) -> Result<(), Closed> {
-        let over = Over {
-            shared: &self.shared,
-            ticket: None,
-        };
-        over.await
+        Over::new(&self.shared).await
     }
 
     /// [`Mux::closed`] for a thread, which sleeps meanwhile.
@@ -252,6 +251,13 @@ impl fmt::Debug for Mux {
 struct Over<'a> {
     shared: &'a Shared,
     ticket: Option<u64>,
+}
+
+impl<'a> Over<'a> {
+    fn new(shared: &'a Shared) -> Over<'a> {
+        let ticket = None;
+        Over { shared, ticket }
+    }
 }
 
 impl Future for Over<'_> {

@@ -118,12 +118,13 @@ fn the_end_comes_in_its_order() {
         there.read_to_end(&mut bytes).await.unwrap();
         assert_eq!(
             bytes,
-            [first_bytes(), b"\x11\0\0\0\x05hello\x71".to_vec()].concat()
+            [&first_bytes()[..], b"\x11\0\0\0\x05hello\x71", b"\x70\x72\x73\x74\x75\x76"].concat()
         );
         there.write_all(b"\x11\0\0\0\x02hi").await.unwrap();
         assert_eq!(receiver.recv().await, Ok(Some(b"hi".to_vec())));
+        there.write_all(&FINISHES).await.unwrap();
         drop(there);
-        assert_eq!(receiver.recv().await, Err(Closed::Clean));
+        assert_eq!(receiver.recv().await, Ok(None));
         assert_eq!(run.await.unwrap(), Ok(()));
         let log = log.lock().unwrap();
         let (before, after) = log.split_once('s').unwrap();
@@ -311,7 +312,7 @@ fn each_direction_ends_by_itself() {
         assert_eq!(receiver.recv().await, Ok(Some(b"first".to_vec())));
         bob.close();
         let mut overlap = alice.receiver(Overlap).unwrap();
-        assert_eq!(overlap.recv().await, Err(Closed::Clean));
+        assert_eq!(overlap.recv().await, Ok(None));
         sender.send(b"second").await.unwrap();
         assert_eq!(receiver.recv().await, Ok(Some(b"second".to_vec())));
         alice.close();
@@ -325,6 +326,6 @@ fn a_configuration_is_judged_at_once() {
     let runtime = current_thread();
     let _inside = runtime.enter();
     let (here, _there) = tokio::io::duplex(64);
-    let refused = connect(here, Config::new([64; 7], 7)).err();
+    let refused = connect(here, Config::new([64; 7], 13)).err();
     assert_eq!(refused, Some(MuxFault::TooFewSlots));
 }

@@ -72,7 +72,7 @@ fn a_side_that_is_killed_is_no_end_of_its_channels() {
         };
         mux.close();
         match (why, run.await.unwrap()) {
-            (Closed::Clean, _) => {} // the stream ended after a whole frame
+            (Closed::Cut, _) => {} // the stream ended after a whole frame
             (why, ran) => assert_eq!(ran, Err(why)),
         }
     });
@@ -89,7 +89,7 @@ fn a_side_that_is_stopped_is_given_up() {
         assert_eq!(receiver.recv().await, Ok(Some(vec![7; 10_000])));
         other.signal("-STOP");
         while receiver.recv().await.is_ok() {}
-        let silent = Err(timed_out("the other side is silent"));
+        let silent = Err(timed_out("the peer sent nothing in time"));
         assert_eq!(run.await.unwrap(), silent);
         assert_eq!(mux.closed().await, silent);
     });

@@ -4,8 +4,10 @@ mod watchdog;
 
 mod cancelled;
 mod endings;
+mod handles;
 mod killed;
 mod load;
+mod stalled;
 mod timeouts;
 
 use lcmux_tokio::lcmux::{Channel, Closed, Config, Mux, Version};
@@ -88,10 +90,7 @@ async fn close(sides: [(Mux, Run); 2]) {
 }
 
 fn timed_out(why: &str) -> Closed {
-    Closed::Transport {
-        kind: ErrorKind::TimedOut,
-        message: why.into(),
-    }
+    std::io::Error::new(ErrorKind::TimedOut, why).into()
 }
 
 const GREETING: [u8; 4] = *b"\x4c\x43\x4d\x02";
@@ -101,6 +100,9 @@ fn first_bytes() -> Vec<u8> {
     let issues = (0..7).map(|channel| [0x20 + channel, 0, 0, 0, 64]);
     GREETING.into_iter().chain(issues.flatten()).collect()
 }
+
+/// The end of all channels.
+const FINISHES: [u8; 7] = *b"\x70\x71\x72\x73\x74\x75\x76";
 
 /// An issue of so much room on channel 1.
 fn issue(amount: u32) -> Vec<u8> {

@@ -64,7 +64,7 @@ fn a_side_that_is_silent_is_given_up() {
             sleep(seconds(50)).await;
             there.write_all(&[byte]).await.unwrap();
         }
-        let silent = timed_out("the other side is silent");
+        let silent = timed_out("the peer sent nothing in time");
         ends(run, begin, 4 * 50 + 60, Err(silent.clone())).await;
         assert_eq!(waits.await.unwrap(), Err(silent.clone()));
         assert_eq!(mux.closed().await, Err(silent));
@@ -88,6 +88,7 @@ fn a_side_that_ended_its_direction_is_not_silent() {
         let (mut mux, run, mut there) = by_hand(idle(60), 4096);
         there.write_all(&GREETING).await.unwrap();
         there.write_all(&issue(5)).await.unwrap();
+        there.write_all(&FINISHES).await.unwrap();
         there.shutdown().await.unwrap();
         sleep(seconds(1000)).await;
         mux.sender(Data).unwrap().send(b"hello").await.unwrap();
@@ -117,7 +118,7 @@ fn a_side_that_stops_reading_is_given_up() {
                 sleep(seconds(5)).await;
             }
         });
-        let stalled = timed_out("the other side takes nothing");
+        let stalled = timed_out("the peer took nothing in time");
         ends(run, begin, 60, Err(stalled.clone())).await;
         let sent = sender.send(b"x").await;
         assert_eq!(sent, Err(SendError::Closed(stalled)));
@@ -141,12 +142,11 @@ fn a_side_that_reads_slowly_is_borne() {
             bytes.push(there.read_u8().await.unwrap());
         }
         there.read_to_end(&mut bytes).await.unwrap();
+        there.write_all(&FINISHES).await.unwrap();
         drop(there);
         assert_eq!(run.await.unwrap(), Ok(()));
-        assert_eq!(
-            bytes[first_bytes().len()..],
-            [&[0x11, 0, 0, 0, 20][..], &[7; 20]].concat()
-        );
+        let message = [&[0x11, 0, 0, 0, 20][..], &[7; 20]].concat();
+        assert_eq!(bytes[first_bytes().len()..], [message, FINISHES.into()].concat());
     });
 }
 
@@ -169,7 +169,8 @@ fn a_frame_that_changes_nothing_goes_where_nothing_else_does() {
         assert_eq!(read_now(&mut there).await, KEEP_ALIVE, "after 115");
         mux.close();
         sleep(seconds(25)).await;
-        assert_eq!(read_now(&mut there).await, []);
+        let rest = b"\x70\x72\x73\x74\x75\x76";
+        assert_eq!(read_now(&mut there).await, rest, "the other channels' ends");
     });
 }
 
@@ -224,21 +225,22 @@ fn the_end_waits_for_the_other_side_as_long_as_it_may() {
             mux.close();
             let mut bytes = Vec::new();
             there.read_to_end(&mut bytes).await.unwrap();
-            assert_eq!(bytes, first_bytes());
+            assert_eq!(bytes, [first_bytes(), FINISHES.into()].concat());
             tokio::spawn(async move {
                 while there.write_all(&KEEP_ALIVE).await.is_ok() {
                     sleep(seconds(1)).await;
                 }
             });
-            let late = timed_out("the other side did not end in time");
+            let late = timed_out("the peer did not end its stream in time");
             ends(run, begin, after, Err(late)).await;
         }
-        let (mux, run, there) = by_hand(grace(None), 4096);
+        let (mux, run, mut there) = by_hand(grace(None), 4096);
         mux.close();
         let begin = Instant::now();
         tokio::spawn(async move {
             sleep(seconds(100_000)).await;
-            drop(there);
+            let end = [&GREETING[..], &FINISHES].concat();
+            there.write_all(&end).await.unwrap();
         });
         ends(run, begin, 100_000, Ok(())).await;
     });
@@ -256,7 +258,7 @@ fn the_end_does_not_wait_for_who_takes_nothing() {
             there.read_u8().await.unwrap();
         }
         let begin = Instant::now();
-        let stalled = timed_out("the other side takes nothing");
+        let stalled = timed_out("the peer took nothing in time");
         ends(run, begin, 7, Err(stalled)).await;
     });
 }

@@ -1,16 +1,15 @@
-use super::block::block_on;
 use super::frames::{Cutter, Direction, Frame, Scanner};
-use super::io::{poll_uninterrupted, Blocking, PollRead, PollWrite, WriteHalf};
+use super::io::{poll_uninterrupted, PollRead, PollWrite};
 use super::shared::Shared;
 use super::state::{Pulled, State};
+use super::timeouts::Timeouts;
 use crate::sys::Lent;
 use crate::{Closed, Overrun};
 use std::fmt::{self, Formatter};
 use std::future::poll_fn;
-use std::io::{self, ErrorKind, IoSlice, Read};
+use std::io::{self, ErrorKind, IoSlice};
 use std::sync::Arc;
 use std::task::{ready, Context, Poll};
-use std::thread;
 
 /// The bytes asked for per read, and offered at most per write. What was pulled goes before all that is sent
 /// later, so over a slow transport a longer piece holds up a short message for longer.
@@ -49,9 +48,10 @@ const PIECES: usize = 16;
 pub struct Driver {
     reading: Reading,
     writing: Writing,
+    pub(super) timeouts: Timeouts,
 }
 
-struct Reading {
+pub(super) struct Reading {
     shared: Arc<Shared>,
     // At its front, what was read of a message that is cut, and is not delivered yet: so many bytes.
     piece: Vec<u8>,
@@ -61,7 +61,7 @@ struct Reading {
     result: Option<Result<(), Closed>>,
 }
 
-struct Writing {
+pub(super) struct Writing {
     shared: Arc<Shared>,
     // What was pulled and is not written: the bytes from start to end, and of the message behind them, which the
     // state lent until the next pull, those after so many.
@@ -100,6 +100,7 @@ impl Driver {
                 scanner: Scanner::new(Direction::Out),
                 result: None,
             },
+            timeouts: Timeouts::default(),
         }
     }
 
@@ -128,44 +129,16 @@ impl Driver {
         self.writing.shared.with(|state| state.borrow_from(len));
     }
 
-    /// Runs the session on this thread, which reads, and on one of its own, which writes. Both sleep in
-    /// their calls of the transport, or until something is to be written; what was written is flushed
-    /// before the thread sleeps. It returns once both directions ended, or the session failed.
-    ///
-    /// For a socket give the stream twice: `driver.run_blocking(stream.try_clone()?, stream)`. It should
-    /// have no timeouts: one that is over fails the session, as any error of a call but an interruption.
-    /// When the session fails or is aborted, [`WriteHalf::breaker`] ends the calls that block.
-    pub fn run_blocking<R, W>(self, reader: R, mut writer: W) -> Result<(), Closed>
-    where
-        R: Read,
-        W: WriteHalf + Send,
-    {
-        let shared = Arc::clone(&self.reading.shared);
-        match writer.breaker() {
-            Ok(breaker) => shared.with(|state| state.set_breaker(breaker)),
-            Err(error) => shared.with(|state| state.fail(error.into())),
-        }
-        let Driver { reading, writing } = self;
-        let mut unspawned = Some((writing, writer));
-        thread::scope(|scope| {
-            // The halves are dropped where they run: one that panics ends the other.
-            let mut reading = reading;
-            let write = || {
-                if let Some((mut writing, writer)) = unspawned.take() {
-                    let mut writer = Blocking(writer);
-                    let _ = block_on(poll_fn(|cx| writing.poll(cx, &mut writer)));
-                }
-            };
-            let thread = thread::Builder::new().name("lcmux writer".into());
-            if let Err(error) = thread.spawn_scoped(scope, write) {
-                shared.with(|state| state.fail(error.into()));
-            }
-            let mut reader = Blocking(reader);
-            let _ = block_on(poll_fn(|cx| reading.poll(cx, &mut reader)));
-        });
-        drop(shared.with(|state| state.take_breaker()));
-        let closed = shared.with(|state| state.closed().cloned());
-        closed.map_or(Ok(()), Closed::result)
+    pub(super) fn shared(&self) -> &Arc<Shared> {
+        &self.reading.shared
+    }
+
+    pub(super) fn into_halves(self) -> (Reading, Writing) {
+        (self.reading, self.writing)
+    }
+
+    pub(super) fn is_written(&self) -> bool {
+        self.writing.is_written()
     }
 
     /// Runs the session over a transport that is polled, until both directions ended or the session
@@ -314,7 +287,7 @@ fn stopped(shared: &Shared, reason: Closed) -> Result<(), Closed> {
 }
 
 impl Reading {
-    fn poll(
+    pub(super) fn poll(
         &mut self,
         cx: &mut Context<'_>,
         reader: &mut impl PollRead,
@@ -371,7 +344,7 @@ impl Reading {
 }
 
 impl Writing {
-    fn poll(
+    pub(super) fn poll(
         &mut self,
         cx: &mut Context<'_>,
         writer: &mut impl PollWrite,
@@ -440,7 +413,7 @@ impl Writing {
         [&self.buffer[self.start..self.end], &message[self.written..]]
     }
 
-    fn is_written(&self) -> bool {
+    pub(super) fn is_written(&self) -> bool {
         self.rest().iter().all(|rest| rest.is_empty())
     }
 

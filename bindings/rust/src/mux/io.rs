@@ -2,6 +2,7 @@
 use std::io::{self, IoSlice, Read, Write};
 use std::net::{Shutdown, TcpStream};
 use std::task::{ready, Context, Poll};
+use std::time::Duration;
 
 /// Ends what blocks in a transport, from any thread: what [`WriteHalf::breaker`] answers.
 ///
@@ -58,6 +59,13 @@ pub trait WriteHalf: Write {
         false
     }
 
+    /// Has a write that takes nothing for so long fail by [`WouldBlock`](io::ErrorKind::WouldBlock) or
+    /// [`TimedOut`](io::ErrorKind::TimedOut), so that the [timeouts](crate::Timeouts) of a session are seen to while the
+    /// peer takes nothing. By default it does nothing: then they expire once the write returns.
+    fn set_write_timeout(&mut self, _timeout: Duration) -> io::Result<()> {
+        Ok(())
+    }
+
     /// What ends a read and a write that block, for a session that fails or is aborted; one that ends in
     /// order drops it. `None` where nothing can: then
     /// [`Driver::run_blocking`](crate::Driver::run_blocking) returns once they do.
@@ -75,6 +83,10 @@ macro_rules! write_half_of_a_socket {
 
             fn writes_vectored(&self) -> bool {
                 true
+            }
+
+            fn set_write_timeout(&mut self, timeout: Duration) -> io::Result<()> {
+                <$socket>::set_write_timeout(self, Some(timeout))
             }
 
             fn breaker(&mut self) -> io::Result<Option<Breaker>> {
@@ -304,41 +316,6 @@ impl PollWrite for Vec<u8> {
 
     fn poll_close(&mut self, _: &mut Context<'_>) -> Poll<io::Result<()>> {
         Poll::Ready(Ok(()))
-    }
-}
-
-/// A half of a transport that blocks, polled: it is always ready, once its call returned.
-pub(crate) struct Blocking<T>(pub T);
-
-impl<R: Read> PollRead for Blocking<R> {
-    fn poll_read(&mut self, _: &mut Context<'_>, buffer: &mut [u8]) -> Poll<io::Result<usize>> {
-        Poll::Ready(self.0.read(buffer))
-    }
-}
-
-impl<W: WriteHalf> PollWrite for Blocking<W> {
-    fn poll_write(&mut self, _: &mut Context<'_>, bytes: &[u8]) -> Poll<io::Result<usize>> {
-        Poll::Ready(self.0.write(bytes))
-    }
-
-    fn poll_write_vectored(
-        &mut self,
-        _: &mut Context<'_>,
-        slices: &[IoSlice<'_>],
-    ) -> Poll<io::Result<usize>> {
-        Poll::Ready(self.0.write_vectored(slices))
-    }
-
-    fn is_write_vectored(&self) -> bool {
-        self.0.writes_vectored()
-    }
-
-    fn poll_flush(&mut self, _: &mut Context<'_>) -> Poll<io::Result<()>> {
-        Poll::Ready(self.0.flush())
-    }
-
-    fn poll_close(&mut self, _: &mut Context<'_>) -> Poll<io::Result<()>> {
-        Poll::Ready(self.0.end())
     }
 }
 

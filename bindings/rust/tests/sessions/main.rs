@@ -6,16 +6,19 @@ mod hand;
 #[path = "../common/watchdog.rs"]
 mod watchdog;
 
+mod answers;
 mod control;
 mod endings;
 mod errors;
 mod frames;
 mod keeping;
 mod lent;
+mod races;
 mod receiving;
 mod scheduling;
 mod sending;
 mod sockets;
+mod timeouts;
 
 use lcmux::{Channel, Config, IssuePolicy, Mux, MuxConfig, Version};
 

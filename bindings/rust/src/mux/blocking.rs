@@ -1,0 +1,376 @@
+//! A session on threads: two that block in the transport, or one that takes turns.
+use super::block::{block_on, block_until};
+use super::driver::{Driver, Reading, Writing};
+use super::io::{PollRead, PollWrite, WriteHalf};
+use super::shared::Shared;
+use super::state::State;
+use super::timeouts::Timeouts;
+use super::Over;
+use crate::Closed;
+use std::future::poll_fn;
+use std::io::{self, ErrorKind, IoSlice, Read};
+use std::sync::atomic::{AtomicU64, Ordering::Relaxed};
+use std::sync::Arc;
+use std::task::{Context, Poll};
+use std::thread;
+use std::time::{Duration, Instant};
+
+/// How long a write of a socket blocks at most before the writing thread looks at the time.
+const TICK: Duration = Duration::from_secs(1);
+
+/// A session on threads.
+impl Driver {
+    /// Sets the timeouts of a session on threads; before, they are those of [`Timeouts::default`].
+    ///
+    /// ```
+    /// use lcmux::{Config, Mux, Timeouts};
+    /// use std::{net::TcpStream, time::Duration};
+    ///
+    /// fn run(stream: TcpStream) -> Result<(), Box<dyn std::error::Error>> {
+    ///     let (mux, mut driver) = Mux::new(Config::new([65_536; 7], 64))?;
+    ///     let mut timeouts = Timeouts::default();
+    ///     timeouts.idle = Some(Duration::from_secs(60));
+    ///     driver.set_timeouts(timeouts);
+    ///     driver.run_blocking(stream.try_clone()?, stream)?;
+    ///     Ok(())
+    /// }
+    /// ```
+    pub fn set_timeouts(&mut self, timeouts: Timeouts) {
+        self.timeouts = timeouts;
+    }
+
+    /// Runs the session on this thread, which reads, and on one of its own, which writes. Both block in their calls of
+    /// the transport, and the writing thread blocks where there is nothing to write; what it wrote is flushed before.
+    /// It returns once both directions ended, or the session failed.
+    ///
+    /// For a socket give the stream twice: `driver.run_blocking(stream.try_clone()?, stream)`. The socket needs no
+    /// timeouts of its own: one of its reads that expires fails the session, as any error of a call but an
+    /// interruption does, and that of its writes is set here, by [`WriteHalf::set_write_timeout`]. The
+    /// [timeouts](Driver::set_timeouts) of the session are kept by the writing thread. When the session fails or is
+    /// aborted, [`WriteHalf::breaker`] ends the calls that block.
+    ///
+    /// A stream that can't be split, as one with TLS, is for [`Driver::run_unsplit`].
+    pub fn run_blocking<R, W>(self, reader: R, mut writer: W) -> Result<(), Closed>
+    where
+        R: Read,
+        W: WriteHalf + Send,
+    {
+        let shared = Arc::clone(self.shared());
+        prepare(&shared, &mut writer);
+        if let Some(tick) = self.timeouts.tick() {
+            fail_on_error(&shared, writer.set_write_timeout(tick));
+        }
+        let heard = Arc::new(Heard::new());
+        let reader = Noted {
+            reader,
+            heard: Arc::clone(&heard),
+        };
+        let timeouts = self.timeouts;
+        let (reading, writing) = self.into_halves();
+        let writer = Timed::new(writer, &shared, timeouts, Blocked::InTheCall);
+        let mut unspawned = Some((writing, writer));
+        thread::scope(|scope| {
+            // The halves are dropped where they run: one that panics ends the other.
+            let write = || {
+                if let Some((writing, writer)) = unspawned.take() {
+                    write_until_the_end(writing, writer, &heard);
+                }
+            };
+            let thread = thread::Builder::new().name("lcmux writer".into());
+            fail_on_error(&shared, thread.spawn_scoped(scope, write));
+            read_until_the_end(reading, reader);
+        });
+        result(&shared)
+    }
+
+    /// Runs the session on this thread alone, over a stream that can't be split, as one with TLS. The thread takes
+    /// turns, so a read must not block for long: the stream is non-blocking, or its reads have a timeout of a few
+    /// milliseconds; [`WouldBlock`](ErrorKind::WouldBlock) and [`TimedOut`](ErrorKind::TimedOut) are no failures here.
+    /// Between two turns in which nothing moved the thread sleeps for the interval, or until a message is to be
+    /// written: with reads that have a timeout the interval is zero, and over a non-blocking stream a few
+    /// milliseconds, which bound the latency of what arrives.
+    ///
+    /// ```
+    /// use lcmux::{Channel::Data, Config, Mux};
+    /// use std::{net::TcpListener, net::TcpStream, thread, time::Duration};
+    ///
+    /// # let listener = TcpListener::bind("127.0.0.1:0")?;
+    /// # let stream = TcpStream::connect(listener.local_addr()?)?;
+    /// # let (there, _) = listener.accept()?;
+    /// # let (mut bob, driver) = Mux::new(Config::new([64; 7], 16))?;
+    /// # let other = thread::spawn(move || driver.run_blocking(there.try_clone()?, there));
+    /// stream.set_read_timeout(Some(Duration::from_millis(5)))?; // in place of TLS, for short
+    /// let (mut mux, driver) = Mux::new(Config::new([64; 7], 16))?;
+    /// let run = thread::spawn(move || driver.run_unsplit(stream, Duration::ZERO));
+    /// mux.sender(Data).unwrap().send_blocking(b"hello")?;
+    /// # let mut receiver = bob.receiver(Data).unwrap();
+    /// # assert_eq!(receiver.recv_blocking()?, Some(b"hello".to_vec()));
+    /// # bob.close();
+    /// mux.close();
+    /// run.join().unwrap()?;
+    /// # other.join().unwrap()?;
+    /// # Ok::<(), Box<dyn std::error::Error>>(())
+    /// ```
+    pub fn run_unsplit<S>(mut self, mut stream: S, interval: Duration) -> Result<(), Closed>
+    where
+        S: Read + WriteHalf,
+    {
+        let shared = Arc::clone(self.shared());
+        prepare(&shared, &mut stream);
+        let heard = Arc::new(Heard::new());
+        let mut writer = Timed::new(stream, &shared, self.timeouts, Blocked::BetweenCalls);
+        loop {
+            let until = Instant::now().checked_add(interval);
+            let turn = poll_fn(|cx| -> Poll<Result<(), Closed>> {
+                let written = self.poll_write(cx, &mut writer)?;
+                let mut reader = Noted {
+                    reader: &mut writer.writer,
+                    heard: Arc::clone(&heard),
+                };
+                match (written, self.poll_read(cx, &mut Turn(&mut reader))?) {
+                    (Poll::Ready(()), Poll::Ready(())) => Poll::Ready(Ok(())),
+                    _ => Poll::Pending,
+                }
+            });
+            if block_until(turn, until).is_some() {
+                return result(&shared);
+            }
+            writer.look_at_the_time(&heard, self.is_written());
+        }
+    }
+}
+
+// What ends the calls of the transport where the session fails.
+fn prepare(shared: &Shared, writer: &mut impl WriteHalf) {
+    match writer.breaker() {
+        Ok(breaker) => shared.with(|state| state.set_breaker(breaker)),
+        Err(error) => shared.with(|state| state.fail(error.into())),
+    }
+}
+
+fn fail_on_error<T>(shared: &Shared, result: io::Result<T>) {
+    if let Err(error) = result {
+        shared.with(|state| state.fail(error.into()));
+    }
+}
+
+fn result(shared: &Shared) -> Result<(), Closed> {
+    drop(shared.with(|state| state.take_breaker()));
+    let closed = shared.with(|state| state.closed().cloned());
+    closed.map_or(Ok(()), Closed::result)
+}
+
+fn read_until_the_end(mut reading: Reading, mut reader: Noted<impl Read>) {
+    let _ = block_on(poll_fn(|cx| reading.poll(cx, &mut reader)));
+}
+
+fn write_until_the_end<W: WriteHalf>(mut writing: Writing, mut writer: Timed<W>, heard: &Heard) {
+    loop {
+        let until = writer.next_look(heard);
+        match block_until(poll_fn(|cx| writing.poll(cx, &mut writer)), until) {
+            Some(Ok(())) => break,
+            Some(Err(_)) => return,
+            None => writer.look_at_the_time(heard, writing.is_written()),
+        }
+    }
+    let shared = Arc::clone(&writer.shared);
+    while block_until(Over::new(&shared), writer.next_look(heard)).is_none() {
+        writer.look_at_the_time(heard, true);
+    }
+}
+
+impl Timeouts {
+    // How long a write of the transport may block before the time is looked at.
+    fn tick(&self) -> Option<Duration> {
+        let least = self.idle.into_iter().chain(self.grace).min()?;
+        Some(least.clamp(Duration::from_millis(1), TICK))
+    }
+}
+
+/// When something was read last.
+struct Heard {
+    begin: Instant,
+    /// So many milliseconds after the beginning.
+    after: AtomicU64,
+}
+
+impl Heard {
+    fn new() -> Heard {
+        Heard {
+            begin: Instant::now(),
+            after: AtomicU64::new(0),
+        }
+    }
+
+    fn note(&self) {
+        let after = self.begin.elapsed().as_millis() as u64;
+        self.after.store(after, Relaxed);
+    }
+
+    fn last(&self) -> Instant {
+        self.begin + Duration::from_millis(self.after.load(Relaxed))
+    }
+}
+
+/// A reader that notes when it read something. It is always ready, once its call returned.
+struct Noted<R> {
+    reader: R,
+    heard: Arc<Heard>,
+}
+
+impl<R: Read> PollRead for Noted<R> {
+    fn poll_read(&mut self, _: &mut Context<'_>, buffer: &mut [u8]) -> Poll<io::Result<usize>> {
+        let read = self.reader.read(buffer);
+        if matches!(read, Ok(1..)) {
+            self.heard.note();
+        }
+        Poll::Ready(read)
+    }
+}
+
+/// A reader whose call may find nothing, and is then made again in the next turn.
+struct Turn<'a, R>(&'a mut R);
+
+impl<R: PollRead> PollRead for Turn<'_, R> {
+    fn poll_read(&mut self, cx: &mut Context<'_>, buffer: &mut [u8]) -> Poll<io::Result<usize>> {
+        match self.0.poll_read(cx, buffer) {
+            Poll::Ready(Err(error)) if found_nothing(&error) => Poll::Pending,
+            read => read,
+        }
+    }
+}
+
+fn found_nothing(error: &io::Error) -> bool {
+    matches!(error.kind(), ErrorKind::WouldBlock | ErrorKind::TimedOut)
+}
+
+/// Where a thread is while its transport takes nothing.
+#[derive(PartialEq, Eq)]
+enum Blocked {
+    InTheCall,
+    BetweenCalls,
+}
+
+/// A writer that keeps the time.
+struct Timed<W> {
+    writer: W,
+    shared: Arc<Shared>,
+    timeouts: Timeouts,
+    blocked: Blocked,
+    /// When something was written last.
+    wrote: Instant,
+    /// Since when the transport takes nothing of what is to be written.
+    stalled: Option<Instant>,
+    /// When the session was seen to be closed, and when this direction ended.
+    closed: Option<Instant>,
+    ended: Option<Instant>,
+}
+
+impl<W: WriteHalf> Timed<W> {
+    fn new(writer: W, shared: &Arc<Shared>, timeouts: Timeouts, blocked: Blocked) -> Timed<W> {
+        Timed {
+            writer,
+            shared: Arc::clone(shared),
+            timeouts,
+            blocked,
+            wrote: Instant::now(),
+            stalled: None,
+            closed: None,
+            ended: None,
+        }
+    }
+
+    /// When the time is to be looked at next.
+    fn next_look(&self, heard: &Heard) -> Option<Instant> {
+        let silent = after(heard.last(), self.timeouts.idle);
+        let next = match self.ended {
+            Some(ended) => after(ended, self.timeouts.grace),
+            None => after(self.wrote, self.timeouts.keep_alive),
+        };
+        silent.into_iter().chain(next).min()
+    }
+
+    /// Fails the session where a timeout expired, or has a frame written that keeps it alive.
+    fn look_at_the_time(&mut self, heard: &Heard, is_written: bool) {
+        let (now, timeouts) = (Instant::now(), self.timeouts);
+        if is_past(after(heard.last(), timeouts.idle), now) {
+            self.expire(Timeouts::SILENT);
+        } else if self.ended.is_some_and(|ended| is_past(after(ended, timeouts.grace), now)) {
+            self.expire(Timeouts::UNENDED);
+        } else if self.ended.is_none() && is_past(after(self.wrote, timeouts.keep_alive), now) {
+            if is_written {
+                self.shared.with(State::keep_alive);
+            }
+            self.wrote = now;
+        }
+    }
+
+    fn expire(&self, why: &str) {
+        let error = io::Error::new(ErrorKind::TimedOut, why);
+        self.shared.with(|state| state.fail(error.into()));
+    }
+
+    // What a call of the writer answered.
+    fn wrote<T>(&mut self, answer: io::Result<T>) -> Poll<io::Result<T>> {
+        let now = Instant::now();
+        if !answer.as_ref().is_err_and(found_nothing) {
+            (self.wrote, self.stalled) = (now, None);
+            return Poll::Ready(answer);
+        }
+        let stalled = *self.stalled.get_or_insert(now);
+        if self.closed.is_none() && self.shared.with(|state| state.is_closing()) {
+            self.closed = Some(now);
+        }
+        let end = self.closed.map(|closed| closed.max(stalled));
+        let is_late = end.is_some_and(|end| is_past(after(end, self.timeouts.grace), now));
+        if is_late || is_past(after(stalled, self.timeouts.idle), now) {
+            let error = io::Error::new(ErrorKind::TimedOut, Timeouts::STALLED);
+            return Poll::Ready(Err(error));
+        }
+        match self.blocked {
+            Blocked::InTheCall => Poll::Ready(Err(ErrorKind::Interrupted.into())), // it is made again
+            Blocked::BetweenCalls => Poll::Pending,
+        }
+    }
+}
+
+fn after(since: Instant, timeout: Option<Duration>) -> Option<Instant> {
+    timeout.and_then(|timeout| since.checked_add(timeout))
+}
+
+fn is_past(deadline: Option<Instant>, now: Instant) -> bool {
+    deadline.is_some_and(|deadline| deadline <= now)
+}
+
+impl<W: WriteHalf> PollWrite for Timed<W> {
+    fn poll_write(&mut self, _: &mut Context<'_>, bytes: &[u8]) -> Poll<io::Result<usize>> {
+        let answer = self.writer.write(bytes);
+        self.wrote(answer)
+    }
+
+    fn poll_write_vectored(
+        &mut self,
+        _: &mut Context<'_>,
+        slices: &[IoSlice<'_>],
+    ) -> Poll<io::Result<usize>> {
+        let answer = self.writer.write_vectored(slices);
+        self.wrote(answer)
+    }
+
+    fn is_write_vectored(&self) -> bool {
+        self.writer.writes_vectored()
+    }
+
+    fn poll_flush(&mut self, _: &mut Context<'_>) -> Poll<io::Result<()>> {
+        let answer = self.writer.flush();
+        self.wrote(answer)
+    }
+
+    fn poll_close(&mut self, _: &mut Context<'_>) -> Poll<io::Result<()>> {
+        let answer = self.writer.end();
+        if answer.is_ok() {
+            self.ended = Some(Instant::now());
+        }
+        self.wrote(answer)
+    }
+}
