@@ -18,6 +18,9 @@ use std::time::{Duration, Instant};
 /// How long a write of a socket blocks at most before the writing thread looks at the time.
 const TICK: Duration = Duration::from_secs(1);
 
+/// How long it does where one thread takes turns.
+const TURN: Duration = Duration::from_millis(10);
+
 /// A session on threads.
 impl Driver {
     /// Sets the timeouts of a session on threads; before, they are those of [`Timeouts::default`].
@@ -84,8 +87,9 @@ impl Driver {
     }
 
     /// Runs the session on this thread alone, over a stream that can't be split, as one with TLS. The thread takes
-    /// turns, so a read must not block for long: the stream is non-blocking, or its reads have a timeout of a few
-    /// milliseconds; [`WouldBlock`](ErrorKind::WouldBlock) and [`TimedOut`](ErrorKind::TimedOut) are no failures here.
+    /// turns, so neither a read nor a write may block for long: the stream is non-blocking, or its reads have a timeout
+    /// of a few milliseconds, and its [`WriteHalf::set_write_timeout`] sets that of its writes.
+    /// [`WouldBlock`](ErrorKind::WouldBlock) and [`TimedOut`](ErrorKind::TimedOut) are no failures here.
     /// Between two turns in which nothing moved the thread sleeps for the interval, or until a message is to be
     /// written: with reads that have a timeout the interval is zero, and over a non-blocking stream a few
     /// milliseconds, which bound the latency of what arrives.
@@ -117,6 +121,7 @@ impl Driver {
     {
         let shared = Arc::clone(self.shared());
         prepare(&shared, &mut stream);
+        fail_on_error(&shared, stream.set_write_timeout(TURN));
         let heard = Arc::new(Heard::new());
         let mut writer = Timed::new(stream, &shared, self.timeouts, Blocked::BetweenCalls);
         loop {
