@@ -27,11 +27,11 @@
 //!
 //! # How a session ends
 //!
-//! - By [`Mux::close`], or the drop of the `Mux` and all its ends: what was accepted is written and flushed,
-//!   the stream is shut down for writing, and then it is read until the other side ends its direction, as
+//! - By [`Mux::close`], or the drop of the `Mux` and all its handles: what was accepted is written, every channel is
+//!   finished, the stream is flushed and shut down for writing, and then it is read until the peer has ended its own, as
 //!   long as [`Timeouts::grace`] allows. The task answers `Ok`.
-//! - By [`Mux::abort`], by a stream that fails, and by a peer that breaks the rules or is silent for longer
-//!   than [`Timeouts::idle`]: the task drops the stream and answers why, as do all calls that wait.
+//! - By [`Mux::abort`], by a stream that fails or is [cut](Closed::Cut), and by a peer that breaks the rules or is silent
+//!   for longer than [`Timeouts::idle`]: the task drops the stream and answers why, as do all calls that wait.
 //! - A task that is aborted, and a runtime that is dropped with it, abort the session:
 //!   [`Closed::Aborted`]. A [`JoinHandle`] that is dropped ends nothing: the task
 //!   goes on until the session is over.

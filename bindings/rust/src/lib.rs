@@ -89,8 +89,8 @@ pub use error::{Fault, Overrun, PeerFault, ReadError, Refusal, Stop, Violation};
 pub use mux::{
     Breaker, CallError, Closed, Direction, Driver, Frame, FrameKind, IssuePolicy, Message, Mux,
     MuxConfig, MuxFault, Permit, Pipe, PleadPolicy, PollRead, PollWrite, Receiver,
-    RecvTimeoutError, SendError, SendTimeoutError, Sender, Stats, Timeouts, TryRecvError, TrySendError,
-    WriteHalf,
+    RecvTimeoutError, SendError, SendTimeoutError, Sender, Stats, Timeouts, TryRecvError,
+    TrySendError, WriteHalf,
 };
 pub use peer::{ClientBook, Config, Delivery, Incoming, Peer, Progress, ServerBook, Take, Version};
 pub use questions::{Needs, Ready};

@@ -1,4 +1,4 @@
-//! A session for threads and for async: the ends of channels, and the driver that moves their bytes.
+//! A session for threads and for async: the handles of channels, and the driver that moves their bytes.
 mod block;
 mod blocking;
 mod closed;
@@ -39,52 +39,57 @@ use std::task::{Context, Poll};
 use std::thread;
 use std::time::{Duration, Instant};
 
-/// A session: it gives out the ends of its channels, each once, and closes or aborts the whole.
+/// A session: it hands out a [`Sender`] and a [`Receiver`] for each channel, each once, and closes or aborts the whole.
 ///
-/// Each end may go to a thread or a task of its own, and calls of all of them may wait at the same time. No
-/// runtime is named: a future wakes what polls it, and a thread that blocks sleeps until it is woken.
+/// Each handle may go to a thread or a task of its own, and calls of all of them may wait at the same time. No runtime is
+/// named: a future wakes what polls it, and a blocked thread sleeps until it is woken.
 ///
-/// # Who goes when
+/// # Scheduling
 ///
-/// - Frames of control (issues, absolves, limits, pleads and finishes) go before messages: they never wait
-///   for a slot behind one. Messages leave 7 slots free, one for each channel, so a session has at least
-///   [`Mux::LEAST_SLOTS`]. What finds no slot all the same waits as one amount for each channel and kind.
-/// - Messages that wait to be written have at most 65,536 bytes together, but for those that are sent by permits
-///   and one that is longer, which waits alone. So a short message never goes behind many long ones.
-/// - Senders go in turn. Between two messages of one sender each other sender that could go, since a call
-///   of it waits whose guarantees are there, goes at least once. So a sender whose guarantees are there
-///   waits for at most six messages of others, beside those that are sent by permits: a permit had its turn
-///   when it was given.
-/// - Calls of one end keep their order: those that wait go in the order in which they began to, and a
-///   finish or a limit goes behind those that wait then.
-/// - A thread that waits to send or to reserve sleeps on: when its turn comes, whoever moves the session on
-///   makes the call for it, and wakes it once that is done. For this a message of up to 4,096 bytes is
-///   copied; for a longer one the thread is woken.
+/// Frames wait in one outbound queue, first in, first out, until the driver takes them to write. The rules say which
+/// frame enters next; the repository's `docs/sessions.md` has them with an example.
 ///
-/// A future goes when it is polled. One that is woken and not polled keeps its turn. So a future that was
-/// polled is to be polled on, or dropped.
+/// - **Slots.** Of a session's slots 7 are reserved for control frames (issues, absolves, limits, pleads and finishes),
+///   one is each channel's own, for its first message or permit that is under way, and the rest is shared. So a session
+///   has at least [`Mux::LEAST_SLOTS`].
+/// - **Bytes.** The messages in the queue have at most 65,536 bytes together, but for one that is longer, which enters
+///   where no other is queued, and for messages that are sent by permits.
+/// - **Order.** Calls of one channel keep their order, and a finish or a limit goes behind the calls that wait by then.
+///   Among channels whose first call can proceed, the one that sent least recently is first.
+/// - **No head-of-line blocking between channels.** A message whose guarantees are there finds its channel's own slot,
+///   unless an earlier message of the same channel is under way, whatever calls of other channels do: also where they
+///   are woken and never polled, hold permits or are forgotten. It waits for bytes at most until the driver has written
+///   what is queued.
+/// - **Fairness.** Between two messages of a channel that always has a call waiting, fewer messages of others are
+///   written than the session has slots, where tasks are polled before the driver writes again. For blocked threads
+///   that always holds, since the session completes their calls itself.
 ///
 /// # How it ends
 ///
-/// - [`Mux::close`] writes out what was accepted, ends this direction, and reads on until the other side
-///   ends its own. So does the drop of the last of the `Mux` and its ends.
-/// - [`Mux::abort`] ends it at once, as does a driver that is dropped, and an end or a `Mux` that is dropped
-///   by a panic.
-/// - A transport that fails, and a peer that breaks the format or the rules, end it.
+/// - [`Mux::close`] writes what was accepted, finishes every channel, ends this side's stream, and reads on until the
+///   peer has done the same. So does dropping the last of the `Mux` and its handles. Then the session is over in order.
+/// - [`Mux::abort`] ends it at once, as does dropping the [`Driver`], and a handle or a `Mux` that a panic drops.
+/// - A transport that fails, a timeout that expires, a peer whose stream ends while channels of it are unfinished
+///   ([`Closed::Cut`]), and one that breaks the framing or the rules, end it too.
 ///
-/// Then all calls that wait answer [`Closed`], and those that are made later do; but what arrived may still
-/// be taken, unless this side aborted. Where the other side ended its direction in order, so does a call
-/// that would wait for what it sends; what is held may still be sent.
+/// Then all waiting calls answer the reason, a [`Closed`], and so do later ones; what arrived may still be received,
+/// unless this side aborted. A `Mux` that is dropped drops the handles that it still has, and leaves the others alone.
 ///
-/// A `Mux` that is dropped drops the ends that it still has, and leaves the others as they are.
+/// # Wakers
 ///
-/// A task that gives up halfway, as by `?`, drops its sender as one does that is done, and the other side
-/// takes the end of the channel for an end in order. Where it must not, abort the session before: calls of a
-/// `Mux` take it by reference, so an `Arc` or a scope shares it.
+/// A task's waker is cloned while the session's lock is held, so its `clone` must not call the session. It is woken and
+/// dropped outside of the lock, by whichever call lets the task proceed, and must not panic: that call unwinds then,
+/// and its answer, such as a received message, is lost.
+///
+/// # Early returns and aborted tasks
+///
+/// A task that returns early, as by `?`, or is aborted, drops its sender as one that is done does: the peer takes that
+/// for the channel's end in order. Where it must not, whoever judges the task's result keeps a clone of the sender, and
+/// drops it, or aborts the session before.
 ///
 /// ```
 /// use lcmux::{Channel::Data, Closed, Config, Mux, Sender};
-/// use std::{error::Error, fs::File, io::Read, sync::Arc, thread};
+/// use std::{error::Error, fs::File, io::Read, thread};
 ///
 /// fn send_file(path: &str, sender: &Sender) -> Result<(), Box<dyn Error>> {
 ///     let (mut file, mut piece) = (File::open(path)?, [0; 4096]);
@@ -98,15 +103,13 @@ use std::time::{Duration, Instant};
 ///
 /// let (mut mux, _driver) = Mux::new(Config::new([65_536; 7], 16))?;
 /// let sender = mux.sender(Data).unwrap();
-/// let mux = Arc::new(mux);
-/// let shared = Arc::clone(&mux);
-/// let task = thread::spawn(move || {
-///     if let Err(error) = send_file("/no/such/file", &sender) {
-///         eprintln!("{error}");
-///         shared.abort(); // and then `sender` is dropped
-///     }
-/// });
-/// task.join().unwrap();
+/// let kept = sender.clone(); // so that the channel is not finished with the task
+/// let task = thread::spawn(move || send_file("/no/such/file", &sender).map_err(|error| error.to_string()));
+/// if let Err(error) = task.join().unwrap() {
+///     eprintln!("{error}");
+///     mux.abort();
+/// }
+/// drop(kept);
 /// assert_eq!(mux.closed_blocking(), Err(Closed::Aborted));
 /// # Ok::<(), lcmux::MuxFault>(())
 /// ```
@@ -166,15 +169,15 @@ impl Mux {
         self.receivers[usize::from(channel.number())].take()
     }
 
-    /// Closes the session in order, and does not wait for it: what was accepted is written out, this
-    /// direction ends, and the other side's is read on until it ends, as [`Mux::closed`] tells.
+    /// Closes the session in order, and does not wait for that: what was accepted is written, every channel of this side
+    /// that is open is finished (in version One by a limit of 0), this side's stream ends, and the peer's is read on
+    /// until it ends too, which [`Mux::closed`] waits for.
     ///
-    /// It is for a side that is done both ways. Its calls that wait to send are answered [`Closed::Clean`],
-    /// and so are later ones; it issues no more room, so the other side may send no more than it holds, and
-    /// that is still taken. It finishes no channel: receivers of the other side that wait learn that the
-    /// session was closed. A second close, and one of a session that is over, does nothing.
+    /// Its calls that wait to send are answered [`Closed::Local`], and so are later ones; it issues no more room, so the
+    /// peer may send no more than it holds guarantees for, and that may still be received. A second close, and one of
+    /// a session that is over, does nothing.
     ///
-    /// The other side may take its time: where that is too long, wait by [`Mux::closed_timeout`], and then
+    /// The peer may take its time: [`Timeouts::grace`] bounds it, or wait by [`Mux::closed_timeout`] and then
     /// [abort](Mux::abort).
     pub fn close(&self) {
         self.shared.with(State::close);
@@ -195,10 +198,12 @@ impl Mux {
         self.shared.with(|state| state.fail(Closed::Aborted));
     }
 
-    /// Waits until the session is over, and says why it is, where that was not in order. It closes nothing:
-    /// each side ends its own direction, by [`Mux::close`] or by dropping all.
+    /// Waits until the session is over: `Ok` where it ended in order, and else why. It closes nothing: each side ends its
+    /// own direction, by [`Mux::close`] or by dropping all its handles.
     ///
-    /// *Cancel-safe*: it changes nothing.
+    /// # Cancel safety
+    ///
+    /// It changes nothing, so its future may be dropped.
     pub async fn closed(&self) -> Result<(), Closed> {
         Over::new(&self.shared).await
     }

@@ -300,7 +300,10 @@ impl<W: WriteHalf> Timed<W> {
         let (now, timeouts) = (Instant::now(), self.timeouts);
         if is_past(after(heard.last(), timeouts.idle), now) {
             self.expire(Timeouts::SILENT);
-        } else if self.ended.is_some_and(|ended| is_past(after(ended, timeouts.grace), now)) {
+        } else if self
+            .ended
+            .is_some_and(|ended| is_past(after(ended, timeouts.grace), now))
+        {
             self.expire(Timeouts::UNENDED);
         } else if self.ended.is_none() && is_past(after(self.wrote, timeouts.keep_alive), now) {
             if is_written {

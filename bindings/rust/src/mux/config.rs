@@ -56,8 +56,8 @@ pub enum PleadPolicy {
 
 /// The bounds of a session's peer, and what each channel does by itself.
 ///
-/// A ring has at least the longest message of its channel, and a busy one the bytes of a round trip, or its
-/// sender waits for more guarantees. Of the slots all but 7 are for messages that wait to be written.
+/// Size a busy channel's ring to its bandwidth-delay product, or its sender stalls waiting for guarantees; a ring has at
+/// least the longest message of its channel. Of the slots 7 are for control frames, and one is each channel's own.
 ///
 /// ```
 /// use lcmux::{Channel::Data, Config, IssuePolicy, Mux, MuxConfig, PleadPolicy};

@@ -78,14 +78,17 @@ impl Receiver {
 
     /// Takes the next message, once there is one; `None` where the channel has ended.
     ///
-    /// *Cancel-safe*: a message is taken when the future is ready, and by one that is dropped before none
-    /// is, nor is any room forgotten.
+    /// After 128 messages in a row without a wait its future yields once, so that other tasks run.
+    ///
+    /// # Cancel safety
+    ///
+    /// A message is taken when the future is ready. By a future that is dropped before none is, nor is any room forgotten.
     ///
     /// # Errors
     ///
-    /// Why the session is over, once all was taken that arrived, and [`Closed::Clean`] where the other side
-    /// ended its direction without an end of this channel. After [`Mux::abort`](crate::Mux::abort)
-    /// [`Closed::Aborted`], whatever is left.
+    /// Why the session failed, once all was taken that arrived and where this channel had not ended by then: a peer that
+    /// crashed is [`Closed::Cut`], and never `None`. After [`Mux::abort`](crate::Mux::abort) [`Closed::Aborted`], whatever
+    /// is left.
     pub async fn recv(&mut self) -> Result<Option<Vec<u8>>, Closed> {
         poll_fn(|cx| self.poll_recv(cx)).await
     }
@@ -144,7 +147,7 @@ impl Receiver {
     /// [`Receiver::recv`] that lends the message where it lies, without a copy. Its room is issued anew when
     /// it is dropped.
     ///
-    /// *Cancel-safe*, as [`Receiver::recv`].
+    /// Its errors and its cancel safety are those of [`Receiver::recv`].
     pub async fn recv_ref(&mut self) -> Result<Option<Message<'_>>, Closed> {
         let front = poll_fn(|cx| self.coop.poll(cx, |cx| self.poll_lend(cx))).await?;
         Ok(self.borrowed(front))

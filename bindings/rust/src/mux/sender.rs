@@ -13,16 +13,16 @@ use std::task::{Context, Poll};
 use std::thread;
 use std::time::{Duration, Instant};
 
-/// The end of a channel that sends.
+/// The sending handle of a channel.
 ///
-/// [`Sender::send`] waits for guarantees, for a place in the queue and for its turn: as a future, as
-/// [`Sender::send_blocking`] for a thread, or up to a [`Sender::send_timeout`]. Several tasks may share one
-/// sender by reference; their calls go in the order in which they began to wait.
+/// [`Sender::send`] waits for guarantees and for a place in the outbound queue: as a future, as
+/// [`Sender::send_blocking`] for a thread, or up to a [`Sender::send_timeout`]. Several tasks may share one sender by
+/// reference or by clones; their calls keep the order in which they began to wait.
 ///
-/// A sender that is dropped finishes its channel: the other side's receiver gets what was sent, and then
-/// the end. In version One, which has no frame for that, a limit of 0 says so. A sender that a panic drops
-/// aborts the session: what was sent so far is not to be taken for all. One that an early return drops does
-/// not ([what to do](crate::Mux#how-it-ends)).
+/// When the last clone of a sender is dropped, its channel is finished: the peer's receiver gets what was sent, and then
+/// the end. In version One, which has no frame for that, a limit of 0 says so. A sender that a panic drops aborts the
+/// session: what was sent so far is not to be taken for all. One that an early return or an aborted task drops does
+/// not ([what to do](crate::Mux#early-returns-and-aborted-tasks)).
 ///
 /// ```
 /// use lcmux::{Channel::Data, Config, Mux, Needs, TrySendError};
@@ -135,21 +135,24 @@ impl Sender {
         self.channel
     }
 
-    /// Sends a copy of 1 to 65,535 bytes as one message, in version Two of 1 to 1,048,576. It waits until
-    /// there are guarantees and a place in the queue and it is this sender's turn. What can never go is an
-    /// error at once; but this side does not know the other's ring, so a message longer than that waits until
-    /// the end.
+    /// Sends a copy of 1 to 65,535 bytes as one message, in version Two of 1 to 1,048,576. It waits until its guarantees
+    /// are there and it [can proceed](crate::Mux#scheduling). What can never be sent is an error at once; but this side
+    /// does not know the peer's ring, so a message longer than that waits until the end.
     ///
-    /// The message is sent once the future is ready, in whole. *Cancel-safe*: a future that is dropped
-    /// before sent nothing, spent no guarantee, and left its place in the line to the next.
+    /// After 128 messages in a row without a wait its future yields once, so that other tasks run.
+    ///
+    /// # Cancel safety
+    ///
+    /// The message is sent, whole, once the future is ready. A future that is dropped before sent nothing, spent no
+    /// guarantee, and left its place in line to the next.
     ///
     /// # Errors
     ///
     /// - [`SendError::Refused`] by 15, 1, 2 and 3, as [`Refusal`](crate::Refusal) numbers them, and by 14,
     ///   where memory was refused and the same call may be made again.
     /// - [`SendError::Unwanted`] where the other side will not issue as much.
-    /// - [`SendError::Closed`] once the session is closed or over, or where guarantees are missing and the
-    ///   other side ended its direction.
+    /// - [`SendError::Closed`] once the session is closed or over, and with [`Closed::Remote`] where guarantees are missing
+    ///   and the peer closed the session.
     pub async fn send(&self, body: &[u8]) -> Result<(), SendError> {
         self.sending(Ask::Message(body), false).await
     }
@@ -165,18 +168,18 @@ impl Sender {
         self.block(Ask::Message(body), deadline(timeout))
     }
 
-    /// Sends a message if that needs no wait, and no call of this sender waits. It has no place in the line:
-    /// made again and again it finds others before it each time that these wait.
+    /// Sends a message if that needs no wait, and no call of this channel waits.
     pub fn try_send(&self, body: &[u8]) -> Result<(), TrySendError> {
         self.shared
             .with(|state| state.try_send(self.channel, Ask::Message(body)))
     }
 
-    /// Waits, as [`Sender::send`] does, until a message of so many bytes could go, and answers a permit to
-    /// send it: so it need not be made before.
+    /// Waits, as [`Sender::send`] does, until a message of so many bytes could be sent, and answers a permit to send it: so
+    /// it need not be made before. Its errors are those of [`Sender::send`], but for 14.
     ///
-    /// *Cancel-safe*: a future that is dropped before it is ready reserved nothing, and left its place in
-    /// the line to the next. Its errors are those of [`Sender::send`], but for 14.
+    /// # Cancel safety
+    ///
+    /// A future that is dropped before it is ready reserved nothing, and left its place in line to the next.
     pub async fn reserve(&self, len: usize) -> Result<Permit<'_>, SendError> {
         self.sending(Ask::Permit(len), false).await?;
         Ok(Permit { sender: self, len })
@@ -282,11 +285,11 @@ impl fmt::Debug for Sender {
     }
 }
 
-/// The right to send one message: it owns guarantees and a slot until it is used or dropped.
+/// The right to send one message: it holds guarantees and a slot until it is used or dropped.
 ///
-/// No other call of the sender spends its guarantees, and no policy gives them up. A permit that is dropped
-/// gives both back, and wakes who waits for them. One that is kept for long keeps its slot from all senders;
-/// so who waits for a second one meanwhile needs a session with slots for both.
+/// No other call of the channel spends its guarantees, and no policy gives them up. A permit that is dropped gives both
+/// back, and notifies the calls that wait for them. The first permit of a channel holds the channel's own slot, a further
+/// one a shared slot: one that is kept for long holds up its own channel, and no other.
 ///
 /// ```
 /// use lcmux::{Channel::Data, Config, Mux};

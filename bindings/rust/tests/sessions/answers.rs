@@ -21,8 +21,15 @@ fn table(heading: &str) -> Vec<Vec<String>> {
     let (_, behind) = page.split_once(&format!("### {heading}\n")).unwrap();
     let rows = behind.lines().skip_while(|line| !line.starts_with('|'));
     let rows = rows.take_while(|line| line.starts_with('|'));
-    let cells = |row: &str| row.trim_matches('|').split('|').map(|it| it.trim().into()).collect();
-    rows.filter(|row| !row.starts_with("|---")).map(cells).collect()
+    let cells = |row: &str| {
+        row.trim_matches('|')
+            .split('|')
+            .map(|it| it.trim().into())
+            .collect()
+    };
+    rows.filter(|row| !row.starts_with("|---"))
+        .map(cells)
+        .collect()
 }
 
 /// What brings a session there, the column, and the reason that its cells speak of.
@@ -90,11 +97,19 @@ fn states() -> Vec<State> {
         state(FAILED, cut, Closed::Cut),
         state(FAILED, reset, reset_by_peer()),
         state(FAILED, cut_a_frame, Closed::Fault(Fault::Truncated)),
-        state(FAILED, break_a_rule, Closed::Violated(Violation::AbsolvedTooMuch)),
+        state(
+            FAILED,
+            break_a_rule,
+            Closed::Violated(Violation::AbsolvedTooMuch),
+        ),
         state(FAILED, |hand| close_and(hand, cut), Closed::Cut),
         state(FAILED, |hand| close_and(hand, reset), reset_by_peer()),
         state(ABORTED, |hand| hand.mux.abort(), Closed::Aborted),
-        state(ABORTED, |hand| close_and(hand, |hand| hand.mux.abort()), Closed::Aborted),
+        state(
+            ABORTED,
+            |hand| close_and(hand, |hand| hand.mux.abort()),
+            Closed::Aborted,
+        ),
     ]
 }
 
@@ -206,7 +221,11 @@ fn each_call_answers_as_the_page_says() {
             // At once is said by the poll; an empty cell can't be reached, and is the end of its channel.
             let cell = row[column].split(", at once").next().unwrap();
             let cell = if cell.is_empty() { "the end" } else { cell };
-            assert_eq!(answer, cell, "{} in {}, {}", row[0], state.column, state.reason);
+            assert_eq!(
+                answer, cell,
+                "{} in {}, {}",
+                row[0], state.column, state.reason
+            );
         }
     }
     assert_eq!(columns, 0b111_1110, "all columns");

@@ -34,15 +34,24 @@ impl Drop for OnDrop {
 fn writing_half(hand: &mut Hand, call: impl FnOnce() + Send + 'static) -> Poll<Result<(), Closed>> {
     let waker = OnDrop::waker(call);
     let mut sink = Vec::new();
-    let polled = hand.driver.poll_write(&mut Context::from_waker(&waker), &mut sink);
+    let polled = hand
+        .driver
+        .poll_write(&mut Context::from_waker(&waker), &mut sink);
     assert!(polled.is_pending());
     drop(waker);
     let woken = Arc::new(Count::default());
     let waker = Waker::from(Arc::clone(&woken));
-    let polled = hand.driver.poll_write(&mut Context::from_waker(&waker), &mut sink);
+    let polled = hand
+        .driver
+        .poll_write(&mut Context::from_waker(&waker), &mut sink);
     assert!(polled.is_pending(), "it found nothing to write");
-    assert_eq!(woken.count(), 1, "and was woken for what happened meanwhile");
-    hand.driver.poll_write(&mut Context::from_waker(&waker), &mut sink)
+    assert_eq!(
+        woken.count(),
+        1,
+        "and was woken for what happened meanwhile"
+    );
+    hand.driver
+        .poll_write(&mut Context::from_waker(&waker), &mut sink)
 }
 
 // All channels of this side are finished, so that a close has no frame to write.
@@ -58,10 +67,19 @@ fn finished() -> Hand {
 #[test]
 fn a_close_just_before_the_writing_half_waits_ends_its_stream() {
     let mut hand = finished();
-    let mux = Arc::new(std::mem::replace(&mut hand.mux, Mux::new(narrow()).unwrap().0));
+    let mux = Arc::new(std::mem::replace(
+        &mut hand.mux,
+        Mux::new(narrow()).unwrap().0,
+    ));
     let closing = Arc::clone(&mux);
-    assert_eq!(writing_half(&mut hand, move || closing.close()), Poll::Ready(Ok(())));
-    assert_eq!(hand.read(&mut &[GREETING, &finishes()].concat()[..]), Poll::Ready(Ok(())));
+    assert_eq!(
+        writing_half(&mut hand, move || closing.close()),
+        Poll::Ready(Ok(()))
+    );
+    assert_eq!(
+        hand.read(&mut &[GREETING, &finishes()].concat()[..]),
+        Poll::Ready(Ok(()))
+    );
     assert_eq!(mux.closed_blocking(), Ok(()));
 }
 
@@ -77,7 +95,10 @@ fn an_abort_just_before_the_writing_half_waits_ends_it() {
 fn the_last_drop_just_before_the_writing_half_waits_closes() {
     let mut hand = Hand::started(narrow());
     let mux = std::mem::replace(&mut hand.mux, Mux::new(narrow()).unwrap().0);
-    assert_eq!(writing_half(&mut hand, move || drop(mux)), Poll::Ready(Ok(())));
+    assert_eq!(
+        writing_half(&mut hand, move || drop(mux)),
+        Poll::Ready(Ok(()))
+    );
 }
 
 #[test]

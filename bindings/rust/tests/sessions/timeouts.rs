@@ -61,7 +61,11 @@ fn side(way: Way, timeouts: Timeouts) -> (Mux, Run, UnixStream) {
 
 fn ends(run: Run, begin: Instant, after: Duration, with: Result<(), Closed>) {
     assert_eq!(run.join().unwrap(), with);
-    assert!((after..after + LONG).contains(&begin.elapsed()), "{:?}", begin.elapsed());
+    assert!(
+        (after..after + LONG).contains(&begin.elapsed()),
+        "{:?}",
+        begin.elapsed()
+    );
 }
 
 #[test]
@@ -210,7 +214,9 @@ fn an_unsplit_stream_carries_both_directions() {
     let _watchdog = Watchdog::new("an unsplit stream");
     let (here, there) = UnixStream::pair().unwrap();
     let sides = [here, there].map(|stream| {
-        stream.set_read_timeout(Some(Duration::from_millis(2))).unwrap();
+        stream
+            .set_read_timeout(Some(Duration::from_millis(2)))
+            .unwrap();
         let (mux, driver) = Mux::new(narrow()).unwrap();
         let run = thread::spawn(move || driver.run_unsplit(Whole(stream), Duration::ZERO));
         (mux, run)
@@ -218,7 +224,8 @@ fn an_unsplit_stream_carries_both_directions() {
     let mut tasks = Vec::new();
     for (mut mux, run) in sides {
         for channel in ALL {
-            let (sender, mut receiver) = (mux.sender(channel).unwrap(), mux.receiver(channel).unwrap());
+            let (sender, mut receiver) =
+                (mux.sender(channel).unwrap(), mux.receiver(channel).unwrap());
             tasks.push(thread::spawn(move || {
                 (0..50u8).for_each(|number| sender.send_blocking(&[number; 9]).unwrap());
             }));
