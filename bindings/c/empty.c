@@ -1,5 +1,5 @@
-/* The calls that take a buffer, for programs: one of length 0 may be NULL, which the proved calls behind
- * them never see. */
+/* The calls in which a program may pass NULL, which the proved calls behind them never see: for a buffer of length 0,
+ * and for no peer at all where one is freed. */
 #include "lcmux.h"
 
 lcmux_answer lcmux_proved_send(lcmux_peer *peer, uint32_t channel, const uint8_t *body, size_t len);
@@ -7,6 +7,7 @@ lcmux_delivery lcmux_proved_deliver(lcmux_peer *peer, const uint8_t *piece, size
 lcmux_answer lcmux_proved_write(lcmux_peer *peer, uint8_t *buffer, size_t len);
 lcmux_answer lcmux_proved_take(lcmux_peer *peer, uint32_t channel, uint8_t *buffer, size_t len);
 lcmux_answer lcmux_proved_text(uint32_t code, char *buffer, size_t len);
+lcmux_answer lcmux_proved_free(lcmux_peer *peer);
 
 static uint8_t nothing[1];
 
@@ -28,4 +29,8 @@ lcmux_answer lcmux_peer_take(lcmux_peer *peer, uint32_t channel, uint8_t *buffer
 
 lcmux_answer lcmux_text(uint32_t code, char *buffer, size_t len) {
     return lcmux_proved_text(code, len ? buffer : (char *)nothing, len);
+}
+
+lcmux_answer lcmux_peer_free(lcmux_peer *peer) {
+    return peer ? lcmux_proved_free(peer) : (lcmux_answer){LCMUX_NO_PEER, 0};
 }

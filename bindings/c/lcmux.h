@@ -11,11 +11,16 @@
  * LCMUX_NO_PEER. After lcmux_peer_free the handle is empty, so a later call, and a second free, answer
  * that code and do nothing.
  *
+ * The library makes no system call. A program that writes to a socket whose other side is gone gets the signal
+ * SIGPIPE, which ends it by default: it sends with MSG_NOSIGNAL, or ignores the signal.
+ *
  * What the library takes as written, and cannot test:
  *  - a handle is LCMUX_PEER_EMPTY at first, its two fields are changed by this library alone, and no
  *    copy of it is used beside it or after it (to move a peer, copy the handle and empty the old one);
- *  - no pointer is NULL but that of a buffer of length 0, and a buffer is as long as its length says;
- *  - no buffer overlaps the handle, the output of the same call or another of its buffers;
+ *  - no pointer is NULL but that of a buffer of length 0 and the handle of lcmux_peer_free, and a buffer is as
+ *    long as its length says;
+ *  - no buffer overlaps the handle, the output of the same call or another of its buffers. What lcmux_peer_front
+ *    lends may be the body of lcmux_peer_send, also on the same peer: a send reads it, and changes no ring;
  *  - of the calls on one handle one runs at a time. Different handles are independent, and a handle may
  *    go to another thread where something orders the two, such as a lock or a join;
  *  - no call is made from a signal handler, or in the child of a fork in a program with threads.
@@ -129,7 +134,12 @@ typedef struct lcmux_peer {
     void *at;
 } lcmux_peer;
 
+/* An empty handle, to initialise one or to assign to it. */
+#ifdef __cplusplus
 #define LCMUX_PEER_EMPTY {0, 0}
+#else
+#define LCMUX_PEER_EMPTY ((lcmux_peer){0, 0})
+#endif
 
 typedef struct lcmux_answer {
     uint32_t code;
@@ -218,9 +228,9 @@ typedef struct lcmux_next {
  * greeting of the stream, 4c 43 4d 02, which waits from here on. */
 lcmux_answer lcmux_peer_new(const lcmux_config *config, lcmux_peer *peer) LCMUX_NONNULL;
 
-/* Gives all of it back, with the messages and frames that are there, and empties the handle.
- * LCMUX_NO_PEER where it was empty. */
-lcmux_answer lcmux_peer_free(lcmux_peer *peer) LCMUX_NONNULL;
+/* Gives all of it back, with the messages and frames that are there, and empties the handle. Where the handle is
+ * empty, or peer is NULL, it does nothing, and the code is LCMUX_NO_PEER. */
+lcmux_answer lcmux_peer_free(lcmux_peer *peer);
 
 /* Sends a copy of 1 to 65,535 bytes as one message, in version 2 of 1 to 1,048,576. Codes 15, 1, 2, 3,
  * 4, 14 and 13, in this order. */

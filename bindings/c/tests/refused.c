@@ -54,6 +54,8 @@ static char run(const lcmux_config *config) {
     must(client.held == (sent.code == LCMUX_OK ? 0 : 5), "a send that was refused spent nothing");
     must(lcmux_peer_pending(&peer).number == (sent.code == LCMUX_OK ? 8 : 0), "and put nothing");
     must(lcmux_peer_free(&peer).code == LCMUX_OK, "free");
+    peer = LCMUX_PEER_EMPTY;
+    must(lcmux_peer_free(&peer).code == LCMUX_NO_PEER, "an empty handle may be assigned");
     must(live == 0, "everything is given back");
     return sent.code == LCMUX_OK ? '-' : 's';
 }
@@ -101,6 +103,7 @@ static void empty_handle(lcmux_peer *peer) {
     must(lcmux_peer_wants_write(peer).code == LCMUX_NO_PEER, "wants write");
     must(lcmux_peer_ready(peer, &ready).code == LCMUX_NO_PEER && ready.channels[6].plead == 7, "ready");
     must(lcmux_peer_free(peer).code == LCMUX_NO_PEER, "free");
+    must(lcmux_peer_free(NULL).code == LCMUX_NO_PEER, "free of no handle");
     must(!memcmp(buffer, "unused\0", 8), "nothing is written");
 }
 
@@ -222,6 +225,21 @@ static void tell_all(void) {
     printf("%zu sentences\n", told);
 }
 
+/* What is lent of the first message may be sent on, on the same peer. */
+static void front_is_sent(const lcmux_config *config) {
+    static const uint8_t arrives[] = {0x21, 0, 0, 0, 5, 0x11, 0, 5, 'h', 'e', 'l', 'l', 'o'};
+    lcmux_peer peer = LCMUX_PEER_EMPTY;
+    lcmux_front front;
+    uint8_t out[16];
+    must(lcmux_peer_new(config, &peer).code == LCMUX_OK, "a peer that sends on");
+    must(lcmux_peer_issue(&peer, 1, 5).code == LCMUX_OK && lcmux_peer_write(&peer, out, 16).number == 5, "issue");
+    must(lcmux_peer_deliver(&peer, arrives, sizeof arrives).frames == 2, "a message arrives");
+    must(lcmux_peer_front(&peer, 1, &front).number == 5 && front.first.len == 5, "in one piece");
+    must(lcmux_peer_send(&peer, 1, front.first.bytes, front.first.len).code == LCMUX_OK, "it is sent on");
+    must(lcmux_peer_write(&peer, out, 16).number == 8 && !memcmp(out, arrives + 5, 8), "as it came");
+    must(lcmux_peer_pop(&peer, 1).number == 5 && lcmux_peer_free(&peer).code == LCMUX_OK, "pop");
+}
+
 int main(void) {
     lcmux_config config = {1, 4, {8, 8, 8, 8, 8, 8, 8}};
     int made = 0, sent = 0;
@@ -232,6 +250,7 @@ int main(void) {
     printf("refused requests: %d of new, %d of send\n", made, sent);
 
     refuse = 0;
+    front_is_sent(&config);
     lcmux_peer peer = LCMUX_PEER_EMPTY;
     empty_handle(&peer);
     requests = 0;

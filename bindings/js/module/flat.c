@@ -39,7 +39,7 @@ u32 EXPORT(handle_new)(void) {
     struct lcmux_tried tried = lcmux_alloc(sizeof(lcmux_peer), _Alignof(lcmux_peer));
     if (!tried.ok)
         return 0;
-    *(lcmux_peer *)tried.at = (lcmux_peer)LCMUX_PEER_EMPTY;
+    *(lcmux_peer *)tried.at = LCMUX_PEER_EMPTY;
     return (u32)(size_t)tried.at;
 }
 
