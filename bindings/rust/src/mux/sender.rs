@@ -63,7 +63,7 @@ impl Future for Sending<'_> {
 
     fn poll(mut self: Pin<&mut Self>, cx: &mut Context<'_>) -> Poll<Self::Output> {
         let Sending { sender, call } = &mut *self;
-        let is_blocked = call.is_left;
+        let is_blocked = call.is_thread;
         let mut poll = |cx: &mut Context<'_>| {
             sender
                 .shared
@@ -101,12 +101,12 @@ impl Sender {
         }
     }
 
-    fn sending<'a>(&'a self, ask: Ask<'a>, is_left: bool) -> Sending<'a> {
+    fn sending<'a>(&'a self, ask: Ask<'a>, is_thread: bool) -> Sending<'a> {
         Sending {
             sender: self,
             call: Call {
                 ask,
-                is_left,
+                is_thread,
                 ticket: None,
             },
         }

@@ -45,6 +45,8 @@ struct Outgoing {
     reserved: u64,
     /// When the channel sent last, counted in messages and permits of all; 0 before.
     went: u64,
+    /// The bytes that are left to its first call, of a thread that was woken to send them.
+    claimed: usize,
     /// How many senders of the channel there are, clones among them.
     senders: usize,
     policy: PleadPolicy,
@@ -94,6 +96,8 @@ pub(crate) struct State {
     long: usize,
     /// Whether the first frame in the queue is lent to the writing half.
     is_lent: bool,
+    /// The bytes that are left to threads which were woken to send them.
+    claimed: usize,
     /// How many messages and permits there were so far.
     turns: u64,
     /// Channels on which a receiver or a sender may owe something, as bits, and the one that is looked at first.
@@ -163,6 +167,7 @@ impl State {
             borrowed_from: BORROWED_FROM,
             long: 0,
             is_lent: false,
+            claimed: 0,
             turns: 0,
             owing_in: ALL,
             owing_out: ALL,

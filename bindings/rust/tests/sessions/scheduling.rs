@@ -170,26 +170,6 @@ fn calls_of_threads_are_completed_while_they_sleep() {
     });
 }
 
-/// A message of any length is read where the blocked thread has it.
-#[test]
-fn a_long_message_of_a_thread_is_completed_too() {
-    let mut hand = Hand::started(with_slots(14));
-    hand.feed(&greeted("issue 1 1"));
-    let sender = hand.mux.sender(Data).unwrap();
-    let body: Vec<u8> = (0..100_000u32).map(|at| at as u8).collect();
-    thread::scope(|scope| {
-        let blocked = scope.spawn(|| sender.send_blocking(&body));
-        while sender.stats().waited_for_guarantees == Duration::ZERO {
-            thread::yield_now();
-        }
-        hand.feed(&frames("issue 1 99999"));
-        let written = hand.written();
-        assert_eq!(written[..5], [0x11, 0, 1, 0x86, 0xa0]);
-        assert_eq!(written[5..], body);
-        assert_eq!(blocked.join().unwrap(), Ok(()));
-    });
-}
-
 /// The permit is given while the thread that waits for it sleeps, and is its own.
 #[test]
 fn a_permit_is_given_to_a_thread_that_sleeps() {

@@ -19,7 +19,9 @@ pub(super) struct Waiter {
     pub len: usize,
     /// Taken once it was woken.
     pub waker: Option<Waker>,
-    /// What it left to be done for it, if it did.
+    /// Whether a blocked thread makes it, which comes when it is woken.
+    pub is_thread: bool,
+    /// What it left to be completed on its behalf, if it did.
     pub left: Option<Left>,
 }
 

@@ -16,6 +16,9 @@ use std::task::{Poll, Waker};
 /// them, and more would only lie there until the driver writes.
 const MOST_QUEUED: usize = 65_536;
 
+/// The longest message that is sent on behalf of a thread: to copy a longer one takes as long as to wake it.
+const MOST_LEFT: usize = 4_096;
+
 /// What a call of a sender asks for.
 #[derive(Clone, Copy)]
 pub(crate) enum Ask<'a> {
@@ -34,10 +37,11 @@ impl Ask<'_> {
     }
 
     // What is kept of it, so that another thread can complete the call.
-    fn left(self) -> Left {
+    fn left(self) -> Option<Left> {
         match self {
-            Ask::Message(body) => Left::Message(Lent::from(body)),
-            Ask::Permit(_) => Left::Permit,
+            Ask::Message(body) if body.len() > MOST_LEFT => None,
+            Ask::Message(body) => Some(Left::Message(Lent::from(body))),
+            Ask::Permit(_) => Some(Left::Permit),
         }
     }
 }
@@ -45,9 +49,9 @@ impl Ask<'_> {
 /// A call that waits, between two polls of it.
 pub(crate) struct Call<'a> {
     pub ask: Ask<'a>,
-    /// Whether it may be completed on behalf of its caller, who then asks before it gives up, and keeps the message
-    /// until it has: a blocked thread does, and a future, which may be forgotten, does not.
-    pub is_left: bool,
+    /// Whether a blocked thread makes it: it comes when it is woken, keeps the message until then, and asks before it
+    /// gives up. So the call may be completed on its behalf. A future, which may be forgotten, does none of that.
+    pub is_thread: bool,
     pub ticket: Option<u64>,
 }
 
@@ -96,6 +100,7 @@ impl State {
     // The first call of the channel was polled, or is given up. Whether others left a shared slot to it until then.
     fn came(&mut self, channel: Channel) -> bool {
         let was_fresh = self.fresh & bit(channel) != 0;
+        self.claimed -= mem::take(&mut self.out[at(channel)].claimed);
         self.notified &= !bit(channel);
         self.fresh &= !bit(channel);
         was_fresh
@@ -267,7 +272,8 @@ impl State {
     }
 
     fn has_bytes(&self, len: usize) -> bool {
-        self.queued == 0 || self.queued + len <= MOST_QUEUED
+        let taken = self.queued + self.claimed;
+        taken == 0 || taken + len <= MOST_QUEUED
     }
 
     fn is_its_turn(&mut self, channel: Channel) -> bool {
@@ -346,7 +352,8 @@ impl State {
                 ticket,
                 len: call.ask.len(),
                 waker: Some(waker.clone()),
-                left: call.is_left.then(|| call.ask.left()),
+                is_thread: call.is_thread,
+                left: call.is_thread.then(|| call.ask.left()).flatten(),
             })),
         }
     }
@@ -390,9 +397,7 @@ impl State {
             if self.complete(channel) {
                 self.flush(); // limits and a finish behind it
             } else {
-                self.notified |= bit(channel);
-                self.fresh |= bit(channel);
-                self.wake_first(channel);
+                self.notify(channel);
             }
         }
         for channel in channels(self.hopeless) {
@@ -425,6 +430,17 @@ impl State {
         let waker = self.leave_line(channel, ticket);
         self.wakes.wake(waker);
         true
+    }
+
+    // The first call can proceed. The bytes are left to a thread, which comes, and not to a future.
+    fn notify(&mut self, channel: Channel) {
+        self.notified |= bit(channel);
+        self.fresh |= bit(channel);
+        let out = &mut self.out[at(channel)];
+        let first = out.line.first().filter(|first| first.is_thread);
+        out.claimed = first.map_or(0, |first| first.len);
+        self.claimed += out.claimed;
+        self.wake_first(channel);
     }
 
     fn wake_first(&mut self, channel: Channel) {

@@ -178,7 +178,7 @@ impl Play {
         caller.woken.0.store(0, Relaxed);
         let mut call = Call {
             ask: Ask::Message(&waiting.body),
-            is_left: caller.is_thread,
+            is_thread: caller.is_thread,
             ticket: waiting.ticket,
         };
         let waker = Waker::from(Arc::clone(&caller.woken));
@@ -333,10 +333,8 @@ fn assert_settled(state: &mut State) {
                     "{channel:?} can proceed and was not notified"
                 );
                 let waits_for_slot = !state.slots.is_own_free(channel) && !state.slots.has_shared();
-                assert!(
-                    waits_for_slot || !state.slots.is_empty(),
-                    "{channel:?} waits for no one"
-                );
+                let waits = waits_for_slot || state.claimed > 0 || !state.slots.is_empty();
+                assert!(waits, "{channel:?} waits for no one");
             }
             _ => assert_eq!(
                 state.notified & bit,
@@ -449,7 +447,7 @@ impl Waits {
         self.woken.0.store(0, Relaxed);
         let mut call = Call {
             ask: Ask::Message(&self.body),
-            is_left: self.is_thread,
+            is_thread: self.is_thread,
             ticket: self.ticket,
         };
         let waker = Waker::from(Arc::clone(&self.woken));
@@ -498,7 +496,7 @@ fn so_many_bytes_of_messages_wait() {
     assert!(!is_sent(&mut state, Overlap, 1));
 }
 
-/// A call that waits for bytes is completed for a thread, of whatever length, and a task is notified; a permit is
+/// A call that waits for bytes is completed for a thread, where its message is short, and else notified; a permit is
 /// refused as long.
 #[test]
 fn a_call_that_waits_for_bytes_learns_that_they_are_free() {
@@ -513,7 +511,8 @@ fn a_call_that_waits_for_bytes_learns_that_they_are_free() {
             Pulled::Bytes(65_541, None)
         ));
         assert!(call.is_woken());
-        assert_eq!(state.queued, if is_thread { len } else { 0 });
+        let is_completed = is_thread && len <= 4_096;
+        assert_eq!(state.queued, if is_completed { len } else { 0 });
         assert_eq!(call.poll(&mut state), DONE);
         assert_eq!(state.queued, len);
         assert!(matches!(pull(&mut state, 1 << 20), Pulled::Bytes(_, None)));
@@ -683,6 +682,48 @@ fn bytes_are_left_to_the_channel_that_sent_least_recently() {
     assert!(!is_sent(&mut state, Data, 1));
     assert!(matches!(pull(&mut state, 1 << 20), Pulled::Bytes(_, None)));
     assert_eq!(long.poll(&mut state), DONE);
+}
+
+/// Bytes are left to a thread that was woken for them, until it comes or gives up, and not to a task.
+#[test]
+fn bytes_are_left_to_threads_that_were_woken() {
+    for is_thread in [true, false] {
+        let mut state = rich(64);
+        assert!(is_sent(&mut state, Data, 60_000));
+        let mut first = Waits::new(&mut state, Overlap, 60_000, is_thread);
+        let mut second = Waits::new(&mut state, Capability, 60_000, is_thread);
+        assert!(matches!(
+            pull(&mut state, 1 << 20),
+            Pulled::Bytes(60_005, None)
+        ));
+        assert_eq!((first.is_woken(), second.is_woken()), (true, !is_thread));
+        assert_eq!(is_sent(&mut state, Data, 10_000), !is_thread);
+        if is_thread {
+            assert!(state.forget_send(Overlap, first.ticket.unwrap()));
+            drop(std::mem::take(&mut state.wakes));
+            assert!(second.is_woken());
+            assert_eq!(second.poll(&mut state), DONE);
+        } else {
+            assert!(second.poll(&mut state).is_pending());
+            assert!(first.poll(&mut state).is_pending());
+        }
+        assert!(!is_sent(&mut state, Data, 10_000));
+    }
+}
+
+/// A message of 4,096 bytes is sent on behalf of a thread, and for a longer one it is woken.
+#[test]
+fn a_long_message_is_sent_by_its_thread() {
+    for (len, is_sent) in [(4_096, true), (4_097, false)] {
+        let mut state = written(14);
+        let mut call = Waits::thread(&mut state, Data, len);
+        state.deliver(&issue(Data, 8_192)).unwrap();
+        drop(std::mem::take(&mut state.wakes));
+        assert!(call.is_woken());
+        assert_eq!(state.stats(Data).messages_sent, u64::from(is_sent));
+        assert_eq!(call.poll(&mut state), DONE);
+        assert_eq!(state.stats(Data).messages_sent, 1);
+    }
 }
 
 /// A call that can't proceed for want of guarantees stands in no one's way, nor does one behind it.
