@@ -1,8 +1,10 @@
 //! Finds the archive of the peer: the file that LCMUX_ARCHIVE names, else the one that this package has for
-//! the target, else what `rt lib` makes in crates/lc_c, where the Rattle kit is installed.
+//! the target, else, in a clone of the repository, what `scripts/archive` has proved and built or kept. Proving
+//! takes minutes, so no build starts it: where there is none yet, only a build that links fails.
+use std::collections::BTreeSet;
 use std::ffi::OsString;
 use std::path::{Path, PathBuf};
-use std::process::{exit, Command, ExitStatus};
+use std::process::{exit, Command, ExitStatus, Stdio};
 use std::{env, fmt, fs, io};
 
 /// A processor for which there are archives.
@@ -46,13 +48,35 @@ impl Processor {
     }
 }
 
-/// The names by which an archive asks for memory.
-enum Heap {
-    /// Those of every library of the kit, of which a program may have two.
+/// Whose names an archive has for its calls, and for those by which it asks for memory.
+#[derive(Clone, Copy)]
+enum Names {
+    /// Those of the kit for memory, which each library of the kit has, and of `lcmux.h`.
     Kit,
+    /// Those of `liblcmux.a`, which a program may have beside this crate.
+    C,
     /// Those of src/sys.rs.
     Own,
 }
+
+impl Names {
+    const ALL: [Names; 3] = [Names::Own, Names::Kit, Names::C];
+
+    /// What its calls for memory begin with.
+    fn heap(self) -> &'static str {
+        match self {
+            Names::Kit => "rattle_",
+            Names::C => "lcmux_",
+            Names::Own => OWN,
+        }
+    }
+}
+
+/// What the names of src/sys.rs begin with.
+const OWN: &str = "lcmux_rs_";
+
+/// The calls by which an archive asks for memory.
+const HEAP: [&str; 3] = ["alloc", "realloc", "dealloc"];
 
 /// Why there is no archive that can be linked.
 enum Wrong {
@@ -110,30 +134,89 @@ fn run(mut command: Command) -> Result<(), Wrong> {
     }
 }
 
-/// What the kit makes of the crate for a processor.
-fn built(crate_dir: &Path, processor: Processor) -> Result<PathBuf, Wrong> {
-    let mut command = Command::new("rt");
-    let target = format!("{}-unknown-linux-gnu", processor.name());
-    command
-        .args(["lib", "--target", &target])
-        .current_dir(crate_dir);
-    run(command)?;
-    Ok(crate_dir.join("out/liblc_c.a"))
+/// A clone of the repository.
+struct Clone {
+    top: PathBuf,
 }
 
-fn find(processor: Option<Processor>) -> Result<PathBuf, Wrong> {
+impl Clone {
+    /// The clone in which this package lies, if any.
+    fn around(package: &Path) -> Option<Clone> {
+        let top = package.join("../..");
+        let has_crate = top.join("crates/lc_c").exists();
+        has_crate.then_some(Clone { top })
+    }
+
+    /// What has been built there of the sources as they stand, or kept.
+    fn kept(&self, processor: Processor) -> Option<PathBuf> {
+        let asked = Command::new(self.top.join("scripts/archive"))
+            .args(["--kept", processor.name()])
+            .stderr(Stdio::null())
+            .status();
+        let archive = format!("crates/lc_c/out/{}/liblc_c.a", processor.name());
+        let archive = self.top.join(archive);
+        is_watched(&archive);
+        asked
+            .is_ok_and(|status| status.success())
+            .then_some(archive)
+    }
+
+    /// Tells cargo what the archive is made from.
+    fn watch(&self) -> Result<(), Wrong> {
+        let crates = self.top.join("crates.txt");
+        is_watched(&crates);
+        is_watched(&self.top.join("HANDLES"));
+        let rows = fs::read_to_string(&crates).map_err(|error| Wrong::Device(crates, error))?;
+        for name in with_those_below("lc_c", &rows) {
+            for part in ["src", "specs", "proofs"] {
+                let folder = self.top.join(format!("crates/{name}/{part}"));
+                if folder.exists() {
+                    is_watched(&folder);
+                }
+            }
+        }
+        Ok(())
+    }
+}
+
+/// Has cargo run this again where the file changes, or one in the folder.
+fn is_watched(path: &Path) {
+    println!("cargo:rerun-if-changed={}", path.display());
+}
+
+/// A crate, and those of the repository that it stands on, by the rows of crates.txt.
+fn with_those_below<'a>(name: &'a str, rows: &'a str) -> BTreeSet<&'a str> {
+    let words = |row: &'a str| row.split([':', ' ']).filter(|word| !word.is_empty());
+    let (mut found, mut left) = (BTreeSet::new(), vec![name]);
+    while let Some(name) = left.pop() {
+        let row = rows.lines().find(|row| words(row).next() == Some(name));
+        if let Some(row) = row.filter(|_| found.insert(name)) {
+            left.extend(words(row).skip(1));
+        }
+    }
+    found
+}
+
+/// An archive, or none, where one has yet to be built for this processor.
+enum Found {
+    Archive(PathBuf),
+    NoneYet(Processor),
+}
+
+fn find(processor: Option<Processor>) -> Result<Found, Wrong> {
     if let Some(path) = of_user("LCMUX_ARCHIVE") {
-        return Ok(path.into());
+        return Ok(Found::Archive(path.into()));
     }
     let processor = processor.ok_or(Wrong::NoneFits)?;
     let package = PathBuf::from(of_cargo("CARGO_MANIFEST_DIR"));
     let packaged = package.join(format!("archives/{}-linux/liblc_c.a", processor.name()));
-    let crate_dir = package.join("../../crates/lc_c");
-    match (packaged.exists(), crate_dir.exists()) {
-        (true, _) => Ok(packaged),
-        (false, true) => built(&crate_dir, processor),
-        (false, false) => Err(Wrong::NoneFits),
+    if packaged.exists() {
+        return Ok(Found::Archive(packaged));
     }
+    let clone = Clone::around(&package).ok_or(Wrong::NoneFits)?;
+    clone.watch()?;
+    let kept = clone.kept(processor);
+    Ok(kept.map_or(Found::NoneYet(processor), Found::Archive))
 }
 
 /// The machine that the first object of an archive is for. Behind 8 bytes each member begins at an even
@@ -151,50 +234,85 @@ fn machine_of(archive: &[u8]) -> Option<u16> {
     }
 }
 
-fn heap_of(archive: &[u8]) -> Option<Heap> {
-    let has = |name: &[u8]| archive.windows(name.len()).any(|it| it == name);
-    if has(b"rattle_alloc\0") {
-        Some(Heap::Kit)
-    } else {
-        has(b"lcmux_alloc\0").then_some(Heap::Own)
-    }
+fn names_of(archive: &[u8]) -> Option<Names> {
+    Names::ALL.into_iter().find(|it| {
+        let name = format!("{}{}\0", it.heap(), HEAP[0]);
+        archive.windows(name.len()).any(|at| at == name.as_bytes())
+    })
 }
 
-/// What an archive of the peer calls its heap, where it is for the target's processor.
-fn judge(path: &Path, archive: &[u8]) -> Result<Heap, Wrong> {
-    let (Some(machine), Some(heap)) = (machine_of(archive), heap_of(archive)) else {
+/// Whose names an archive of the peer has, where it is for the target's processor.
+fn judge(path: &Path, archive: &[u8]) -> Result<Names, Wrong> {
+    let (Some(machine), Some(names)) = (machine_of(archive), names_of(archive)) else {
         return Err(Wrong::NoPeer(path.into()));
     };
     let differ = |it: &Processor| (it.machine() == machine) != it.is_of_target();
     if Processor::ALL.iter().any(differ) {
         return Err(Wrong::OtherProcessor(path.into(), machine));
     }
-    Ok(heap)
+    Ok(names)
 }
 
-/// Copies an archive of the kit, with names of its own for the heap.
-fn rename(archive: &Path, to: &Path) -> Result<(), Wrong> {
+/// What an archive defines, by its first member: how many names there are, in four bytes of which the first is the
+/// highest, as many places of four bytes, and the names, each ended by a 0.
+fn defined(archive: &[u8]) -> Option<Vec<String>> {
+    let header = archive.get(8..68)?;
+    let length: usize = std::str::from_utf8(&header[48..58])
+        .ok()?
+        .trim_end()
+        .parse()
+        .ok()?;
+    let index = archive.get(68..)?.get(..length)?;
+    let count = u32::from_be_bytes(index.get(..4)?.try_into().ok()?) as usize;
+    let names = index.get(4 + 4 * count..)?.split(|it| *it == 0).take(count);
+    let names = names.map(|it| String::from_utf8(it.to_vec()).ok());
+    header.starts_with(b"/ ").then(|| names.collect())?
+}
+
+/// The names of this library in an archive, each before its own one: of what it defines, and of the heap.
+fn renamed(archive: &[u8], names: Names) -> Option<Vec<(String, String)>> {
+    let heap = HEAP.map(|it| (format!("{}{it}", names.heap()), format!("{OWN}{it}")));
+    let calls = defined(archive)?.into_iter().filter_map(|it| {
+        let own = format!("{OWN}{}", it.strip_prefix("lcmux_")?);
+        Some((it, own))
+    });
+    let all: BTreeSet<_> = heap.into_iter().chain(calls).collect();
+    Some(all.into_iter().collect())
+}
+
+/// Copies an archive, with names of its own: a program may have the library for C too, or another one of the kit.
+fn rename(path: &Path, archive: &[u8], names: Names, to: &Path) -> Result<(), Wrong> {
     let mut command = Command::new(of_user("OBJCOPY").unwrap_or_else(|| "objcopy".into()));
-    for name in ["alloc", "realloc", "dealloc"] {
-        command.arg("--redefine-sym");
-        command.arg(format!("rattle_{name}=lcmux_{name}"));
+    for (old, own) in renamed(archive, names).ok_or_else(|| Wrong::NoPeer(path.into()))? {
+        command.arg("--redefine-sym").arg(format!("{old}={own}"));
     }
-    command.arg(archive).arg(to);
+    command.arg(path).arg(to);
     run(command)
 }
 
-fn link() -> Result<(), Wrong> {
-    let path = find(Processor::of_target())?;
-    println!("cargo:rerun-if-changed={}", path.display());
-    let archive = fs::read(&path).map_err(|error| Wrong::Device(path.clone(), error))?;
+fn link_to(path: &Path) -> Result<(), Wrong> {
+    is_watched(path);
+    let device = |error| Wrong::Device(path.into(), error);
+    let archive = fs::read(path).map_err(device)?;
     let out = PathBuf::from(of_cargo("OUT_DIR"));
     let copy = out.join("liblc_c.a");
-    match judge(&path, &archive)? {
-        Heap::Kit => rename(&path, &copy)?,
-        Heap::Own => fs::write(&copy, archive).map_err(|error| Wrong::Device(copy, error))?,
+    match judge(path, &archive)? {
+        Names::Own => fs::write(&copy, archive).map_err(|error| Wrong::Device(copy, error))?,
+        names => rename(path, &archive, names, &copy)?,
     }
     println!("cargo:rustc-link-search=native={}", out.display());
     println!("cargo:rustc-link-lib=static=lc_c");
+    Ok(())
+}
+
+fn link() -> Result<(), Wrong> {
+    match find(Processor::of_target())? {
+        Found::Archive(path) => link_to(&path)?,
+        Found::NoneYet(processor) => println!(
+            "cargo:warning=nothing can be linked before `scripts/archive {}` has proved and built the archive of the peer, which takes some ten minutes, or LCMUX_ARCHIVE names one of a package",
+            processor.name()
+        ),
+    }
     Ok(())
 }
 

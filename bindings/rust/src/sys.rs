@@ -169,41 +169,41 @@ impl Next {
 }
 
 extern "C" {
-    fn lcmux_peer_new(config: *const Config, peer: *mut Raw) -> Answer;
-    fn lcmux_peer_free(peer: *mut Raw) -> Answer;
-    fn lcmux_peer_send(peer: *mut Raw, channel: u32, body: *const u8, len: usize) -> Answer;
-    fn lcmux_peer_issue(peer: *mut Raw, channel: u32, amount: u32) -> Answer;
-    fn lcmux_peer_absolve(peer: *mut Raw, channel: u32, amount: u32) -> Answer;
-    fn lcmux_peer_plead(peer: *mut Raw, channel: u32, target: u32) -> Answer;
-    fn lcmux_peer_honour(peer: *mut Raw, channel: u32) -> Answer;
-    fn lcmux_peer_limit_sending(peer: *mut Raw, channel: u32, bound: u64) -> Answer;
-    fn lcmux_peer_limit_receiving(peer: *mut Raw, channel: u32, bound: u64) -> Answer;
-    fn lcmux_peer_finish(peer: *mut Raw, channel: u32) -> Answer;
-    fn lcmux_peer_would_send(peer: *mut Raw, channel: u32, len: usize) -> Answer;
-    fn lcmux_peer_would_issue(peer: *mut Raw, channel: u32, amount: u32) -> Answer;
-    fn lcmux_peer_would_absolve(peer: *mut Raw, channel: u32, amount: u32) -> Answer;
-    fn lcmux_peer_would_plead(peer: *mut Raw, channel: u32, target: u32) -> Answer;
-    fn lcmux_peer_would_honour(peer: *mut Raw, channel: u32) -> Answer;
-    fn lcmux_peer_would_limit_sending(peer: *mut Raw, channel: u32, bound: u64) -> Answer;
-    fn lcmux_peer_would_limit_receiving(peer: *mut Raw, channel: u32, bound: u64) -> Answer;
-    fn lcmux_peer_would_finish(peer: *mut Raw, channel: u32) -> Answer;
-    fn lcmux_peer_needs(peer: *mut Raw, channel: u32, len: usize) -> Answer;
-    fn lcmux_peer_slots_left(peer: *mut Raw) -> Answer;
-    fn lcmux_peer_wants_write(peer: *mut Raw) -> Answer;
-    fn lcmux_peer_ready(peer: *mut Raw, ready: *mut Ready) -> Answer;
-    fn lcmux_peer_deliver(peer: *mut Raw, piece: *const u8, len: usize) -> Delivery;
-    fn lcmux_peer_end(peer: *mut Raw) -> Answer;
-    fn lcmux_peer_write(peer: *mut Raw, buffer: *mut u8, len: usize) -> Answer;
-    fn lcmux_peer_pending(peer: *mut Raw) -> Answer;
-    fn lcmux_peer_next(peer: *mut Raw, next: *mut RawNext) -> Answer;
-    fn lcmux_peer_sent(peer: *mut Raw) -> Answer;
-    fn lcmux_peer_front_len(peer: *mut Raw, channel: u32) -> Answer;
-    fn lcmux_peer_front(peer: *mut Raw, channel: u32, message: *mut Pieces) -> Answer;
-    fn lcmux_peer_pop(peer: *mut Raw, channel: u32) -> Answer;
-    fn lcmux_peer_take(peer: *mut Raw, channel: u32, buffer: *mut u8, len: usize) -> Answer;
-    fn lcmux_peer_client(peer: *mut Raw, channel: u32, balances: *mut Client) -> Answer;
-    fn lcmux_peer_server(peer: *mut Raw, channel: u32, balances: *mut Server) -> Answer;
-    fn lcmux_version() -> u32;
+    fn lcmux_rs_peer_new(config: *const Config, peer: *mut Raw) -> Answer;
+    fn lcmux_rs_peer_free(peer: *mut Raw) -> Answer;
+    fn lcmux_rs_peer_send(peer: *mut Raw, channel: u32, body: *const u8, len: usize) -> Answer;
+    fn lcmux_rs_peer_issue(peer: *mut Raw, channel: u32, amount: u32) -> Answer;
+    fn lcmux_rs_peer_absolve(peer: *mut Raw, channel: u32, amount: u32) -> Answer;
+    fn lcmux_rs_peer_plead(peer: *mut Raw, channel: u32, target: u32) -> Answer;
+    fn lcmux_rs_peer_honour(peer: *mut Raw, channel: u32) -> Answer;
+    fn lcmux_rs_peer_limit_sending(peer: *mut Raw, channel: u32, bound: u64) -> Answer;
+    fn lcmux_rs_peer_limit_receiving(peer: *mut Raw, channel: u32, bound: u64) -> Answer;
+    fn lcmux_rs_peer_finish(peer: *mut Raw, channel: u32) -> Answer;
+    fn lcmux_rs_peer_would_send(peer: *mut Raw, channel: u32, len: usize) -> Answer;
+    fn lcmux_rs_peer_would_issue(peer: *mut Raw, channel: u32, amount: u32) -> Answer;
+    fn lcmux_rs_peer_would_absolve(peer: *mut Raw, channel: u32, amount: u32) -> Answer;
+    fn lcmux_rs_peer_would_plead(peer: *mut Raw, channel: u32, target: u32) -> Answer;
+    fn lcmux_rs_peer_would_honour(peer: *mut Raw, channel: u32) -> Answer;
+    fn lcmux_rs_peer_would_limit_sending(peer: *mut Raw, channel: u32, bound: u64) -> Answer;
+    fn lcmux_rs_peer_would_limit_receiving(peer: *mut Raw, channel: u32, bound: u64) -> Answer;
+    fn lcmux_rs_peer_would_finish(peer: *mut Raw, channel: u32) -> Answer;
+    fn lcmux_rs_peer_needs(peer: *mut Raw, channel: u32, len: usize) -> Answer;
+    fn lcmux_rs_peer_slots_left(peer: *mut Raw) -> Answer;
+    fn lcmux_rs_peer_wants_write(peer: *mut Raw) -> Answer;
+    fn lcmux_rs_peer_ready(peer: *mut Raw, ready: *mut Ready) -> Answer;
+    fn lcmux_rs_peer_deliver(peer: *mut Raw, piece: *const u8, len: usize) -> Delivery;
+    fn lcmux_rs_peer_end(peer: *mut Raw) -> Answer;
+    fn lcmux_rs_peer_write(peer: *mut Raw, buffer: *mut u8, len: usize) -> Answer;
+    fn lcmux_rs_peer_pending(peer: *mut Raw) -> Answer;
+    fn lcmux_rs_peer_next(peer: *mut Raw, next: *mut RawNext) -> Answer;
+    fn lcmux_rs_peer_sent(peer: *mut Raw) -> Answer;
+    fn lcmux_rs_peer_front_len(peer: *mut Raw, channel: u32) -> Answer;
+    fn lcmux_rs_peer_front(peer: *mut Raw, channel: u32, message: *mut Pieces) -> Answer;
+    fn lcmux_rs_peer_pop(peer: *mut Raw, channel: u32) -> Answer;
+    fn lcmux_rs_peer_take(peer: *mut Raw, channel: u32, buffer: *mut u8, len: usize) -> Answer;
+    fn lcmux_rs_peer_client(peer: *mut Raw, channel: u32, balances: *mut Client) -> Answer;
+    fn lcmux_rs_peer_server(peer: *mut Raw, channel: u32, balances: *mut Server) -> Answer;
+    fn lcmux_rs_version() -> u32;
 }
 
 /// This crate's version, as the archive tells its own.
@@ -227,7 +227,7 @@ unsafe impl Send for Handle {}
 
 impl Drop for Handle {
     fn drop(&mut self) {
-        unsafe { lcmux_peer_free(self.0.get()) };
+        unsafe { lcmux_rs_peer_free(self.0.get()) };
     }
 }
 
@@ -237,7 +237,7 @@ impl Handle {
             mark: 0,
             at: ptr::null_mut(),
         }));
-        match unsafe { lcmux_peer_new(config, handle.0.get()) } {
+        match unsafe { lcmux_rs_peer_new(config, handle.0.get()) } {
             Answer { code: 0, .. } => Ok(handle),
             answer => Err(answer),
         }
@@ -245,124 +245,124 @@ impl Handle {
 
     #[inline]
     pub fn send(&mut self, channel: u32, body: &[u8]) -> Answer {
-        unsafe { lcmux_peer_send(self.0.get(), channel, body.as_ptr(), body.len()) }
+        unsafe { lcmux_rs_peer_send(self.0.get(), channel, body.as_ptr(), body.len()) }
     }
 
     #[inline]
     pub fn issue(&mut self, channel: u32, amount: u32) -> Answer {
-        unsafe { lcmux_peer_issue(self.0.get(), channel, amount) }
+        unsafe { lcmux_rs_peer_issue(self.0.get(), channel, amount) }
     }
 
     #[inline]
     pub fn absolve(&mut self, channel: u32, amount: u32) -> Answer {
-        unsafe { lcmux_peer_absolve(self.0.get(), channel, amount) }
+        unsafe { lcmux_rs_peer_absolve(self.0.get(), channel, amount) }
     }
 
     #[inline]
     pub fn plead(&mut self, channel: u32, target: u32) -> Answer {
-        unsafe { lcmux_peer_plead(self.0.get(), channel, target) }
+        unsafe { lcmux_rs_peer_plead(self.0.get(), channel, target) }
     }
 
     #[inline]
     pub fn honour(&mut self, channel: u32) -> Answer {
-        unsafe { lcmux_peer_honour(self.0.get(), channel) }
+        unsafe { lcmux_rs_peer_honour(self.0.get(), channel) }
     }
 
     #[inline]
     pub fn limit_sending(&mut self, channel: u32, bound: u64) -> Answer {
-        unsafe { lcmux_peer_limit_sending(self.0.get(), channel, bound) }
+        unsafe { lcmux_rs_peer_limit_sending(self.0.get(), channel, bound) }
     }
 
     #[inline]
     pub fn limit_receiving(&mut self, channel: u32, bound: u64) -> Answer {
-        unsafe { lcmux_peer_limit_receiving(self.0.get(), channel, bound) }
+        unsafe { lcmux_rs_peer_limit_receiving(self.0.get(), channel, bound) }
     }
 
     #[inline]
     pub fn finish(&mut self, channel: u32) -> Answer {
-        unsafe { lcmux_peer_finish(self.0.get(), channel) }
+        unsafe { lcmux_rs_peer_finish(self.0.get(), channel) }
     }
 
     #[inline]
     pub fn would_send(&self, channel: u32, len: usize) -> Answer {
-        unsafe { lcmux_peer_would_send(self.0.get(), channel, len) }
+        unsafe { lcmux_rs_peer_would_send(self.0.get(), channel, len) }
     }
 
     #[inline]
     pub fn would_issue(&self, channel: u32, amount: u32) -> Answer {
-        unsafe { lcmux_peer_would_issue(self.0.get(), channel, amount) }
+        unsafe { lcmux_rs_peer_would_issue(self.0.get(), channel, amount) }
     }
 
     #[inline]
     pub fn would_absolve(&self, channel: u32, amount: u32) -> Answer {
-        unsafe { lcmux_peer_would_absolve(self.0.get(), channel, amount) }
+        unsafe { lcmux_rs_peer_would_absolve(self.0.get(), channel, amount) }
     }
 
     #[inline]
     pub fn would_plead(&self, channel: u32, target: u32) -> Answer {
-        unsafe { lcmux_peer_would_plead(self.0.get(), channel, target) }
+        unsafe { lcmux_rs_peer_would_plead(self.0.get(), channel, target) }
     }
 
     #[inline]
     pub fn would_honour(&self, channel: u32) -> Answer {
-        unsafe { lcmux_peer_would_honour(self.0.get(), channel) }
+        unsafe { lcmux_rs_peer_would_honour(self.0.get(), channel) }
     }
 
     #[inline]
     pub fn would_limit_sending(&self, channel: u32, bound: u64) -> Answer {
-        unsafe { lcmux_peer_would_limit_sending(self.0.get(), channel, bound) }
+        unsafe { lcmux_rs_peer_would_limit_sending(self.0.get(), channel, bound) }
     }
 
     #[inline]
     pub fn would_limit_receiving(&self, channel: u32, bound: u64) -> Answer {
-        unsafe { lcmux_peer_would_limit_receiving(self.0.get(), channel, bound) }
+        unsafe { lcmux_rs_peer_would_limit_receiving(self.0.get(), channel, bound) }
     }
 
     #[inline]
     pub fn would_finish(&self, channel: u32) -> Answer {
-        unsafe { lcmux_peer_would_finish(self.0.get(), channel) }
+        unsafe { lcmux_rs_peer_would_finish(self.0.get(), channel) }
     }
 
     #[inline]
     pub fn needs(&self, channel: u32, len: usize) -> Answer {
-        unsafe { lcmux_peer_needs(self.0.get(), channel, len) }
+        unsafe { lcmux_rs_peer_needs(self.0.get(), channel, len) }
     }
 
     #[inline]
     pub fn slots_left(&self) -> Answer {
-        unsafe { lcmux_peer_slots_left(self.0.get()) }
+        unsafe { lcmux_rs_peer_slots_left(self.0.get()) }
     }
 
     #[inline]
     pub fn wants_write(&self) -> Answer {
-        unsafe { lcmux_peer_wants_write(self.0.get()) }
+        unsafe { lcmux_rs_peer_wants_write(self.0.get()) }
     }
 
     #[inline]
     pub fn ready(&self) -> Ready {
         let mut ready = Ready::default();
-        unsafe { lcmux_peer_ready(self.0.get(), &mut ready) };
+        unsafe { lcmux_rs_peer_ready(self.0.get(), &mut ready) };
         ready
     }
 
     #[inline]
     pub fn deliver(&mut self, piece: &[u8]) -> Delivery {
-        unsafe { lcmux_peer_deliver(self.0.get(), piece.as_ptr(), piece.len()) }
+        unsafe { lcmux_rs_peer_deliver(self.0.get(), piece.as_ptr(), piece.len()) }
     }
 
     #[inline]
     pub fn end(&self) -> Answer {
-        unsafe { lcmux_peer_end(self.0.get()) }
+        unsafe { lcmux_rs_peer_end(self.0.get()) }
     }
 
     #[inline]
     pub fn write(&mut self, buffer: &mut [u8]) -> Answer {
-        unsafe { lcmux_peer_write(self.0.get(), buffer.as_mut_ptr(), buffer.len()) }
+        unsafe { lcmux_rs_peer_write(self.0.get(), buffer.as_mut_ptr(), buffer.len()) }
     }
 
     #[inline]
     pub fn pending(&self) -> Answer {
-        unsafe { lcmux_peer_pending(self.0.get()) }
+        unsafe { lcmux_rs_peer_pending(self.0.get()) }
     }
 
     #[inline]
@@ -372,7 +372,7 @@ impl Handle {
             header_len: 0,
             message: Piece::EMPTY,
         };
-        match unsafe { lcmux_peer_next(self.0.get(), &mut next) }.code {
+        match unsafe { lcmux_rs_peer_next(self.0.get(), &mut next) }.code {
             0 => Some(Next {
                 header: next.header,
                 header_len: next.header_len,
@@ -384,12 +384,12 @@ impl Handle {
 
     #[inline]
     pub fn sent(&mut self) -> Answer {
-        unsafe { lcmux_peer_sent(self.0.get()) }
+        unsafe { lcmux_rs_peer_sent(self.0.get()) }
     }
 
     #[inline]
     pub fn front_len(&self, channel: u32) -> Answer {
-        unsafe { lcmux_peer_front_len(self.0.get(), channel) }
+        unsafe { lcmux_rs_peer_front_len(self.0.get(), channel) }
     }
 
     #[inline]
@@ -412,7 +412,7 @@ impl Handle {
             first: Piece::EMPTY,
             rest: Piece::EMPTY,
         };
-        match unsafe { lcmux_peer_front(self.0.get(), channel, &mut pieces) }.code {
+        match unsafe { lcmux_rs_peer_front(self.0.get(), channel, &mut pieces) }.code {
             0 => Some(pieces),
             _ => None,
         }
@@ -420,31 +420,31 @@ impl Handle {
 
     #[inline]
     pub fn pop(&mut self, channel: u32) -> Answer {
-        unsafe { lcmux_peer_pop(self.0.get(), channel) }
+        unsafe { lcmux_rs_peer_pop(self.0.get(), channel) }
     }
 
     #[inline]
     pub fn take(&mut self, channel: u32, buffer: &mut [u8]) -> Answer {
-        unsafe { lcmux_peer_take(self.0.get(), channel, buffer.as_mut_ptr(), buffer.len()) }
+        unsafe { lcmux_rs_peer_take(self.0.get(), channel, buffer.as_mut_ptr(), buffer.len()) }
     }
 
     #[inline]
     pub fn client(&self, channel: u32) -> Client {
         let mut client = Client::default();
-        unsafe { lcmux_peer_client(self.0.get(), channel, &mut client) };
+        unsafe { lcmux_rs_peer_client(self.0.get(), channel, &mut client) };
         client
     }
 
     #[inline]
     pub fn server(&self, channel: u32) -> Server {
         let mut server = Server::default();
-        unsafe { lcmux_peer_server(self.0.get(), channel, &mut server) };
+        unsafe { lcmux_rs_peer_server(self.0.get(), channel, &mut server) };
         server
     }
 }
 
 pub(crate) fn version() -> u32 {
-    unsafe { lcmux_version() }
+    unsafe { lcmux_rs_version() }
 }
 
 /// What the archive asks for memory by: the heap of the C library.
@@ -475,12 +475,12 @@ mod heap {
     }
 
     #[no_mangle]
-    extern "C" fn lcmux_alloc(size: usize, align: usize) -> Tried {
+    extern "C" fn lcmux_rs_alloc(size: usize, align: usize) -> Tried {
         tried(unsafe { malloc(if size == 0 { align } else { size }) })
     }
 
     #[no_mangle]
-    unsafe extern "C" fn lcmux_realloc(
+    unsafe extern "C" fn lcmux_rs_realloc(
         at: *mut c_void,
         _kept: usize,
         size: usize,
@@ -490,7 +490,7 @@ mod heap {
     }
 
     #[no_mangle]
-    unsafe extern "C" fn lcmux_dealloc(at: *mut c_void) {
+    unsafe extern "C" fn lcmux_rs_dealloc(at: *mut c_void) {
         unsafe { free(at) }
     }
 }

@@ -160,9 +160,9 @@ mod edge {
     }
 
     extern "C" {
-        pub fn lcmux_alloc(size: usize, align: usize) -> Tried;
-        pub fn lcmux_realloc(at: *mut c_void, kept: usize, size: usize, align: usize) -> Tried;
-        pub fn lcmux_dealloc(at: *mut c_void);
+        pub fn lcmux_rs_alloc(size: usize, align: usize) -> Tried;
+        pub fn lcmux_rs_realloc(at: *mut c_void, kept: usize, size: usize, align: usize) -> Tried;
+        pub fn lcmux_rs_dealloc(at: *mut c_void);
     }
 }
 
@@ -183,15 +183,15 @@ fn bytes_at<'a>(at: *mut c_void, len: usize) -> &'a mut [u8] {
 #[test]
 fn a_block_is_got_and_given_back() {
     for (size, align, asked) in REQUESTS {
-        let (tried, heap) = watched(0, || unsafe { edge::lcmux_alloc(size, align) });
+        let (tried, heap) = watched(0, || unsafe { edge::lcmux_rs_alloc(size, align) });
         assert!(tried.ok);
         assert_eq!(tried.at as usize % align, 0);
         assert_eq!((heap.requests, heap.size, heap.live), (1, asked, 1));
         bytes_at(tried.at, size).fill(7);
-        let ((), heap) = watched(0, || unsafe { edge::lcmux_dealloc(tried.at) });
+        let ((), heap) = watched(0, || unsafe { edge::lcmux_rs_dealloc(tried.at) });
         assert_eq!(heap.live, -1);
 
-        let (tried, heap) = watched(1, || unsafe { edge::lcmux_alloc(size, align) });
+        let (tried, heap) = watched(1, || unsafe { edge::lcmux_rs_alloc(size, align) });
         assert!(!tried.ok && !tried.at.is_null());
         assert_eq!((heap.requests, heap.live), (1, 0));
     }
@@ -200,12 +200,12 @@ fn a_block_is_got_and_given_back() {
 #[test]
 fn a_block_keeps_its_bytes_when_it_moves_and_when_that_is_refused() {
     for (size, align, asked) in REQUESTS {
-        let old = unsafe { edge::lcmux_alloc(16, align) }.at;
+        let old = unsafe { edge::lcmux_rs_alloc(16, align) }.at;
         bytes_at(old, 16).copy_from_slice(b"what was in here");
         let kept = size.min(16);
         let moved = |refused| {
             watched(refused, || unsafe {
-                edge::lcmux_realloc(old, kept, size, align)
+                edge::lcmux_rs_realloc(old, kept, size, align)
             })
         };
         let (tried, heap) = moved(1);
@@ -218,6 +218,6 @@ fn a_block_keeps_its_bytes_when_it_moves_and_when_that_is_refused() {
         assert_eq!((heap.requests, heap.size, heap.live), (1, asked, 0));
         assert_eq!(bytes_at(tried.at, kept), &b"what was in here"[..kept]);
         bytes_at(tried.at, size).fill(7);
-        unsafe { edge::lcmux_dealloc(tried.at) };
+        unsafe { edge::lcmux_rs_dealloc(tried.at) };
     }
 }
