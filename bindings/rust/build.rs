@@ -154,11 +154,8 @@ impl Clone {
             .stderr(Stdio::null())
             .status();
         let archive = format!("crates/lc_c/out/{}/liblc_c.a", processor.name());
-        let archive = self.top.join(archive);
-        is_watched(&archive);
-        asked
-            .is_ok_and(|status| status.success())
-            .then_some(archive)
+        let is_there = asked.is_ok_and(|status| status.success());
+        is_there.then(|| self.top.join(archive))
     }
 
     /// Tells cargo what the archive is made from.
@@ -305,15 +302,23 @@ fn link_to(path: &Path) -> Result<(), Wrong> {
     Ok(())
 }
 
+fn warn_of_none(processor: Processor) {
+    // This is never there, so that cargo asks each time anew.
+    is_watched(&PathBuf::from(of_cargo("OUT_DIR")).join("none-yet"));
+    println!(
+        "cargo:warning=nothing can be linked before `scripts/archive {}` has proved and built the archive of the peer, which takes some ten minutes, or LCMUX_ARCHIVE names one of a package",
+        processor.name()
+    );
+}
+
 fn link() -> Result<(), Wrong> {
     match find(Processor::of_target())? {
-        Found::Archive(path) => link_to(&path)?,
-        Found::NoneYet(processor) => println!(
-            "cargo:warning=nothing can be linked before `scripts/archive {}` has proved and built the archive of the peer, which takes some ten minutes, or LCMUX_ARCHIVE names one of a package",
-            processor.name()
-        ),
+        Found::Archive(path) => link_to(&path),
+        Found::NoneYet(processor) => {
+            warn_of_none(processor);
+            Ok(())
+        }
     }
-    Ok(())
 }
 
 fn main() {
