@@ -11,9 +11,9 @@ use Rattle.lc_queue.specs.declared.rule.JoinedLane.{JoinedLane}
 abbrev pub QueueId : Type 0
 QueueId = TableId
 
--- how many frames the queue has room for
-abbrev pub slots_of : QueueId → ℕ
-slots_of queue = queue.slots
+-- how many frames the queue has room for: one of each lane, and as many more as there are shared places
+abbrev pub places_of : QueueId → ℕ
+places_of queue = queue.slots
 
 -- the end of a lane: its queue, the version of the stream that the frames go out on, the lane's number, and what was put there, in order
 pub record End : Type 0 where
@@ -53,13 +53,13 @@ new_ends queue version = map (new_end queue version) (0 ∷ 1 ∷ 2 ∷ 3 ∷ 4 
 abbrev pub lane_of_end : End → JoinedLane
 lane_of_end end = record { lane = end.lane; put = end.put }
 
--- what was popped of a lane that was joined is the beginning of what was put there; the rest is still queued, and is fewer frames than there are slots
+-- what was popped of a lane that was joined is the beginning of what was put there; the rest is still queued, and is fewer frames than there are places
 abbrev pub IsBegun : ℕ → List Frame → JoinedLane → Type 0
-IsBegun slots popped l = (rest : List Frame) × (of_lane l.lane popped ++ rest ≡ l.put) × (length rest < slots)
+IsBegun places popped l = (rest : List Frame) × (of_lane l.lane popped ++ rest ≡ l.put) × (length rest < places)
 
 -- of every lane that was joined, what was popped is the beginning of what was put there
 abbrev pub AreBegun : Outlet → Type 0
-AreBegun drain = All (IsBegun (slots_of drain.queue) drain.popped) drain.joined
+AreBegun drain = All (IsBegun (places_of drain.queue) drain.popped) drain.joined
 
 -- of the lanes that were joined, all that was put is popped; of lanes that go on this says nothing
 abbrev pub AllPopped : Outlet → Type 0

@@ -4,6 +4,7 @@ ghost use Rattle.lc_frame.specs.Frame.{IsValid};
 ghost use Rattle.lc_queue.specs.Parts.{IsSame, AllPopped, AreBegun, lane_of_end};
 
 use crate::lane_end::LaneEnd;
+use crate::places::Places;
 use crate::rule::{EndOfLane, Pop, Queue, View};
 use crossbeam_queue::Pass;
 use lc_frame::{Frame, Version};
@@ -18,6 +19,7 @@ use std::sync::{Arc, Wait};
 #[derive(Drop)]
 pub struct Drain {
     pub(crate) queue: Arc<Queue, Global>,
+    pub(crate) places: Arc<Places, Global>,
     pub(crate) pass: Pass<Frame, View>,
     pub(crate) version: Version,
 }
@@ -68,7 +70,10 @@ impl Drain {
         // Its contract says that the frame is the one at the front, and that `None` comes only if
         // the queue was empty at one moment of the call. A pass that finds nothing stays as it is: so
         // it can learn what `empty` says of that moment, and no more.
-        self.queue.pop_as::<Pop, R>(rt, &mut self.pass)
+        let popped = self.queue.pop_as::<Pop, R>(rt, &mut self.pass);
+        // The place is given back once it is free in the queue.
+        self.places.note_popped(&popped);
+        popped
     }
 
     /// Ends a lane of the same queue. What its end has put and is still queued stays to be popped.
@@ -79,6 +84,7 @@ impl Drain {
     {
         let LaneEnd {
             queue: _,
+            places: _,
             pass,
             version: _,
             lane: _,

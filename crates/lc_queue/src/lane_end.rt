@@ -4,6 +4,7 @@ ghost use Rattle.lc_frame.specs.Frame.{lane_of, IsValid};
 ghost use Rattle.lc_frame.specs.Lane.{lane_count};
 ghost use Rattle.lc_queue.specs.Parts.{IsSameEnd};
 
+use crate::places::Places;
 use crate::rule::{Push, Queue, View};
 use crossbeam_queue::Pass;
 use lc_frame::{Frame, Version};
@@ -18,6 +19,7 @@ use std::sync::{Arc, Wait};
 #[derive(Drop)]
 pub struct LaneEnd {
     pub(crate) queue: Arc<Queue, Global>,
+    pub(crate) places: Arc<Places, Global>,
     pub(crate) pass: Pass<Frame, View>,
     pub(crate) version: Version,
     pub(crate) lane: u8,
@@ -63,10 +65,11 @@ impl LaneEnd {
         self.lane
     }
 
-    /// Puts a frame of this lane that is valid in the version behind all others, in a slot that was
-    /// free, or gives it back, and nothing changes. It comes back only where all slots were taken at a
-    /// step of the call, which no clause here can say, since an end knows nothing of what is queued.
-    /// It does not try again. After 2^62 pushes it does not return.
+    /// Puts a frame of this lane that is valid in the version behind all others, or gives it back, and
+    /// nothing changes. It comes back only where a frame of this lane was queued at a step of the call,
+    /// and all shared places were taken at a later one, which no clause here can say, since an end knows
+    /// nothing of what is queued. It does not try again, and waits for no other thread. After 2^62
+    /// pushes it does not return.
     pub fn push<R: Wait>(&mut self, rt: &R, frame: Frame) -> Result<(), Frame>
         requires valid { IsValid self.old.version frame }
         requires lane { lane_of frame ≡ self.old.lane }
@@ -76,6 +79,15 @@ impl LaneEnd {
         // Of what is queued its contract says: the frame joins at the back in one step, at which fewer
         // frames are queued than there are slots; it comes back only if the queue was full at one
         // moment of the call.
-        self.queue.push_as::<Push, R>(rt, &mut self.pass, frame)
+        if !self.places.take(rt, self.lane) {
+            return Err(frame);
+        }
+        match self.queue.push_as::<Push, R>(rt, &mut self.pass, frame) {
+            Ok(()) => Ok(()),
+            Err(back) => {
+                self.places.give_back(self.lane);
+                Err(back)
+            }
+        }
     }
 }

@@ -1,11 +1,12 @@
 -- A session when it begins. These rules are this project's own.
-use Rattle.std.specs.Prelude.{◌≡◌, List, [], ◌∷◌, take, drop, None}
+use Rattle.std.specs.Prelude.{◌≡◌, ◌+◌, List, [], ◌∷◌, take, drop, None}
 use Rattle.lc_frame.specs.Stored.{nothing_stored}
 use Rattle.lc_frame.specs.declared.channel.Channel.{Channel}
 use Rattle.lc_frame.specs.Channel.{channel_count}
+use Rattle.lc_frame.specs.Lane.{lane_count}
 use Rattle.lc_peer.specs.declared.config.Config.{Config}
 use Rattle.lc_peer.specs.Config.{config_fault}
-use Rattle.lc_queue.specs.Parts.{End, slots_of, new_ends, new_outlet}
+use Rattle.lc_queue.specs.Parts.{End, places_of, new_ends, new_outlet}
 use Rattle.lc_credit.specs.Sides.{Outgoing}
 use Rattle.lc_credit.specs.Channels as credits
 use Rattle.lc_inbox.specs.Inboxes as inboxes
@@ -19,7 +20,7 @@ abbrev pub new_outboxes : List Channel → List End → List Outgoing → List O
 new_outboxes (c ∷ cs) (lane ∷ lanes) (credit ∷ credits) = new_outbox c lane credit ∷ new_outboxes cs lanes credits
 new_outboxes cs lanes credits = []
 
--- a session of a lawful configuration: nothing has happened on any channel, and nothing was read or written, not even the greeting of its version
+-- a session of a lawful configuration: nothing has happened on any channel, and nothing was read or written, not even the greeting of its version; its queue has a place for each lane beside the slots that they share
 pub record IsNewSession (config : Config) (s : SessionState) : Type 0 where
   pub lawful : config_fault config ≡ None
   pub one : AreOfOneSession s
@@ -28,4 +29,4 @@ pub record IsNewSession (config : Config) (s : SessionState) : Type 0 where
   pub inboxes_new : inboxes.AreNew config.capacities (drop channel_count (new_ends s.writing.drain.queue config.version)) s.reading.side.inboxes s.receiving
   pub reading_new : s.reading.intake ≡ record { held = nothing_stored; stop = None; rings = config.capacities }
   pub writing_new : s.writing ≡ new_pumping (new_outlet s.writing.drain.queue config.version)
-  pub slots_are : slots_of s.writing.drain.queue ≡ config.slots
+  pub places_are : places_of s.writing.drain.queue ≡ config.slots + lane_count

@@ -2,8 +2,8 @@
 use lc_book::Refusal;
 use lc_wake::Waiter;
 
-/// A frame that was put wakes the writing pump where it sleeps; a full queue is noted, so that a
-/// slot which is freed after that ends the end's next wait.
+/// A frame that was put wakes the writing pump where it sleeps; a full queue is noted, so that the next
+/// wait is for a place there.
 pub(crate) fn heed<T>(waiter: &mut Waiter, answer: &Result<T, Refusal>) {
     match answer {
         Ok(_) => waiter.frame_put(),

@@ -47,7 +47,8 @@ impl ReadPump {
     }
 
     /// Reads up to `max_reads` times, at most 512 bytes each, and lets each whole frame arrive, as
-    /// `lc_driver::read_in` does at a peer. When the run ends all ends are woken.
+    /// `lc_driver::read_in` does at a peer. When the run ends all ends are woken, and waits for
+    /// guarantees and messages are over.
     ///
     /// It ends by its transport: `Session::stop` does not reach it while it waits in a read. What
     /// frees it is `shutdown(Read)` on a clone of its socket, or the other side's end of the stream.

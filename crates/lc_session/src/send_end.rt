@@ -142,9 +142,10 @@ impl SendEnd {
     }
 
     /// Sleeps until something came that concerns this end since its last wait ended, or since the
-    /// session began: guarantees or a plead on its channel, a free slot where a call since then was
-    /// refused by 13, or the end of a pump's run. What calls have found meanwhile ends it too: look
-    /// again after each wait. No clause says when it ends.
+    /// session began: guarantees or a plead on its channel; where a call since then was refused by 13,
+    /// the pop of a frame that this end had put, which makes room for another one; or the end of a pump's
+    /// run. What calls have found meanwhile ends it too: look again after each wait. It answers
+    /// [`Over`](Wake::Over) where nothing came and nothing more comes. No clause says when it ends.
     ///
     /// Nothing that comes concerns a finished end: it does not sleep, and the answer is `Over`.
     pub fn wait<R: Wait>(&mut self, rt: &R) -> Wake
@@ -156,8 +157,7 @@ impl SendEnd {
         self.waiter.wait(rt)
     }
 
-    /// The same, and no longer than this, but for yields of the processor by which it may let others go
-    /// first. It may end earlier without a reason.
+    /// The same, and no longer than this. It may end earlier without a reason.
     pub fn wait_timeout<R: Wait + Clock>(&mut self, rt: &R, timeout: Duration) -> Wake
         ensures same { self.new ≡ self.old }
     {

@@ -158,8 +158,8 @@ fn make(alloc: Global, config: Config) -> Result<Parts, AllocError>
 }
 
 impl Session {
-    /// The parts of a new session: rings of the capacities, and room for `slots` frames that wait to
-    /// go out, in the version. What arrives may be of either. Faults come in this order: the first
+    /// The parts of a new session: rings of the capacities, and a queue of the frames that wait to go
+    /// out, in the version, with one place for each of the fourteen lanes and `slots` that they share. What arrives may be of either. Faults come in this order: the first
     /// channel whose ring would not have 1 to 2^24 bytes, slots that are not 1 to 65,536, want of
     /// memory. It takes all the memory of the session; of all later calls only `SendEnd::send` takes
     /// some, for its copy of the message.

@@ -54,7 +54,7 @@ impl Model for WritePump {
 }
 
 // Pops frames as long as any other one has room.
-fn join_popped<R: Wait>(rt: &R, drain: &mut Drain, batch: &mut Batch, look: Look) -> Found
+fn join_popped<R: Wait>(rt: &R, drain: &mut Drain, batch: &mut Batch, mut look: Look) -> Found
     requires { batch.old.version ≡ drain.old.version }
     ensures version { batch.new.version ≡ drain.new.version }
     ensures pops { Pops (pumping_of drain.old batch.old) (pumping_of drain.new batch.new) }
@@ -62,15 +62,16 @@ fn join_popped<R: Wait>(rt: &R, drain: &mut Drain, batch: &mut Batch, look: Look
 {
     // Where nothing is pending, any frame has room.
     let _free = batch.free();
-    let mut popped = 0;
     'frames: while batch.has_room() {
         match drain.pop(rt) {
-            Some(frame) => batch.append(frame),
-            None => return look.found(popped),
+            Some(frame) => {
+                look.note_popped(frame.lane());
+                batch.append(frame);
+            }
+            None => return look.found(),
         }
-        popped += 1;
     }
-    look.found(popped)
+    look.found()
 }
 
 // Writes what is pending. Why the run ends, if it does.
@@ -108,7 +109,7 @@ impl WritePump {
         }
     }
 
-    // Looks at the queue: pops what has room, and tells those that wait for a slot.
+    // Looks at the queue: pops what has room, and wakes the ends that put it, if they wait for a place.
     fn join_popped<R: Wait>(&mut self, rt: &R) -> Found
         ensures pops { Pops self.old self.new }
         ensures none { self.new.begun ≡ [] → self.new.waiting ≡ [] → AllPopped self.new.drain }
@@ -116,7 +117,7 @@ impl WritePump {
         let look = self.waiter.look();
         let found = join_popped(rt, &mut self.drain, &mut self.batch, look);
         if let Found::Frames(popped) = found {
-            self.waiter.slots_freed(popped);
+            self.waiter.note_popped(popped);
         }
         found
     }
@@ -180,7 +181,7 @@ impl WritePump {
     /// A further run goes on with the next byte; what was popped and not begun is written by that.
     ///
     /// It flushes before it sleeps and before it stops. It tries no failed write again. When the run
-    /// ends all ends are woken.
+    /// ends all ends are woken, and waits for room in the queue are over.
     ///
     /// No clause says that it was asked to stop, that it flushed, or that several frames went out in
     /// one write; and that the queue was empty where it stopped they say of the lanes that have ended.

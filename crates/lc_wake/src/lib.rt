@@ -3,7 +3,7 @@
 //!
 //! Each end notes what it was told of when a wait of it ends, and sleeps only while nothing was told
 //! since. So whatever comes after any look at its channel or at the queue wakes it; what came before
-//! the look wakes it once too often at most.
+//! the look wakes it once too often at most. What other channels do wakes no end, and no end waits for it.
 #![tactic(auto)]
 
 mod pump_waiter;
@@ -11,7 +11,7 @@ mod waiter;
 mod wakers;
 mod waking;
 
-pub use pump_waiter::{Found, Look, PumpWaiter};
+pub use pump_waiter::{Found, Look, Popped, PumpWaiter};
 pub use waiter::{Waiter, Wake};
 pub use wakers::{Pump, Wakers};
 pub use waking::Waking;

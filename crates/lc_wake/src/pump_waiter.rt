@@ -1,4 +1,7 @@
 //! How the writing pump waits.
+ghost use Rattle.std.specs.Prelude.{◌<◌};
+ghost use Rattle.lc_frame.specs.Lane.{lane_count};
+
 use crate::wakers::{Pump, Wakers};
 use crossbeam_utils::sync::Parker;
 use lc_frame::LANES;
@@ -10,20 +13,35 @@ use std::thread;
 /// What a wait takes with that is in `docs/performance.md`.
 const YIELDS: u32 = 1;
 
-/// A look at the queue, begun: it knows whether the pump was asked to stop before. Who pops hands it in and
-/// learns that afterwards, so `Stop` comes only where the queue was found empty after the stop.
+/// The lanes of which frames were popped.
+#[derive(Clone, Copy, Debug, PartialEq, Eq)]
+pub struct Popped(u64);
+
+impl Popped {
+    // Whether a frame of the lane was.
+    fn has(self, lane: usize) -> bool
+        requires { lane < lane_count }
+    {
+        self.0 & (1 << lane) != 0
+    }
+}
+
+/// A look at the queue, begun: it knows whether the pump was asked to stop before. The pump hands in
+/// each frame that it pops and learns that afterwards, so `Stop` comes only where the queue was found empty
+/// after the stop.
 #[must_use]
 #[derive(Drop)]
 pub struct Look {
     stopped: bool,
+    popped: Popped,
 }
 
 /// What a look at the queue found.
 #[must_use]
 #[derive(Clone, Copy, Debug, PartialEq, Eq)]
 pub enum Found {
-    /// So many frames.
-    Frames(usize),
+    /// Frames of these lanes.
+    Frames(Popped),
     /// Nothing.
     Nothing,
     /// Nothing, and the pump was asked to stop before.
@@ -31,10 +49,17 @@ pub enum Found {
 }
 
 impl Look {
-    /// The look has popped so many frames.
-    pub fn found(self, popped: usize) -> Found {
-        if popped > 0 {
-            Found::Frames(popped)
+    /// The look has popped a frame of the lane.
+    pub fn note_popped(&mut self, lane: u8)
+        requires { lane < lane_count }
+    {
+        self.popped.0 |= 1 << lane;
+    }
+
+    /// The look has ended.
+    pub fn found(self) -> Found {
+        if self.popped.0 != 0 {
+            Found::Frames(self.popped)
         } else if self.stopped {
             Found::Stop
         } else {
@@ -48,8 +73,6 @@ impl Look {
 pub struct PumpWaiter {
     shared: Arc<Wakers, Global>,
     parker: Parker,
-    // The lane whose end is woken first when slots are freed.
-    next: usize,
     yielded: u32,
 }
 
@@ -58,7 +81,6 @@ impl PumpWaiter {
         PumpWaiter {
             shared,
             parker,
-            next: 0,
             yielded: 0,
         }
     }
@@ -76,14 +98,19 @@ impl PumpWaiter {
     pub fn look(&self) -> Look {
         Look {
             stopped: self.shared.is_stopped(),
+            popped: Popped(0),
         }
     }
 
-    /// So many slots of the queue were freed: as many ends are woken of those that wait for one.
-    pub fn slots_freed(&mut self, count: usize) {
+    /// A look has popped frames of these lanes, whose ends are woken if they wait for a place in the
+    /// queue.
+    pub fn note_popped(&mut self, popped: Popped) {
         self.yielded = 0;
-        self.shared.note_freed();
-        self.next = self.shared.wake_wanting(self.next, count);
+        for lane in 0..LANES {
+            if popped.has(lane) {
+                self.shared.note_freed(lane);
+            }
+        }
     }
 
     /// The pump found the queue empty. It yields the processor first, and then this says that it is
@@ -96,7 +123,6 @@ impl PumpWaiter {
             return false;
         }
         self.yielded = 0;
-        self.shared.wake_wanting(self.next, LANES);
         self.shared.set_pump_sleeps(true);
         true
     }

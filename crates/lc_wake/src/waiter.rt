@@ -1,7 +1,7 @@
 //! How an end waits.
-use crate::wakers::Wakers;
+use crate::wakers::{Pump, Wakers};
 use crossbeam_utils::sync::Parker;
-use lc_frame::{LANES, Lane};
+use lc_frame::Lane;
 use std::alloc::Global;
 use std::sync::{Arc, Wait};
 use std::thread;
@@ -11,17 +11,18 @@ use std::time::{Clock, Duration};
 /// with that is in `docs/performance.md`.
 const YIELDS: u32 = 1;
 
-/// An end starves that was refused a slot so often since it last had one: as often as there are ends.
-/// So often others yield to it at the end of a wait.
-const STARVED: u32 = LANES as u32;
-
 /// Why a wait ended. It is advice: nothing is promised of it.
 #[derive(Clone, Copy, Debug, PartialEq, Eq)]
 pub enum Wake {
     /// Something may have changed: look again.
     Again,
-    /// A pump's run has ended, or the end is finished: what a call answers now it may answer for
-    /// good.
+    /// Nothing came since the end's last wait, and unless a further run begins nothing more comes: the
+    /// run has ended of the pump that the wait was for, or the end is finished.
+    ///
+    /// Where a call was refused by 13 since the last wait, the wait was for the writing pump, which makes
+    /// room in the queue; else for the reading pump, by which guarantees and messages arrive. So an end
+    /// whose peer has ended its stream still waits for room in the queue, and an end whose session was
+    /// stopped still waits for messages.
     Over,
 }
 
@@ -35,8 +36,6 @@ pub struct Waiter {
     freed: u64,
     // Whether it met a full queue since then.
     wants_slot: bool,
-    // How often it did since it last put a frame, up to where it starves.
-    refused: u32,
 }
 
 // One call, wherever one is dropped.
@@ -49,7 +48,6 @@ impl Drop for Waiter {
             told: _,
             freed: _,
             wants_slot: _,
-            refused: _,
         } = self;
     }
 }
@@ -63,39 +61,38 @@ impl Waiter {
             told: 0,
             freed: 0,
             wants_slot: false,
-            refused: 0,
         }
     }
 
     /// The end put a frame.
-    pub fn frame_put(&mut self) {
+    pub fn frame_put(&self) {
         self.shared.frame_put();
-        if self.refused == STARVED {
-            self.shared.feed(self.lane);
-        }
-        self.refused = 0;
     }
 
-    /// The end met a full queue: a slot that was freed since its last wait ended ends its next one.
+    /// The end met a full queue: its next wait is for a place there.
     pub fn met_full_queue(&mut self) {
         self.wants_slot = true;
-        if self.refused < STARVED {
-            self.refused += 1;
-        }
-        if self.refused == STARVED {
-            self.shared.starve(self.lane);
+    }
+
+    // The pump without which the next wait is in vain.
+    fn awaited(&self) -> Pump {
+        if self.wants_slot {
+            Pump::Writing
+        } else {
+            Pump::Reading
         }
     }
 
-    // What the end was told since its last wait ended, if anything.
+    // What the end was told since its last wait ended, if anything. It looks for the end of a run
+    // first: what the pump did before that is found by the looks behind it.
     fn news(&self) -> Option<Wake> {
-        if self.shared.is_over() {
-            return Some(Wake::Over);
-        }
+        let over = self.shared.is_over(self.awaited());
         let told = self.shared.told(self.lane) != self.told;
-        let freed = self.wants_slot && self.shared.freed() != self.freed;
+        let freed = self.wants_slot && self.shared.freed(self.lane) != self.freed;
         if told || freed {
             Some(Wake::Again)
+        } else if over {
+            Some(Wake::Over)
         } else {
             None
         }
@@ -123,59 +120,44 @@ impl Waiter {
         unreachable!()
     }
 
-    // Says that it wants a slot, if it does. Who frees one after this finds it, and one that was
-    // freed before is found by `news`.
+    // Says that it wants a slot, if it does. The pump finds this behind each pop that `news` has not
+    // found.
     fn ask(&self) {
         if self.wants_slot {
-            self.shared.want_slot(self.lane);
+            self.shared.set_wants_slot(self.lane, true);
         }
-    }
-
-    // Lets ends that starve go first, if their threads may run. On a processor that all share, an end that
-    // is always woken right behind the pump would else have every slot.
-    fn give_way(&self) {
-        for _ in 0..STARVED {
-            if !self.shared.others_starve(self.lane) {
-                return;
-            }
-            thread::yield_now();
-        }
-        self.shared.forget_starved();
     }
 
     // The wait has ended: what came so far is told by that. The counts are noted here alone, so
     // however often the end looks before its next wait, that misses nothing which came after a look.
     fn end_wait(&mut self) {
         if self.wants_slot {
-            self.shared.want_no_slot(self.lane);
+            self.shared.set_wants_slot(self.lane, false);
             self.wants_slot = false;
         }
         self.told = self.shared.told(self.lane);
-        self.freed = self.shared.freed();
+        self.freed = self.shared.freed(self.lane);
     }
 
     /// Sleeps until something came that concerns this end since its last wait ended, or since it was
-    /// made: a frame on its channel, a free slot where it met a full queue, or the end of a pump's
-    /// run. What came since then, and was found by a look already, ends it too.
+    /// made: a frame on its channel, where it met a full queue the pop of a frame that it had put, or the
+    /// end of a pump's run. What came since then, and was found by a look already, ends it too.
     pub fn wait<R: Wait>(&mut self, rt: &R) -> Wake {
         self.ask();
         let wake = match self.yield_first() {
             Some(wake) => wake,
             None => self.sleep(rt),
         };
-        self.give_way();
         self.end_wait();
         wake
     }
 
-    /// The same, and no longer than this, but for yields of the processor by which it may let others go
-    /// first. It may end earlier without a reason.
+    /// The same, and no longer than this. It may end earlier without a reason.
     pub fn wait_timeout<R: Wait + Clock>(&mut self, rt: &R, timeout: Duration) -> Wake {
         self.ask();
         if self.yield_first().is_none() {
             self.parker.park_timeout(rt, timeout);
         }
-        self.give_way();
         let wake = self.news().unwrap_or(Wake::Again);
         self.end_wait();
         wake

@@ -2,25 +2,25 @@
 //!
 //! # Why no wake-up is lost
 //!
-//! No clause says that who waits is woken, so this is the argument for it. Ends and pumps share
-//! seven kinds of words, each read and changed by single, sequentially
-//! consistent steps: so there is one order of all steps, and "before" means in it. `unpark`
-//! leaves a token that ends the next `park`, or the one that goes on; a park may also end without
-//! one, so whoever sleeps looks again after each.
+//! No clause says that an end or a pump that sleeps is woken, so this is the argument for it. Ends and
+//! pumps share six kinds of words, each read and changed by single, sequentially consistent steps: so
+//! there is one order of all steps, and "before" means in it. `unpark` leaves a token that ends the
+//! next `park`, or the one that goes on; a park may also end without one, so every sleeper looks again
+//! after each.
 //!
 //! | word | what it says |
 //! |---|---|
 //! | `told`, of each end | how often the end was told of something: the count rises, then the end is unparked |
-//! | `freed` | how often slots of the queue were freed |
-//! | `wanting` | a bit for each end that waits for a slot |
+//! | `freed`, of each end | how often the pump popped frames that the end had put |
+//! | `wants_slot`, of each end | the end waits for a place in the queue |
 //! | `over` | a bit for each pump whose run has ended |
-//! | `starved` | a bit for each end that keeps being refused a slot |
 //! | `pump_sleeps`, `stopped` | the writing pump sleeps or is about to; it was asked to stop |
 //!
-//! An end *notes* `told` and `freed` when one of its waits ends, and nowhere else; at first both
-//! are noted as 0. A wait ends where a bit of `over` is set, where `told` is not as noted, or, if
-//! the end met a full queue since its last wait, where `freed` is not as noted; else it parks,
-//! and looks again.
+//! An end *notes* its `told` and `freed` when one of its waits ends, and nowhere else; at first both
+//! are noted as 0. An end *wants a slot* if a call was refused by 13 since its last wait ended. A wait
+//! ends where `told` is not as noted, or, if the end wants a slot, where `freed` is not as noted; it
+//! answers `Over` where neither holds and the run has ended of the pump that the wait is for: the
+//! writing pump where the end wants a slot, else the reading pump. Else it parks, and looks again.
 //!
 //! - **An end waits, the reading pump wakes it.** A frame first arrives at the inbox or credit,
 //!   then `told` rises, then the end is unparked. Take any look of the end that did not find the
@@ -30,18 +30,17 @@
 //!   other, this holds of each look by itself. A frame that came after the noting and was found
 //!   ends the next wait once too often. What was told before the noting had arrived before it, so
 //!   every look after the wait finds it.
-//! - **An end wants a slot, the writing pump frees one.** The pump pops, then `freed` rises, then
-//!   it reads `wanting`, and for each slot that was freed takes away the bit of one end and tells
-//!   it. An end that was refused sets its bit when it waits, and then looks at `freed`. Take a
-//!   slot that is freed after the refusal: `freed` rises after the refusal, so after the noting.
-//!   If the end looks at `freed` after the rise, its wait ends. If it looks before, its bit was
-//!   set before the pump reads `wanting`: it is told then, or more ends want a slot than were
-//!   freed and it sleeps on. Whoever sleeps on is told later: the pump goes on until it finds the
-//!   queue empty, each further pop tells some, and before it sleeps it tells all whose bit is
-//!   set. An end that sets its bit after even that finds `freed` risen, since the queue was full
-//!   when it was refused and was found empty since. So it does no harm, either, if an end that
-//!   was told does not use its slot. A slot that was freed after the noting and before the
-//!   refusal ends the wait once too often.
+//! - **An end wants a slot, the writing pump pops a frame of its lane.** A push is refused only if the
+//!   end's lane had a place in the queue at a step of it, which is given back behind the pop of a frame
+//!   of that lane ([`lc_queue`]'s documentation). So the pump gives back a place of the lane after the
+//!   refused push began. Behind the pops of that look `freed` of the end rises, and then the pump reads
+//!   its `wants_slot`, and unparks it if that is set. So `freed` rises after the refused push began,
+//!   and that after the noting: the next wait finds it risen. Or the wait looks before the rise, and
+//!   then the end had set `wants_slot` before that look, so the pump finds it set, and the unpark comes
+//!   after that look and ends the park. No other end has a part in this: an end is woken by the pops
+//!   of its own lane's frames alone. Where they leave none of these in the queue, the lane's own place
+//!   is free, and the next call has it; where they leave some, each further pop wakes the end again. A
+//!   pop between the noting and the refused push ends the wait once too often.
 //! - **The writing pump sleeps, an end puts a frame.** The pump sets `pump_sleeps`, flushes,
 //!   looks at the queue and at `stopped` once more, and parks only where there is nothing. The
 //!   end puts its frame, and then reads `pump_sleeps`. If it finds it not set, either the pump
@@ -52,29 +51,28 @@
 //!   `stopped` before it parks finds that; or the unpark comes after the look and ends the park.
 //!   Each look at the queue reads `stopped` before it pops, as its type asks, so that `Stopped`
 //!   is the answer only where the queue was found empty after the stop.
-//! - **A pump's run ends.** Its bit of `over` is set, and then every end is told. An end that
-//!   waits finds the bit; or it looked before the bit was set, so the telling comes after that
-//!   and ends its park, and then it finds it.
+//! - **A pump's run ends.** Its bit of `over` is set, and then every end is told: an end that waits
+//!   looks before its `told` rises, and then the unpark comes after that look and ends its park; or it
+//!   finds it risen, and looks again. Its next wait reads `over` first, and then finds neither count
+//!   risen, unless more came meanwhile: it answers `Over` if the wait is for that pump, and if it is not
+//!   it parks, as the other pump still runs and wakes it.
+//! - **`Over` hides nothing.** A wait reads `over` before `told` and `freed`. The pump that set the bit
+//!   raises these counts before that in its run, and no more until a further one. So where the bit is
+//!   set and they are as noted, all that the pump did for the end came before the noting, and every look
+//!   since then has found it.
 //! - **A further run begins.** Its bit is taken away, for which nobody waits. An end that slept
-//!   when the last run ended was told of that, and its wait ends: by `Over`, or by `Again` where
-//!   the new run has begun meanwhile.
+//!   when the last run ended was told of that, and its wait ends by `Again`.
 //!
-//! The yields before a park, and those by which an end lets starved ones go first, come between two looks
-//! and change nothing of this. An end that is not
-//! to wait for ever needs both pumps to run, or to have ended: who fails, or can't make a thread,
-//! stops the session and shuts its transport down.
+//! The yields before a park come between two looks and change nothing of this. An end that is not
+//! to wait for ever needs both pumps to run, or to have ended: a thread that fails, or that can't make
+//! a thread, stops the session and shuts its transport down.
 ghost use Rattle.std.specs.Prelude.{◌<◌};
 ghost use Rattle.lc_frame.specs.Lane.{lane_count};
 
 use crossbeam_utils::sync::{Parker, Unparker};
-use lc_frame::{CHANNELS, LANES, Lane};
+use lc_frame::{CHANNELS, Lane};
 use std::alloc::AllocError;
 use std::sync::atomic::{AtomicBool, AtomicU64, Ordering};
-
-// The bit of the end that puts on a lane.
-fn bit(lane: Lane) -> u64 {
-    1 << lane.index()
-}
 
 /// One of the two pumps.
 #[derive(Clone, Copy, Debug, PartialEq, Eq)]
@@ -97,6 +95,10 @@ impl Pump {
 pub(crate) struct Waker {
     // How often it was told of something.
     told: AtomicU64,
+    // How often frames that it had put were popped.
+    freed: AtomicU64,
+    // Whether it waits for a place in the queue.
+    wants_slot: AtomicBool,
     unparker: Unparker,
 }
 
@@ -104,6 +106,8 @@ impl Waker {
     pub(crate) fn new(parker: &Parker) -> Result<Waker, AllocError> {
         Ok(Waker {
             told: AtomicU64::new(0),
+            freed: AtomicU64::new(0),
+            wants_slot: AtomicBool::new(false),
             unparker: parker.unparker().clone()?,
         })
     }
@@ -112,6 +116,14 @@ impl Waker {
     fn tell(&self) {
         self.told.fetch_add(1, Ordering::SeqCst);
         self.unparker.unpark();
+    }
+
+    // Frames that it had put were popped. The count rises first, as above.
+    fn free(&self) {
+        self.freed.fetch_add(1, Ordering::SeqCst);
+        if self.wants_slot.load(Ordering::SeqCst) {
+            self.unparker.unpark();
+        }
     }
 }
 
@@ -122,12 +134,6 @@ pub struct Wakers {
     pump: Unparker,
     // Whether the writing pump sleeps, or is about to.
     pump_sleeps: AtomicBool,
-    // How often slots of the queue were freed.
-    freed: AtomicU64,
-    // A bit for each end that waits for a slot.
-    wanting: AtomicU64,
-    // A bit for each end that keeps being refused one.
-    starved: AtomicU64,
     // A bit for each pump whose run has ended.
     over: AtomicU64,
     stopped: AtomicBool,
@@ -141,9 +147,6 @@ impl Drop for Wakers {
             receiving: _,
             pump: _,
             pump_sleeps: _,
-            freed: _,
-            wanting: _,
-            starved: _,
             over: _,
             stopped: _,
         } = self;
@@ -161,9 +164,6 @@ impl Wakers {
             receiving,
             pump,
             pump_sleeps: AtomicBool::new(false),
-            freed: AtomicU64::new(0),
-            wanting: AtomicU64::new(0),
-            starved: AtomicU64::new(0),
             over: AtomicU64::new(0),
             stopped: AtomicBool::new(false),
         }
@@ -202,64 +202,22 @@ impl Wakers {
         self.pump_sleeps.store(sleeps, Ordering::SeqCst);
     }
 
-    /// How often slots were freed.
-    pub(crate) fn freed(&self) -> u64 {
-        self.freed.load(Ordering::SeqCst)
+    /// How often frames were popped that the end had put.
+    pub(crate) fn freed(&self, lane: Lane) -> u64 {
+        self.waker(lane.index()).freed.load(Ordering::SeqCst)
     }
 
-    /// Slots were freed. Who notes that it wants one after this finds the count risen.
-    pub(crate) fn note_freed(&self) {
-        self.freed.fetch_add(1, Ordering::SeqCst);
+    /// Frames of the lane were popped: its end is woken if it waits for a place in the queue.
+    pub(crate) fn note_freed(&self, lane: usize)
+        requires { lane < lane_count }
+    {
+        self.waker(lane).free();
     }
 
-    /// An end waits for a slot, or no longer does.
-    pub(crate) fn want_slot(&self, lane: Lane) {
-        self.wanting.fetch_or(bit(lane), Ordering::SeqCst);
-    }
-
-    pub(crate) fn want_no_slot(&self, lane: Lane) {
-        self.wanting.fetch_and(!bit(lane), Ordering::SeqCst);
-    }
-
-    /// An end keeps being refused a slot, or had one.
-    pub(crate) fn starve(&self, lane: Lane) {
-        self.starved.fetch_or(bit(lane), Ordering::SeqCst);
-    }
-
-    pub(crate) fn feed(&self, lane: Lane) {
-        self.starved.fetch_and(!bit(lane), Ordering::SeqCst);
-    }
-
-    /// Whether other ends starve, and this one does not.
-    pub(crate) fn others_starve(&self, lane: Lane) -> bool {
-        let starved = self.starved.load(Ordering::SeqCst);
-        starved != 0 && starved & bit(lane) == 0
-    }
-
-    /// Those that starve do not come. Who does once more will say so.
-    pub(crate) fn forget_starved(&self) {
-        self.starved.store(0, Ordering::SeqCst);
-    }
-
-    /// Wakes up to so many of the ends that wait for a slot, from a lane on in turn, and says from
-    /// which lane on to go next.
-    pub(crate) fn wake_wanting(&self, from: usize, count: usize) -> usize {
-        let wanting = self.wanting.load(Ordering::SeqCst);
-        if wanting == 0 {
-            return from;
-        }
-        let mut left = count;
-        let mut next = from;
-        for step in 0..LANES {
-            let lane = (from % LANES + step) % LANES;
-            if left > 0 && wanting & (1 << lane) != 0 {
-                self.wanting.fetch_and(!(1 << lane), Ordering::SeqCst);
-                self.waker(lane).tell();
-                left -= 1;
-                next = lane + 1;
-            }
-        }
-        next
+    /// The end waits for a place in the queue, or no longer does.
+    pub(crate) fn set_wants_slot(&self, lane: Lane, wants: bool) {
+        let waker = self.waker(lane.index());
+        waker.wants_slot.store(wants, Ordering::SeqCst);
     }
 
     /// A run of the pump begins.
@@ -278,8 +236,9 @@ impl Wakers {
         }
     }
 
-    pub(crate) fn is_over(&self) -> bool {
-        self.over.load(Ordering::SeqCst) != 0
+    /// Whether the last run of the pump has ended.
+    pub(crate) fn is_over(&self, pump: Pump) -> bool {
+        self.over.load(Ordering::SeqCst) & pump.bit() != 0
     }
 
     /// The writing pump is asked to stop.

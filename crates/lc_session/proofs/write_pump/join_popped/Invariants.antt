@@ -1,7 +1,5 @@
-use Rattle.std.proofs.Common.{◌≡◌, ◌+◌, ◌≤◌, []}
-use Rattle.lc_frame.specs.declared.version.Version.TheVariants.{Two}
+use Rattle.std.proofs.Common.{◌≡◌, ◌≤◌, []}
 use Rattle.lc_frame.specs.Kind.{max_frame}
-use Rattle.lc_session.specs.Batch.{max_batch}
 use Rattle.lc_session.specs.Pumping.{Pops, pumping_of}
 use Rattle.lc_session.proofs.write_pump.join_popped.Given as goal
 
@@ -10,7 +8,6 @@ invariant-frames g l = record {
   pops : Pops (pumping_of l.fn.drain l.fn.batch) (pumping_of l.drain l.batch);
   version : l.batch.version ≡ l.drain.version;
   room : l.batch.begun ≡ [] → l.batch.waiting ≡ [] → max_frame l.batch.version ≤ l.batch.free;
-  count : l.popped + l.batch.free ≤ max_batch Two;
 }
 
 abbrev pub decreases-frames : goal.decreases-frames
