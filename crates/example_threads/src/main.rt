@@ -67,15 +67,13 @@ fn send<R: Wait>(rt: &R, end: &mut SendEnd, body: &[u8]) -> bool
     unreachable!()
 }
 
-// Sends all messages. Whether it did.
-fn send_all<R: Wait>(rt: &R, end: &mut SendEnd) -> bool
+fn send_all<R: Wait>(rt: &R, end: &mut SendEnd)
     ensures { IsSameOutbox end.old end.new }
 {
     let mut goes_on = true;
     for number in 0..MESSAGES {
         goes_on = goes_on && send(rt, end, &number.to_be_bytes());
     }
-    goes_on
 }
 
 // Promises room, and waits for a slot where there is none. Whether it did.
@@ -122,24 +120,18 @@ fn take_all<R: Wait>(rt: &R, end: &mut RecvEnd)
     }
 }
 
-// A side's part on the channel. Who takes knows when all has come, and stops first: a stream that
-// ended earlier would end its waits.
+// A side's part on the channel. When it is done the session is stopped: what is queued is still
+// written, and then the side's stream ends. The other side goes on with what it holds and what arrived.
 fn use_ends<R: Wait>(rt: &R, session: &Session, ends: Ends, role: Role) -> Ends
     ensures sending { AllZip IsSameOutbox ends.0 result.0 }
     ensures receiving { AllZip IsSameSide ends.1 result.1 }
 {
     let (mut sending, mut receiving) = ends;
     match role {
-        Role::Sends => {
-            if !send_all(rt, &mut sending[CHANNEL.index()]) {
-                session.stop();
-            }
-        }
-        Role::Takes => {
-            take_all(rt, &mut receiving[CHANNEL.index()]);
-            session.stop();
-        }
+        Role::Sends => send_all(rt, &mut sending[CHANNEL.index()]),
+        Role::Takes => take_all(rt, &mut receiving[CHANNEL.index()]),
     }
+    session.stop();
     (sending, receiving)
 }
 
@@ -151,19 +143,17 @@ fn write_out<R: Wait>(rt: &R, mut pump: WritePump, writer: PipeWriter) -> WriteP
     pump
 }
 
-// Reads until the stream ends, and stops the session then.
-fn read_in<R: Wait>(rt: &R, session: &Session, mut pump: ReadPump, reader: PipeReader) -> ReadPump
+// Reads until the stream ends. The side's end goes on with what it holds guarantees for.
+fn read_in<R: Wait>(rt: &R, mut pump: ReadPump, reader: PipeReader) -> ReadPump
     ensures { HearsMore pump result }
 {
     let _end = pump.run(rt, &mut Counted::new(Uninterrupted::new(reader)), u64::MAX);
-    session.stop();
     pump
 }
 
 // Both pumps at work.
 fn use_pumps<R: Threads + Wait + Sync>(
     rt: &R,
-    session: &Session,
     pumps: (ReadPump, WritePump),
     reader: PipeReader,
     writer: PipeWriter,
@@ -176,7 +166,7 @@ fn use_pumps<R: Threads + Wait + Sync>(
         rt,
         || -> ReadPump
             ensures { HearsMore reading result }
-        { read_in(rt, session, reading, reader) },
+        { read_in(rt, reading, reader) },
         || -> WritePump
             ensures { IsSamePump writing result }
         { write_out(rt, writing, writer) },
@@ -204,7 +194,7 @@ fn play<R: Threads + Wait + Sync>(
         rt,
         || -> (ReadPump, WritePump)
             ensures { HearsMore read_pump result.0 × IsSamePump write_pump result.1 }
-        { use_pumps(rt, &session, (read_pump, write_pump), reader, writer) },
+        { use_pumps(rt, (read_pump, write_pump), reader, writer) },
         || -> Ends
             ensures { AllZip IsSameOutbox send_ends result.0 × AllZip IsSameSide recv_ends result.1 }
         { use_ends(rt, &session, (send_ends, recv_ends), role) },

@@ -1,5 +1,6 @@
 //! Sessions over devices in memory and over sockets.
 mod desk;
+mod ended;
 mod ends;
 mod faults;
 mod held;

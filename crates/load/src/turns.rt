@@ -1,11 +1,14 @@
 //! Made schedules of a session's fourteen ends and its writing pump, and how many frames of others go before an
 //! end's own. At each moment one of them is let go on, by a number that was made: an end makes one call, the pump
 //! writes what it has and looks at the queue again. An end that is told of a slot makes its call before any other
-//! end does: so what is counted is what the session itself does, and not how late a thread is.
+//! end does: so what is counted is what the session itself does, and not how late a thread is. A frame has gone
+//! once the pump has popped it.
 //!
-//! Between an end's call and its frame at most `slots - 1` frames of others go where a slot was free. Where none was
-//! there go at most the `slots` that were queued, and those of others that are told of a slot until its turn is
-//! over: fourteen ends are told in turn, as many at a time as there are slots, and may call in any order then.
+//! A queue has fourteen places beside its `slots`. So between an accepted call and its frame at most `slots + 13`
+//! frames of others go. A call is refused only while a frame of its own lane is queued; the end is told as soon as
+//! the pump has popped one, and its next call is accepted. Until that pop at most `slots + 13` of others go; those
+//! popped in the same look and those queued behind it are as many again; and the thirteen other ends may be told
+//! by that look and call first.
 use lc_driver::Counted;
 use lc_frame::{CHANNELS, Channel, Decoded, FrameRef, LANES, Lane, Version, decode};
 use lc_peer::Config;
@@ -32,6 +35,9 @@ const PUMP: usize = LANES;
 
 const ALL: usize = LANES + 1;
 
+/// All ends but one.
+const OTHERS: u64 = LANES as u64 - 1;
+
 /// Longer than a schedule takes, in seconds.
 const LONG: u64 = 3_600;
 
@@ -43,10 +49,15 @@ const ENOUGH: u64 = 1 << 40;
 /// The calls of a schedule.
 const CALLS: u32 = 40;
 
-/// The sessions that are tried, and the slots of each.
-const SESSIONS: u32 = 6;
-
+/// The slots of the sessions that are tried, and in how many ways a schedule is made.
 const SLOTS: [u32; 6] = [1, 3, 5, 8, 14, 64];
+
+const WAYS: u32 = 2 * SLOTS.len() as u32;
+
+/// A long message: the pump has no room for three. So many schedules use up less than the guarantees.
+const LONG_MESSAGE: usize = 61_440;
+
+const LONG_SCHEDULES: u32 = 50;
 
 // The bits of a word by which who sleeps on it is woken.
 fn low_half(word: u64) -> u32 {
@@ -115,12 +126,13 @@ impl Stage {
         unreachable!()
     }
 
-    fn asleep(&self) -> usize {
-        let mut count = 0;
+    // Whether no end sleeps.
+    fn are_awake(&self) -> bool {
+        let mut awake = true;
         for place in 0..LANES {
-            count = usize::saturating_add(count, usize::from(self.word(place) == ASLEEP));
+            awake &= self.word(place) != ASLEEP;
         }
-        count
+        awake
     }
 
     // Waits until who is at a place has gone on to where it waits next: what it is at then.
@@ -148,11 +160,11 @@ impl Stage {
         }
     }
 
-    // Waits until no more ends sleep than so many.
-    fn await_awake<R: Wait>(&self, rt: &R, most: usize) {
+    // Waits until the end at a place does not sleep.
+    fn await_awake<R: Wait>(&self, rt: &R, place: usize) {
         for _ in rt.forever() {
             let seen = self.reports.load(Ordering::SeqCst);
-            if self.asleep() <= most {
+            if self.word(place) != ASLEEP {
                 return;
             }
             self.reports.park(rt, low_half(seen));
@@ -201,6 +213,10 @@ impl<'a, R> Bed<'a, R> {
             readings: AtomicU64::new(0),
         }
     }
+
+    fn has_slept(&self) -> bool {
+        self.readings.load(Ordering::SeqCst) > 0
+    }
 }
 
 impl<R: Wait> Wait for Bed<'_, R> {}
@@ -228,36 +244,57 @@ fn settle<R: Wait + Clock>(rt: &R, stage: &Stage, end: &mut SendEnd, place: usiz
     }
 }
 
-// Sends a message of one byte in each further turn, and waits where there is no slot.
-fn use_sender<R: Wait + Clock>(rt: &R, stage: &Stage, end: &mut SendEnd) {
+// Sends a message, or sleeps where there is no slot: what the end is at then. A wait that ends at once, by what was
+// popped before the call, is no sleep.
+fn send<R: Wait + Clock>(rt: &R, stage: &Stage, end: &mut SendEnd, message: &[u8]) -> u64 {
+    for _ in rt.forever() {
+        if end.send(rt, message).is_ok() {
+            return READY;
+        }
+        let bed = Bed::new(rt, stage, Lane::Client(end.channel()).index());
+        end.wait_timeout(&bed, Duration::from_secs(LONG));
+        if bed.has_slept() {
+            return TOLD;
+        }
+    }
+    unreachable!()
+}
+
+// Says a limit again, or sleeps.
+fn limit<R: Wait + Clock>(rt: &R, stage: &Stage, end: &mut RecvEnd) -> u64 {
+    for _ in rt.forever() {
+        if end.limit(rt, ENOUGH).is_ok() {
+            return READY;
+        }
+        let bed = Bed::new(rt, stage, Lane::Server(end.channel()).index());
+        end.wait_timeout(&bed, Duration::from_secs(LONG));
+        if bed.has_slept() {
+            return TOLD;
+        }
+    }
+    unreachable!()
+}
+
+// Sends a message in each further turn.
+fn use_sender<R: Wait + Clock>(rt: &R, stage: &Stage, end: &mut SendEnd, message: &[u8]) {
     let place = Lane::Client(end.channel()).index();
     settle(rt, stage, end, place);
     for _ in rt.forever() {
         if !stage.await_turn(rt, place) {
             return;
         }
-        if end.send(rt, &[0]).is_ok() {
-            stage.report(place, READY);
-        } else {
-            end.wait_timeout(&Bed::new(rt, &*stage, place), Duration::from_secs(LONG));
-            stage.report(place, TOLD);
-        }
+        stage.report(place, send(rt, stage, end, message));
     }
 }
 
-// And each turn of a receiving end, which says a limit again.
+// Says a limit in each turn.
 fn use_taker<R: Wait + Clock>(rt: &R, stage: &Stage, end: &mut RecvEnd) {
     let place = Lane::Server(end.channel()).index();
     for _ in rt.forever() {
         if !stage.await_turn(rt, place) {
             return;
         }
-        if end.limit(rt, ENOUGH).is_ok() {
-            stage.report(place, READY);
-        } else {
-            end.wait_timeout(&Bed::new(rt, &*stage, place), Duration::from_secs(LONG));
-            stage.report(place, TOLD);
-        }
+        stage.report(place, limit(rt, stage, end));
     }
 }
 
@@ -267,6 +304,7 @@ fn use_ends<R: Threads + Wait + Clock + Sync>(
     stage: &Stage,
     mut sending: [SendEnd; CHANNELS],
     mut receiving: [RecvEnd; CHANNELS],
+    message: &[u8],
 ) {
     join(
         rt,
@@ -275,7 +313,7 @@ fn use_ends<R: Threads + Wait + Clock + Sync>(
                 rt,
                 &mut sending,
                 CHANNELS,
-                &|_, end| use_sender(rt, stage, end),
+                &|_, end| use_sender(rt, stage, end, message),
             );
         },
         || {
@@ -373,21 +411,15 @@ struct Due {
     most: u64,
 }
 
-// How many others may be told of a slot until an end that waits for one has been, by turns of as many at a time.
-fn told_before(slots: u64) -> u64 {
-    let ends = LANES as u64;
-    let at_a_time = slots.min(ends).max(1);
-    let turns = ends.div_ceil(at_a_time);
-    turns.saturating_mul(at_a_time).saturating_sub(1)
-}
-
 /// What is known of all frames.
 #[derive(Drop)]
 struct Ledger {
-    slots: u64,
-    /// How many frames have gone, in all and of each lane.
+    /// How many frames of others may be queued beside one.
+    beside: u64,
+    /// How many frames have gone, in all and of each lane, and how many were put there.
     gone: u64,
     own: [u64; LANES],
+    put: [u64; LANES],
     /// Of an end that was refused, what had gone of others at its first call since its last frame.
     refused: [Option<u64>; LANES],
     /// The frames that were put and have not gone, behind so many that have.
@@ -398,9 +430,10 @@ struct Ledger {
 impl Ledger {
     fn new(alloc: Global, slots: u32) -> Ledger {
         Ledger {
-            slots: u64::from(slots),
+            beside: u64::from(slots).saturating_add(OTHERS),
             gone: 0,
             own: [0; LANES],
+            put: [0; LANES],
             refused: [None; LANES],
             due: Vec::new(alloc),
             next: 0,
@@ -413,11 +446,21 @@ impl Ledger {
             .saturating_sub(self.own.get(lane).copied().unwrap_or(0))
     }
 
-    // An end's call was refused for want of a slot.
-    fn refuse(&mut self, lane: usize) {
+    // An end's call was refused for want of a slot. Whether it may be: a frame of its lane is queued.
+    fn refuse(&mut self, lane: usize) -> bool {
         let others = self.others(lane);
         if let Some(refused) = self.refused.get_mut(lane) {
             *refused = Some(refused.unwrap_or(others));
+        }
+        self.put.get(lane) > self.own.get(lane)
+    }
+
+    // How many frames of others may go before one whose call was refused first, or was not.
+    fn most(&self, was_refused: bool) -> u64 {
+        if was_refused {
+            self.beside.saturating_mul(2).saturating_add(OTHERS)
+        } else {
+            self.beside
         }
     }
 
@@ -430,11 +473,11 @@ impl Ledger {
         let due = Due {
             lane,
             before: first.unwrap_or(self.others(lane)),
-            most: match first {
-                Some(_) => self.slots.saturating_add(told_before(self.slots)),
-                None => self.slots.saturating_sub(1),
-            },
+            most: self.most(first.is_some()),
         };
+        if let Some(put) = self.put.get_mut(lane) {
+            *put = put.saturating_add(1);
+        }
         if self.next == self.due.len() {
             self.due.clear();
             self.next = 0;
@@ -480,43 +523,38 @@ impl<R: Wait + Clock> Maker<'_, R> {
         None
     }
 
-    // What the pump wrote has gone: whether all went in turn. As many ends as frames are told, if as many sleep.
-    fn note_written(&mut self, asleep: usize) -> bool {
+    // What the pump popped has gone: whether all went in turn. The ends that had put it are told, if they sleep.
+    fn note_written(&mut self) -> bool {
         let mut in_turn = true;
-        let mut count = 0;
         for &lane in self.stage.written.lock(self.rt).iter() {
-            in_turn &= self.ledger.go(usize::from(lane));
-            count = usize::saturating_add(count, 1);
+            let lane = usize::from(lane);
+            in_turn &= self.ledger.go(lane);
+            self.stage.await_awake(self.rt, lane);
         }
-        self.stage
-            .await_awake(self.rt, asleep.saturating_sub(count));
         in_turn
     }
 
-    // The pump goes on: it writes what it popped, or is about to sleep, and then all ends are told.
+    // The pump goes on: it writes what it popped, or is about to sleep, and then no end waits for a slot.
     fn let_pump_go(&mut self) -> bool {
-        let asleep = self.stage.asleep();
         if self.stage.let_go(self.rt, PUMP) == READY {
-            return self.note_written(asleep);
+            self.note_written()
+        } else {
+            self.stage.are_awake()
         }
-        self.stage.await_awake(self.rt, 0);
-        true
     }
 
-    // An end makes a call. Where the pump sleeps a frame wakes it.
+    // An end makes a call, which is not refused where it was told. Where the pump sleeps a frame wakes it.
     fn let_end_go(&mut self, place: usize) -> bool {
         let rests = self.stage.word(PUMP) == ASLEEP;
+        let was_told = self.stage.word(place) == TOLD;
         match self.stage.let_go(self.rt, place) {
             READY if rests => {
                 let noted = self.ledger.put(place);
                 self.stage.await_written(self.rt);
-                noted && self.note_written(0)
+                noted && self.note_written()
             }
             READY => self.ledger.put(place),
-            _ => {
-                self.ledger.refuse(place);
-                true
-            }
+            _ => self.ledger.refuse(place) && !was_told,
         }
     }
 
@@ -598,36 +636,44 @@ fn use_pumps<R: Threads + Wait + Clock + Sync>(
     );
 }
 
-// Makes so many schedules, and ends them. Whether all frames went in turn.
+/// The schedules of a session: its slots, how long its messages are, and from which number on they are made.
+#[derive(Clone, Copy)]
+struct Course {
+    slots: u32,
+    message: usize,
+    schedules: u32,
+    seed: u32,
+}
+
+// Makes all schedules, and ends them. Whether all frames went in turn.
 fn direct<R: Wait + Clock>(
     rt: &R,
     alloc: Global,
     stage: &Stage,
     session: &Session,
-    slots: u32,
-    schedules: u32,
+    course: Course,
 ) -> bool {
     let mut maker = Maker {
         rt,
         stage,
-        random: Random(u64::from(slots)),
-        ledger: Ledger::new(alloc, slots),
+        random: Random(u64::from(course.seed)),
+        ledger: Ledger::new(alloc, course.slots),
     };
-    let in_turn = maker.make_all(schedules);
+    let in_turn = maker.make_all(course.schedules);
     stage.end();
     session.stop();
     in_turn
 }
 
-// So many schedules of a session with so many slots. Whether all frames went in turn.
-fn make_with<R>(rt: &R, alloc: Global, slots: u32, schedules: u32) -> Option<bool>
+// All schedules of a session. Whether all frames went in turn.
+fn make_with<R>(rt: &R, alloc: Global, course: Course) -> Option<bool>
 where
     R: Threads + Wait + Clock + Sync,
 {
     let config = Config {
         version: Version::One,
         capacities: [1; CHANNELS],
-        slots,
+        slots: course.slots,
     };
     let Parts {
         session,
@@ -637,15 +683,16 @@ where
         write_pump,
     } = Session::new(alloc, config).ok()?;
     let bytes = guarantees(alloc)?;
+    let message = vec![in alloc; 0u8; course.message].ok()?;
     let stage = Stage::new(alloc);
     stage.set(PUMP, GOES);
     let (in_turn, ()) = join(
         rt,
-        || direct(rt, alloc, &stage, &session, slots, schedules),
+        || direct(rt, alloc, &stage, &session, course),
         || {
             join(
                 rt,
-                || use_ends(rt, &stage, send_ends, recv_ends),
+                || use_ends(rt, &stage, send_ends, recv_ends, &message),
                 || use_pumps(rt, &stage, read_pump, &bytes, write_pump),
             );
         },
@@ -653,14 +700,40 @@ where
     Some(in_turn)
 }
 
-/// Whether all frames go in turn, in so many made schedules.
+// The same with long messages, in sessions of a few schedules each.
+fn make_long<R>(rt: &R, alloc: Global, slots: u32, schedules: u32) -> Option<bool>
+where
+    R: Threads + Wait + Clock + Sync,
+{
+    let mut in_turn = true;
+    for session in 0..schedules.div_ceil(LONG_SCHEDULES) {
+        let course = Course {
+            slots,
+            message: LONG_MESSAGE,
+            schedules: LONG_SCHEDULES.min(schedules),
+            seed: slots.saturating_add(session.saturating_mul(100)),
+        };
+        in_turn &= make_with(rt, alloc, course)?;
+    }
+    Some(in_turn)
+}
+
+/// Whether all frames go in turn, in so many made schedules, of messages of one byte and of long ones.
 pub fn go_in_turn<R>(rt: &R, alloc: Global, schedules: u32) -> Option<bool>
 where
     R: Threads + Wait + Clock + Sync,
 {
     let mut in_turn = true;
+    let schedules = schedules / WAYS;
     for slots in SLOTS {
-        in_turn &= make_with(rt, alloc, slots, schedules / SESSIONS)?;
+        let course = Course {
+            slots,
+            message: 1,
+            schedules,
+            seed: slots,
+        };
+        in_turn &= make_with(rt, alloc, course)?;
+        in_turn &= make_long(rt, alloc, slots, schedules)?;
     }
     Some(in_turn)
 }

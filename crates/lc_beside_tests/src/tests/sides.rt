@@ -53,18 +53,20 @@ impl Half {
         Some((half, session))
     }
 
-    /// All slots are taken, and each end that will be held has met that.
+    /// All slots are taken, and each end that will be held has met that: it has its lane's own place.
     pub fn fill<R: Wait + Abort>(&mut self, rt: &R, way: Way) {
-        for _ in 0..way.slots {
+        for _ in 0..=way.slots {
             assert_eq!(rt; self.sending[LAST.index()].limit(rt, ENOUGH), Ok(()));
         }
         for end in &mut self.sending {
             if way.held.has(self.side, Lane::Client(end.channel())) {
+                assert_eq!(rt; end.limit(rt, ENOUGH), Ok(()));
                 assert_eq!(rt; end.limit(rt, ENOUGH), Err(Refusal::QueueFull));
             }
         }
         for end in &mut self.receiving {
             if way.held.has(self.side, Lane::Server(end.channel())) {
+                assert_eq!(rt; end.limit(rt, ENOUGH), Ok(()));
                 assert_eq!(rt; end.limit(rt, ENOUGH), Err(Refusal::QueueFull));
             }
         }

@@ -69,7 +69,7 @@ impl Held {
 pub enum Place {
     /// In a park that is to end with a frame on the channel.
     ForNews,
-    /// In one that is to end with a free slot.
+    /// In one that is to end with the pop of a frame that the end had put.
     ForSlot,
     /// Behind it.
     Behind,
@@ -90,7 +90,7 @@ pub struct Way {
 }
 
 impl Way {
-    /// Whether all slots are taken before any pump runs, so that who is held was refused one.
+    /// Whether all slots are taken before any pump runs, so that each end that is held was refused one.
     pub fn begins_full(self) -> bool {
         matches!(self.place, Place::ForSlot | Place::Behind | Place::Refused)
     }

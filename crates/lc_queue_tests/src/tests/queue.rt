@@ -3,7 +3,7 @@ ghost use Rattle.std.specs.Prelude.{IfOk};
 ghost use Rattle.std.specs.List.{All};
 ghost use Rattle.lc_queue.specs.Parts.{IsSame, IsSameEnd};
 
-use lc_frame::{Body, Channel, Frame, Version};
+use lc_frame::{Body, Channel, Frame, Lane, Version};
 use lc_queue::{Drain, LaneEnd, Lanes, LanesFault, lanes};
 use std::alloc::{AllocError, Global};
 use std::process::Abort;
@@ -40,7 +40,7 @@ fn issue() -> Frame {
     }
 }
 
-// Two slots, taken by an Issue of lane 8 and then a Send of lane 1.
+// An Issue of lane 8 and then a Send of lane 1, each on its lane's own place: the two shared ones are free.
 fn two_put(rt: &(impl Wait + Abort), alloc: Global) -> Result<Lanes, Fail>
     ensures { IfOk result (λ parts. All (λ end. IsSame parts.drain.queue end.queue) parts.ends) }
 {
@@ -96,9 +96,20 @@ fn comes_back(rt: &(impl Wait + Abort), alloc: Global, end: &mut LaneEnd) -> Res
 
 #[test]
 fn a_full_queue_gives_the_frame_back(rt: HostRuntime) -> Result<(), Fail> {
-    let mut parts = two_put(&rt, rt.alloc())?;
-    comes_back(&rt, rt.alloc(), &mut parts.ends[0])?;
-    pop_two(&rt, rt.alloc(), &mut parts.drain)
+    let alloc = rt.alloc();
+    let mut parts = two_put(&rt, alloc)?;
+    for _ in 0..2 {
+        put(&rt, &mut parts.ends[8], issue());
+    }
+    put(&rt, &mut parts.ends[0], send(alloc, RECONCILIATION, b"a")?);
+    comes_back(&rt, alloc, &mut parts.ends[0])?;
+    pop(&rt, &mut parts.drain, &issue());
+    pop(&rt, &mut parts.drain, &send(alloc, DATA, b"hi")?);
+    pop(&rt, &mut parts.drain, &issue());
+    pop(&rt, &mut parts.drain, &issue());
+    pop(&rt, &mut parts.drain, &send(alloc, RECONCILIATION, b"a")?);
+    assert!(rt; parts.drain.pop(&rt).is_none());
+    Ok(())
 }
 
 #[test]
@@ -109,13 +120,20 @@ fn what_ended_lanes_put_is_popped(rt: HostRuntime) -> Result<(), Fail> {
     pop_two(&rt, rt.alloc(), &mut drain)
 }
 
-// How many frames are put, of one more than there are slots, until one comes back.
+// A frame of a lane.
+fn frame_on(lane: u8) -> Option<Frame> {
+    Some(match Lane::from_number(lane)? {
+        Lane::Client(channel) => Frame::LimitSending { channel, bound: 0 },
+        Lane::Server(channel) => Frame::Plead { channel, target: 0 },
+    })
+}
+
+// How many frames are put, of one more than there are places for one lane, until one comes back.
 fn room(rt: &(impl Wait + Abort), slots: u32, end: &mut LaneEnd) -> u32 {
     let mut room = 0u32;
-    for _ in 0..=slots {
-        let frame = Frame::Plead {
-            channel: Channel::StaticTokenChannel,
-            target: 0,
+    for _ in 0..=slots.saturating_add(1) {
+        let Some(frame) = frame_on(end.lane()) else {
+            break;
         };
         if push(rt, end, frame).is_err() {
             break;
@@ -154,16 +172,71 @@ fn rooms(
 #[test]
 fn a_queue_is_found_full_and_empty_exactly_where_it_is(rt: HostRuntime) {
     for (slots, pops, wanted) in [
-        (1, 0, (1, 0, 0)),
-        (1, 2, (1, 1, 1)),
-        (2, 1, (2, 1, 1)),
-        (2, 3, (2, 2, 2)),
-        (5, 3, (5, 3, 3)),
-        (65_536, 7, (65_536, 7, 7)),
-        (65_536, 65_537, (65_536, 65_536, 65_536)),
+        (1, 0, (2, 0, 0)),
+        (1, 1, (2, 1, 1)),
+        (1, 3, (2, 2, 2)),
+        (2, 1, (3, 1, 1)),
+        (2, 4, (3, 3, 3)),
+        (5, 3, (6, 3, 3)),
+        (65_536, 7, (65_537, 7, 7)),
+        (65_536, 65_538, (65_537, 65_537, 65_537)),
     ] {
         let found = rooms(&rt, rt.alloc(), slots, pops);
         assert!(rt; found == Some(wanted), "{slots} slots, {pops} pops");
+    }
+}
+
+/// Of each: the slots, how often a lane puts as much as it has room for, once more each time behind so many
+/// pops, and how much that was. Lane 3 comes first.
+const ROOMS: [(u32, &[(usize, u32, u32)]); 3] = [
+    // It has all shared places, and each other lane its own.
+    (
+        1,
+        &[
+            (3, 0, 2),
+            (0, 0, 1),
+            (13, 0, 1),
+            (7, 0, 1),
+            (3, 0, 0),
+            (0, 0, 0),
+            // A shared place comes free where lane 3 has one frame left, and then its own.
+            (13, 1, 1),
+            (7, 0, 0),
+            (3, 0, 0),
+            (7, 1, 0),
+            (3, 0, 1),
+            // Lane 0 and then lane 13 have had their frames popped.
+            (0, 1, 1),
+            (7, 1, 1),
+        ],
+    ),
+    (2, &[(3, 0, 3), (4, 0, 1), (4, 2, 2), (3, 0, 0), (3, 1, 1)]),
+    (64, &[(3, 0, 65), (10, 0, 1), (10, 64, 64), (3, 1, 1)]),
+];
+
+// How much a lane has room for behind so many pops.
+fn rooms_in_turn(
+    rt: &(impl Wait + Abort),
+    alloc: Global,
+    slots: u32,
+    turns: &[(usize, u32, u32)],
+) -> Option<()> {
+    let mut parts = lanes(alloc, slots, Version::One).ok()?;
+    for &(lane, pops, wanted) in turns {
+        let popped = taken(rt, &mut parts.drain, pops);
+        let found = (popped, room(rt, slots, parts.ends.get_mut(lane)?));
+        assert!(rt;
+            found == (pops, wanted),
+            "{slots} slots, lane {lane}: {found:?}, not {wanted}"
+        );
+    }
+    Some(())
+}
+
+#[test]
+fn each_lane_has_a_place_of_its_own(rt: HostRuntime) {
+    for &(slots, turns) in &ROOMS {
+        assert!(rt; rooms_in_turn(&rt, rt.alloc(), slots, turns).is_some());
     }
 }
 

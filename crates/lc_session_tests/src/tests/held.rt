@@ -112,8 +112,7 @@ impl Hold {
     }
 }
 
-// An end waits, and then puts a frame if it can. The one that is told of the first slot puts none, so that the
-// pump finds none before it tells the others.
+// An end waits, and then puts a frame if it can.
 fn wait_to_send<R: Wait>(rt: &R, end: &mut SendEnd, hold: Hold, watch: &Watch) {
     if hold.is_by_clock(Lane::Client(end.channel())) {
         end.wait_timeout(&Gate::new(rt, watch), Duration::from_micros(1));
@@ -121,9 +120,7 @@ fn wait_to_send<R: Wait>(rt: &R, end: &mut SendEnd, hold: Hold, watch: &Watch) {
         watch.begun.fetch_add(1, Ordering::SeqCst);
         end.wait(rt);
     }
-    if end.channel() != Channel::ReconciliationChannel {
-        let _put = end.limit(rt, 9);
-    }
+    let _put = end.limit(rt, 9);
     watch.woken.fetch_add(1, Ordering::SeqCst);
 }
 
@@ -218,28 +215,26 @@ where
     equal(rt, "a reading pump", end, ReadEnd::Clean);
 }
 
-/// A writer that is flushed once all ends that want a slot were told of one, and is written to once as many
-/// were as slots were freed. The session is stopped when what they put is written.
+/// A writer that is written to first once all ends that want a slot were told of one: a look has popped all that
+/// they had put. The session is stopped when what they put then is written.
 #[derive(Drop)]
 struct Resting<'a, R> {
     rt: &'a R,
     session: &'a Session,
     watch: &'a Watch,
-    slots: u32,
     writes: u64,
 }
 
 impl<R: Threads + Wait> Write for Resting<'_, R> {
     fn write(&mut self, buf: &[u8]) -> io::Result<usize> {
         self.writes = self.writes.saturating_add(1);
-        if self.slots as usize == LANES {
+        if self.writes == 1 {
             self.watch.open(self.rt);
         }
         Ok(buf.len())
     }
 
     fn flush(&mut self) -> io::Result<()> {
-        self.watch.open(self.rt);
         if self.writes > 1 {
             self.session.stop();
         }
@@ -248,7 +243,7 @@ impl<R: Threads + Wait> Write for Resting<'_, R> {
 }
 
 // The writing pump tells all ends of a slot.
-fn write<R>(rt: &R, pump: &mut WritePump, session: &Session, slots: u32, watch: &Watch)
+fn write<R>(rt: &R, pump: &mut WritePump, session: &Session, watch: &Watch)
 where
     R: Threads + Wait + Abort,
 {
@@ -257,27 +252,40 @@ where
         rt,
         session,
         watch,
-        slots,
         writes: 0,
     });
     let end = pump.run(rt, &mut writer);
     equal(rt, "a writing pump", end, WriteEnd::Stopped);
 }
 
-// All slots are taken.
+// All slots are taken by an end, and its lane's own place.
 fn fill<R: Wait + Abort>(rt: &R, end: &mut RecvEnd, slots: u32) {
-    for _ in 0..slots {
-        equal(rt, "an issue", end.issue(rt, 1), Ok(()));
+    for _ in 0..=slots {
+        equal(rt, "a limit", end.limit(rt, 9), Ok(()));
     }
+}
+
+// A sending end has its lane's own place, and no other.
+fn meet_to_send<R: Wait + Abort>(rt: &R, end: &mut SendEnd) {
+    let calls = (end.limit(rt, 9), end.limit(rt, 9));
+    equal(rt, "to send", calls, (Ok(()), Err(Refusal::QueueFull)));
+}
+
+// So has a receiving one, unless all its frames are there already.
+fn meet_to_take<R: Wait + Abort>(rt: &R, end: &mut RecvEnd) {
+    let fills = end.channel() == Channel::ReconciliationChannel;
+    let first = if fills { Ok(()) } else { end.limit(rt, 9) };
+    let calls = (first, end.limit(rt, 9));
+    equal(rt, "to receive", calls, (Ok(()), Err(Refusal::QueueFull)));
 }
 
 // Each end has met that.
 fn meet<R: Wait + Abort>(rt: &R, ends: &mut Ends) {
     for end in &mut ends.sending {
-        equal(rt, "to send", end.limit(rt, 9), Err(Refusal::QueueFull));
+        meet_to_send(rt, end);
     }
     for end in &mut ends.receiving {
-        equal(rt, "to receive", end.limit(rt, 9), Err(Refusal::QueueFull));
+        meet_to_take(rt, end);
     }
 }
 
@@ -299,7 +307,7 @@ where
     Some(())
 }
 
-// The same where so many slots are freed, and then the pump is about to sleep.
+// The same over so many slots, where a frame of each end is popped.
 fn tell_slots<R>(rt: &R, alloc: Global, slots: u32, hold: Hold) -> Option<()>
 where
     R: Threads + Wait + Abort + Sync,
@@ -314,7 +322,7 @@ where
     join(
         rt,
         || wait_each(rt, ends, hold, &watch),
-        || write(rt, writing, session, slots, &watch),
+        || write(rt, writing, session, &watch),
     );
     Some(())
 }

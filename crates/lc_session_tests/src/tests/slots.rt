@@ -15,10 +15,8 @@ use std::time::{Clock, Duration};
 /// What comes while ends sleep.
 #[derive(Clone, Copy)]
 enum News {
-    /// So many slots are freed.
-    Freed(usize),
-    /// One is freed, and once the second end no longer waits another one.
-    InTurn,
+    /// A look of the pump pops a frame of each of these lanes.
+    Popped(&'static [Lane]),
     /// The pump is about to sleep.
     Rests,
     /// A frame that concerns an end.
@@ -35,6 +33,17 @@ struct Busy<'a, R> {
     news: News,
     pump: &'a Mutex<PumpWaiter>,
     wakers: &'a Wakers,
+}
+
+/// A look of the pump pops a frame of each of these lanes.
+pub fn pop_frames(pump: &mut PumpWaiter, lanes: &[Lane]) {
+    let mut look = pump.look();
+    for lane in lanes {
+        look.note_popped(lane.number());
+    }
+    if let Found::Frames(popped) = look.found() {
+        pump.note_popped(popped);
+    }
 }
 
 // The pump goes on until it is about to sleep.
@@ -60,8 +69,7 @@ impl<'a, R: Wait> Busy<'a, R> {
     fn come(&self) {
         let mut pump = self.pump.lock(self.rt);
         match self.news {
-            News::Freed(count) => pump.slots_freed(count),
-            News::InTurn => pump.slots_freed(1),
+            News::Popped(lanes) => pop_frames(&mut pump, lanes),
             News::Rests => rest(&mut pump),
             News::Came(end) => self.wakers.frame_came(end),
             News::Ended(pump) => self.wakers.end_run(pump),
@@ -105,9 +113,6 @@ impl<R: Wait> Clock for Beside<'_, R> {
     fn monotonic(&self) -> io::Result<Duration> {
         if self.ticks.readings() == 0 {
             wait_second(self.clock.rt, self.others, &self.clock);
-            if matches!(self.clock.news, News::InTurn) {
-                self.clock.come();
-            }
         }
         self.ticks.monotonic()
     }
@@ -117,37 +122,41 @@ impl<R: Wait> Clock for Beside<'_, R> {
     }
 }
 
-// Neighbours, so that a turn which leaves one out is seen.
+// Ends at the two sides of the border between the kinds of lanes.
 const FIRST: Lane = Lane::Client(Channel::StaticTokenChannel);
 
 const SECOND: Lane = Lane::Server(Channel::ReconciliationChannel);
 
+// The other ends of their channels.
+const BESIDE_FIRST: Lane = Lane::Server(Channel::StaticTokenChannel);
+
+const BESIDE_SECOND: Lane = Lane::Client(Channel::ReconciliationChannel);
+
 /// Whether the first of two ends met a full queue, as the second did, what comes while both wait, and how
 /// often each reads its clock: once where it was woken, twice where it was not, and never where it did not sleep.
-const ROUNDS: [(bool, News, (u64, u64)); 13] = [
-    // One slot wakes an end that wants one, and another each time.
-    (false, News::Freed(1), (2, 1)),
-    (true, News::Freed(1), (1, 2)),
-    (true, News::Freed(1), (2, 1)),
-    (true, News::Freed(1), (1, 2)),
-    // Who still waits is woken by the next slot, which ends the other's next wait at once.
-    (true, News::InTurn, (1, 1)),
-    (true, News::Freed(1), (2, 0)),
-    (true, News::Freed(2), (1, 1)),
-    (true, News::Rests, (1, 1)),
+const ROUNDS: [(bool, News, (u64, u64)); 17] = [
+    // A pop of its own lane's frame wakes an end that wants a slot.
+    (true, News::Popped(&[FIRST]), (1, 2)),
+    (true, News::Popped(&[SECOND]), (2, 1)),
+    (true, News::Popped(&[SECOND, FIRST]), (1, 1)),
+    // And no other end, nor one that wants none, as this one since its last wait.
+    (true, News::Popped(&[BESIDE_FIRST, BESIDE_SECOND]), (2, 2)),
+    (false, News::Popped(&[FIRST, SECOND]), (2, 1)),
+    (true, News::Rests, (2, 2)),
+    // A frame that comes wakes an end whatever that wants.
     (true, News::Came(FIRST), (1, 2)),
+    (false, News::Came(FIRST), (1, 2)),
     (true, News::Came(SECOND), (2, 1)),
-    (
-        true,
-        News::Came(Lane::Client(Channel::ReconciliationChannel)),
-        (2, 2),
-    ),
-    (
-        true,
-        News::Came(Lane::Server(Channel::StaticTokenChannel)),
-        (2, 2),
-    ),
+    (true, News::Came(BESIDE_FIRST), (2, 2)),
+    (true, News::Came(BESIDE_SECOND), (2, 2)),
+    // Where nothing more is read an end still waits for a slot, and for nothing else.
     (true, News::Ended(Pump::Reading), (1, 1)),
+    (true, News::Popped(&[FIRST]), (1, 2)),
+    (false, News::Popped(&[SECOND]), (0, 0)),
+    (true, News::Popped(&[SECOND]), (2, 1)),
+    // Where nothing more is written it waits for none.
+    (true, News::Ended(Pump::Writing), (1, 1)),
+    (true, News::Popped(&[FIRST]), (0, 0)),
 ];
 
 // What two ends that wait side by side share.
@@ -185,16 +194,6 @@ impl Shared {
     }
 }
 
-// An end that no longer waits for a slot is not woken for it in place of another.
-fn give_up<R: Wait + Abort>(rt: &R, first: &mut Waiter, shared: &Shared) {
-    first.met_full_queue();
-    first.wait_timeout(&Ticks::new(rt), Duration::from_micros(1));
-    let alone = shared.clock(rt, News::Freed(1));
-    wait_second(rt, &shared.others, &alone);
-    equal(rt, "the one that waits", alone.ticks.readings(), 1);
-    first.wait_timeout(&Ticks::new(rt), Duration::from_micros(1));
-}
-
 // All rounds, in turn.
 fn wait_in_rounds<R: Wait + Abort>(rt: &R, first: &mut Waiter, shared: &Shared) {
     for &(wants, news, wanted) in &ROUNDS {
@@ -219,9 +218,7 @@ fn wait_beside<R: Wait + Abort>(rt: &R, waking: Waking) {
         pump: Mutex::new(pump),
         wakers,
     };
-    let first = &mut sending[6];
-    give_up(rt, first, &shared);
-    wait_in_rounds(rt, first, &shared);
+    wait_in_rounds(rt, &mut sending[6], &shared);
 }
 
 // A pump is about to sleep twice: a frame is put, and then it is asked to stop, after a look began.
@@ -239,9 +236,11 @@ fn sleep_twice<R: Wait + Abort>(rt: &R, waking: Waking) {
     let early = pump.look();
     wakers.stop();
     pump.sleep(rt);
-    let found = (early.found(0), pump.look().found(0), pump.look().found(2));
-    let wanted = (Found::Nothing, Found::Stop, Found::Frames(2));
-    equal(rt, "what a pump finds", found, wanted);
+    let found = (early.found(), pump.look().found());
+    equal(rt, "an empty queue", found, (Found::Nothing, Found::Stop));
+    let mut late = pump.look();
+    late.note_popped(13);
+    assert!(rt; matches!(late.found(), Found::Frames(_)));
 }
 
 // An end waits, and nothing comes: it yields once before it sleeps.
@@ -250,9 +249,9 @@ fn wait_in_vain<R: Wait + Abort>(rt: &R, end: &mut Waiter) {
     assert_eq!(rt; wake, Wake::Again);
 }
 
-// It yields as often as there are ends to one that was refused a slot so often, until it sees that this does
-// not come; and not to one that was refused less often, or had its slot. `scripts/threads` counts 19 yields.
-fn give_way<R: Wait + Abort>(rt: &R, waking: Waking) {
+// An end is refused as often as there are ends, and more: each wait yields once, that of any end.
+// `scripts/threads` counts the yields.
+fn wait_beside_refused<R: Wait + Abort>(rt: &R, waking: Waking) {
     let Waking {
         mut sending,
         mut receiving,
@@ -260,22 +259,17 @@ fn give_way<R: Wait + Abort>(rt: &R, waking: Waking) {
         wakers: _,
     } = waking;
     let (refused, end) = (&mut sending[3], &mut receiving[5]);
-    for _ in 1..LANES {
+    for _ in 0..3 * LANES {
         refused.met_full_queue();
     }
     wait_in_vain(rt, end);
-    refused.met_full_queue();
-    wait_in_vain(rt, end);
-    wait_in_vain(rt, end);
-    refused.met_full_queue();
     wait_in_vain(rt, refused);
-    refused.frame_put();
     wait_in_vain(rt, end);
 }
 
 #[test]
-fn an_end_gives_way_to_one_that_starves(rt: HostRuntime) -> Result<(), Fail> {
-    give_way(&rt, Waking::new(rt.alloc())?);
+fn an_end_yields_once_whoever_is_refused(rt: HostRuntime) -> Result<(), Fail> {
+    wait_beside_refused(&rt, Waking::new(rt.alloc())?);
     Ok(())
 }
 

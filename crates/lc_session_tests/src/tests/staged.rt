@@ -283,7 +283,7 @@ where
 }
 
 /// Of each: the version, the slots of the queue, the bytes that come, and the calls.
-const STAGED: [(Version, u32, &str, &str); 9] = [
+const STAGED: [(Version, u32, &str, &str); 10] = [
     // It flushes and looks once more before it sleeps, is woken by what is put then, and flushes
     // before it stops.
     (
@@ -330,23 +330,44 @@ const STAGED: [(Version, u32, &str, &str); 9] = [
         nap-receiving 1 3 => Again 4
         run => Failed
         flush fails: nap-sending 1 1 => Again 2; nap-receiving 1 1 => Again 2
-        nap-sending 1 1 => Over 0
-        nap-receiving 1 1 => Over 0
+        nap-sending 1 1 => Again 0
+        nap-receiving 1 1 => Again 0
+        nap-sending 1 1 => Again 1
+        nap-sending 1 1 => Again 2
         run => Stopped
-        flush: nap-sending 1 1 => Again 1; nap-receiving 1 1 => Again 1; stop => ()
+        flush: nap-sending 1 1 => Again 2; nap-receiving 1 1 => Again 1; stop => ()
         flush: nap-sending 1 1 => Again 2; nap-receiving 1 1 => Again 2
-        nap-sending 1 1 => Over 0
-        nap-receiving 1 1 => Over 0",
+        nap-sending 1 1 => Again 0
+        nap-receiving 1 1 => Again 0",
     ),
-    // A write that fails ends a run as well.
+    // A write that fails ends a run as well. Only an end that wants a slot has its wait over then, until a further
+    // run has begun.
     (
         Version::One,
-        4,
+        1,
         "",
-        "issue 1 5 => Ok(())
+        "issue 1 1 => Ok(())
+        issue 1 1 => Ok(())
+        issue 1 1 => Err(QueueFull)
+        nap-receiving 1 1 => Again 2
+        issue 1 1 => Err(QueueFull)
         run => Failed
-        write 2100000005 fails: nap-sending 1 1 => Again 2
-        nap-sending 1 1 => Over 0",
+        write 21000000012100000001 fails: nap-receiving 1 1 => Again 0; issue 1 1 => Ok(()); issue 1 1 => Ok(())
+        issue 1 1 => Err(QueueFull)
+        nap-receiving 1 1 => Again 0
+        issue 1 1 => Err(QueueFull)
+        nap-receiving 1 1 => Over 0
+        issue 1 1 => Err(QueueFull)
+        nap-receiving 1 1 => Over 0
+        nap-receiving 1 1 => Again 1
+        nap-receiving 1 1 => Again 2
+        nap-sending 1 1 => Again 0
+        nap-sending 1 1 => Again 1
+        nap-sending 1 1 => Again 2
+        run => Stopped
+        write 2100000001210000000121000000012100000001: issue 1 1 => Ok(()); issue 1 1 => Ok(()); issue 1 1 => Err(QueueFull); nap-receiving 1 1 => Again 0; issue 1 1 => Err(QueueFull); nap-receiving 1 1 => Again 2; stop => ()
+        write 21000000012100000001
+        flush",
     ),
     // The same of the reading pump.
     (
@@ -356,14 +377,37 @@ const STAGED: [(Version, u32, &str, &str); 9] = [
         "read => ()
         nap-sending 1 1 => Again 2
         read => ()
+        nap-sending 1 1 => Again 0
         nap-sending 1 1 => Over 0
+        nap-receiving 1 1 => Again 0
         nap-receiving 1 1 => Over 0
         read => ()
         nap-sending 1 1 => Again 1
         nap-receiving 1 1 => Again 1
         nap-sending 1 1 => Again 2
         read => ()
+        nap-sending 1 1 => Again 0
         nap-sending 1 1 => Over 0",
+    ),
+    // Where that has ended an end that was refused a slot goes on waiting for it.
+    (
+        Version::One,
+        1,
+        "",
+        "read => ()
+        read => ()
+        issue 1 1 => Ok(())
+        issue 1 1 => Ok(())
+        issue 1 1 => Err(QueueFull)
+        nap-receiving 1 1 => Again 0
+        issue 1 1 => Err(QueueFull)
+        nap-receiving 1 1 => Again 1
+        issue 1 1 => Err(QueueFull)
+        nap-receiving 1 1 => Again 2
+        nap-receiving 1 1 => Over 0
+        run => Stopped
+        write 21000000012100000001: stop => ()
+        flush",
     ),
     // A run of the writing pump begins, and that of the reading pump stays over.
     (
@@ -373,8 +417,10 @@ const STAGED: [(Version, u32, &str, &str); 9] = [
         "read => ()
         read => ()
         run => Stopped
-        flush: nap-sending 1 1 => Over 0; nap-receiving 1 1 => Over 0; stop => ()
-        flush",
+        flush: nap-sending 1 1 => Again 0; nap-sending 1 1 => Over 0; nap-receiving 1 1 => Again 0; stop => ()
+        flush
+        nap-receiving 1 1 => Again 0
+        nap-receiving 1 1 => Over 0",
     ),
     // And the other way round.
     (
@@ -385,8 +431,10 @@ const STAGED: [(Version, u32, &str, &str); 9] = [
         run => Stopped
         flush
         read => ()
-        nap-sending 1 1 => Over 0
-        nap-receiving 1 1 => Over 0",
+        nap-sending 1 1 => Again 0
+        nap-sending 1 1 => Again 1
+        nap-sending 1 1 => Again 2
+        nap-receiving 1 1 => Again 0",
     ),
     // Nobody wakes a finished end, which does not sleep.
     (
@@ -471,20 +519,24 @@ where
     play(rt, alloc, Version::Two, 4, ASKED, script.as_str())
 }
 
-// A call is refused for want of a slot, and the frame is written that has it.
+// A call is refused for want of a slot: its lane has its own, and another lane the one that all share. The frames
+// are written that have them.
 fn wanting(alloc: Global, verb: &str, word: &str, kind: &str) -> Option<String> {
     [
         "read => ()
         nap-sending 1 1 => Again 0
         nap-sending 1 1 => Again 1
         issue 1 4 => Ok(())
+        limit-sending 1 99 => Ok(())
+        issue 2 1 => Ok(())
+        issue 2 1 => Ok(())
         ",
         verb,
         " 1 ",
         word,
         " => Err(QueueFull)
         run => Stopped
-        write 4c434d022100000004: nap-",
+        write 4c434d02210000000451000000000000006322000000012200000001: nap-",
         kind,
         " 1 1 => Again 0; nap-",
         kind,

@@ -1,4 +1,5 @@
 //! Many ends that sleep and are told of something all at once: each of them wakes.
+use crate::tests::slots::pop_frames;
 use crate::tests::staged::{await_count, in_time};
 use lc_frame::{CHANNELS, Channel, Lane};
 use lc_wake::{PumpWaiter, Waiter, Wakers, Waking};
@@ -40,15 +41,16 @@ fn wait_in_rounds<R: Wait>(rt: &R, end: &mut Waiter, rounds: &Rounds) {
     }
 }
 
-// All ends are told: that as many slots were freed, or that a frame came for each.
+// All ends are told: that a frame of each was popped, or that one came for each.
 fn tell_all(pump: &mut PumpWaiter, wakers: &Wakers, round: u64) {
-    if round % 2 == 0 {
-        pump.slots_freed(ENDS as usize);
-        return;
-    }
     for channel in Channel::ALL {
-        wakers.frame_came(Lane::Client(channel));
-        wakers.frame_came(Lane::Server(channel));
+        for lane in [Lane::Client(channel), Lane::Server(channel)] {
+            if round % 2 == 0 {
+                pop_frames(pump, &[lane]);
+            } else {
+                wakers.frame_came(lane);
+            }
+        }
     }
 }
 

@@ -9,7 +9,7 @@ use lc_frame::{CHANNELS, Channel};
 use lc_session::{ReadPump, RecvEnd, SendEnd, Session, WriteEnd, WritePump};
 use lc_wake::Wake;
 use std::alloc::Global;
-use std::io::{Read, Write};
+use std::io::{ErrorKind, Read, Write};
 use std::net::{Net, TcpListener, TcpStream};
 use std::process::Abort;
 use std::sync::Wait;
@@ -218,8 +218,9 @@ where
     let ends = &mut side.ends;
     let writing = &mut side.pumps.writing;
     let session = &side.session;
-    issue(rt, &mut ends.receiving[0], 1);
-    let wanted = [0x20, 0, 0, 0, 1, 0x21, 0, 0, 0, 2];
+    issue(rt, &mut ends.receiving[1], 1);
+    issue(rt, &mut ends.receiving[1], 3);
+    let wanted = [0x21, 0, 0, 0, 1, 0x21, 0, 0, 0, 3, 0x21, 0, 0, 0, 2];
     join(
         rt,
         || issue_and_stop(rt, ends, session),
@@ -233,7 +234,7 @@ fn a_freed_slot_wakes_an_end(rt: HostRuntime) {
     ran(&rt, wait_for_a_slot(&rt, rt.alloc()));
 }
 
-// Waits until the end of a pump's run is told, and counts the waits that ended before.
+// Waits until the reading pump's run is over, and counts the waits that ended before.
 fn sleep_sending<R: Wait>(rt: &R, end: &mut SendEnd, waits: &AtomicU64) {
     for _ in rt.forever() {
         if end.wait(rt) == Wake::Over {
@@ -302,19 +303,63 @@ where
     Some(())
 }
 
+// Says a limit again and again, and waits for a slot where there is none, until there will be none.
+fn put_sending<R: Wait>(rt: &R, end: &mut SendEnd) {
+    for _ in rt.forever() {
+        if end.limit(rt, 9).is_err() && end.wait(rt) == Wake::Over {
+            return;
+        }
+    }
+}
+
+fn put_receiving<R: Wait>(rt: &R, end: &mut RecvEnd) {
+    for _ in rt.forever() {
+        if end.limit(rt, 9).is_err() && end.wait(rt) == Wake::Over {
+            return;
+        }
+    }
+}
+
+// All ends do, each in a thread of its own.
+fn put_all<R: Threads + Wait + Sync>(rt: &R, ends: &mut Ends) {
+    let sending = &mut ends.sending;
+    let receiving = &mut ends.receiving;
+    join(
+        rt,
+        || thread::for_each_mut(rt, sending, CHANNELS, &|_, end| put_sending(rt, end)),
+        || thread::for_each_mut(rt, receiving, CHANNELS, &|_, end| put_receiving(rt, end)),
+    );
+}
+
+/// A writer that is gone.
+#[derive(Drop)]
+struct Gone;
+
+impl Write for Gone {
+    fn write(&mut self, _buf: &[u8]) -> io::Result<usize> {
+        Err(io::Error::from(ErrorKind::BrokenPipe))
+    }
+
+    fn flush(&mut self) -> io::Result<()> {
+        Ok(())
+    }
+}
+
+// Its run ends once the ends sleep.
+fn write_in_vain<R: Wait + Abort>(rt: &R, pump: &mut WritePump) {
+    give_way();
+    let end = pump.run(rt, &mut Counted::new(Gone));
+    equal(rt, "a writing pump", end, WriteEnd::Failed);
+}
+
 fn end_writing<R>(rt: &R, alloc: Global) -> Option<()>
 where
     R: Threads + Wait + Abort + Sync,
 {
     let mut side = new_side(alloc, 8, 4)?;
-    side.session.stop();
     let ends = &mut side.ends;
     let writing = &mut side.pumps.writing;
-    join(
-        rt,
-        || sleep_all(rt, ends),
-        || write_late(rt, alloc, writing, &[]),
-    );
+    join(rt, || put_all(rt, ends), || write_in_vain(rt, writing));
     Some(())
 }
 
@@ -337,6 +382,7 @@ fn wait_in_time<R: Wait + Clock + Abort>(rt: &R, alloc: Global) -> Option<()> {
     let ends = &mut side.ends;
     wait_each(rt, ends, Duration::from_millis(1), Wake::Again);
     read(rt, &mut side.pumps.reading, b"".as_slice());
+    wait_each(rt, ends, Duration::MAX, Wake::Again);
     wait_each(rt, ends, Duration::MAX, Wake::Over);
     Some(())
 }
@@ -346,8 +392,9 @@ fn a_wait_ends_in_time(rt: HostRuntime) {
     ran(&rt, wait_in_time(&rt, rt.alloc()));
 }
 
-// Each wait is over until a further run has begun.
+// It is told of the end of a run. Each further wait is over until another run has begun.
 fn await_run<R: Wait + Clock>(rt: &R, end: &mut SendEnd) {
+    end.wait_timeout(rt, Duration::MAX);
     for _ in rt.forever() {
         if end.wait_timeout(rt, Duration::from_millis(1)) == Wake::Again {
             return;

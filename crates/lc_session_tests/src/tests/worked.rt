@@ -46,11 +46,12 @@ const WORKED: [(u32, &str, &str, &str); 17] = [
         1,
         "21000000054100000002",
         "read 10 all => Clean
-        limit-sending 0 9 => Ok(())
+        limit-sending 1 9 => Ok(())
+        limit-sending 1 8 => Ok(())
         honour 1 => Err(QueueFull)
         held 1 => 5
         stop => ()
-        write all => Stopped 500000000000000009 calls 1 flushes 1
+        write all => Stopped 510000000000000009510000000000000008 calls 1 flushes 1
         honour 1 => Ok(Some(3))",
         "client 1 => (5, 2, 0, 3, 0)
         left => (1, 0)",
@@ -61,6 +62,9 @@ const WORKED: [(u32, &str, &str, &str); 17] = [
         "2100000005",
         "read 10 all => Clean
         issue 2 8 => Ok(())
+        plead 2 7 => Ok(())
+        limit-sending 1 9 => Ok(())
+        limit-receiving 1 19 => Ok(())
         send 1 6869 => Err(QueueFull)
         absolve 1 5 => Err(QueueFull)
         limit-sending 1 0 => Err(QueueFull)
@@ -70,7 +74,7 @@ const WORKED: [(u32, &str, &str, &str); 17] = [
         held 1 => 5
         server 1 => outstanding 0 buffered 0 None
         stop => ()
-        write all => Stopped 2200000008 calls 1 flushes 1
+        write all => Stopped 22000000084200000007510000000000000009610000000000000013 calls 1 flushes 1
         send 1 6869 => Ok(())
         held 1 => 3",
         "client 1 => (5, 3, 2, 0, 0)
@@ -78,21 +82,28 @@ const WORKED: [(u32, &str, &str, &str); 17] = [
         server 2 => (8, 0, 8)
         left => (1, 0)",
     ),
-    // More frames than have room at once go out in order, and runs after a stop stop.
+    // Each lane has a place of its own beside the two that all share. More frames than have room at once go out
+    // in order, and runs after a stop stop.
     (
         2,
         "",
         "issue 0 1 => Ok(())
         issue 6 2 => Ok(())
-        issue 3 3 => Err(QueueFull)
-        stop => ()
-        write all => Stopped 20000000012600000002 calls 1 flushes 1
+        issue 0 2 => Ok(())
+        issue 6 1 => Ok(())
+        issue 0 3 => Err(QueueFull)
+        issue 6 3 => Err(QueueFull)
         issue 3 3 => Ok(())
-        write all => Stopped 2300000003 calls 1 flushes 1
+        limit-sending 0 9 => Ok(())
+        limit-sending 0 8 => Err(QueueFull)
+        stop => ()
+        write all => Stopped 20000000012600000002200000000226000000012300000003500000000000000009 calls 1 flushes 1
+        issue 0 3 => Ok(())
+        write all => Stopped 2000000003 calls 1 flushes 1
         write all => Stopped  calls 0 flushes 1",
-        "server 0 => (1, 0, 1)
+        "server 0 => (6, 0, 6)
         server 3 => (3, 0, 3)
-        server 6 => (2, 0, 2)
+        server 6 => (3, 0, 3)
         left => (0, 0)",
     ),
     // A plead that finds no slot is kept until the next call, or until a newer one comes.
@@ -100,13 +111,14 @@ const WORKED: [(u32, &str, &str, &str); 17] = [
         1,
         "210000000541000000024100000004",
         "read 10 1 => TurnsSpent
-        limit-sending 2 9 => Ok(())
+        limit-sending 1 9 => Ok(())
+        limit-sending 1 8 => Ok(())
         honour 1 => Err(QueueFull)
         read 10 all => Clean
         honour 1 => Err(QueueFull)
         held 1 => 5
         stop => ()
-        write all => Stopped 520000000000000009 calls 1 flushes 1
+        write all => Stopped 510000000000000009510000000000000008 calls 1 flushes 1
         honour 1 => Ok(Some(1))
         honour 1 => Ok(None)
         held 1 => 4",
@@ -118,13 +130,14 @@ const WORKED: [(u32, &str, &str, &str); 17] = [
         1,
         "210000000541000000052100000001",
         "read 10 1 => TurnsSpent
-        limit-sending 2 9 => Ok(())
+        limit-sending 1 9 => Ok(())
+        limit-sending 1 8 => Ok(())
         honour 1 => Ok(None)
         read 10 all => Clean
         honour 1 => Ok(None)
         held 1 => 6",
         "client 1 => (6, 6, 0, 0, 0)
-        left => (1, 0)",
+        left => (2, 0)",
     ),
     // No message is empty, or too long.
     (
@@ -381,15 +394,18 @@ const FINISHED: [(u32, &str, &str, &str); 5] = [
         1,
         "21000000054100000002",
         "read 10 all => Clean
-        issue 2 8 => Ok(())
+        limit-sending 1 9 => Ok(())
+        limit-sending 1 8 => Ok(())
         finish 1 => Err(QueueFull)
         finished 1 => false
         held 1 => 5
         stop => ()
-        write all => Stopped 4c434d022200000008 calls 1 flushes 1
+        write all => Stopped 4c434d02510000000000000009510000000000000008 calls 1 flushes 1
+        issue 2 1 => Ok(())
+        issue 2 1 => Ok(())
         honour 1 => Ok(Some(3))
         finish 1 => Err(QueueFull)
-        write all => Stopped 3100000003 calls 1 flushes 1
+        write all => Stopped 220000000122000000013100000003 calls 1 flushes 1
         finish 1 => Ok(())
         finish 1 => Err(ChannelFinished)
         write all => Stopped 71 calls 1 flushes 1
