@@ -9,8 +9,8 @@ use lc_session::{RecvEnd, SendEnd};
 use lc_wake::Wake;
 use std::sync::Wait;
 
-// The fault that a refusal is, unless what the end waits for may lift it. What is refused once a pump
-// has ended may be refused for good.
+// The fault that a refusal is, unless what the end waits for may lift it. What is refused behind a wait
+// that is over is refused for good.
 fn fault_of(refusal: Refusal, wake: Wake) -> Option<Fault> {
     if wake == Wake::Over {
         return Some(Fault::Over);
@@ -56,7 +56,7 @@ pub fn end_sending<R: Wait>(rt: &R, end: &mut SendEnd) -> Result<(), Fault>
 }
 
 /// Promises the other side room for so many bytes. On a channel that it finished it wants none, and
-/// once a pump has ended nothing more comes, or can go out.
+/// once the writing pump has ended none can be promised.
 pub fn issue<R: Wait>(rt: &R, end: &mut RecvEnd, amount: u32) -> Result<(), Fault>
     ensures { IsSameSide end.old end.new }
 {

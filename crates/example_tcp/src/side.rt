@@ -70,7 +70,8 @@ impl Hold {
 }
 
 // Reads up to the end of what the other side writes. A transport that fails and a frame that breaks
-// the rules are answered by the pump; all waits answer `Over` from then on, so that the tasks end.
+// the rules are answered by the pump; all waits for guarantees and messages are over from then on, so
+// that the tasks end.
 fn read<R: Wait + Clock>(
     rt: &R,
     alloc: Global,
@@ -89,7 +90,8 @@ fn read<R: Wait + Clock>(
     }
 }
 
-// Writes until the session is stopped, and then ends this side's half of the connection.
+// Writes until the session is stopped, and then ends this side's half of the connection. Where that
+// fails nothing that the tasks put goes out, and their waits for what the other side answers go on.
 fn write<R: Wait + Clock>(rt: &R, hold: &Hold, pump: &mut WritePump) -> Result<(), Fault>
     ensures { IsSamePump pump.old pump.new }
 {
@@ -206,7 +208,7 @@ fn pump<'a, R: Threads + Wait + Clock + Sync>(
 {
     let (wrote, heard) = join_mut(
         rt,
-        &mut || write(rt, hold, &mut writing),
+        &mut || hold.give_up_at(write(rt, hold, &mut writing)),
         &mut || hold.give_up_at(read(rt, alloc, hold, &mut reading)),
     );
     (both(wrote, heard), reading, writing)
