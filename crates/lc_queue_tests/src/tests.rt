@@ -2,6 +2,7 @@
 //! answer is shown by `lc_session_tests`.
 mod alone;
 mod carried;
+mod places;
 mod queue;
 mod seven;
 mod sleeping;

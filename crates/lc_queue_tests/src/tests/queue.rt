@@ -128,8 +128,8 @@ fn frame_on(lane: u8) -> Option<Frame> {
     })
 }
 
-// How many frames are put, of one more than there are places for one lane, until one comes back.
-fn room(rt: &(impl Wait + Abort), slots: u32, end: &mut LaneEnd) -> u32 {
+/// How many frames are put, of one more than there are places for one lane, until one comes back.
+pub fn room(rt: &(impl Wait + Abort), slots: u32, end: &mut LaneEnd) -> u32 {
     let mut room = 0u32;
     for _ in 0..=slots.saturating_add(1) {
         let Some(frame) = frame_on(end.lane()) else {
