@@ -49,10 +49,11 @@ const ENOUGH: u64 = 1 << 40;
 /// The calls of a schedule.
 const CALLS: u32 = 40;
 
-/// The slots of the sessions that are tried, and in how many ways a schedule is made.
+/// The slots of the sessions that are tried, and in how many ways a schedule is made: over each, with messages of
+/// both lengths.
 const SLOTS: [u32; 6] = [1, 3, 5, 8, 14, 64];
 
-const WAYS: u32 = 2 * SLOTS.len() as u32;
+const WAYS: u32 = 12;
 
 /// A long message: the pump has no room for three. So many schedules use up less than the guarantees.
 const LONG_MESSAGE: usize = 61_440;
