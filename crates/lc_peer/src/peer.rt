@@ -6,7 +6,7 @@
 //! that what refuses comes before what changes. An arrival is judged and kept by its channel
 //! alone (`channel_state.rt`). An `Inbox` is the server's book with the ring: where the book
 //! allows a message, the ring has room for it, since outstanding and buffered bytes fit the
-//! capacity. It is what a thread that receives will hold by itself.
+//! capacity. In a session in threads each inbox is shared by itself (`lc_inbox`).
 ghost use Rattle.std.specs.Prelude.{◌≡◌, ◌≤◌, ◌<◌, ◌↔◌, ◌-◌, ◌++◌, [], ◌∷◌, length, if◌then◌else◌, is_ok, nat_lt, IfOk, OnOk, IfErr, IsSome, IfSome, slice_get, slice_index, Some, None};
 ghost use Rattle.circular_buffer.specs.Buffer.{buffer};
 ghost use Rattle.lc_book.specs.declared.fault.Refusal.TheVariants.{QueueFull};
