@@ -133,10 +133,7 @@ impl Peer {
             Answer { code: 0, .. } => Needs::Nothing,
             Answer { code: 4, number } => Needs::Guarantees(number),
             Answer { code: 13, .. } => Needs::Slot,
-            Answer {
-                code: 1 | 2 | 3 | 15,
-                ..
-            } => Needs::Never,
+            Answer { code: 50, .. } => Needs::Never,
             Answer { code, .. } => unreachable!("no message needs {code}"),
         }
     }
