@@ -373,7 +373,7 @@ export interface Library {
   /** A peer on which nothing has happened. Refused by 35, 36, 37 and 14, in this order. */
   peer(config?: Config): Peer;
   /** As {@link open}, with a peer of this module. */
-  open(streams: Streams, config?: Config): Session;
+  open(streams: Streams, config?: SessionConfig): Session;
 }
 
 /** Where the module comes from: a place, its bytes, a response that has them, or what was compiled of them. */
@@ -383,14 +383,47 @@ export type Source = URL | BufferSource | Response | (WebAssembly.Module & objec
 export declare function load(source?: Source | PromiseLike<Source>): Promise<Library>;
 
 /**
- * A session over two streams, which are its own from here on. All channels' rings are promised at once. `slots` is
- * how many messages may wait to be written, at most 65,529; more are kept for promises of room.
+ * When a channel's room is issued: the whole ring at the beginning, and what is free as soon as it is; the same once
+ * less than `lowWater` guarantees are outstanding, in fewer frames, each with more; or only what the caller issues. A
+ * message longer than the mark may wait for ever, so the mark is at least the longest message, and the ring best twice
+ * that.
  */
-export declare function open(streams: Streams, config?: Config): Promise<Session>;
+export type IssuePolicy = 'at once' | { readonly lowWater: number } | 'by caller';
 
-/** Why nothing more comes or goes after a close, where nothing was lost. */
+/** When a channel's pleads of the other side are honoured: as soon as one comes, or when the caller says so. */
+export type PleadPolicy = 'at once' | 'by caller';
+
+/** The bounds of a session's peer, and what each channel does by itself: one policy for all, or seven. */
+export interface SessionConfig extends Config {
+  /**
+   * How many frames may wait to go out, 14 to 65,536; 64 where it is left out. Seven are for control frames, seven are
+   * one of its own for each channel, and the others are shared by the messages of all.
+   */
+  readonly slots?: number | undefined;
+  /** When room is issued, at once where it is left out. A low-water mark is 1 to the ring's bytes, else a RangeError. */
+  readonly issue?: IssuePolicy | readonly IssuePolicy[] | undefined;
+  /** When pleads are honoured, at once where it is left out. */
+  readonly plead?: PleadPolicy | readonly PleadPolicy[] | undefined;
+}
+
+/** A session over two streams, which are its own from here on. Less than 14 slots are a RangeError. */
+export declare function open(streams: Streams, config?: SessionConfig): Promise<Session>;
+
+/**
+ * How a session ended. `Local`: this side closed it. `Remote`: the other side did, in order, so what this side holds
+ * guarantees for may still be sent. `Cut`: the other side's stream ended while channels of it were unfinished.
+ * `Aborted`: this side gave up. `Transport`: a stream failed, by the error's cause. `Stopped`: the other side's stream
+ * broke the framing or a rule, as the cause says, which is an {@link LcmuxError}.
+ */
+export type SessionEnd = 'Local' | 'Remote' | 'Cut' | 'Aborted' | 'Transport' | 'Stopped';
+
+/** Why a call can't go on: the session, or its part that the call needs, has ended. */
 export declare class SessionClosed extends Error {
+  constructor(kind: SessionEnd, cause?: unknown);
   readonly name: 'SessionClosed';
+  readonly kind: SessionEnd;
+  /** By what the session ended: the error of a stream, that of the protocol, or what {@link Session.abort} was given. */
+  readonly cause?: unknown;
 }
 
 /** For a wait that may be given up: it then rejects with the signal's reason, and has done nothing. */
@@ -398,52 +431,109 @@ export interface WaitOptions {
   readonly signal?: AbortSignal | undefined;
 }
 
+/** What a channel did so far, in both directions. */
+export interface Stats {
+  /** Messages that were accepted to be sent. */
+  readonly messagesSent: number;
+  /** Their bytes. */
+  readonly bytesSent: number;
+  /** Messages that were received. */
+  readonly messagesReceived: number;
+  /** Their bytes. */
+  readonly bytesReceived: number;
+  /** The most bytes of messages that were in the ring at once. */
+  readonly mostBuffered: number;
+  /** How long the first send that waited did so for guarantees, in milliseconds, also one that still does. */
+  readonly waitedForGuarantees: number;
+  /** How long it waited for a place in the queue, or for its turn, in milliseconds. */
+  readonly waitedForSlots: number;
+}
+
 /** This side of a session over two streams. */
 export declare class Session {
   private constructor();
   /** The channel of this number. */
   channel(channel: Channel): SessionChannel;
+  /** What the channel did so far. */
+  stats(channel: Channel): Stats;
+  /** Why the session is over, the first reason there was; null while it is not. Each wait ends by it. */
+  readonly reason: SessionClosed | null;
   /**
-   * Why the session is over, null while it is not. Each wait ends by it: an {@link LcmuxError} where the other side
-   * broke the rules or stopped within a frame, a {@link SessionClosed} where both sides closed, or what the streams
-   * failed by.
+   * Resolves once the session has ended in order: both sides have finished all their channels and ended their streams.
+   * Rejects with the reason, at once, where it ends by anything else.
    */
-  readonly reason: unknown;
-  /** Resolves once both sides have closed, and rejects with the reason where the session is over by anything else. */
   readonly closed: Promise<void>;
   /**
-   * Sends what waits to be sent, and then ends this side's stream; no further send is taken. What the other side
-   * sends meanwhile can be received. The answer is {@link closed}: it waits until the other side has closed, too.
+   * Refuses the sends that wait, writes what was accepted, finishes every open channel, and ends this side's stream.
+   * What the other side sends meanwhile can be received; nothing more is issued. The answer is {@link closed}: it waits
+   * until the other side has closed, too.
    */
   close(): Promise<void>;
   /**
-   * Ends the session at once, by this reason. What was not written is lost, and of what was written all that the other
-   * side has not read yet may be.
+   * Ends the session at once. What was not written is lost, of what was written all that the other side has not read
+   * yet may be, and nothing more is received here.
    */
-  abort(reason?: unknown): void;
+  abort(cause?: unknown): void;
 }
 
-/** A channel of a session. Its messages are received by iterating over it. */
+/**
+ * A channel of a session. Its messages are received by iterating over it.
+ *
+ * Calls that do not wait are refused by an {@link LcmuxError} as those of {@link Peer} are, but for want of a slot: what
+ * finds none stays pending as one amount for each channel and kind, and precedes messages. Once this side is closed or
+ * the session is over, they throw a {@link SessionClosed}.
+ */
 export declare class SessionChannel implements AsyncIterable<Uint8Array> {
   private constructor();
   /**
-   * Sends a message once there are guarantees and a slot for it, behind those that wait on this channel. A body that
-   * has to wait is copied. One that can never be sent is refused, and one longer than the other side's ring waits for
-   * good.
+   * Sends a message once there are guarantees and a slot for it, its bytes fit, and it is its turn, behind those that
+   * wait on this channel. A body that has to wait is copied. One that can never be sent is refused by an
+   * {@link LcmuxError}, and one longer than the other side's ring waits for good. It rejects with a
+   * {@link SessionClosed} once the session is closed or over, or where guarantees are missing and the other side closed.
    */
   send(body: Uint8Array, options?: WaitOptions): Promise<void>;
-  /** The next message, once there is one; null where none will come. Its room is promised anew. */
+  /**
+   * Ends the channel: nothing more is sent, all guarantees are given up, and the other side's iteration ends, in
+   * version 1 by a limit of 0. It does not wait: sends that do already go before it, and later ones are refused.
+   */
+  finish(): void;
+  /**
+   * At most `bound` bytes are sent from here on; 0 ends the channel. It does not wait: sends that do already go before
+   * it, and a later one that is longer is refused. Refused by 15, 7 and 8, in this order.
+   */
+  limitSending(bound: number | bigint): void;
+  /** `amount` guarantees are given up, also such as a send waits for. Refused by 15, 5 and 6, in this order. */
+  absolve(amount: number): void;
+  /** The guarantees that sends may use; 0 once the session is over. */
+  readonly held: number;
+  /** The target of the other side's last plead, to hold at most so much; null once it was honoured. */
+  readonly pleaded: number | null;
+  /**
+   * Honours the other side's last plead, where the policy leaves that to the caller: what is held above its target is
+   * given up, which is the answer. Refused by 15.
+   */
+  honour(): number;
+
+  /**
+   * The next message, once there is one; null where none will come. Once the session is over it rejects with the
+   * reason, behind the messages that had arrived, but for an abort, which drops these.
+   */
   receive(options?: WaitOptions): Promise<Uint8Array | null>;
-  /**
-   * Nothing more is sent on the channel, behind what waits: the other side's iteration ends. In version 2 by a
-   * Finish, in version 1 by a limit of 0.
-   */
-  finish(options?: WaitOptions): Promise<void>;
-  /**
-   * The messages, until none will come. What was there when the session ended is still received, and then its reason
-   * is thrown.
-   */
+  /** The messages, until none will come. What {@link receive} rejects with is thrown. */
   [Symbol.asyncIterator](): AsyncIterableIterator<Uint8Array>;
+  /** The room of the ring that was not issued yet; 0 once the session is over. */
+  readonly room: number;
+  /** `amount` guarantees are issued, beside what the policy does. Refused by 15, 5, 9, 10 and 12, in this order. */
+  issue(amount: number): void;
+  /** Room is issued by this policy from here on, also what an earlier plead kept back. */
+  setIssuePolicy(policy: IssuePolicy): void;
+  /**
+   * The other side is asked to hold at most `target` guarantees. From here on the policy issues no more than that many,
+   * until it is set anew. Refused by 15 and 11, in this order.
+   */
+  plead(target: number): void;
+  /** At most `bound` guarantees are issued from here on. Refused by 15, 7 and 8, in this order. */
+  limitReceiving(bound: number | bigint): void;
 }
 
 /** What {@link fromWebSocket} needs of a WebSocket. */

@@ -16,8 +16,7 @@ async function sendAll(port) {
   for (let k = 0; k < MESSAGES; k += 1) {
     await data.send(Uint8Array.of(k >> 8, k));
   }
-  await data.finish();
-  await session.close();
+  await session.close(); // finishes the channel, which ends the other side's iteration
 }
 
 async function takeAll(socket) {

@@ -4,5 +4,6 @@ export { Code, LcmuxError } from './codes.js';
 export { load, open } from './library.js';
 export { VERSION } from './module.js';
 export { ENDED, Peer } from './peer.js';
-export { Session, SessionChannel, SessionClosed } from './session.js';
+export { SessionClosed } from './closed.js';
+export { Session, SessionChannel } from './session.js';
 export { fromWebSocket } from './websocket.js';

@@ -30,7 +30,7 @@ const NEEDS = {
 const unlessNone = long => (long === NONE ? null : long);
 
 /** A configuration with a value for each key. */
-export function configOf(given) {
+function configOf(given) {
   return { ...DEFAULTS, ...optionsOf(given, Object.keys(DEFAULTS), 'the bounds of a peer') };
 }
 
@@ -197,8 +197,8 @@ export class Peer {
   ready() {
     this.#do('peer_ready');
     return CHANNELS.map(channel => {
-      const [message, ended, plead, finished, finishedThere] = this.#longs(READY * channel, READY).map(Boolean);
-      return { message, ended, plead, finished, finishedThere };
+      const isTrue = at => this.#short(READY * channel + at) !== 0;
+      return { message: isTrue(0), ended: isTrue(1), plead: isTrue(2), finished: isTrue(3), finishedThere: isTrue(4) };
     });
   }
 
@@ -312,40 +312,42 @@ export class Peer {
     }
   }
 
-  // So many u64 of the struct that went with the last call, from one on.
-  #longs(from, count) {
-    return Array.from({ length: count }, (_, at) => this.#module.long(STRUCT + from + at));
+  // A u64 of the struct that went with the last call, and one that is below 2^32.
+  #long(at) {
+    return this.#module.long(STRUCT + at);
+  }
+
+  #short(at) {
+    return this.#module.short(STRUCT + at);
   }
 
   client(channel) {
     this.#do('peer_client', channelOf(channel));
-    const [held, received, spent, absolved, waived, sendLeft, receiveLeft, asked, finished] = this.#longs(0, 9);
     return {
-      held: Number(held),
-      received,
-      spent,
-      absolved,
-      waived,
-      sendLeft: unlessNone(sendLeft),
-      receiveLeft: unlessNone(receiveLeft),
-      asked: asked === NONE ? null : Number(asked),
-      finished: finished !== 0n,
+      held: this.#short(0),
+      received: this.#long(1),
+      spent: this.#long(2),
+      absolved: this.#long(3),
+      waived: this.#long(4),
+      sendLeft: unlessNone(this.#long(5)),
+      receiveLeft: unlessNone(this.#long(6)),
+      asked: this.#long(7) === NONE ? null : this.#short(7),
+      finished: this.#short(8) !== 0,
     };
   }
 
   server(channel) {
     this.#do('peer_server', channelOf(channel));
-    const [capacity, issued, outstanding, buffered, room, waived, sendLeft, receiveLeft, finished] = this.#longs(0, 9);
     return {
-      capacity: Number(capacity),
-      issued,
-      outstanding: Number(outstanding),
-      buffered: Number(buffered),
-      room: Number(room),
-      waived,
-      sendLeft: unlessNone(sendLeft),
-      receiveLeft: unlessNone(receiveLeft),
-      finished: finished !== 0n,
+      capacity: this.#short(0),
+      issued: this.#long(1),
+      outstanding: this.#short(2),
+      buffered: this.#short(3),
+      room: this.#short(4),
+      waived: this.#long(5),
+      sendLeft: unlessNone(this.#long(6)),
+      receiveLeft: unlessNone(this.#long(7)),
+      finished: this.#short(8) !== 0,
     };
   }
 

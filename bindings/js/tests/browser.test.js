@@ -83,7 +83,7 @@ test('two tabs talk over the relay', async () => {
   assert.deepEqual([await heard(second, 3), await heard(first, 1)], [['hello', 'größer', '<b>'], ['back']]);
   assert.equal(await state(first), 'open');
   await second.close();
-  assert.match(await becomes(first, '^lost'), /^lost: the WebSocket closed/);
+  assert.match(await becomes(first, '^lost'), /^lost: the transport failed: the WebSocket closed/);
 });
 
 test('10 MB each way at once between two tabs', async () => {
@@ -96,7 +96,7 @@ test('10 MB each way at once between two tabs', async () => {
       for (let k = 0; k < count; k += 1) {
         await data.send(new Uint8Array(length).fill(k));
       }
-      await data.finish();
+      data.finish();
     };
     const take = async () => {
       let right = 0;
@@ -129,6 +129,6 @@ test('a text fails the session of a tab and closes its WebSocket, without an err
     const reason = await session.closed.catch(error => String(error));
     return { reason, code: await closed, uncaught };
   };
-  const reason = 'TypeError: a WebSocket message is bytes, and not a string';
+  const reason = 'SessionClosed: the transport failed: a WebSocket message is bytes, and not a string';
   assert.deepEqual(await call(tab, lose, relay.socket), { reason, code: 4003, uncaught: [] });
 });

@@ -31,8 +31,9 @@ test('sessions share a module, and one that trapped is loaded anew', async () =>
   await hello();
   assert.equal(instances.length, 1);
   new Uint8Array(instances[0].exports.memory.buffer).fill(0xf0);
-  await assert.rejects(first.channel(Channel.Data).send(Uint8Array.of(5)), WebAssembly.RuntimeError);
-  await assert.rejects(first.closed, WebAssembly.RuntimeError);
+  const hasTrapped = it => it.kind === 'Aborted' && it.cause instanceof WebAssembly.RuntimeError;
+  await assert.rejects(first.channel(Channel.Data).send(Uint8Array.of(5)), hasTrapped);
+  await assert.rejects(first.closed, hasTrapped);
   await hello();
   assert.equal(instances.length, 2);
 });

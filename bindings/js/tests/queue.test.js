@@ -85,18 +85,19 @@ const COUNTED = {
     return async () => {
       const sends = times(count, () => session.channel(Data).send(one));
       session.abort('enough');
-      assert.ok((await Promise.allSettled(sends)).every(({ reason }) => reason === 'enough'));
+      assert.ok((await Promise.allSettled(sends)).every(({ reason }) => reason.cause === 'enough'));
     };
   },
   'messages that are received once the session is over': async count => {
-    const { session, other, put, get } = await alone({ capacities: 2 ** 20 }, { slots: 60_000 });
+    const { session, other, put, get, comes } = await alone({ capacities: 2 ** 20 }, { slots: 60_000 });
     await settled();
     get();
     times(count, () => other.send(Data, one));
     put();
     await settled();
     return async () => {
-      session.abort('enough');
+      comes.error(new Error('enough'));
+      await settled();
       for (let k = 0; k < count; k += 1) {
         assert.equal((await session.channel(Data).receive()).length, 1);
       }
@@ -145,7 +146,7 @@ test('a signal is let go once nothing waits by it', async () => {
   const late = session.channel(Data).send(one, { signal });
   assert.equal(signal.count, 1);
   session.abort('over');
-  await assert.rejects(late, it => it === 'over');
+  await assert.rejects(late, it => it.cause === 'over');
   assert.equal(signal.count, 0);
 });
 

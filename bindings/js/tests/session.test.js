@@ -34,13 +34,13 @@ async function sendAll(session, channel, count) {
   for (let k = 0; k < count; k += 1) {
     await session.channel(channel).send(messageOf(channel, k));
   }
-  await session.channel(channel).finish();
+  session.channel(channel).finish();
 }
 
 for (const [first, second] of [[1, 1], [2, 2], [1, 2]]) {
   test(`all channels both ways at once, version ${first} to ${second}`, async () => {
     const count = 300;
-    const [alice, bob] = bothOf({ version: first, capacities: 32, slots: 2 }, { version: second, capacities: 20, slots: 1 });
+    const [alice, bob] = bothOf({ version: first, capacities: 32, slots: 15 }, { version: second, capacities: 20, slots: 14 });
     const wanted = channel => Array.from({ length: count }, (_, k) => messageOf(channel, k));
     const one = async (from, to, channel) => {
       const [messages] = await Promise.all([receiveAll(to.channel(channel)), sendAll(from, channel, count)]);
@@ -49,7 +49,7 @@ for (const [first, second] of [[1, 1], [2, 2], [1, 2]]) {
     await Promise.all(CHANNELS.flatMap(channel => [one(alice, bob, channel), one(bob, alice, channel)]));
     assert.deepEqual(await Promise.all([alice.close(), bob.close()]), [undefined, undefined]);
     for (const { reason } of [alice, bob]) {
-      assert.ok(reason instanceof SessionClosed);
+      assert.ok(reason instanceof SessionClosed && reason.kind === 'Local');
     }
   });
 }
@@ -108,10 +108,10 @@ test('a wait whose signal aborts leaves, and those behind it go on', async () =>
   other.send(Data, bytes(1));
   put();
   assert.deepEqual([await next, textOf(other.take(Data)), other.take(Data)], [bytes(1), 'bb', null]);
-  for (const call of [() => channel.send(bytes(1), { signal: gone.signal }), () => channel.receive({ signal: gone.signal }), () => channel.finish({ signal: gone.signal })]) {
+  for (const call of [() => channel.send(bytes(1), { signal: gone.signal }), () => channel.receive({ signal: gone.signal })]) {
     await assert.rejects(call(), it => it === 'enough');
   }
-  assert.deepEqual(await fate(channel.finish()), { value: undefined });
+  assert.equal(channel.finish(), undefined);
 });
 
 test('an abort of what is done changes nothing', async () => {
@@ -146,9 +146,9 @@ test('what can never be sent is refused', async () => {
   other.issue(Data, 3);
   put();
   await waits;
-  await channel.finish();
+  channel.finish();
   await refused(bytes(1), Code.ChannelFinished);
-  await assert.rejects(channel.finish(), { code: Code.ChannelFinished });
+  assert.throws(() => channel.finish(), { code: Code.ChannelFinished });
 });
 
 test('the rings are promised at once, and anew as messages are received', async () => {
@@ -176,7 +176,7 @@ test('an iteration that is left goes on where it was', async () => {
     for (let k = 0; k < 20; k += 1) {
       await alice.channel(Data).send(Uint8Array.of(k, 0, 0, 0));
     }
-    await alice.channel(Data).finish();
+    alice.channel(Data).finish();
   })();
   const seen = [];
   for await (const [k] of bob.channel(Data)) {
@@ -198,11 +198,15 @@ for (const version of [1, 2]) {
   test(`a channel that is finished ends, behind what waits, in version ${version}`, async () => {
     const { session, other, put, get } = await alone({ version });
     const channel = session.channel(Data);
-    const [sent, finished] = [channel.send(bytes(3)), channel.finish()];
-    assert.deepEqual([await fate(sent), await fate(finished)], [null, null]);
+    const sent = channel.send(bytes(3));
+    channel.finish();
+    await assert.rejects(channel.send(bytes(1)), { code: Code.ChannelFinished });
+    assert.equal(await fate(sent), null);
+    get();
+    assert.equal(other.take(Data), null);
     other.issue(Data, 3);
     put();
-    await Promise.all([sent, finished]);
+    await sent;
     await settled();
     get();
     assert.deepEqual([other.take(Data), other.take(Data)], [bytes(3), ENDED]);
@@ -212,7 +216,7 @@ for (const version of [1, 2]) {
 }
 
 test('a slow writer holds back what is taken from the peer', async () => {
-  const there = await alone({ version: 2, slots: 4 }, { capacities: 2 ** 24 });
+  const there = await alone({ version: 2, slots: 17 }, { capacities: 2 ** 24 });
   const { session, other, put, get, writes } = there;
   get();
   const hold = later();
@@ -220,24 +224,24 @@ test('a slow writer holds back what is taken from the peer', async () => {
   other.issue(Data, 2 ** 24);
   put();
   await settled();
-  const sends = Array.from({ length: 20 }, () => session.channel(Data).send(bytes(100_000)));
+  const sends = Array.from({ length: 20 }, () => session.channel(Data).send(bytes(10_000)));
   const done = async () => (await Promise.all(sends.map(fate))).filter(it => it !== null).length;
-  // A piece of the first message is on its way, the rest of it is begun, and four have a slot.
-  assert.equal(await done(), 5);
-  assert.deepEqual(writes.map(it => it.length), [65_536]);
+  // Four are on their way, one has the channel's own slot, and three have the shared ones.
+  assert.equal(await done(), 8);
+  assert.deepEqual(writes.map(it => it.length), [4 * 10_005]);
   there.hold = undefined;
   hold.resolve();
   assert.equal(await done(), 20);
   await settled();
   assert.ok(writes.every(it => it.length <= 65_536));
   get();
-  assert.equal(other.server(Data).buffered, 2_000_000);
+  assert.equal(other.server(Data).buffered, 200_000);
 });
 
 test('a stream that nobody reads holds back', async () => {
   const { readable, writable } = new TransformStream();
   const comes = new TransformStream();
-  const session = await lcmux.open({ readable: comes.readable, writable }, { slots: 2 });
+  const session = await lcmux.open({ readable: comes.readable, writable }, { slots: 15 });
   const other = lcmux.peer();
   other.issue(Data, 100);
   comes.writable.getWriter().write(other.write());
@@ -251,7 +255,7 @@ test('a stream that nobody reads holds back', async () => {
 });
 
 test('promises of room do not wait for a slot behind messages', async () => {
-  const there = await alone({ slots: 1, capacities: 8 }, { capacities: 1000 });
+  const there = await alone({ slots: 14, capacities: 8 }, { capacities: 1000 });
   const { session, other, put, get, writes } = there;
   get();
   for (const channel of CHANNELS) {
@@ -291,7 +295,7 @@ test('nothing is asked while nothing happens', async () => {
 });
 
 test('each channel has its turn', async () => {
-  const there = await alone({ slots: 1 }, { capacities: 1000 });
+  const there = await alone({ slots: 14 }, { capacities: 1000 });
   const { session, other, put, get } = there;
   const hold = later();
   there.hold = hold.promise;
@@ -310,68 +314,71 @@ test('each channel has its turn', async () => {
   assert.ok(tags.indexOf('18 0 1 97') < tags.indexOf('17 0 1 97 17 0 1 97 17 0 1 97'), tags);
 });
 
-// How a session can be lost, and by which reason.
+// How a session can be lost, of which kind its reason is, and by what it was caused.
 const broken = new Error('the cable is cut');
+const isBroken = it => it === broken;
 const LOSSES = {
-  'the stream that comes fails': [({ comes }) => comes.error(broken), it => it === broken],
-  'the stream that goes out fails': [({ goes }) => goes.error(broken), it => it === broken],
+  'the stream that comes fails': [({ comes }) => comes.error(broken), 'Transport', isBroken],
+  'the stream that goes out fails': [({ goes }) => goes.error(broken), 'Transport', isBroken],
   'a write fails': [
     there => {
       there.hold = Promise.reject(broken);
       there.hold.catch(() => {});
       there.session.channel(Overlap).send(bytes(5));
     },
-    it => it === broken,
+    'Transport',
+    isBroken,
   ],
+  'the stream ends before its channels did': [({ comes }) => comes.close(), 'Cut', it => it === undefined],
   'the stream ends within a frame': [
     ({ comes }) => {
       comes.enqueue(Uint8Array.of(0x21, 0));
       comes.close();
     },
-    { code: Code.Truncated },
+    'Stopped',
+    it => it.code === Code.Truncated,
   ],
-  'what comes is no frame': [({ comes }) => comes.enqueue(Uint8Array.of(0xff)), { code: Code.BadTag }],
-  'what comes breaks the rules': [({ comes }) => comes.enqueue(Uint8Array.of(0x31, 1, 0, 0, 0)), { code: Code.AbsolvedTooMuch }],
-  'what comes is not bytes': [({ comes }) => comes.enqueue('text'), TypeError],
-  'this side aborts': [({ session }) => session.abort(), SessionClosed],
-  'this side aborts by a reason': [({ session }) => session.abort(broken), it => it === broken],
+  'what comes is no frame': [({ comes }) => comes.enqueue(Uint8Array.of(0xff)), 'Stopped', it => it.code === Code.BadTag],
+  'what comes breaks the rules': [({ comes }) => comes.enqueue(Uint8Array.of(0x31, 1, 0, 0, 0)), 'Stopped', it => it.code === Code.AbsolvedTooMuch],
+  'what comes is not bytes': [({ comes }) => comes.enqueue('text'), 'Transport', it => it instanceof TypeError],
+  'this side aborts': [({ session }) => session.abort(), 'Aborted', it => it === undefined],
+  'this side aborts by a cause': [({ session }) => session.abort(broken), 'Aborted', isBroken],
   'the module traps': [
     there => {
       const frame = there.other.write();
       breakHandle(there, 0);
       there.comes.enqueue(frame);
     },
-    WebAssembly.RuntimeError,
+    'Aborted',
+    it => it instanceof WebAssembly.RuntimeError,
   ],
 };
 
-for (const [name, [lose, reason]] of Object.entries(LOSSES)) {
+for (const [name, [lose, kind, isCause]] of Object.entries(LOSSES)) {
   test(`one reason ends every wait: ${name}`, async () => {
-    const there = await alone({ slots: 1 });
+    const there = await alone({ slots: 14 });
     const { session, other, put } = there;
     other.issue(Overlap, 5);
     put();
     await settled();
     const isTrap = name === 'the module traps';
-    const waits = [
-      session.channel(Data).send(bytes(5)),
-      session.channel(Data).finish(),
-      session.channel(Data).receive(),
-      session.channel(Data)[Symbol.asyncIterator]().next(),
-      session.closed,
-    ];
+    const channel = session.channel(Data);
+    const waits = [channel.send(bytes(5)), channel.receive(), channel[Symbol.asyncIterator]().next(), session.closed];
     assert.deepEqual(await Promise.all(waits.map(fate)), waits.map(() => null));
     lose(there);
     for (const wait of waits) {
-      await assert.rejects(wait, reason);
+      await assert.rejects(wait, it => it instanceof SessionClosed && it.kind === kind && isCause(it.cause));
     }
     const told = (await Promise.all(waits.map(fate))).map(it => it.reason);
     assert.equal(new Set([...told, session.reason]).size, 1);
-    const channel = session.channel(Data);
-    for (const call of [() => channel.send(bytes(1)), () => channel.receive(), () => channel.finish()]) {
+    assert.equal('cause' in session.reason, session.reason.cause !== undefined);
+    assert.equal(session.reason.message.endsWith(session.reason.cause?.message ?? ''), true);
+    for (const call of [() => channel.send(bytes(1)), () => channel.receive()]) {
       assert.deepEqual(await fate(call()), { reason: session.reason });
     }
+    assert.throws(() => channel.finish(), it => it === session.reason);
     assert.deepEqual(await fate(session.close()), { reason: session.reason });
+    assert.deepEqual([channel.held, channel.room, channel.pleaded], [0, 0, null]);
     if (!isTrap) {
       other.free();
       assert.equal(there.exports.blocks(), 0);
@@ -390,7 +397,7 @@ test('what was there when the session was lost is still received', async () => {
   other.finish(Overlap);
   put();
   comes.enqueue(Uint8Array.of(0xff));
-  await assert.rejects(session.closed, { code: Code.BadTag });
+  await assert.rejects(session.closed, { kind: 'Stopped' });
   other.free();
   assert.equal(exports.blocks(), 0);
   const seen = [];
@@ -398,51 +405,44 @@ test('what was there when the session was lost is still received', async () => {
     for await (const [k] of session.channel(Data)) {
       seen.push(k);
     }
-  }, { code: Code.BadTag });
+  }, it => it.cause.code === Code.BadTag);
   assert.deepEqual(seen, [1, 2, 3]);
   assert.deepEqual(await receiveAll(session.channel(Overlap)), [bytes(1)]);
 });
 
-test('a close sends what waits, and waits for the other side', async () => {
-  const there = await alone({}, { version: 2 });
+test('a close refuses what waits, writes what was accepted, and reads on', async () => {
+  const there = await alone({ version: 2 }, { version: 2 });
   const { session, other, put, get, comes, exports } = there;
-  const sent = session.channel(Data).send(bytes(3));
-  const closed = session.close();
-  const heard = session.channel(Overlap).receive();
-  await assert.rejects(session.channel(Data).send(bytes(1)), SessionClosed);
-  await assert.rejects(session.channel(Data).finish(), SessionClosed);
-  assert.deepEqual([await fate(closed), there.isClosed], [null, undefined]);
   other.issue(Data, 3);
   put();
-  await sent;
   await settled();
   get();
-  assert.deepEqual([other.take(Data), there.isClosed, await fate(closed)], [bytes(3), true, null]);
+  await session.channel(Data).send(bytes(3));
+  const waits = session.channel(Data).send(bytes(1));
+  const closed = session.close();
+  const heard = session.channel(Overlap).receive();
+  const isLocal = it => it instanceof SessionClosed && it.kind === 'Local';
+  await assert.rejects(waits, isLocal);
+  await assert.rejects(session.channel(Data).send(bytes(1)), isLocal);
+  assert.throws(() => session.channel(Data).finish(), isLocal);
+  await settled();
+  assert.deepEqual([...there.writes.flatMap(it => [...it])], [0x11, 0, 0, 0, 3, 0x61, 0x61, 0x61, 0x70, 0x71, 0x72, 0x73, 0x74, 0x75, 0x76]);
+  assert.deepEqual([there.isClosed, await fate(closed)], [true, null]);
   other.send(Overlap, bytes(2));
   other.send(Overlap, bytes(1));
   put();
   assert.deepEqual(await heard, bytes(2));
   assert.equal(session.reason, null);
+  CHANNELS.forEach(it => other.finish(it));
+  put();
   comes.close();
   await closed;
   await session.closed;
-  assert.ok(session.reason instanceof SessionClosed);
+  assert.ok(isLocal(session.reason));
   assert.deepEqual([await receiveAll(session.channel(Overlap)), await receiveAll(session.channel(Data))], [[bytes(1)], []]);
   await assert.rejects(session.channel(Data).send(bytes(1)), it => it === session.reason);
   other.free();
   assert.equal(exports.blocks(), 0);
-});
-
-test('a close ends where what it waits for leaves', async () => {
-  const there = await alone();
-  const gone = new AbortController();
-  const sent = there.session.channel(Data).send(bytes(1), { signal: gone.signal });
-  const closed = there.session.close();
-  assert.deepEqual([await fate(sent), await fate(closed), there.isClosed], [null, null, undefined]);
-  gone.abort();
-  await assert.rejects(sent, { name: 'AbortError' });
-  await settled();
-  assert.equal(there.isClosed, true);
 });
 
 test('what came before a Finish is received, and no room is promised behind it', async () => {
@@ -459,21 +459,24 @@ test('what came before a Finish is received, and no room is promised behind it',
 });
 
 test('where the other side closed, what is held may still be sent, and nothing waits for more', async () => {
-  const there = await alone({}, { version: 2 });
+  const there = await alone({ version: 2 }, { version: 2 });
   const { session, other, put, get, comes } = there;
   other.issue(Data, 5);
   put();
   const [waits, heard] = [session.channel(Data).send(bytes(6)), session.channel(Data).receive()];
   assert.deepEqual([await fate(waits), await fate(heard)], [null, null]);
   const behind = session.channel(Data).send(bytes(5));
+  CHANNELS.forEach(it => other.finish(it));
+  put();
   comes.close();
-  await assert.rejects(waits, SessionClosed);
+  const isRemote = it => it instanceof SessionClosed && it.kind === 'Remote';
+  await assert.rejects(waits, isRemote);
   await behind;
   assert.deepEqual([await heard, session.reason], [null, null]);
-  await assert.rejects(session.channel(Data).send(bytes(1)), SessionClosed);
+  await assert.rejects(session.channel(Data).send(bytes(1)), isRemote);
   await session.close();
   get();
-  assert.deepEqual([other.take(Data), there.isClosed], [bytes(5), true]);
+  assert.deepEqual([other.take(Data), there.isClosed, session.reason.kind], [bytes(5), true, 'Local']);
 });
 
 test('a close on both sides ends both', async () => {
@@ -500,7 +503,7 @@ test('want of memory refuses a send, and the session goes on', async () => {
 });
 
 test('a configuration is judged, and the streams are let go', async () => {
-  for (const [config, code] of [[{ slots: 0 }, Code.BadSlots], [{ slots: 65_530 }, Code.BadSlots], [{ version: 3 }, Code.BadVersion], [{ capacities: 0 }, Code.BadCapacity]]) {
+  for (const [config, code] of [[{ slots: 65_537 }, Code.BadSlots], [{ version: 3 }, Code.BadVersion], [{ capacities: 0 }, Code.BadCapacity]]) {
     const [streams] = pipes();
     await assert.rejects(open(streams, config), error => error instanceof LcmuxError && error.code === code);
     assert.deepEqual([streams.readable.locked, streams.writable.locked], [false, false]);
@@ -509,11 +512,14 @@ test('a configuration is judged, and the streams are let go', async () => {
   for (const slots of ['1', 1.5, -1, 2 ** 32 + 1]) {
     await assert.rejects(open(streams, { slots }), slots === '1' ? TypeError : RangeError);
   }
+  for (const slots of [0, 13]) {
+    await assert.rejects(open(streams, { slots }), { name: 'RangeError', message: `a session has 14 slots or more, and not ${slots}` });
+  }
   const writer = streams.writable.getWriter();
   await assert.rejects(open(streams), TypeError);
   assert.equal(streams.readable.locked, false);
   writer.releaseLock();
-  const session = await open(streams, { slots: 65_529 });
+  const session = await open(streams, { slots: 65_536 });
   assert.deepEqual([streams.readable.locked, streams.writable.locked], [true, true]);
   for (const none of ['1', undefined, 1n]) {
     assert.throws(() => session.channel(none), TypeError);
@@ -533,14 +539,13 @@ test('options are judged, and those that are undefined are absent', async () => 
   await channel.send(bytes(1), undefined);
   const { signal } = new AbortController();
   const named = key => ({ name: 'TypeError', message: new RegExp(`no key '${key}'`) });
-  for (const call of [options => channel.send(bytes(1), options), options => channel.receive(options), options => channel.finish(options)]) {
+  for (const call of [options => channel.send(bytes(1), options), options => channel.receive(options)]) {
     await assert.rejects(call({ singal: signal }), named('singal'));
     // A signal stands in options.
     await assert.rejects(call(signal), { name: 'TypeError', message: /no key '\w+', but signal/ });
     await assert.rejects(call({ signal: 5 }), TypeError);
     await assert.rejects(call(5), TypeError);
   }
-  assert.deepEqual(await fate(channel.finish({ signal: undefined })), { value: undefined });
   const [streams] = pipes();
   await assert.rejects(open(streams, { slot: 5 }), named('slot'));
   assert.deepEqual([streams.readable.locked, streams.writable.locked], [false, false]);
@@ -551,5 +556,6 @@ test('a session that is over lets its streams end', async () => {
   there.session.abort(broken);
   there.session.abort(new Error('a second reason'));
   await settled();
-  assert.deepEqual([there.cancelled, there.aborted, there.session.reason], [broken, broken, broken]);
+  const { reason } = there.session;
+  assert.deepEqual([there.cancelled, there.aborted, reason.cause], [reason, reason, broken]);
 });

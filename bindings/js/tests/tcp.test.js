@@ -78,10 +78,10 @@ test('two sessions over TCP, closed one after the other', async () => {
   await bob.close();
   await closed;
   assert.deepEqual([await alice.channel(Data).receive(), await alice.channel(Data).receive()], [message(2, 5), null]);
-  assert.ok(alice.reason instanceof SessionClosed && bob.reason instanceof SessionClosed);
+  assert.ok(alice.reason.kind === 'Local' && bob.reason.kind === 'Local');
 });
 
-for (const [name, lose] of [['destroyed', socket => socket.destroy()], ['reset', socket => socket.resetAndDestroy()]]) {
+for (const [name, kind, lose] of [['destroyed', 'Stopped', socket => socket.destroy()], ['reset', 'Transport', socket => socket.resetAndDestroy()]]) {
   test(`a socket that is ${name} there ends every wait`, async () => {
     const [socket, other] = await bothSockets();
     const session = await open(fromSocket(socket));
@@ -90,7 +90,7 @@ for (const [name, lose] of [['destroyed', socket => socket.destroy()], ['reset',
     await new Promise(resolve => setTimeout(resolve, 20));
     lose(other);
     for (const wait of waits) {
-      await assert.rejects(wait, error => error instanceof Error && !(error instanceof SessionClosed) && error === session.reason);
+      await assert.rejects(wait, error => error instanceof SessionClosed && error.kind === kind && error === session.reason);
     }
   });
 }
@@ -209,7 +209,7 @@ for (const written of [5, 2 ** 24]) {
     alice.abort(new Error('enough'));
     await assert.rejects(async () => {
       while ((await bob.channel(Data).receive()) !== null);
-    }, { code: 'ECONNRESET' });
+    }, it => it.kind === 'Transport' && it.cause.code === 'ECONNRESET');
   });
 }
 

@@ -1,6 +1,6 @@
 // What a program may write, and what it then has.
 import { CHANNELS, Channel, Code, ENDED, LcmuxError, Peer, Session, SessionChannel, SessionClosed, VERSION, fromWebSocket, load, open } from 'lcmux';
-import type { ClientBook, Config, Kind, LcmuxErrorJson, Library, Needs, Ready, ServerBook, Streams, Take } from 'lcmux';
+import type { ClientBook, Config, IssuePolicy, Kind, LcmuxErrorJson, Library, Needs, Ready, ServerBook, SessionConfig, SessionEnd, Stats, Streams, Take } from 'lcmux';
 import { fromSocket } from 'lcmux/node';
 
 /** Whether two types are one. */
@@ -68,9 +68,25 @@ export async function sessions(socket: WebSocket, tcp: object): Promise<void> {
     same<typeof message, Uint8Array>(true);
   }
   same<Awaited<ReturnType<SessionChannel['receive']>>, Uint8Array | null>(true);
-  await data.finish({ signal: undefined });
+  const policies: IssuePolicy[] = ['at once', { lowWater: 5 }, 'by caller', 'at once', 'at once', 'at once', 'at once'];
+  const config: SessionConfig = { version: 2, slots: 14, issue: policies, plead: 'by caller' };
+  await open(streams, config);
+  data.issue(data.room);
+  data.setIssuePolicy({ lowWater: 5 });
+  data.plead(5);
+  data.limitReceiving(5n);
+  data.absolve(data.held);
+  data.limitSending(5);
+  same<typeof data.pleaded, number | null>(true);
+  same<ReturnType<SessionChannel['honour']>, number>(true);
+  same<ReturnType<SessionChannel['finish']>, void>(true);
+  data.finish();
+  const stats: Stats = session.stats(Channel.Data);
+  same<typeof stats.waitedForSlots, number>(true);
   session.abort(new Error('enough'));
-  if (session.reason instanceof SessionClosed) {
+  if (session.reason !== null) {
+    const kind: SessionEnd = session.reason.kind;
+    console.log(kind === 'Cut', new SessionClosed('Aborted').cause);
     await session.close();
   }
   await session.closed;

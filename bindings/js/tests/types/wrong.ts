@@ -1,5 +1,5 @@
 // What does not compile. Under each line that says so an error has to be found.
-import { Channel, ENDED, LcmuxError, Peer, Session, load, open } from 'lcmux';
+import { Channel, ENDED, LcmuxError, Peer, Session, SessionClosed, load, open } from 'lcmux';
 import { fromSocket } from 'lcmux/node';
 
 const lcmux = await load();
@@ -65,3 +65,15 @@ data.send(body, new AbortController().signal);
 for (const message of data) console.log(message);
 // @ts-expect-error: no such channel of a session
 session.channel(7);
+// @ts-expect-error: a finish does not wait
+data.finish({ signal: new AbortController().signal });
+// @ts-expect-error: no such policy
+open(streams, { plead: 'never' });
+// @ts-expect-error: a mark has a number
+open(streams, { issue: { lowWater: '5' } });
+// @ts-expect-error: a peer has no policies
+lcmux.peer({ issue: 'at once' });
+// @ts-expect-error: a plead may be none
+const pleaded: number = data.pleaded;
+// @ts-expect-error: no such end
+new SessionClosed('closed');

@@ -1,6 +1,6 @@
 //! `exchange ADDRESS VERSION LENGTH COUNT`: sends so many messages of a length over a TCP connection, and takes as
 //! many at the same time. Message k has the bytes k, k + 1 and so on. It prints how many bytes it took.
-use lcmux::{Channel::Data, Config, Incoming, Needs, Peer, Take, Version};
+use lcmux::{Channel, Channel::Data, Config, Incoming, Needs, Peer, Refusal, Take, Version};
 use std::env;
 use std::error::Error;
 use std::net::{Shutdown, TcpStream};
@@ -16,6 +16,7 @@ fn counted(len: usize) -> Vec<u8> {
 struct Exchange {
     stream: TcpStream,
     peer: Peer,
+    version: Version,
     counted: Vec<u8>,
     len: usize,
     count: u32,
@@ -55,14 +56,31 @@ impl Exchange {
         Ok(())
     }
 
+    // Every channel ends before the stream does, or the other side takes that for cut.
+    fn finish_all(&mut self) -> Result<(), Refusal> {
+        Channel::ALL
+            .into_iter()
+            .try_for_each(|channel| match self.version {
+                Version::One => self.peer.limit_sending(channel, 0),
+                _ => self.peer.finish(channel),
+            })
+    }
+
+    fn is_done(&self) -> bool {
+        self.sent + self.taken == 2 * self.count && !self.peer.wants_write()
+    }
+
     // Both at once, until all is there, and the other side has closed.
     fn run(&mut self) -> Result<(), Box<dyn Error>> {
-        let mut is_shut = false;
+        let (mut is_finished, mut is_shut) = (false, false);
         loop {
             self.take_all()?;
             self.send_all()?;
             let progress = self.peer.drive(&mut self.stream)?;
-            if !is_shut && self.sent + self.taken == 2 * self.count && !self.peer.wants_write() {
+            if !is_finished && self.is_done() {
+                self.finish_all()?;
+                is_finished = true;
+            } else if !is_shut && self.is_done() {
                 self.stream.shutdown(Shutdown::Write)?;
                 is_shut = true;
             }
@@ -92,6 +110,7 @@ fn main() -> Result<(), Box<dyn Error>> {
     let mut exchange = Exchange {
         stream,
         peer: Peer::new(&config)?,
+        version: config.version,
         counted: counted(len),
         len,
         count: count.parse()?,

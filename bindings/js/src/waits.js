@@ -1,0 +1,72 @@
+import { List } from './list.js';
+
+/** What waits in its order. A promise whose signal aborts leaves, wherever it stands. */
+export class Waits {
+  #places = new List();
+  // Of each signal the waits and the listener: a signal compares each new listener with all that it has.
+  #watched = new Map();
+  #left;
+
+  /** `left` is called once waits have left by their signal. */
+  constructor(left) {
+    this.#left = left;
+  }
+
+  /** The first place, undefined where there is none. */
+  get first() {
+    return this.#places.first;
+  }
+
+  /** A place that waits for nobody. */
+  push(place) {
+    this.#places.push(place);
+  }
+
+  // What waits goes on by `resolve` or `reject`, once it was shifted.
+  join(wait, signal) {
+    return new Promise((resolve, reject) => {
+      Object.assign(wait, { resolve, reject, signal });
+      if (signal !== undefined) {
+        this.#watch(signal).waits.add(wait);
+      }
+      wait.node = this.#places.push(wait);
+    });
+  }
+
+  shift() {
+    const place = this.#places.shift();
+    if (place?.signal !== undefined) {
+      this.#forget(place);
+    }
+    return place;
+  }
+
+  #watch(signal) {
+    let watched = this.#watched.get(signal);
+    if (watched === undefined) {
+      watched = { waits: new Set(), leave: () => this.#leave(signal) };
+      signal.addEventListener('abort', watched.leave, { once: true });
+      this.#watched.set(signal, watched);
+    }
+    return watched;
+  }
+
+  #forget(wait) {
+    const { waits, leave } = this.#watched.get(wait.signal);
+    waits.delete(wait);
+    if (waits.size === 0) {
+      this.#watched.delete(wait.signal);
+      wait.signal.removeEventListener('abort', leave);
+    }
+  }
+
+  #leave(signal) {
+    const { waits } = this.#watched.get(signal);
+    this.#watched.delete(signal);
+    for (const wait of waits) {
+      this.#places.remove(wait.node);
+      wait.reject(signal.reason);
+    }
+    this.#left();
+  }
+}
