@@ -190,6 +190,16 @@ test('what stands in line goes in its order', async () => {
   assert.equal(session.reason, null);
 });
 
+test('a limit goes at once where nothing waits, and so does the next', async () => {
+  const { data, written } = await begin();
+  await written();
+  data.limitSending(20);
+  assert.deepEqual(await written(), ['limit-sending 1 20']);
+  data.limitSending(10n);
+  assert.deepEqual(await written(), ['limit-sending 1 10']);
+  assert.throws(() => data.limitSending(11), { code: Code.LimitRaised, number: 10n });
+});
+
 test('where a call leaves, a limit behind it goes', async () => {
   const { data, written } = await begin();
   await written();

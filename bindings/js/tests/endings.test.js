@@ -324,6 +324,27 @@ test('nothing is issued after a close, and what was asked for before is', async 
   assert.equal(session.channel(Data).room, 5);
 });
 
+test('room that was freed before a close is issued before it', async () => {
+  const there = await alone({ version: 2, capacities: 8 }, { version: 2 });
+  const { session, other, put, get, writes } = there;
+  await settled();
+  get();
+  other.issue(Data, 1);
+  other.send(Data, bytes(5));
+  put();
+  await settled();
+  let resume;
+  there.hold = new Promise(resolve => (resume = resolve));
+  await session.channel(Data).send(bytes(1));
+  await settled(); // the driver writes it
+  await session.channel(Data).receive();
+  session.close();
+  there.hold = undefined;
+  resume();
+  await settled();
+  assert.deepEqual(framesOf(writes, 2), ['send 1 1', 'issue 1 5', ...CHANNELS.map(it => `finish ${it}`)]);
+});
+
 test('two sessions that are closed at once end in order, and messages on their way are received', async () => {
   const { load } = await import('lcmux');
   const lcmux = await load();

@@ -10,25 +10,34 @@ const { Reconciliation, Data, Overlap, Capability, StaticToken } = Channel;
 const bytes = length => new Uint8Array(length);
 const times = (count, make) => Array.from({ length: count }, (_, at) => make(at));
 
-/** A session that has all guarantees, and whose driver writes the first message of StaticToken until `release`. */
+/**
+ * A session that has all guarantees, and whose driver writes the first message of StaticToken until `step`, by which it
+ * writes one piece more and then stays there, or `release`, by which it writes on.
+ */
 async function held(config) {
   const there = await alone({ issue: 'by caller', ...config }, { capacities: 2 ** 21, slots: 1000 });
   CHANNELS.forEach(it => there.other.issue(it, 2 ** 21));
   there.put();
   await settled();
-  const hold = {};
-  there.hold = new Promise(resolve => (hold.resolve = resolve));
+  let resume;
+  const hold = () => (there.hold = new Promise(resolve => (resume = resolve)));
+  hold();
   await there.session.channel(StaticToken).send(bytes(1));
   await settled();
   there.writes.length = 0;
-  const send = (channel, length = 1) => there.session.channel(channel).send(bytes(length));
-  const release = async () => {
-    there.hold = undefined;
-    hold.resolve();
+  const goOn = async next => {
+    const before = resume;
+    next();
+    before();
     await settled();
+  };
+  const send = (channel, length = 1) => there.session.channel(channel).send(bytes(length));
+  const step = () => goOn(hold);
+  const release = async () => {
+    await goOn(() => (there.hold = undefined));
     return framesOf(there.writes.splice(0), config.version);
   };
-  return { ...there, send, release };
+  return { ...there, send, step, release };
 }
 
 // Which of these sends are accepted.
@@ -79,12 +88,11 @@ test('each channel has a slot of its own, whatever the others have under way', a
 });
 
 test('an own slot is free once its message is taken, and not once another of the channel is', async () => {
-  const { send, release, writes } = await held({ slots: 15 });
+  const { send, release } = await held({ slots: 15 });
   await send(Data); // its own
   await send(Data); // the shared one
   assert.deepEqual(await accepted([send(Data), send(Overlap), send(Overlap)]), [false, true, false]);
-  await release();
-  assert.equal(writes.length, 0);
+  assert.deepEqual(await release(), ['1', '1', '2', '1', '2'].map(it => `send ${it} 1`));
   const slots = new Slots(15);
   slots.enter(Data, 1);
   slots.enter(Data, 1);
@@ -148,13 +156,15 @@ for (const [lengths, expected] of [
   });
 }
 
-test('many short messages have no more bytes than the bound, and headers do not count', async () => {
-  const { send, release } = await held({ slots: 200 });
-  const sends = times(130, () => send(Data, 512));
-  const before = (await accepted(sends)).filter(Boolean).length;
-  assert.equal(before, 128);
-  // The piece that is taken ends within the last of them.
-  assert.equal((await release()).length, 130);
+test('headers do not count, and what was not taken counts in whole', async () => {
+  const { send, step, release } = await held({ slots: 65_536 });
+  const short = times(30_000, () => send(Data));
+  await Promise.all(short);
+  await step(); // a piece of 65,536 bytes has 16,384 of them
+  const fits = 65_536 - (30_000 - 16_384);
+  const more = [send(Overlap, fits + 1), send(Capability, fits)];
+  assert.deepEqual(await accepted(more), [false, true]);
+  assert.deepEqual((await release()).slice(30_000), [`send 3 ${fits}`, `send 2 ${fits + 1}`]);
 });
 
 test('a longer message enters where no other is queued, and nothing behind it', async () => {
@@ -169,21 +179,14 @@ test('a longer message enters where no other is queued, and nothing behind it', 
 });
 
 test('the rest of a long message that is being written counts', async () => {
-  const there = await held({ slots: 64, version: 2 });
-  const long = there.send(Overlap, 2 ** 20);
-  const holds = [];
-  const released = there.release();
-  await long;
-  await released;
-  assert.ok(holds.length === 0);
-  // A transport that takes one piece and then no more.
-  const stuck = await alone({ version: 2 }, { capacities: 2 ** 21 });
-  CHANNELS.forEach(it => stuck.other.issue(it, 2 ** 21));
-  stuck.put();
-  await settled();
-  stuck.hold = new Promise(() => {});
-  const sends = [stuck.session.channel(Overlap).send(bytes(2 ** 20)), stuck.session.channel(Data).send(bytes(1))];
+  const { send, step, release } = await held({ slots: 64, version: 2 });
+  const sends = [send(Overlap, 200_000), send(Data, 1)];
+  await step();
+  await step();
   assert.deepEqual(await accepted(sends), [true, false]);
+  await step(); // less than 65,536 bytes are left
+  assert.deepEqual(await accepted(sends), [true, true]);
+  assert.deepEqual(await release(), ['send 2 200000', 'send 1 1']);
 });
 
 test('a message that waits for bytes alone is not passed by channels that sent more recently', async () => {
