@@ -2,7 +2,8 @@
 //! without `TCP_NODELAY`.
 //!
 //! What ends a message must not wait for an acknowledgement: who reads answers only when the message is
-//! whole, and acknowledges late, so that a round would take some 40 milliseconds.
+//! whole, and acknowledges late, so that all rounds behind the first few would take some 40 milliseconds. A busy
+//! machine holds up some, so the fastest quarter is looked at.
 use crate::tests::equal;
 use lc_driver::{Counted, Link, ReadEnd};
 use lc_frame::{CHANNELS, Channel, Version};
@@ -25,10 +26,10 @@ const LAST: u8 = 1;
 
 const FIRST: u8 = 0;
 
-const ROUNDS: u32 = 24;
+const ROUNDS: u32 = 32;
 
-/// By how many milliseconds a round may be longer, by the median, than on a connection that sends all at
-/// once.
+/// By how many milliseconds the slowest of the fastest quarter of rounds may be longer than on a connection that sends
+/// all at once.
 const MOST: u128 = 20;
 
 /// The length of a message, and whether a frame follows in the same call of `write_out`.
@@ -141,8 +142,8 @@ fn time<R: Wait + Clock + Abort>(
     start.elapsed(rt).ok()
 }
 
-// The median of what the rounds of a case take.
-fn median<R: Wait + Clock + Abort>(
+// What the slowest of the fastest quarter of a case's rounds takes.
+fn quarter<R: Wait + Clock + Abort>(
     rt: &R,
     alloc: Global,
     side: &mut ConnectedLink,
@@ -154,21 +155,21 @@ fn median<R: Wait + Clock + Abort>(
         taken.push(time(rt, side, &mut long, behind)?).ok()?;
     }
     taken.sort().ok()?;
-    taken.get(taken.len() / 2).copied()
+    taken.get(taken.len() / 4).copied()
 }
 
-// The medians of all cases.
+// The same of all cases.
 fn ask_all<R>(rt: &R, alloc: Global, stream: TcpStream) -> Option<Vec<Duration>>
 where
     R: Wait + Clock + Abort,
 {
     let mut side = ConnectedLink::new(alloc, stream)?;
     side.issue(rt, RING);
-    let mut medians = Vec::new(alloc);
+    let mut quarters = Vec::new(alloc);
     for &case in &CASES {
-        medians.push(median(rt, alloc, &mut side, case)?).ok()?;
+        quarters.push(quarter(rt, alloc, &mut side, case)?).ok()?;
     }
-    Some(medians)
+    Some(quarters)
 }
 
 // Promises the room of a message anew, and answers it where it is the last of a round.
@@ -217,13 +218,13 @@ where
     R: Net<Listener = TcpListener, Stream = TcpStream> + Threads + Wait + Clock + Abort + Sync,
 {
     let (here, there) = connection(rt, nodelay)?;
-    let (medians, answered) = join(
+    let (quarters, answered) = join(
         rt,
         || ask_all(rt, alloc, here),
         || answer_all(rt, alloc, there),
     );
     answered?;
-    medians
+    quarters
 }
 
 // No case takes much longer.
