@@ -118,7 +118,12 @@ fn the_end_comes_in_its_order() {
         there.read_to_end(&mut bytes).await.unwrap();
         assert_eq!(
             bytes,
-            [&first_bytes()[..], b"\x11\0\0\0\x05hello\x71", b"\x70\x72\x73\x74\x75\x76"].concat()
+            [
+                &first_bytes()[..],
+                b"\x11\0\0\0\x05hello\x71",
+                b"\x70\x72\x73\x74\x75\x76"
+            ]
+            .concat()
         );
         there.write_all(b"\x11\0\0\0\x02hi").await.unwrap();
         assert_eq!(receiver.recv().await, Ok(Some(b"hi".to_vec())));

@@ -4,6 +4,7 @@ mod watchdog;
 
 mod cancelled;
 mod endings;
+mod ends;
 mod handles;
 mod killed;
 mod load;

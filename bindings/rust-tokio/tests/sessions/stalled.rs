@@ -70,10 +70,15 @@ fn a_select_loop_answers_while_its_upload_is_not_polled() {
             config.version = Version::Two;
             let [(mut here, run), (mut there, other)] = in_memory(config.into());
             let uploads = tokio::spawn(count(there.receiver(Data).unwrap()));
-            let (sender, receiver) = (there.sender(Overlap).unwrap(), there.receiver(Overlap).unwrap());
+            let (sender, receiver) = (
+                there.sender(Overlap).unwrap(),
+                there.receiver(Overlap).unwrap(),
+            );
             let asking = tokio::spawn(ask(sender, receiver, 400));
             let answering = upload_and_answer(&mut here, 500, len);
-            timeout(Duration::from_secs(30), answering).await.expect("a deadlock");
+            timeout(Duration::from_secs(30), answering)
+                .await
+                .expect("a deadlock");
             asking.await.unwrap();
             drop((here, there));
             assert_eq!(uploads.await.unwrap(), 500);
@@ -103,7 +108,10 @@ fn a_timeout_beside_disk_work_holds_up_no_other_channel() {
         let _watchdog = Watchdog::new("disk work");
         runtime.block_on(async {
             let [(mut here, _run), (mut there, _other)] = in_memory(rings(65_536));
-            let back = echo(there.sender(Overlap).unwrap(), there.receiver(Overlap).unwrap());
+            let back = echo(
+                there.sender(Overlap).unwrap(),
+                there.receiver(Overlap).unwrap(),
+            );
             tokio::spawn(back);
             let (data, mut uploads) = (here.sender(Data).unwrap(), there.receiver(Data).unwrap());
             let begin = Instant::now();
@@ -123,8 +131,12 @@ fn a_timeout_beside_disk_work_holds_up_no_other_channel() {
                     uploads.recv().await.unwrap().unwrap();
                 }
             });
-            let (ping, mut pong) = (here.sender(Overlap).unwrap(), here.receiver(Overlap).unwrap());
-            let longest = longest_ping(&ping, &mut pong, begin + Duration::from_millis(1_300)).await;
+            let (ping, mut pong) = (
+                here.sender(Overlap).unwrap(),
+                here.receiver(Overlap).unwrap(),
+            );
+            let longest =
+                longest_ping(&ping, &mut pong, begin + Duration::from_millis(1_300)).await;
             assert!(longest < Duration::from_millis(700), "{longest:?}");
             work.await.unwrap();
             taking.await.unwrap();
@@ -139,7 +151,10 @@ fn forgotten_futures_hold_up_no_other_channel() {
         on_each("forgotten futures", move || async move {
             let [(mut here, _run), (mut there, _other)] = in_memory(rings(131_072));
             for channel in Channel::ALL.into_iter().filter(|it| *it != Overlap) {
-                let (sender, receiver) = (here.sender(channel).unwrap(), there.receiver(channel).unwrap());
+                let (sender, receiver) = (
+                    here.sender(channel).unwrap(),
+                    there.receiver(channel).unwrap(),
+                );
                 let kept = Arc::new(sender);
                 let sender = Arc::clone(&kept);
                 let mut call: Pin<Box<dyn Future<Output = ()> + Send>> = Box::pin(async move {
@@ -147,16 +162,26 @@ fn forgotten_futures_hold_up_no_other_channel() {
                         sender.send(&vec![7; len]).await.unwrap();
                     }
                 });
-                assert!(poll_fn(|cx| Poll::Ready(call.as_mut().poll(cx))).await.is_pending());
+                assert!(poll_fn(|cx| Poll::Ready(call.as_mut().poll(cx)))
+                    .await
+                    .is_pending());
                 mem::forget((call, kept.try_reserve(1).map(mem::forget)));
                 mem::forget(kept);
                 tokio::spawn(count(receiver));
             }
-            let back = echo(there.sender(Overlap).unwrap(), there.receiver(Overlap).unwrap());
+            let back = echo(
+                there.sender(Overlap).unwrap(),
+                there.receiver(Overlap).unwrap(),
+            );
             tokio::spawn(back);
-            let (sender, receiver) = (here.sender(Overlap).unwrap(), here.receiver(Overlap).unwrap());
+            let (sender, receiver) = (
+                here.sender(Overlap).unwrap(),
+                here.receiver(Overlap).unwrap(),
+            );
             let asking = ask(sender, receiver, 1_000);
-            timeout(Duration::from_secs(30), asking).await.expect("it hangs");
+            timeout(Duration::from_secs(30), asking)
+                .await
+                .expect("it hangs");
         });
     }
 }
@@ -215,12 +240,21 @@ fn what_is_written_is_flushed_before_the_session_waits() {
             stream,
             held: Vec::new(),
         });
-        let [(mut here, run), (mut there, other)] = sides.map(|side| connect(side, rings(64)).unwrap());
-        let back = echo(there.sender(Overlap).unwrap(), there.receiver(Overlap).unwrap());
+        let [(mut here, run), (mut there, other)] =
+            sides.map(|side| connect(side, rings(64)).unwrap());
+        let back = echo(
+            there.sender(Overlap).unwrap(),
+            there.receiver(Overlap).unwrap(),
+        );
         tokio::spawn(back);
-        let (sender, receiver) = (here.sender(Overlap).unwrap(), here.receiver(Overlap).unwrap());
+        let (sender, receiver) = (
+            here.sender(Overlap).unwrap(),
+            here.receiver(Overlap).unwrap(),
+        );
         let asking = ask(sender, receiver, 100);
-        timeout(Duration::from_secs(10), asking).await.expect("it hangs");
+        timeout(Duration::from_secs(10), asking)
+            .await
+            .expect("it hangs");
         drop((here, there));
         assert_eq!(run.await.unwrap(), Ok(()));
         assert_eq!(other.await.unwrap(), Ok(()));
@@ -254,7 +288,10 @@ fn a_loop_that_is_always_ready_lets_other_tasks_run() {
             receiver.recv().await.unwrap().unwrap();
         }
         let turns = turns.load(std::sync::atomic::Ordering::Relaxed);
-        assert!(turns >= stored as usize / 129, "{turns} turns beside {stored} messages");
+        assert!(
+            turns >= stored as usize / 129,
+            "{turns} turns beside {stored} messages"
+        );
         other.abort();
     });
 }

@@ -146,7 +146,10 @@ fn a_side_that_reads_slowly_is_borne() {
         drop(there);
         assert_eq!(run.await.unwrap(), Ok(()));
         let message = [&[0x11, 0, 0, 0, 20][..], &[7; 20]].concat();
-        assert_eq!(bytes[first_bytes().len()..], [message, FINISHES.into()].concat());
+        assert_eq!(
+            bytes[first_bytes().len()..],
+            [message, FINISHES.into()].concat()
+        );
     });
 }
 

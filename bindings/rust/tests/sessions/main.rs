@@ -9,6 +9,7 @@ mod watchdog;
 mod answers;
 mod control;
 mod endings;
+mod ends;
 mod errors;
 mod frames;
 mod keeping;

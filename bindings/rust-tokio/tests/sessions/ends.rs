@@ -1,0 +1,104 @@
+//! How the peer's stream ends over TCP, before and after this side's own close, and what each call answers then.
+use crate::*;
+use lcmux_tokio::lcmux::Channel::Data;
+use lcmux_tokio::lcmux::{Fault, SendError, Violation};
+use std::time::Duration;
+use tokio::io::AsyncWriteExt;
+
+/// What the peer does last.
+#[derive(Clone, Copy, Debug, PartialEq)]
+enum End {
+    InOrder,
+    BetweenFrames,
+    InAFrame,
+    Reset,
+    AgainstTheRules,
+}
+
+const ENDS: [End; 5] = [
+    End::InOrder,
+    End::BetweenFrames,
+    End::InAFrame,
+    End::Reset,
+    End::AgainstTheRules,
+];
+
+async fn end(end: End, mut stream: TcpStream) {
+    let last: &[u8] = match end {
+        End::InOrder => &FINISHES,
+        End::InAFrame => b"\x11\0",
+        End::AgainstTheRules => b"\x30\0\0\0\xff",
+        End::BetweenFrames | End::Reset => b"",
+    };
+    stream.write_all(last).await.unwrap();
+    match end {
+        // It goes on to read, as a peer does whose own direction alone has ended.
+        End::Reset => drop(stream.set_linger(Some(Duration::ZERO))),
+        _ => {
+            stream.shutdown().await.unwrap();
+            tokio::spawn(async move {
+                let _ = tokio::io::copy(&mut stream, &mut tokio::io::sink()).await;
+            });
+        }
+    }
+}
+
+fn is_reason(end: End, closed: &Closed) -> bool {
+    match end {
+        End::InOrder => false,
+        End::BetweenFrames => *closed == Closed::Cut,
+        End::InAFrame => *closed == Closed::Fault(Fault::Truncated),
+        End::Reset => {
+            matches!(closed, Closed::Transport(error) if error.kind() == ErrorKind::ConnectionReset)
+        }
+        End::AgainstTheRules => *closed == Closed::Violated(Violation::AbsolvedTooMuch),
+    }
+}
+
+async fn ends_as_it_is(last: End, is_closed_before: bool) {
+    let (here, mut there) = tcp_pair().await;
+    let (mut mux, run) = connect(here, rings(64)).unwrap();
+    let (sender, mut receiver) = (mux.sender(Data).unwrap(), mux.receiver(Data).unwrap());
+    there.write_all(&GREETING).await.unwrap();
+    there.write_all(b"\x11\0\0\0\x02hi").await.unwrap();
+    while receiver.book().buffered < 2 {
+        tokio::time::sleep(Duration::from_millis(1)).await;
+    }
+    if is_closed_before {
+        mux.close();
+    }
+    end(last, there).await;
+    let what = format!("{last:?}, closed before: {is_closed_before}");
+    assert_eq!(receiver.recv().await, Ok(Some(b"hi".to_vec())), "{what}");
+    let received = receiver.recv().await;
+    let sent = sender.send(b"more").await.unwrap_err();
+    if last == End::InOrder {
+        assert_eq!(received, Ok(None), "{what}");
+        let closed = if is_closed_before {
+            Closed::Local
+        } else {
+            Closed::Remote
+        };
+        assert_eq!(sent, SendError::Closed(closed), "{what}");
+        mux.close();
+        assert_eq!(mux.closed().await, Ok(()), "{what}");
+        assert_eq!(run.await.unwrap(), Ok(()), "{what}");
+        return;
+    }
+    let over = mux.closed().await.unwrap_err();
+    assert!(is_reason(last, &over), "{what}: {over:?}");
+    assert_eq!(received, Err(over.clone()), "{what}");
+    assert_eq!(sent, SendError::Closed(over.clone()), "{what}");
+    assert_eq!(run.await.unwrap(), Err(over), "{what}");
+}
+
+#[test]
+fn each_end_of_the_peer_is_told_for_what_it_is() {
+    for last in ENDS {
+        for is_closed_before in [false, true] {
+            on_each("an end of the peer", move || {
+                ends_as_it_is(last, is_closed_before)
+            });
+        }
+    }
+}

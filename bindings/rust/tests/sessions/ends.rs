@@ -1,0 +1,111 @@
+//! How the peer's stream ends over TCP, before and after this side's own close, and what each call on threads answers
+//! then.
+use crate::watchdog::Watchdog;
+use crate::*;
+use lcmux::Channel::Data;
+use lcmux::{Closed, Driver, Fault, Mux, SendError, Violation};
+use std::io::{ErrorKind, Read, Write};
+use std::net::{Shutdown, TcpListener, TcpStream};
+use std::thread::{self, JoinHandle};
+use std::time::Duration;
+
+/// What the peer does last.
+#[derive(Clone, Copy, Debug, PartialEq)]
+enum End {
+    InOrder,
+    BetweenFrames,
+    InAFrame,
+    Reset,
+    AgainstTheRules,
+}
+
+const ENDS: [End; 5] = [
+    End::InOrder,
+    End::BetweenFrames,
+    End::InAFrame,
+    End::Reset,
+    End::AgainstTheRules,
+];
+
+fn end(end: End, mut stream: TcpStream) -> JoinHandle<()> {
+    let last = match end {
+        End::InOrder => finishes(),
+        End::InAFrame => b"\x11\0".to_vec(),
+        End::AgainstTheRules => frames("absolve 0 255"),
+        End::BetweenFrames | End::Reset => Vec::new(),
+    };
+    stream.write_all(&last).unwrap();
+    if end != End::Reset {
+        stream.shutdown(Shutdown::Write).unwrap();
+    }
+    thread::spawn(move || {
+        // A connection that is dropped while bytes are unread is reset; else it is read to its end.
+        while end != End::Reset && matches!(stream.read(&mut [0; 4096]), Ok(1..)) {}
+    })
+}
+
+fn is_reason(end: End, closed: &Closed) -> bool {
+    match end {
+        End::InOrder => false,
+        End::BetweenFrames => *closed == Closed::Cut,
+        End::InAFrame => *closed == Closed::Fault(Fault::Truncated),
+        End::Reset => {
+            matches!(closed, Closed::Transport(error) if error.kind() == ErrorKind::ConnectionReset)
+        }
+        End::AgainstTheRules => *closed == Closed::Violated(Violation::AbsolvedTooMuch),
+    }
+}
+
+fn run(driver: Driver, stream: TcpStream) -> JoinHandle<Result<(), Closed>> {
+    thread::spawn(move || driver.run_blocking(stream.try_clone()?, stream))
+}
+
+fn ends_as_it_is(last: End, is_closed_before: bool) {
+    let what = format!("{last:?}, closed before: {is_closed_before}");
+    let listener = TcpListener::bind("127.0.0.1:0").unwrap();
+    let here = TcpStream::connect(listener.local_addr().unwrap()).unwrap();
+    let mut there = listener.accept().unwrap().0;
+    let (mut mux, driver) = Mux::new(narrow()).unwrap();
+    let run = run(driver, here);
+    let (sender, mut receiver) = (mux.sender(Data).unwrap(), mux.receiver(Data).unwrap());
+    there.write_all(&greeted("send 1 6869")).unwrap();
+    while receiver.book().buffered < 2 {
+        thread::sleep(Duration::from_millis(1));
+    }
+    if is_closed_before {
+        mux.close();
+    }
+    let reading = end(last, there);
+    assert_eq!(receiver.recv_blocking(), Ok(Some(b"hi".to_vec())), "{what}");
+    let received = receiver.recv_blocking();
+    let sent = sender.send_blocking(b"more").unwrap_err();
+    if last == End::InOrder {
+        assert_eq!(received, Ok(None), "{what}");
+        let closed = if is_closed_before {
+            Closed::Local
+        } else {
+            Closed::Remote
+        };
+        assert_eq!(sent, SendError::Closed(closed), "{what}");
+        mux.close();
+        assert_eq!(mux.closed_blocking(), Ok(()), "{what}");
+        assert_eq!(run.join().unwrap(), Ok(()), "{what}");
+    } else {
+        let over = mux.closed_blocking().unwrap_err();
+        assert!(is_reason(last, &over), "{what}: {over:?}");
+        assert_eq!(received, Err(over.clone()), "{what}");
+        assert_eq!(sent, SendError::Closed(over.clone()), "{what}");
+        assert_eq!(run.join().unwrap(), Err(over), "{what}");
+    }
+    reading.join().unwrap();
+}
+
+#[test]
+fn each_end_of_the_peer_is_told_for_what_it_is() {
+    let _watchdog = Watchdog::new("ends of the peer");
+    for last in ENDS {
+        for is_closed_before in [false, true] {
+            ends_as_it_is(last, is_closed_before);
+        }
+    }
+}
