@@ -11,6 +11,6 @@ import type { Streams } from './lcmux.js';
  *
  * A socket that closes or fails before the other side's end fails both streams: that is never told as an end. Where a
  * stream is cancelled or aborted, so is the socket, and over TCP the other side gets a reset. TLS and Unix sockets have
- * none: what is cut off there looks to the other side like the end of the stream.
+ * none: what is cut off there looks to the other side like the end of the stream, which its session tells as cut.
  */
 export declare function fromSocket(socket: object): Streams;

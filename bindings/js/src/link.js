@@ -158,8 +158,8 @@ export class Link {
   }
 
   /**
-   * Enqueues a control frame that was judged when it was asked for. By now it may not apply any more: the channel may be
-   * finished, or be refused by a code that means as much.
+   * Enqueues a control frame that was judged when it was asked for. By now it may not apply any more: the channel may
+   * be finished, or the frame be refused by a code that means as much.
    */
   enqueue(call, stale) {
     try {
@@ -236,15 +236,11 @@ export class Link {
   }
 
   // The sender whose first call proceeds next: of those that have guarantees and a slot the one that sent least
-  // recently. Where its bytes don't fit, no later one's are taken.
+  // recently. Where its bytes don't fit, no later one's are taken, but of one that never sent as well.
   #next() {
-    let next = null;
-    for (const sender of this.#senders) {
-      if (sender.isAble && (next === null || sender.went < next.went) && this.#slots.hasFor(sender.channel)) {
-        next = sender;
-      }
-    }
-    return next !== null && this.#slots.hasBytes(next.length) ? next : null;
+    const able = this.#senders.filter(it => it.isAble && this.#slots.hasFor(it.channel));
+    const went = Math.min(...able.map(it => it.went));
+    return able.find(it => it.went === went && this.#slots.hasBytes(it.length)) ?? null;
   }
 
   // What arrived can still be received, unless the peer can't be asked any more.

@@ -8,7 +8,8 @@ export const BY_CALLER = 'by caller';
 const isNamed = policy => policy === AT_ONCE || policy === BY_CALLER;
 
 function refuse(policy, what) {
-  throw new TypeError(`${what} is '${AT_ONCE}' or '${BY_CALLER}', and not ${typeof policy === 'string' ? `'${policy}'` : typeof policy}`);
+  const given = typeof policy === 'string' ? `'${policy}'` : typeof policy;
+  throw new TypeError(`${what} is '${AT_ONCE}' or '${BY_CALLER}', and not ${given}`);
 }
 
 /** When pleads are honoured. */

@@ -363,7 +363,17 @@ test('two sessions that are closed at once end in order, and messages on their w
   }
 });
 
-test('where the other side refused the stream, this side is told why', async () => {
+test('what a delivery brings before it breaks the rules has arrived', async () => {
+  const { session, comes } = await begin();
+  const [sent, waits] = [session.channel(Overlap).send(bytes(3)), session.channel(Overlap).send(bytes(1))];
+  // Room for 3 bytes on Overlap, a message of 4 there, and then no frame.
+  comes.enqueue(Uint8Array.of(0x22, 0, 0, 0, 3, 0x12, 0, 0, 0, 4, 1, 2, 3, 4, 0xff));
+  await sent;
+  await assert.rejects(waits, it => isClosed(it, 'Stopped'));
+  assert.deepEqual([session.stats(Overlap).mostBuffered, await session.channel(Overlap).receive()], [4, Uint8Array.of(1, 2, 3, 4)]);
+});
+
+test('where the other side broke the framing, this side is told how', async () => {
   const { session, comes } = await begin();
   comes.enqueue(Uint8Array.of(0xff));
   await assert.rejects(session.closed, it => isClosed(it, 'Stopped') && it.cause.code === Code.BadTag && it.cause.isStop);

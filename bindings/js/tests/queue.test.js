@@ -80,6 +80,27 @@ const COUNTED = {
       assert.ok((await Promise.allSettled(sends)).every(({ reason }) => reason === 'enough'));
     };
   },
+  'sends between limits': async count => {
+    const { session, other, put } = await alone({}, { capacities: 2 ** 24 });
+    return async () => {
+      const channel = session.channel(Data);
+      const sends = times(count, at => {
+        channel.limitSending(2 ** 20 - at);
+        return channel.send(one);
+      });
+      other.issue(Data, count);
+      put();
+      await Promise.all(sends);
+    };
+  },
+  'sends on channels that all wait': async count => {
+    const { session } = await alone();
+    return async () => {
+      const sends = times(count, at => session.channel(at % 7).send(one));
+      session.close();
+      assert.ok((await Promise.allSettled(sends)).every(({ reason }) => reason.kind === 'Local'));
+    };
+  },
   'sends that fail with their session': async count => {
     const { session } = await alone();
     return async () => {

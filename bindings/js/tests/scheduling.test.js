@@ -207,6 +207,29 @@ test('a channel that sent less recently passes one that waits for bytes', async 
   assert.deepEqual(await release(), ['send 1 10000', 'send 2 1', 'send 1 60000']);
 });
 
+test('of two channels that never sent one that waits for bytes does not hold up the other', async () => {
+  const there = await alone({ slots: 64, issue: 'by caller' }, { capacities: 2 ** 21 });
+  const { session, other, put } = there;
+  [Data, Capability].forEach(it => other.issue(it, 2 ** 20));
+  put();
+  await settled();
+  let resume;
+  there.hold = new Promise(resolve => (resume = resolve));
+  const send = (channel, length) => session.channel(channel).send(bytes(length));
+  await send(Capability, 1); // is being written
+  await settled();
+  await send(Capability, 10_000);
+  const sends = [send(Data, 60_000), send(Overlap, 1)];
+  assert.deepEqual(await accepted(sends), [false, false]);
+  other.issue(Overlap, 1);
+  put();
+  assert.deepEqual(await accepted(sends), [false, true]);
+  there.hold = undefined;
+  resume();
+  await settled();
+  assert.deepEqual(framesOf(there.writes), ['send 3 1', 'send 3 10000', 'send 2 1', 'send 1 60000']);
+});
+
 test('one that waits for guarantees holds up none that waits for bytes, nor does one without a slot', async () => {
   const { send, release, session } = await held({ slots: 14 });
   await send(Overlap, 10_000);

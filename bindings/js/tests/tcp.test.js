@@ -213,6 +213,16 @@ for (const written of [5, 2 ** 24]) {
   });
 }
 
+test('a session that is aborted over TLS, which has no reset, is cut there', async context => {
+  const [alice, bob] = await Promise.all((await secureSockets(context)).map(socket => open(fromSocket(socket))));
+  await alice.channel(Data).send(message(1, 5));
+  await settled();
+  assert.deepEqual(await bob.channel(Data).receive(), message(1, 5));
+  await settled();
+  alice.abort();
+  await assert.rejects(bob.channel(Data).receive(), it => ['Cut', 'Transport'].includes(it.kind));
+});
+
 test('a write that the system has not taken is no write that is done, once the socket is destroyed', async context => {
   const [socket, other] = await plainSockets(context);
   other.pause();
