@@ -345,6 +345,26 @@ test('room that was freed before a close is issued before it', async () => {
   assert.deepEqual(framesOf(writes, 2), ['send 1 1', 'issue 1 5', ...CHANNELS.map(it => `finish ${it}`)]);
 });
 
+test('a plead that comes behind a close is not honoured', async () => {
+  const there = await alone({ version: 1, issue: 'by caller' });
+  const { session, other, put } = there;
+  other.issue(Data, 9);
+  put();
+  await settled();
+  let resume;
+  there.hold = new Promise(resolve => (resume = resolve));
+  await session.channel(Data).send(bytes(1));
+  await settled(); // the driver writes it
+  session.close();
+  other.plead(Data, 0);
+  put();
+  await settled();
+  there.hold = undefined;
+  resume();
+  await settled();
+  assert.deepEqual(framesOf(there.writes), ['send 1 1', ...CHANNELS.map(it => `limit-sending ${it} 0`)]);
+});
+
 test('two sessions that are closed at once end in order, and messages on their way are received', async () => {
   const { load } = await import('lcmux');
   const lcmux = await load();
