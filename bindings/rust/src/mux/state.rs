@@ -3,6 +3,7 @@
 //! Each change ends with `settle`: it enqueues pending control frames, completes the calls of blocked threads that can
 //! proceed, and notifies the others that can. A wake-up carries no grant: a woken task looks again when it is polled,
 //! and where its future is dropped instead, `Drop` settles once more. So no wake-up is lost to a cancelled future.
+mod bytes;
 mod control;
 mod line;
 mod receiving;
@@ -23,6 +24,7 @@ use crate::sys::Lent;
 use crate::{
     Channel, ClientBook, Closed, IssuePolicy, MuxFault, Peer, PleadPolicy, ServerBook, Version,
 };
+use bytes::Bytes;
 use control::{ClientOwed, Pleaded, ServerOwed};
 use line::Line;
 use slots::Slots;
@@ -89,8 +91,7 @@ pub(crate) struct State {
     inc: [Incoming; 7],
     stats: [Stats; 7],
     slots: Slots,
-    /// The bytes of messages in the queue, or fewer: what was pulled counts as theirs.
-    queued: usize,
+    bytes: Bytes,
     /// The shortest message that counts as long, and how many in the queue do, or more.
     borrowed_from: usize,
     long: usize,
@@ -163,7 +164,7 @@ impl State {
             inc: Default::default(),
             stats: Default::default(),
             slots: Slots::new(config.peer.slots as usize),
-            queued: 0,
+            bytes: Bytes::new(config.peer.version),
             borrowed_from: BORROWED_FROM,
             long: 0,
             is_lent: false,
@@ -282,7 +283,7 @@ impl State {
         };
         if count > 0 {
             let len = lent.map_or(count, |message| count + message.len());
-            self.queued = self.queued.saturating_sub(len);
+            self.bytes.take(len);
             self.settle();
             return Pulled::Bytes(count, lent);
         }
@@ -307,9 +308,9 @@ impl State {
         self.follow_queue();
     }
 
-    // What a call of the peer did to the queue is known to the slots.
-    fn follow_queue(&mut self) {
-        self.slots.follow(self.peer.slots_left());
+    // What a call of the peer did to the queue is known to the slots. Whether frames entered it.
+    fn follow_queue(&mut self) -> bool {
+        self.slots.follow(self.peer.slots_left())
     }
 
     fn write(&mut self, buffer: &mut [u8]) -> usize {

@@ -35,13 +35,16 @@ fn end(end: End, mut stream: TcpStream) -> JoinHandle<()> {
         End::BetweenFrames | End::Reset => Vec::new(),
     };
     stream.write_all(&last).unwrap();
-    if end != End::Reset {
-        stream.shutdown(Shutdown::Write).unwrap();
+    match end {
+        // A connection that is dropped while bytes are unread is reset.
+        End::Reset => drop(stream.peek(&mut [0]).unwrap()),
+        _ => stream.shutdown(Shutdown::Write).unwrap(),
     }
-    thread::spawn(move || {
-        // A connection that is dropped while bytes are unread is reset; else it is read to its end.
-        while end != End::Reset && matches!(stream.read(&mut [0; 4096]), Ok(1..)) {}
-    })
+    thread::spawn(
+        move || {
+            while end != End::Reset && matches!(stream.read(&mut [0; 4096]), Ok(1..)) {}
+        },
+    )
 }
 
 fn is_reason(end: End, closed: &Closed) -> bool {

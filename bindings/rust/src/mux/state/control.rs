@@ -1,6 +1,7 @@
 //! Control frames: issues, absolves, limits, pleads and finishes. Each is enqueued at once, into a slot that messages
 //! leave free; room that was freed while the writing half is active is issued when it comes for more. What finds no
 //! slot stays pending as one amount for each channel and kind, which later calls add to, and precedes any message.
+use super::bytes::{AMOUNT, BOUND, FINISH};
 use super::line::Place;
 use super::{at, bit, State};
 use crate::{CallError, Channel, IssuePolicy, Peer, PleadPolicy, Refusal, Version};
@@ -254,7 +255,7 @@ impl State {
         let left = self.peer.server(channel).receive_left;
         let bound = left.unwrap_or(NO_LIMIT);
         let repeated = self.peer.limit_receiving(channel, bound).is_ok();
-        self.follow_queue();
+        self.entered(BOUND);
         repeated
     }
 
@@ -263,7 +264,7 @@ impl State {
         let left = self.peer.client(channel).send_left;
         let bound = left.unwrap_or(NO_LIMIT);
         let repeated = self.peer.limit_sending(channel, bound).is_ok();
-        self.follow_queue();
+        self.entered(BOUND);
         repeated
     }
 }
@@ -317,13 +318,21 @@ impl State {
     // be finished, and its call may name another refusal that means as much.
     fn enqueue<T>(
         &mut self,
+        len: usize,
         call: impl FnOnce(&mut Peer) -> Result<T, Refusal>,
         is_stale: impl FnOnce(Refusal) -> bool,
     ) {
         match call(&mut self.peer) {
-            Ok(_) => self.follow_queue(),
+            Ok(_) => self.entered(len),
             Err(Refusal::ChannelFinished) => {}
             Err(refusal) => debug_assert!(is_stale(refusal), "{refusal}"),
+        }
+    }
+
+    // A control frame of so many bytes entered the queue, if any did.
+    fn entered(&mut self, len: usize) {
+        if self.follow_queue() {
+            self.bytes.enter_control(len);
         }
     }
 
@@ -376,19 +385,23 @@ impl State {
         let amount = self.inc[at(channel)].owed.issue;
         if amount > 0 {
             self.slot()?;
-            self.enqueue(|peer| peer.issue(channel, amount), |_| false);
+            self.enqueue(AMOUNT, |peer| peer.issue(channel, amount), |_| false);
             self.inc[at(channel)].owed.issue = 0;
         }
         if let Some(bound) = self.inc[at(channel)].owed.limit {
             self.slot()?;
-            self.enqueue(|peer| peer.limit_receiving(channel, bound), |_| false);
+            self.enqueue(
+                BOUND,
+                |peer| peer.limit_receiving(channel, bound),
+                |_| false,
+            );
             self.inc[at(channel)].owed.limit = None;
         }
         if let Some(target) = self.inc[at(channel)].owed.plead {
             self.slot()?;
             // The peer may have used meanwhile what it was to give up.
             let is_met = |refusal| matches!(refusal, Refusal::NothingToAsk { .. });
-            self.enqueue(|peer| peer.plead(channel, target), is_met);
+            self.enqueue(AMOUNT, |peer| peer.plead(channel, target), is_met);
             self.inc[at(channel)].owed.plead = None;
         }
         Some(())
@@ -399,7 +412,7 @@ impl State {
         if amount > 0 {
             self.slot()?;
             let is_last = |refusal| refusal == Refusal::TotalReached;
-            self.enqueue(|peer| peer.issue(channel, amount), is_last);
+            self.enqueue(AMOUNT, |peer| peer.issue(channel, amount), is_last);
         }
         Some(())
     }
@@ -423,7 +436,11 @@ impl State {
         let amount = self.out[at(channel)].owed.absolve;
         if amount > 0 {
             self.slot()?;
-            self.enqueue(|peer| peer.absolve(channel, amount as u32), |_| false);
+            self.enqueue(
+                AMOUNT,
+                |peer| peer.absolve(channel, amount as u32),
+                |_| false,
+            );
             self.out[at(channel)].owed.absolve = 0;
         }
         Some(())
@@ -471,14 +488,18 @@ impl State {
         if amount > 0 {
             self.slot()?;
         }
-        self.enqueue(|peer| peer.honour(channel), |_| false);
+        self.enqueue(AMOUNT, |peer| peer.honour(channel), |_| false);
         Some(())
     }
 
     fn absolve_now(&mut self, channel: Channel, amount: u64) -> Option<()> {
         if amount > 0 {
             self.slot()?;
-            self.enqueue(|peer| peer.absolve(channel, amount as u32), |_| false);
+            self.enqueue(
+                AMOUNT,
+                |peer| peer.absolve(channel, amount as u32),
+                |_| false,
+            );
         }
         Some(())
     }
@@ -491,9 +512,9 @@ impl State {
                 Some(Place::Limit(bound)) => {
                     // Messages before it may have left less of an earlier limit.
                     let is_met = |refusal| matches!(refusal, Refusal::LimitRaised { .. });
-                    self.enqueue(|peer| peer.limit_sending(channel, bound), is_met)
+                    self.enqueue(BOUND, |peer| peer.limit_sending(channel, bound), is_met)
                 }
-                _ => self.enqueue(|peer| peer.finish(channel), |_| false),
+                _ => self.enqueue(FINISH, |peer| peer.finish(channel), |_| false),
             }
         }
         Some(())

@@ -187,7 +187,7 @@ impl State {
     fn put(&mut self, channel: Channel, body: &[u8]) -> Result<(), SendError> {
         self.peer.send(channel, body)?;
         self.slots.enter(channel);
-        self.queued += body.len();
+        self.bytes.enter_message(body.len());
         self.long += usize::from(body.len() >= self.borrowed_from);
         self.went(channel);
         if self.out[at(channel)].pleaded.is_some() {
@@ -272,7 +272,7 @@ impl State {
     }
 
     fn has_bytes(&self, len: usize) -> bool {
-        let taken = self.queued + self.claimed;
+        let taken = self.bytes.messages() + self.claimed;
         taken == 0 || taken + len <= MOST_QUEUED
     }
 
@@ -408,10 +408,15 @@ impl State {
     // The channel whose first call proceeds next. Where its bytes don't fit, no later one's are taken.
     fn next(&mut self) -> Option<Channel> {
         self.look_at_fronts();
-        let waiting = self.waiting_for_bytes();
-        let next = waiting.min_by_key(|channel| self.out[at(*channel)].went)?;
-        let first = self.out[at(next)].line.first()?;
-        self.has_bytes(first.len).then_some(next)
+        let went = |channel: &Channel| self.out[at(*channel)].went;
+        let least = self.waiting_for_bytes().map(|it| went(&it)).min()?;
+        // Several, where they never sent.
+        let fits = |channel: &Channel| {
+            let first = self.out[at(*channel)].line.first();
+            first.is_some_and(|first| self.has_bytes(first.len))
+        };
+        let mut waiting = self.waiting_for_bytes();
+        waiting.find(|channel| went(channel) == least && fits(channel))
     }
 
     // Whether the first call could be completed on behalf of its thread. Where memory was refused, it is for that call

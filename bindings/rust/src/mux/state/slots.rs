@@ -42,12 +42,14 @@ impl Slots {
         }
     }
 
-    /// Follows the queue, which has so many places left: frames entered it, or left it.
-    pub fn follow(&mut self, places_left: usize) {
+    /// Follows the queue, which has so many places left: frames entered it, or left it. Whether any entered.
+    pub fn follow(&mut self, places_left: usize) -> bool {
         let queued = self.total - places_left;
+        let entered = queued > self.queued;
         self.left += self.queued.saturating_sub(queued) as u64;
         self.queued = queued;
         debug_assert!(self.kept() <= places_left);
+        entered
     }
 
     /// Whether a control frame may enter the queue.

@@ -333,7 +333,8 @@ fn assert_settled(state: &mut State) {
                     "{channel:?} can proceed and was not notified"
                 );
                 let waits_for_slot = !state.slots.is_own_free(channel) && !state.slots.has_shared();
-                let waits = waits_for_slot || state.claimed > 0 || !state.slots.is_empty();
+                let is_to_be_written = state.peer.wants_write();
+                let waits = waits_for_slot || state.claimed > 0 || is_to_be_written;
                 assert!(waits, "{channel:?} waits for no one");
             }
             _ => assert_eq!(
@@ -486,14 +487,47 @@ fn so_many_bytes_of_messages_wait() {
         pull(&mut state, 30_000),
         Pulled::Bytes(30_000, None)
     ));
-    assert!(!is_sent(&mut state, Data, 30_001));
-    assert!(is_sent(&mut state, Data, 30_000));
+    assert!(!is_sent(&mut state, Data, 29_996));
+    assert!(is_sent(&mut state, Data, 29_995));
     assert!(matches!(
         pull(&mut state, 1 << 20),
-        Pulled::Bytes(65_556, None)
+        Pulled::Bytes(65_551, None)
     ));
     assert!(is_sent(&mut state, Data, 1_048_576));
     assert!(!is_sent(&mut state, Overlap, 1));
+}
+
+/// The bytes of messages alone count, and each until it is taken: 13,107 messages of 5 bytes, and one more byte.
+#[test]
+fn short_messages_count_as_many_bytes_as_they_have() {
+    let mut state = rich(16_000);
+    for _ in 0..13_107 {
+        assert!(is_sent(&mut state, Data, 5));
+    }
+    assert!(!is_sent(&mut state, Data, 2));
+    assert!(is_sent(&mut state, Data, 1));
+    state.limit_receiving(Data, 9).unwrap();
+    assert!(!is_sent(&mut state, Data, 1));
+    // One message, and a half of the next: a header of five bytes and three of its own.
+    assert!(matches!(pull(&mut state, 18), Pulled::Bytes(18, None)));
+    assert!(!is_sent(&mut state, Data, 9));
+    assert!(is_sent(&mut state, Data, 8));
+}
+
+/// Two channels that never sent: the one whose bytes fit need not wait for the other.
+#[test]
+fn a_channel_that_never_sent_does_not_wait_for_another_one() {
+    for (long, short) in [(Overlap, Capability), (Capability, Overlap)] {
+        let mut state = rich(64);
+        assert!(is_sent(&mut state, Data, 60_000));
+        let waits = Waits::task(&mut state, long, 60_000);
+        state.absolve(short, 0x20_0000).unwrap();
+        let call = Waits::task(&mut state, short, 3);
+        state.deliver(&issue(short, 3)).unwrap();
+        drop(std::mem::take(&mut state.wakes));
+        assert!(call.is_woken() && !waits.is_woken());
+        assert_settled(&mut state);
+    }
 }
 
 /// A call that waits for bytes is completed for a thread, where its message is short, and else notified; a permit is
@@ -512,9 +546,9 @@ fn a_call_that_waits_for_bytes_learns_that_they_are_free() {
         ));
         assert!(call.is_woken());
         let is_completed = is_thread && len <= 4_096;
-        assert_eq!(state.queued, if is_completed { len } else { 0 });
+        assert_eq!(state.bytes.messages(), if is_completed { len } else { 0 });
         assert_eq!(call.poll(&mut state), DONE);
-        assert_eq!(state.queued, len);
+        assert_eq!(state.bytes.messages(), len);
         assert!(matches!(pull(&mut state, 1 << 20), Pulled::Bytes(_, None)));
     }
 }
@@ -812,7 +846,10 @@ fn a_long_message_is_lent_where_it_lies() {
     let short = [header(0x11, LONG - 1), vec![7; LONG - 1]].concat();
     assert_eq!(buffer[..count], [short, header(0x12, LONG)].concat());
     assert_eq!(*message, [7; LONG]);
-    assert_eq!((state.peer.slots_left(), state.queued), (slots - 1, 0));
+    assert_eq!(
+        (state.peer.slots_left(), state.bytes.messages()),
+        (slots - 1, 0)
+    );
     assert!(is_sent(&mut state, Data, 1));
     assert!(is_sent(&mut state, Overlap, LONG));
     let Pulled::Bytes(count, Some(_)) = state.pull(&mut buffer, true, &waker) else {
