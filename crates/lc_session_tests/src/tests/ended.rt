@@ -70,15 +70,28 @@ fn write<R: Wait + Abort>(rt: &R, alloc: Global, pump: &mut WritePump) {
     );
 }
 
+// One thread sends, and another one writes.
+fn send_and_write<R>(
+    rt: &R,
+    alloc: Global,
+    session: &Session,
+    end: &mut SendEnd,
+    pump: &mut WritePump,
+)
+where
+    R: Threads + Wait + Abort + Sync,
+{
+    join(rt, || send_all(rt, end, session), || write(rt, alloc, pump));
+}
+
 fn send_behind_the_end<R>(rt: &R, alloc: Global) -> Option<()>
 where
     R: Threads + Wait + Abort + Sync,
 {
-    let mut side = new_side(alloc, 8, 4)?;
-    read(rt, &mut side.pumps.reading, &ISSUED);
-    let (session, end) = (&side.session, &mut side.ends.sending[1]);
-    let pump = &mut side.pumps.writing;
-    join(rt, || send_all(rt, end, session), || write(rt, alloc, pump));
+    let (session, mut ends, mut pumps) = new_side(alloc, 8, 4)?.apart();
+    read(rt, &mut pumps.reading, &ISSUED);
+    let end = &mut ends.sending[1];
+    send_and_write(rt, alloc, &session, end, &mut pumps.writing);
     Some(())
 }
 
