@@ -4,26 +4,26 @@ use Rattle.std.specs.Prelude.{◌⊎◌}
 use Rattle.std.proofs.lemmas.Bool.{cases_Bool}
 use Rattle.std.proofs.lemmas.Bool.Decides.{nat_tests}
 use Rattle.lc_frame.specs.declared.channel.Channel.{Channel}
-use Rattle.lc_frame.specs.declared.channel.Channel.TheVariants.{ReconciliationChannel, DataChannel, OverlapChannel, CapabilityChannel, AreaOfInterestChannel, PayloadRequestChannel, StaticTokenChannel}
+use Rattle.lc_frame.specs.declared.channel.Channel.TheVariants.{Reconciliation, Data, Overlap, Capability, AreaOfInterest, PayloadRequest, StaticToken}
 use Rattle.lc_frame.specs.Channel.{channel_count, number_of, channel_at, is_same}
 
 pub channel_at-number_of : (c : Channel) → channel_at (number_of c) ≡ Some c
-channel_at-number_of ReconciliationChannel = refl
-channel_at-number_of DataChannel = refl
-channel_at-number_of OverlapChannel = refl
-channel_at-number_of CapabilityChannel = refl
-channel_at-number_of AreaOfInterestChannel = refl
-channel_at-number_of PayloadRequestChannel = refl
-channel_at-number_of StaticTokenChannel = refl
+channel_at-number_of Reconciliation = refl
+channel_at-number_of Data = refl
+channel_at-number_of Overlap = refl
+channel_at-number_of Capability = refl
+channel_at-number_of AreaOfInterest = refl
+channel_at-number_of PayloadRequest = refl
+channel_at-number_of StaticToken = refl
 
 pub number_below : (c : Channel) → number_of c < channel_count
-number_below ReconciliationChannel = omega arith
-number_below DataChannel = omega arith
-number_below OverlapChannel = omega arith
-number_below CapabilityChannel = omega arith
-number_below AreaOfInterestChannel = omega arith
-number_below PayloadRequestChannel = omega arith
-number_below StaticTokenChannel = omega arith
+number_below Reconciliation = omega arith
+number_below Data = omega arith
+number_below Overlap = omega arith
+number_below Capability = omega arith
+number_below AreaOfInterest = omega arith
+number_below PayloadRequest = omega arith
+number_below StaticToken = omega arith
 
 pub some_same : (c d : Channel) → Some c ≡ Some d → c ≡ d
 some_same c d e = cc

@@ -17,7 +17,8 @@ use Rattle.lc_frame.specs.Version.{greeting, begins, version_of, IsGreetingPart,
 use Rattle.lc_frame.specs.Decoded.{IsOpen, IsKnown}
 use Rattle.lc_frame.specs.Scan.{frame_in, NeedsMore}
 use Rattle.lc_frame.specs.Stored.{Stored, stored_in, opened, HasFrame, HasFault, IsUndecided, IsDecided, IsSettled}
-use Rattle.lc_frame.specs.Progress.{Holds, Remembers, known_version, Takes, TakesPart, OpensAs, Opens, IsDue}
+use Rattle.lc_frame.specs.Progress.{Holds, Remembers, known_version, Takes, TakesPart, Feeds, OpensAs, Opens, IsDue}
+use Rattle.std.specs.Prelude.{IfSome}
 use Rattle.lc_frame.proofs.Stored.{told, begins_long, front_is, settled_none, part_none, front_of_part, opened_is, part_undecided, part_opened, greeted_told}
 
 -- ---- in a version
@@ -44,6 +45,29 @@ stored_of v progress bytes h = ap (λ (o : Option Version). record { version = o
 
 decided_of : (v : Version) (progress : Progress) (bytes : List ℕ) → Holds v progress bytes → IsKnown v bytes → IsDecided (record { version = known_version v progress; bytes = bytes })
 decided_of v progress bytes h known = subst IsDecided (sym (stored_of v progress bytes h)) known
+
+-- what was taken behind bytes of frames was fed to them
+pub takes_feeds : (v : Version) (held : Stored) (old new piece : List ℕ) (n : ℕ) (progress : Progress) → held ≡ stored_in v old → Takes v old new piece n progress → Feeds held (record { version = known_version v progress; bytes = new }) piece n
+takes_feeds v held old new piece n progress is t =
+    subst (λ (h : Stored). Feeds h (record { version = known_version v progress; bytes = new }) piece n) (sym is) (
+    record {
+      count = t.count;
+      held = stored_of v progress new t.knows ∙ ap (stored_in v) t.held;
+      shortest = λ k lt. undecided_of v (old ++ take k piece) (t.shortest k lt);
+      stop = λ lt. decided_of v progress new t.knows (t.stop lt);
+    }
+    )
+
+pub known_same : (v w : Version) (progress : Progress) → known_version v progress ≡ Some w → v ≡ w
+known_same v w (Wants need) e = cc
+known_same v w (Whole head) e = cc
+known_same v w (Fault fault) e = cc
+known_same v w Greeted e = absurd cc
+known_same v w Broken e = absurd cc
+
+pub if_some_then : (o : Option ℕ) (P Q : ℕ → Type 0) → ((n : ℕ) → P n → Q n) → IfSome o P → IfSome o Q
+if_some_then None P Q then p = tt
+if_some_then (Some n) P Q then p = then n p
 
 -- ---- of version One
 
@@ -258,7 +282,7 @@ from_cleared old new rest more taken progress none same t = subst (λ (x : List 
 
 -- that a decoder is in this state, as its fields and as it is seen
 module _ (v : Version) (progress : Progress) (inside : List ℕ) (held : Stored) (knows : Remembers v progress inside) (view_is : record { version = known_version v progress; bytes = inside } ≡ held) where
-  seen : (p : Progress) → progress ≡ p → record { version = known_version v p; bytes = inside } ≡ held
+  pub seen : (p : Progress) → progress ≡ p → record { version = known_version v p; bytes = inside } ≡ held
   seen p e = subst (λ (q : Progress). record { version = known_version v q; bytes = inside } ≡ held) e view_is
 
   known : (p : Progress) → progress ≡ p → Remembers v p inside

@@ -1,14 +1,15 @@
 -- A Send that is begun, as more of it comes.
--- A Send that is begun, as more of it comes.
 use Rattle.std.proofs.Common.{◌≡◌, ℕ, ◌+◌, ◌-◌, ◌<◌, ◌≤◌, ◌^◌, ◌/◌, ◌%◌, Bool, true, false, List, [], ◌∷◌, ◌++◌, length, get_or, take, drop, Option, Some, None, refl, sym, ap, subst, ◌∙◌, append_assoc, arith, inl, inr}
 use Rattle.std.proofs.lemmas.Bool.{cases_lt, true≢false}
-use Rattle.std.proofs.lemmas.List.{length-append, take_all}
+use Rattle.std.proofs.lemmas.List.{append-nil, length-append, take_all}
 use Rattle.lc_frame.specs.declared.version.Version.{Version}
 use Rattle.lc_frame.specs.declared.version.Version.TheVariants.{One, Two}
 use Rattle.lc_frame.specs.declared.channel.Channel.{Channel}
 use Rattle.lc_frame.specs.declared.kind.Kind.{Kind}
 use Rattle.lc_frame.specs.declared.kind.Kind.TheVariants as kinds
+use Rattle.lc_frame.specs.declared.frame.Frame.{Frame}
 use Rattle.lc_frame.specs.declared.frame.Frame.TheVariants.{Send}
+use Rattle.lc_frame.specs.declared.frame_fault.FrameFault.{FrameFault}
 use Rattle.lc_frame.specs.declared.frame_fault.FrameFault.TheVariants.{BadTag}
 use Rattle.lc_frame.specs.declared.scan.Scan.TheVariants.{Needs}
 use Rattle.lc_frame.specs.Version.{version_of}
@@ -17,9 +18,11 @@ use Rattle.lc_frame.specs.Kind.{kind_at, has, width_of, width_len, IsInRange, is
 use Rattle.lc_frame.specs.Frame.{IsValid}
 use Rattle.lc_frame.specs.Encoding.{tag_of, header, encoding, FaultStands}
 use Rattle.lc_frame.specs.Decoded.{IsOpen, OnlyFault}
-use Rattle.lc_frame.specs.Scan.{number_in, scan_of, scan_tag}
+use Rattle.lc_frame.specs.Scan.{number_in, frame_in, scan_of, scan_tag, FindsFrame, NeedsMore}
 use Rattle.lc_frame.specs.Stored.{Stored, fed, stored_as, opened_as, IsSettled, IsUndecided}
-use Rattle.lc_frame.specs.Begun.{BeginsSend, BeginsSendIn, HasBegun}
+use Rattle.lc_frame.specs.Begun.{BeginsSend, BeginsSendIn, HasBegun, BeginsAtMost, BeginsAtMostIn, TakesLonger}
+use Rattle.lc_frame.specs.declared.head.Head.{Head}
+use Rattle.lc_frame.specs.Progress.{HoldsFrame}
 use Rattle.lc_frame.proofs.Bytes.{IsBytes, IsBytes-take, IsBytes-rest, wide_of}
 use Rattle.lc_frame.proofs.Tags.{tag_from}
 use Rattle.lc_frame.proofs.Fronts.{length-header, range_test, range_from, ranged, short_body, needs_open, header_back, body_found, number_fault, finds_known, finds_tag}
@@ -57,11 +60,70 @@ begins_on v c len bytes more b = record {
 pub length-begun : (v : Version) (c : Channel) (len : ℕ) (bytes : List ℕ) (b : BeginsSend v c len bytes) → length bytes ≡ header_len v kinds.Send + length b.rest
 length-begun v c len bytes b = omega (arith, ap length b.is, length-append (header v kinds.Send c len) b.rest, length-header v kinds.Send c len)
 
+-- while bytes are missing, as many are needed as it has
+pub begun_needs : (v : Version) (c : Channel) (len : ℕ) (bytes : List ℕ) → BeginsSend v c len bytes → length bytes < header_len v kinds.Send + len → scan_of v bytes ≡ Needs (header_len v kinds.Send + len)
+begun_needs v c len bytes b few = ap (scan_of v) b.is ∙ ranged v kinds.Send c len b.rest refl b.in_range ∙ short_body v kinds.Send c len b.rest (omega (arith, few, length-begun v c len bytes b))
+
+needs_same : {m n : ℕ} → Needs m ≡ Needs n → m ≡ n
+needs_same e = cc
+
+-- with no more bytes than these, and needing no more, it has no more
+pub begun_within : (v : Version) (most : ℕ) (bytes : List ℕ) → length bytes ≤ most → ((n : ℕ) → scan_of v bytes ≡ Needs n → n ≤ most) → BeginsAtMost v most bytes
+begun_within v most bytes few needs c len b =
+    elim (cases_lt (length bytes) (header_len v kinds.Send + len)) [
+      | inl short ↦ needs (header_len v kinds.Send + len) (begun_needs v c len bytes b short)
+      | inr whole ↦ omega (arith, whole, few)
+    ]
+
+-- where so many are needed
+pub needs_within : (v : Version) (most need : ℕ) (bytes : List ℕ) → NeedsMore v bytes need → need ≤ most → BeginsAtMost v most bytes
+needs_within v most need bytes k few =
+    let found : scan_of v bytes ≡ Needs need = ap (scan_of v) (sym (append-nil bytes)) ∙ k.again [] (omega (arith, k.short, ap length (append-nil bytes))) in
+    begun_within v most bytes (omega (arith, k.short, few)) (λ n e. omega (arith, needs_same (sym e ∙ found), few))
+
+-- where the bytes are those of a frame
+pub whole_within : (v : Version) (most : ℕ) (head : Head) (bytes : List ℕ) → HoldsFrame v head bytes → length bytes ≤ most → BeginsAtMost v most bytes
+whole_within v most head bytes h few = begun_within v most bytes few (λ n e. absurd ((needs_open v bytes n e).no_frame (frame_in v head bytes) h.only.stands))
+
+-- where there is none
+pub nothing_within : (version : Option Version) (most : ℕ) → BeginsAtMostIn version most []
+nothing_within None most = tt
+nothing_within (Some v) most = λ c len b. absurd (omega (arith, length-begun v c len [] b, header_some v))
+  where
+    header_some : (v : Version) → 1 ≤ header_len v kinds.Send
+    header_some One = omega arith
+    header_some Two = omega arith
+
+-- where more are needed than so many, none stands with so many
+pub needs_longer : (v : Version) (most need : ℕ) (bytes : List ℕ) → NeedsMore v bytes need → most < need → TakesLonger v most bytes
+needs_longer v most need bytes k many = λ more few. k.more more (omega (arith, few, many))
+
+-- nor where a frame has more
+pub frame_longer : (v : Version) (most used : ℕ) (head : Head) (bytes : List ℕ) → FindsFrame v head used bytes → most < used → TakesLonger v most bytes
+frame_longer v most used head bytes f many = λ more few. absurd (omega (arith, few, many, f.within, length-append bytes more))
+
 -- while bytes are missing, it is open
 pub begun_open : (v : Version) (c : Channel) (len : ℕ) (bytes : List ℕ) → BeginsSend v c len bytes → length bytes < header_len v kinds.Send + len → IsOpen v bytes
 begun_open v c len bytes b few =
-    let needs : scan_of v bytes ≡ Needs (header_len v kinds.Send + len) = ap (scan_of v) b.is ∙ ranged v kinds.Send c len b.rest refl b.in_range ∙ short_body v kinds.Send c len b.rest (omega (arith, few, length-begun v c len bytes b)) in
-    needs_open v bytes (header_len v kinds.Send + len) needs
+    needs_open v bytes (header_len v kinds.Send + len) (begun_needs v c len bytes b few)
+
+-- where a frame of no more bytes stands, it has no more
+pub frame_within : (v : Version) (most used : ℕ) (head : Head) (bytes : List ℕ) → FindsFrame v head used bytes → used ≤ most → BeginsAtMost v most bytes
+frame_within v most used head bytes f few c len b =
+    elim (cases_lt (length bytes) (header_len v kinds.Send + len)) [
+      | inl short ↦ absurd ((begun_open v c len bytes b short).no_frame _ f.only.stands)
+      | inr whole ↦
+          let found = body_found v kinds.Send c len b.rest bytes refl b.in_range b.is (omega (arith, whole, length-begun v c len bytes b)) in
+          omega (arith, few, f.used_is, found.used_is, ap (λ (g : Frame). length (encoding v g)) (f.only.same _ found.only.stands))
+    ]
+
+-- where a fault stands, none is begun
+pub fault_within : (v : Version) (most : ℕ) (e : FrameFault) (bytes : List ℕ) → OnlyFault v e bytes → BeginsAtMost v most bytes
+fault_within v most e bytes o c len b =
+    elim (cases_lt (length bytes) (header_len v kinds.Send + len)) [
+      | inl short ↦ absurd ((begun_open v c len bytes b short).no_fault e o.stands)
+      | inr whole ↦ absurd (o.no_frame _ (body_found v kinds.Send c len b.rest bytes refl b.in_range b.is (omega (arith, whole, length-begun v c len bytes b))).only.stands)
+    ]
 
 -- with all its bytes it is the Send of what stands behind its length
 pub begun_whole : (v : Version) (c : Channel) (len : ℕ) (bytes : List ℕ) (b : BeginsSend v c len bytes) → length bytes ≡ header_len v kinds.Send + len → bytes ≡ encoding v (Send c b.rest)

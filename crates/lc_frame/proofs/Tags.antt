@@ -1,7 +1,7 @@
 -- A tag byte is its kind and its channel, and no other.
 use Rattle.std.proofs.Common.{◌≡◌, ℕ, zero, suc, ◌/◌, ◌%◌, Some, refl, ap, ◌∙◌, arith}
 use Rattle.lc_frame.specs.declared.channel.Channel.{Channel}
-use Rattle.lc_frame.specs.declared.channel.Channel.TheVariants.{ReconciliationChannel, DataChannel, OverlapChannel, CapabilityChannel, AreaOfInterestChannel, PayloadRequestChannel, StaticTokenChannel}
+use Rattle.lc_frame.specs.declared.channel.Channel.TheVariants.{Reconciliation, Data, Overlap, Capability, AreaOfInterest, PayloadRequest, StaticToken}
 use Rattle.lc_frame.specs.declared.kind.Kind.{Kind}
 use Rattle.lc_frame.specs.declared.kind.Kind.TheVariants.{Send, Issue, Absolve, Plead, LimitSending, LimitReceiving, Finish}
 use Rattle.lc_frame.specs.Channel.{number_of}
@@ -43,13 +43,13 @@ code_from (suc (suc (suc (suc (suc (suc (suc zero))))))) k e = let s : Finish �
 code_from (suc (suc (suc (suc (suc (suc (suc (suc n)))))))) k e = absurd cc
 
 number_from : (n : ℕ) (c : Channel) → channel_at n ≡ Some c → n ≡ number_of c
-number_from zero c e = let s : ReconciliationChannel ≡ c = cc in ap number_of s
-number_from (suc zero) c e = let s : DataChannel ≡ c = cc in ap number_of s
-number_from (suc (suc zero)) c e = let s : OverlapChannel ≡ c = cc in ap number_of s
-number_from (suc (suc (suc zero))) c e = let s : CapabilityChannel ≡ c = cc in ap number_of s
-number_from (suc (suc (suc (suc zero)))) c e = let s : AreaOfInterestChannel ≡ c = cc in ap number_of s
-number_from (suc (suc (suc (suc (suc zero))))) c e = let s : PayloadRequestChannel ≡ c = cc in ap number_of s
-number_from (suc (suc (suc (suc (suc (suc zero)))))) c e = let s : StaticTokenChannel ≡ c = cc in ap number_of s
+number_from zero c e = let s : Reconciliation ≡ c = cc in ap number_of s
+number_from (suc zero) c e = let s : Data ≡ c = cc in ap number_of s
+number_from (suc (suc zero)) c e = let s : Overlap ≡ c = cc in ap number_of s
+number_from (suc (suc (suc zero))) c e = let s : Capability ≡ c = cc in ap number_of s
+number_from (suc (suc (suc (suc zero)))) c e = let s : AreaOfInterest ≡ c = cc in ap number_of s
+number_from (suc (suc (suc (suc (suc zero))))) c e = let s : PayloadRequest ≡ c = cc in ap number_of s
+number_from (suc (suc (suc (suc (suc (suc zero)))))) c e = let s : StaticToken ≡ c = cc in ap number_of s
 number_from (suc (suc (suc (suc (suc (suc (suc n))))))) c e = absurd cc
 
 pub tag_from : (b : ℕ) (k : Kind) (c : Channel) → kind_at (b / 16) ≡ Some k → channel_at (b % 16) ≡ Some c → b ≡ tag_of k c

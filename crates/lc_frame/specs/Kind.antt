@@ -3,8 +3,10 @@ use Rattle.std.specs.Prelude.{ℕ, zero, suc, Bool, true, false, ◌+◌, ◌≤
 use Rattle.std.specs.Int.{Width, w16, w32, w64, byte_len}
 use Rattle.lc_frame.specs.declared.version.Version.{Version}
 use Rattle.lc_frame.specs.declared.version.Version.TheVariants.{One, Two}
+-- codes: begin kinds
 use Rattle.lc_frame.specs.declared.kind.Kind.{Kind}
 use Rattle.lc_frame.specs.declared.kind.Kind.TheVariants.{Send, Issue, Absolve, Plead, LimitSending, LimitReceiving, Finish}
+-- codes: end
 use Rattle.lc_frame.specs.declared.frame_fault.FrameFault.{FrameFault}
 use Rattle.lc_frame.specs.declared.frame_fault.FrameFault.TheVariants.{ZeroLength, BadNumber}
 
@@ -23,6 +25,7 @@ max_total = 2 ^ 62
 
 -- the code in the tag
 abbrev pub code_of : Kind → ℕ
+-- codes: begin codes of kinds
 code_of Send = 1
 code_of Issue = 2
 code_of Absolve = 3
@@ -31,8 +34,11 @@ code_of LimitSending = 5
 code_of LimitReceiving = 6
 code_of Finish = 7
 
+-- codes: end
+
 -- the kind of a code, where there is one
 abbrev pub kind_at : ℕ → Option Kind
+-- codes: begin kinds of codes
 kind_at (suc zero) = Some Send
 kind_at (suc (suc zero)) = Some Issue
 kind_at (suc (suc (suc zero))) = Some Absolve
@@ -41,6 +47,8 @@ kind_at (suc (suc (suc (suc (suc zero))))) = Some LimitSending
 kind_at (suc (suc (suc (suc (suc (suc zero)))))) = Some LimitReceiving
 kind_at (suc (suc (suc (suc (suc (suc (suc zero))))))) = Some Finish
 kind_at _ = None
+
+-- codes: end
 
 -- whether a version has the kind: version One has no Finish
 abbrev pub has : Version → Kind → Bool

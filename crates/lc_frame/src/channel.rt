@@ -9,25 +9,25 @@ pub const CHANNELS: usize = 7;
 /// list, from 0.
 #[derive(Clone, Copy, Debug, PartialEq, Eq)]
 pub enum Channel {
-    ReconciliationChannel,
-    DataChannel,
-    OverlapChannel,
-    CapabilityChannel,
-    AreaOfInterestChannel,
-    PayloadRequestChannel,
-    StaticTokenChannel,
+    Reconciliation,
+    Data,
+    Overlap,
+    Capability,
+    AreaOfInterest,
+    PayloadRequest,
+    StaticToken,
 }
 
 impl Channel {
     /// All channels, in the order of their numbers.
     pub const ALL: [Channel; CHANNELS] = [
-        Channel::ReconciliationChannel,
-        Channel::DataChannel,
-        Channel::OverlapChannel,
-        Channel::CapabilityChannel,
-        Channel::AreaOfInterestChannel,
-        Channel::PayloadRequestChannel,
-        Channel::StaticTokenChannel,
+        Channel::Reconciliation,
+        Channel::Data,
+        Channel::Overlap,
+        Channel::Capability,
+        Channel::AreaOfInterest,
+        Channel::PayloadRequest,
+        Channel::StaticToken,
     ];
 
     /// The channel's number, 0 to 6.
@@ -54,13 +54,13 @@ impl Channel {
         ensures none { IfNone result (channel_count ≤ number) }
     {
         match number {
-            0 => Some(Channel::ReconciliationChannel),
-            1 => Some(Channel::DataChannel),
-            2 => Some(Channel::OverlapChannel),
-            3 => Some(Channel::CapabilityChannel),
-            4 => Some(Channel::AreaOfInterestChannel),
-            5 => Some(Channel::PayloadRequestChannel),
-            6 => Some(Channel::StaticTokenChannel),
+            0 => Some(Channel::Reconciliation),
+            1 => Some(Channel::Data),
+            2 => Some(Channel::Overlap),
+            3 => Some(Channel::Capability),
+            4 => Some(Channel::AreaOfInterest),
+            5 => Some(Channel::PayloadRequest),
+            6 => Some(Channel::StaticToken),
             _ => None,
         }
     }

@@ -10,6 +10,7 @@ use std::fmt::Display;
 /// Why the bytes of a stream are no frame.
 #[derive(Clone, Copy, Debug, PartialEq, Eq)]
 pub enum FrameFault {
+    // codes: begin faults
     /// The first byte names no kind of frame or no channel, or a byte differs from the greeting.
     BadTag,
     /// The length of a message is 0.
@@ -18,6 +19,7 @@ pub enum FrameFault {
     BadNumber,
     /// The stream ends within a frame or a greeting.
     Truncated,
+    // codes: end
 }
 
 impl FrameFault {
@@ -26,10 +28,12 @@ impl FrameFault {
         ensures { result ≡ fault_number self }
     {
         match self {
+            // codes: begin numbers of faults
             FrameFault::BadTag => 1,
             FrameFault::ZeroLength => 2,
             FrameFault::BadNumber => 3,
             FrameFault::Truncated => 4,
+            // codes: end
         }
     }
 
@@ -38,10 +42,12 @@ impl FrameFault {
         ensures { option_map (λ sentence. sentence.now) result ≡ fault_sentence number }
     {
         let sentence = match number {
+            // codes: begin sentences of faults
             1 => "a byte names no kind or channel, or is not the greeting's",
             2 => "a message has length 0",
             3 => "a number in a frame is out of its range",
             4 => "the stream ends within a frame or a greeting",
+            // codes: end
             _ => return None,
         };
         Some(sentence)

@@ -9,6 +9,7 @@ use crate::version::Version;
 /// What a frame does.
 #[derive(Clone, Copy)]
 pub(crate) enum Kind {
+    // codes: begin kinds
     Send,
     Issue,
     Absolve,
@@ -16,6 +17,7 @@ pub(crate) enum Kind {
     LimitSending,
     LimitReceiving,
     Finish,
+    // codes: end
 }
 
 impl Kind {
@@ -25,6 +27,7 @@ impl Kind {
         ensures { result ≡ code_of self }
     {
         match self {
+            // codes: begin codes of kinds
             Kind::Send => 1,
             Kind::Issue => 2,
             Kind::Absolve => 3,
@@ -32,6 +35,7 @@ impl Kind {
             Kind::LimitSending => 5,
             Kind::LimitReceiving => 6,
             Kind::Finish => 7,
+            // codes: end
         }
     }
 
@@ -41,6 +45,7 @@ impl Kind {
         ensures { result ≡ kind_at code }
     {
         match code {
+            // codes: begin kinds of codes
             1 => Some(Kind::Send),
             2 => Some(Kind::Issue),
             3 => Some(Kind::Absolve),
@@ -48,6 +53,7 @@ impl Kind {
             5 => Some(Kind::LimitSending),
             6 => Some(Kind::LimitReceiving),
             7 => Some(Kind::Finish),
+            // codes: end
             _ => None,
         }
     }

@@ -1,5 +1,5 @@
-//! The frames of seven logical channels over one ordered byte stream: what a frame says, its
-//! bytes, and what a list of frames adds up to on one channel.
+//! The frames of seven logical channels over one ordered byte stream: their values, their codec, and
+//! the sums of a list of frames on one channel.
 #![tactic(auto)]
 
 mod begun;

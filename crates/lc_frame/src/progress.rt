@@ -1,5 +1,6 @@
 //! How a stream decoder takes bytes of frames, and what it remembers of those that it holds.
-ghost use Rattle.std.specs.Prelude.{◌≡◌, ◌+◌, ◌<◌, ◌≤◌, [], ◌++◌, length};
+ghost use Rattle.std.specs.Prelude.{◌≡◌, ◌+◌, ◌<◌, ◌≤◌, [], ◌++◌, length, IfSome, IfNone};
+ghost use Rattle.lc_frame.specs.Begun.{BeginsAtMost};
 ghost use Rattle.lc_frame.specs.Scan.{NeedsMore};
 ghost use Rattle.lc_frame.specs.Progress.{Takes, Advances};
 
@@ -25,7 +26,7 @@ pub(crate) enum Progress {
 }
 
 // Up to so many bytes are copied before it is known whether all of them are the frame's.
-const FEW: usize = 16;
+pub(crate) const FEW: usize = 16;
 
 // How many bytes were taken, and what is known then.
 #[derive(Clone, Copy)]
@@ -122,10 +123,47 @@ fn begin(
     }
 }
 
-// Takes a few bytes where few are stored: all are copied and scanned at once, and those behind a frame
-// dropped again.
+/// Takes a few bytes where few are stored: all are copied and scanned at once, and those behind a frame
+/// dropped again. Where they make a fault, or part of a frame or a whole one that has more than `most`
+/// bytes, nothing is taken.
 #[inline(always)]
 #[tactic(auto, using(crate::proofs::Fronts::frame_fits))]
+pub(crate) fn leap_within(
+    version: Version,
+    buffer: &mut Hold,
+    progress: &mut Progress,
+    need: usize,
+    piece: &[u8],
+    most: usize,
+) -> Option<usize>
+    requires wanted { NeedsMore version buffer.old need }
+    requires few_held { length buffer.old ≤ FEW }
+    requires few { length piece.now ≤ FEW }
+    ensures takes { IfSome result (λ n. Takes version buffer.old buffer.new piece.now n progress.new) }
+    ensures within { IfSome result (λ n. BeginsAtMost version most buffer.new) }
+    ensures none { IfNone result ((buffer.new ≡ buffer.old) × (progress.new ≡ progress.old)) }
+{
+    let held = buffer.len();
+    buffer.append(piece);
+    match scan_front(version, buffer.as_slice()) {
+        Scan::Whole { head: found, used } if used <= most => {
+            buffer.truncate(used);
+            *progress = Progress::Whole(found);
+            Some(used - held)
+        }
+        Scan::Needs(further) if further <= most => {
+            *progress = Progress::Wants(further);
+            Some(piece.len())
+        }
+        _ => {
+            buffer.truncate(held);
+            None
+        }
+    }
+}
+
+// The same of a frame of any length.
+#[inline(always)]
 fn leap(
     version: Version,
     buffer: &mut Hold,
@@ -138,22 +176,9 @@ fn leap(
     requires few { length piece.now ≤ FEW }
     ensures { Takes version buffer.old buffer.new piece.now result progress.new }
 {
-    let held = buffer.len();
-    buffer.append(piece);
-    match scan_front(version, buffer.as_slice()) {
-        Scan::Whole { head: found, used } => {
-            buffer.truncate(used);
-            *progress = Progress::Whole(found);
-            used - held
-        }
-        Scan::Needs(further) => {
-            *progress = Progress::Wants(further);
-            piece.len()
-        }
-        Scan::Fault(_) => {
-            buffer.truncate(held);
-            resume(version, buffer, progress, need, piece)
-        }
+    match leap_within(version, buffer, progress, need, piece, usize::MAX) {
+        Some(count) => count,
+        None => resume(version, buffer, progress, need, piece),
     }
 }
 

@@ -9,7 +9,8 @@ ghost use Rattle.lc_frame.specs.declared.fill.Filled.TheVariants.{Few};
 ghost use Rattle.lc_frame.specs.Fill.{FilledAs, LacksMore};
 ghost use Rattle.lc_frame.specs.StreamDecoder.{EndsAs, TakesMore};
 ghost use Rattle.lc_frame.specs.declared.channel.Channel.{Channel};
-ghost use Rattle.lc_frame.specs.Begun.{HasBegun};
+ghost use Rattle.lc_frame.specs.Begun.{HasBegun, BeginsAtMost, HasBegunAtMost, TakesLonger};
+ghost use Rattle.lc_frame.specs.Progress.{Feeds};
 
 use crate::begun::{BegunSend, begun_send};
 use crate::decoded::Decoded;
@@ -18,7 +19,7 @@ use crate::frame_fault::FrameFault;
 use crate::frame_ref::FrameRef;
 use crate::greeting::open;
 use crate::hold::{FILL_LEN, Hold};
-use crate::progress::{Progress, take_in};
+use crate::progress::{FEW, Progress, leap_within, take_in};
 use crate::scan::{Scan, scan_front};
 use crate::version::Version;
 use std::alloc::{AllocError, Global};
@@ -129,26 +130,67 @@ impl StreamDecoder {
         }
     }
 
+    /// Does what `feed` does where part of a frame, of few bytes, is stored and few come, and where the
+    /// frame that stands or is begun then has at most `most` bytes, its tag and its number among them.
+    /// Else it answers `None` and does nothing.
+    #[inline(always)]
+    pub fn feed_few(&mut self, piece: &[u8], most: usize) -> Option<usize>
+        ensures feeds { IfSome result (λ n. Feeds self.old self.new piece.now n) }
+        ensures within { IfSome result (λ n. HasBegunAtMost most self.new) }
+        ensures none { IfNone result (self.new ≡ self.old) }
+    {
+        match self.progress {
+            Progress::Wants(need) => {
+                if self.buffer.len() > FEW || piece.len() > FEW {
+                    return None;
+                }
+                leap_within(
+                    self.version,
+                    &mut self.buffer,
+                    &mut self.progress,
+                    need,
+                    piece,
+                    most,
+                )
+            }
+            Progress::Whole(_) => None,
+            Progress::Fault(_) => None,
+            Progress::Greeted => None,
+            Progress::Broken => None,
+        }
+    }
+
     /// Decodes the front of a piece, as [`decode`](crate::decode) does, where nothing is stored of a
     /// stream of this version. A piece that is `Decoded::More` is taken in as it is decoded, and nothing
-    /// is taken else.
+    /// is taken else. Where the frame that stands or is begun there has more than `most` bytes, its tag
+    /// and its number among them, the answer is `None`, and nothing is taken.
     #[inline(always)]
-    pub fn decode_or_take<'a>(&mut self, version: Version, piece: &'a [u8]) -> Decoded<'a>
+    pub fn decode_or_take<'a>(
+        &mut self,
+        version: Version,
+        piece: &'a [u8],
+        most: usize,
+    ) -> Option<Decoded<'a>>
         requires { self.old ≡ stored_in version [] }
-        ensures decodes { Decodes version result piece.now }
-        ensures held { TakesMore result self.old piece.now self.new }
+        ensures decodes { IfSome result (λ decoded. Decodes version decoded piece.now) }
+        ensures held { IfSome result (λ decoded. TakesMore decoded self.old piece.now self.new) }
+        ensures within { IfSome result (λ decoded. BeginsAtMost version most piece.now) }
+        ensures none { IfNone result (self.new ≡ self.old) }
+        ensures longer { IfNone result (TakesLonger version most piece.now) }
     {
         match scan_front(version, piece) {
-            Scan::Whole { head, used } => Decoded::Whole {
+            Scan::Whole { head, used } if used <= most => Some(Decoded::Whole {
                 frame: head.frame_in(version, piece.split_at(used).0),
                 used,
-            },
-            Scan::Fault(fault) => Decoded::Fault(fault),
-            Scan::Needs(more) => {
+            }),
+            Scan::Whole { .. } => None,
+            Scan::Fault(fault) => Some(Decoded::Fault(fault)),
+            Scan::Needs(more) if more <= most => {
                 self.buffer.append(piece);
                 self.progress = Progress::Wants(more);
-                Decoded::More
+                Some(Decoded::More)
             }
+            Scan::Needs(_) => None,
         }
     }
 

@@ -113,6 +113,7 @@ impl StreamEncoder {
         requires { IsValid version (frame_of frame) }
         ensures value { IsAppended version (frame_of frame.entry) result self.old self.new }
         ensures room { length (encoding version (frame_of frame.entry)) ≤ self.old.room → IsTrue result }
+        ensures fits { IsTrue result → length (encoding version (frame_of frame.entry)) ≤ self.old.room }
         ensures all { self.old.pending ≡ [] → self.old.room ≡ self.old.capacity }
     {
         if self.room() < frame.encoded_len(version) {

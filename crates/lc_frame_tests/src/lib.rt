@@ -1,4 +1,4 @@
-//! Tests of `lc_frame` and `lc_ring`: what no clause says. Their values come from worked examples,
+//! Tests of `lc_frame` and `lc_ring` for what no clause says. Expected values come from worked examples,
 //! written down as text.
 #![tactic(auto)]
 

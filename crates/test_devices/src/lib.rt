@@ -1,5 +1,5 @@
-//! What tests of a side of a session share: devices that follow a plan, the words of scripts, and
-//! streams with what comes of them.
+//! Shared by the tests of one side of a session: devices that follow a plan, the words of scripts, and
+//! streams with their expected outcomes.
 #![tactic(auto)]
 
 mod devices;

@@ -7,9 +7,9 @@ use std::test::Fail;
 
 // Streams, each with its frames, how it ends, and its version.
 const STREAMS: &str = " => Ok(()) None
-11 00 02 68 69 21 00 00 00 05 60 00 00 00 00 00 00 00 0a => Send { channel: DataChannel, body: [104, 105] }, Issue { channel: DataChannel, amount: 5 }, LimitReceiving { channel: ReconciliationChannel, bound: 10 }, Ok(()) Some(One)
-11 00 02 61 62 11 00 => Send { channel: DataChannel, body: [97, 98] }, Err(Truncated) Some(One)
-36 00 00 00 03 46 00 00 00 03 50 00 00 00 00 00 00 00 03 => Absolve { channel: StaticTokenChannel, amount: 3 }, Plead { channel: StaticTokenChannel, target: 3 }, LimitSending { channel: ReconciliationChannel, bound: 3 }, Ok(()) Some(One)
+11 00 02 68 69 21 00 00 00 05 60 00 00 00 00 00 00 00 0a => Send { channel: Data, body: [104, 105] }, Issue { channel: Data, amount: 5 }, LimitReceiving { channel: Reconciliation, bound: 10 }, Ok(()) Some(One)
+11 00 02 61 62 11 00 => Send { channel: Data, body: [97, 98] }, Err(Truncated) Some(One)
+36 00 00 00 03 46 00 00 00 03 50 00 00 00 00 00 00 00 03 => Absolve { channel: StaticToken, amount: 3 }, Plead { channel: StaticToken, target: 3 }, LimitSending { channel: Reconciliation, bound: 3 }, Ok(()) Some(One)
 11 => Err(Truncated) Some(One)
 11 00 02 68 => Err(Truncated) Some(One)
 21 02 => Err(Truncated) Some(One)
@@ -19,15 +19,15 @@ const STREAMS: &str = " => Ok(()) None
 01 => Err(BadTag) Some(One)
 70 => Err(BadTag) Some(One)
 71 => Err(BadTag) Some(One)
-21 00 00 00 05 76 => Issue { channel: DataChannel, amount: 5 }, Err(BadTag) Some(One)
+21 00 00 00 05 76 => Issue { channel: Data, amount: 5 }, Err(BadTag) Some(One)
 21 01 00 00 01 => Err(BadNumber) Some(One)
 21 00 00 00 00 => Err(BadNumber) Some(One)
 41 01 00 00 01 => Err(BadNumber) Some(One)
 60 40 00 00 00 00 00 00 01 => Err(BadNumber) Some(One)
-21 00 00 00 05 17 21 00 00 00 05 => Issue { channel: DataChannel, amount: 5 }, Err(BadTag) Some(One)
-11 00 01 61 11 00 00 11 00 01 61 => Send { channel: DataChannel, body: [97] }, Err(ZeroLength) Some(One)
+21 00 00 00 05 17 21 00 00 00 05 => Issue { channel: Data, amount: 5 }, Err(BadTag) Some(One)
+11 00 01 61 11 00 00 11 00 01 61 => Send { channel: Data, body: [97] }, Err(ZeroLength) Some(One)
 11 00 00 00 02 68 69 => Err(ZeroLength) Some(One)
-11 00 01 61 4c 43 4d 02 => Send { channel: DataChannel, body: [97] }, Err(BadTag) Some(One)
+11 00 01 61 4c 43 4d 02 => Send { channel: Data, body: [97] }, Err(BadTag) Some(One)
 4c => Err(Truncated) None
 4c 43 4d => Err(Truncated) None
 4c 43 4d 02 => Ok(()) Some(Two)
@@ -35,19 +35,19 @@ const STREAMS: &str = " => Ok(()) None
 4c 44 => Err(BadTag) None
 4c 43 02 => Err(BadTag) None
 4c 43 4d 02 4c 43 4d 02 => Err(BadTag) Some(Two)
-4c 43 4d 02 11 00 00 00 02 68 69 => Send { channel: DataChannel, body: [104, 105] }, Ok(()) Some(Two)
+4c 43 4d 02 11 00 00 00 02 68 69 => Send { channel: Data, body: [104, 105] }, Ok(()) Some(Two)
 4c 43 4d 02 11 00 00 00 00 => Err(ZeroLength) Some(Two)
 4c 43 4d 02 11 00 10 00 01 => Err(BadNumber) Some(Two)
-4c 43 4d 02 11 00 00 00 02 61 62 => Send { channel: DataChannel, body: [97, 98] }, Ok(()) Some(Two)
-4c 43 4d 02 51 00 00 00 00 00 00 00 01 11 00 00 00 02 61 62 => LimitSending { channel: DataChannel, bound: 1 }, Send { channel: DataChannel, body: [97, 98] }, Ok(()) Some(Two)
-4c 43 4d 02 21 00 00 00 05 77 => Issue { channel: DataChannel, amount: 5 }, Err(BadTag) Some(Two)
+4c 43 4d 02 11 00 00 00 02 61 62 => Send { channel: Data, body: [97, 98] }, Ok(()) Some(Two)
+4c 43 4d 02 51 00 00 00 00 00 00 00 01 11 00 00 00 02 61 62 => LimitSending { channel: Data, bound: 1 }, Send { channel: Data, body: [97, 98] }, Ok(()) Some(Two)
+4c 43 4d 02 21 00 00 00 05 77 => Issue { channel: Data, amount: 5 }, Err(BadTag) Some(Two)
 4c 43 4d 02 60 40 00 00 00 00 00 00 01 => Err(BadNumber) Some(Two)
-4c 43 4d 02 71 => Finish { channel: DataChannel }, Ok(()) Some(Two)
-4c 43 4d 02 71 71 => Finish { channel: DataChannel }, Finish { channel: DataChannel }, Ok(()) Some(Two)
-4c 43 4d 02 71 11 00 00 00 01 61 => Finish { channel: DataChannel }, Send { channel: DataChannel, body: [97] }, Ok(()) Some(Two)
-4c 43 4d 02 21 00 00 00 05 76 11 00 => Issue { channel: DataChannel, amount: 5 }, Finish { channel: StaticTokenChannel }, Err(Truncated) Some(Two)
-4c 43 4d 02 70 77 => Finish { channel: ReconciliationChannel }, Err(BadTag) Some(Two)
-4c 43 4d 02 11 00 00 00 02 61 62 11 00 => Send { channel: DataChannel, body: [97, 98] }, Err(Truncated) Some(Two)
+4c 43 4d 02 71 => Finish { channel: Data }, Ok(()) Some(Two)
+4c 43 4d 02 71 71 => Finish { channel: Data }, Finish { channel: Data }, Ok(()) Some(Two)
+4c 43 4d 02 71 11 00 00 00 01 61 => Finish { channel: Data }, Send { channel: Data, body: [97] }, Ok(()) Some(Two)
+4c 43 4d 02 21 00 00 00 05 76 11 00 => Issue { channel: Data, amount: 5 }, Finish { channel: StaticToken }, Err(Truncated) Some(Two)
+4c 43 4d 02 70 77 => Finish { channel: Reconciliation }, Err(BadTag) Some(Two)
+4c 43 4d 02 11 00 00 00 02 61 62 11 00 => Send { channel: Data, body: [97, 98] }, Err(Truncated) Some(Two)
 ";
 
 // Writes a frame down, unless its owned form is another.
@@ -106,13 +106,13 @@ fn streams_are_read_however_they_are_cut(rt: HostRuntime) {
 
 // Streams with frames of about as many bytes as are copied before they are known to be the frame's.
 const LONGER: &str =
-    "11 00 0c 61 62 63 64 65 66 67 68 69 6a 6b 6c 21 00 00 00 05 => Send { channel: DataChannel, body: [97, 98, 99, 100, 101, 102, 103, 104, 105, 106, 107, 108] }, Issue { channel: DataChannel, amount: 5 }, Ok(()) Some(One)
-11 00 0d 61 62 63 64 65 66 67 68 69 6a 6b 6c 6d 17 => Send { channel: DataChannel, body: [97, 98, 99, 100, 101, 102, 103, 104, 105, 106, 107, 108, 109] }, Err(BadTag) Some(One)
-11 00 0e 61 62 63 64 65 66 67 68 69 6a 6b 6c 6d 6e 11 00 00 => Send { channel: DataChannel, body: [97, 98, 99, 100, 101, 102, 103, 104, 105, 106, 107, 108, 109, 110] }, Err(ZeroLength) Some(One)
-11 00 0f 61 62 63 64 65 66 67 68 69 6a 6b 6c 6d 6e 6f 11 00 02 70 => Send { channel: DataChannel, body: [97, 98, 99, 100, 101, 102, 103, 104, 105, 106, 107, 108, 109, 110, 111] }, Err(Truncated) Some(One)
-60 00 00 00 00 00 00 00 0a 11 00 01 61 21 00 00 00 05 60 40 00 00 00 00 00 00 01 => LimitReceiving { channel: ReconciliationChannel, bound: 10 }, Send { channel: DataChannel, body: [97] }, Issue { channel: DataChannel, amount: 5 }, Err(BadNumber) Some(One)
-4c 43 4d 02 11 00 00 00 0b 61 62 63 64 65 66 67 68 69 6a 6b 71 21 00 00 00 05 70 => Send { channel: DataChannel, body: [97, 98, 99, 100, 101, 102, 103, 104, 105, 106, 107] }, Finish { channel: DataChannel }, Issue { channel: DataChannel, amount: 5 }, Finish { channel: ReconciliationChannel }, Ok(()) Some(Two)
-4c 43 4d 02 11 00 00 00 0c 61 62 63 64 65 66 67 68 69 6a 6b 6c 11 00 10 00 01 => Send { channel: DataChannel, body: [97, 98, 99, 100, 101, 102, 103, 104, 105, 106, 107, 108] }, Err(BadNumber) Some(Two)
+    "11 00 0c 61 62 63 64 65 66 67 68 69 6a 6b 6c 21 00 00 00 05 => Send { channel: Data, body: [97, 98, 99, 100, 101, 102, 103, 104, 105, 106, 107, 108] }, Issue { channel: Data, amount: 5 }, Ok(()) Some(One)
+11 00 0d 61 62 63 64 65 66 67 68 69 6a 6b 6c 6d 17 => Send { channel: Data, body: [97, 98, 99, 100, 101, 102, 103, 104, 105, 106, 107, 108, 109] }, Err(BadTag) Some(One)
+11 00 0e 61 62 63 64 65 66 67 68 69 6a 6b 6c 6d 6e 11 00 00 => Send { channel: Data, body: [97, 98, 99, 100, 101, 102, 103, 104, 105, 106, 107, 108, 109, 110] }, Err(ZeroLength) Some(One)
+11 00 0f 61 62 63 64 65 66 67 68 69 6a 6b 6c 6d 6e 6f 11 00 02 70 => Send { channel: Data, body: [97, 98, 99, 100, 101, 102, 103, 104, 105, 106, 107, 108, 109, 110, 111] }, Err(Truncated) Some(One)
+60 00 00 00 00 00 00 00 0a 11 00 01 61 21 00 00 00 05 60 40 00 00 00 00 00 00 01 => LimitReceiving { channel: Reconciliation, bound: 10 }, Send { channel: Data, body: [97] }, Issue { channel: Data, amount: 5 }, Err(BadNumber) Some(One)
+4c 43 4d 02 11 00 00 00 0b 61 62 63 64 65 66 67 68 69 6a 6b 71 21 00 00 00 05 70 => Send { channel: Data, body: [97, 98, 99, 100, 101, 102, 103, 104, 105, 106, 107] }, Finish { channel: Data }, Issue { channel: Data, amount: 5 }, Finish { channel: Reconciliation }, Ok(()) Some(Two)
+4c 43 4d 02 11 00 00 00 0c 61 62 63 64 65 66 67 68 69 6a 6b 6c 11 00 10 00 01 => Send { channel: Data, body: [97, 98, 99, 100, 101, 102, 103, 104, 105, 106, 107, 108] }, Err(BadNumber) Some(Two)
 ";
 
 // The longest of these streams has so many bytes.
@@ -150,14 +150,47 @@ fn streams_are_read_in_pieces_of_each_size(rt: HostRuntime) {
     }
 }
 
-// The same by the calls that spare a feed where they can.
+// The same by the calls that spare a feed where they can: in pieces of so many bytes, of frames of at most
+// so many.
 #[derive(Drop)]
-struct Spared(usize);
+struct Spared {
+    len: usize,
+    most: usize,
+}
+
+// Takes bytes of which the last make more known. How many.
+fn take_spared(
+    alloc: Global,
+    decoder: &mut StreamDecoder,
+    most: usize,
+    piece: &[u8],
+    seen: &mut String,
+) -> Option<usize> {
+    let Some(version) = decoder.version() else {
+        return Some(decoder.feed(piece));
+    };
+    if decoder.stored() > 0 {
+        return Some(match decoder.feed_few(piece, most) {
+            Some(used) => used,
+            None => decoder.feed(piece),
+        });
+    }
+    match decoder.decode_or_take(version, piece, most) {
+        Some(Decoded::Whole { frame, used }) => {
+            show(alloc, frame, seen)?;
+            Some(used)
+        }
+        Some(Decoded::More) => Some(piece.len()),
+        Some(Decoded::Fault(_)) => Some(decoder.feed(piece)),
+        None => Some(decoder.feed(piece)),
+    }
+}
 
 // Writes down the frames of a piece, which are decoded in it where nothing is held, and drops each.
 fn drain_spared(
     alloc: Global,
     decoder: &mut StreamDecoder,
+    most: usize,
     piece: &[u8],
     seen: &mut String,
 ) -> Option<()> {
@@ -166,19 +199,7 @@ fn drain_spared(
         if decoder.take_part(rest) {
             return Some(());
         }
-        let used = match decoder.version() {
-            Some(version) if decoder.stored() == 0 => {
-                match decoder.decode_or_take(version, rest) {
-                    Decoded::Whole { frame, used } => {
-                        show(alloc, frame, seen)?;
-                        used
-                    }
-                    Decoded::More => return Some(()),
-                    Decoded::Fault(_) => decoder.feed(rest),
-                }
-            }
-            _ => decoder.feed(rest),
-        };
+        let used = take_spared(alloc, decoder, most, rest, seen)?;
         rest = rest.get(used..)?;
         if let Some(frame) = decoder.frame() {
             show(alloc, frame, seen)?;
@@ -193,8 +214,8 @@ impl Subject for Spared {
         let bytes = bytes_of(alloc, digits)?;
         let mut decoder = StreamDecoder::new(alloc).ok()?;
         let mut seen = String::new(alloc);
-        for piece in bytes.chunks(self.0.max(1)) {
-            drain_spared(alloc, &mut decoder, piece, &mut seen)?;
+        for piece in bytes.chunks(self.len.max(1)) {
+            drain_spared(alloc, &mut decoder, self.most, piece, &mut seen)?;
         }
         write!(seen, "{:?} {:?}", decoder.end(), decoder.version()).ok()?;
         Some(seen)
@@ -204,8 +225,10 @@ impl Subject for Spared {
 #[test]
 fn spared_feeds_read_the_same(rt: HostRuntime) {
     for len in 1..LONGEST + 1 {
-        answers(&rt, rt.alloc(), &mut Spared(len), STREAMS);
-        answers(&rt, rt.alloc(), &mut Spared(len), LONGER);
+        for most in [4, 9, usize::MAX] {
+            answers(&rt, rt.alloc(), &mut Spared { len, most }, STREAMS);
+            answers(&rt, rt.alloc(), &mut Spared { len, most }, LONGER);
+        }
     }
 }
 
@@ -266,7 +289,7 @@ fn fed(alloc: Global, version: Version, bytes: &[u8]) -> Result<StreamDecoder, A
 fn message_of(version: Version, bytes: &[u8]) -> Option<FrameRef<'_>> {
     let start = bytes.len().checked_sub(version.max_body())?;
     Some(FrameRef::Send {
-        channel: Channel::DataChannel,
+        channel: Channel::Data,
         body: bytes.get(start..)?,
     })
 }

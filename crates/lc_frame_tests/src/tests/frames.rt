@@ -5,28 +5,28 @@ use std::alloc::Global;
 
 // The bytes of a frame, and what it is.
 const FRAMES: &str =
-    "11 00 02 68 69 => lane 1, DataChannel, 5 bytes, Send { channel: DataChannel, body: [104, 105] }
-11 00 02 61 62 => lane 1, DataChannel, 5 bytes, Send { channel: DataChannel, body: [97, 98] }
-11 00 01 61 => lane 1, DataChannel, 4 bytes, Send { channel: DataChannel, body: [97] }
-10 00 03 00 ff 80 => lane 0, ReconciliationChannel, 6 bytes, Send { channel: ReconciliationChannel, body: [0, 255, 128] }
-16 00 01 21 => lane 6, StaticTokenChannel, 4 bytes, Send { channel: StaticTokenChannel, body: [33] }
-21 00 00 00 05 => lane 8, DataChannel, 5 bytes, Issue { channel: DataChannel, amount: 5 }
-21 00 00 00 01 => lane 8, DataChannel, 5 bytes, Issue { channel: DataChannel, amount: 1 }
-21 01 00 00 00 => lane 8, DataChannel, 5 bytes, Issue { channel: DataChannel, amount: 16777216 }
-22 00 00 00 03 => lane 9, OverlapChannel, 5 bytes, Issue { channel: OverlapChannel, amount: 3 }
-23 00 12 d6 87 => lane 10, CapabilityChannel, 5 bytes, Issue { channel: CapabilityChannel, amount: 1234567 }
-31 00 00 00 05 => lane 1, DataChannel, 5 bytes, Absolve { channel: DataChannel, amount: 5 }
-34 01 00 00 00 => lane 4, AreaOfInterestChannel, 5 bytes, Absolve { channel: AreaOfInterestChannel, amount: 16777216 }
-41 00 00 00 00 => lane 8, DataChannel, 5 bytes, Plead { channel: DataChannel, target: 0 }
-46 00 00 00 03 => lane 13, StaticTokenChannel, 5 bytes, Plead { channel: StaticTokenChannel, target: 3 }
-45 01 00 00 00 => lane 12, PayloadRequestChannel, 5 bytes, Plead { channel: PayloadRequestChannel, target: 16777216 }
-51 00 00 00 00 00 00 00 01 => lane 1, DataChannel, 9 bytes, LimitSending { channel: DataChannel, bound: 1 }
-50 00 00 00 00 00 00 00 09 => lane 0, ReconciliationChannel, 9 bytes, LimitSending { channel: ReconciliationChannel, bound: 9 }
-52 40 00 00 00 00 00 00 00 => lane 2, OverlapChannel, 9 bytes, LimitSending { channel: OverlapChannel, bound: 4611686018427387904 }
-60 00 00 00 00 00 00 00 0a => lane 7, ReconciliationChannel, 9 bytes, LimitReceiving { channel: ReconciliationChannel, bound: 10 }
-61 00 00 00 00 00 00 00 00 => lane 8, DataChannel, 9 bytes, LimitReceiving { channel: DataChannel, bound: 0 }
-60 40 00 00 00 00 00 00 00 => lane 7, ReconciliationChannel, 9 bytes, LimitReceiving { channel: ReconciliationChannel, bound: 4611686018427387904 }
-63 00 00 00 01 00 00 00 02 => lane 10, CapabilityChannel, 9 bytes, LimitReceiving { channel: CapabilityChannel, bound: 4294967298 }
+    "11 00 02 68 69 => lane 1, Data, 5 bytes, Send { channel: Data, body: [104, 105] }
+11 00 02 61 62 => lane 1, Data, 5 bytes, Send { channel: Data, body: [97, 98] }
+11 00 01 61 => lane 1, Data, 4 bytes, Send { channel: Data, body: [97] }
+10 00 03 00 ff 80 => lane 0, Reconciliation, 6 bytes, Send { channel: Reconciliation, body: [0, 255, 128] }
+16 00 01 21 => lane 6, StaticToken, 4 bytes, Send { channel: StaticToken, body: [33] }
+21 00 00 00 05 => lane 8, Data, 5 bytes, Issue { channel: Data, amount: 5 }
+21 00 00 00 01 => lane 8, Data, 5 bytes, Issue { channel: Data, amount: 1 }
+21 01 00 00 00 => lane 8, Data, 5 bytes, Issue { channel: Data, amount: 16777216 }
+22 00 00 00 03 => lane 9, Overlap, 5 bytes, Issue { channel: Overlap, amount: 3 }
+23 00 12 d6 87 => lane 10, Capability, 5 bytes, Issue { channel: Capability, amount: 1234567 }
+31 00 00 00 05 => lane 1, Data, 5 bytes, Absolve { channel: Data, amount: 5 }
+34 01 00 00 00 => lane 4, AreaOfInterest, 5 bytes, Absolve { channel: AreaOfInterest, amount: 16777216 }
+41 00 00 00 00 => lane 8, Data, 5 bytes, Plead { channel: Data, target: 0 }
+46 00 00 00 03 => lane 13, StaticToken, 5 bytes, Plead { channel: StaticToken, target: 3 }
+45 01 00 00 00 => lane 12, PayloadRequest, 5 bytes, Plead { channel: PayloadRequest, target: 16777216 }
+51 00 00 00 00 00 00 00 01 => lane 1, Data, 9 bytes, LimitSending { channel: Data, bound: 1 }
+50 00 00 00 00 00 00 00 09 => lane 0, Reconciliation, 9 bytes, LimitSending { channel: Reconciliation, bound: 9 }
+52 40 00 00 00 00 00 00 00 => lane 2, Overlap, 9 bytes, LimitSending { channel: Overlap, bound: 4611686018427387904 }
+60 00 00 00 00 00 00 00 0a => lane 7, Reconciliation, 9 bytes, LimitReceiving { channel: Reconciliation, bound: 10 }
+61 00 00 00 00 00 00 00 00 => lane 8, Data, 9 bytes, LimitReceiving { channel: Data, bound: 0 }
+60 40 00 00 00 00 00 00 00 => lane 7, Reconciliation, 9 bytes, LimitReceiving { channel: Reconciliation, bound: 4611686018427387904 }
+63 00 00 00 01 00 00 00 02 => lane 10, Capability, 9 bytes, LimitReceiving { channel: Capability, bound: 4294967298 }
 ";
 
 // What begins no frame.
@@ -54,13 +54,13 @@ ff => Fault(BadTag)
 
 // The same of version Two.
 const FRAMES_IN_TWO: &str =
-    "11 00 00 00 02 68 69 => lane 1, DataChannel, 7 bytes, Send { channel: DataChannel, body: [104, 105] }
-16 00 00 00 01 21 => lane 6, StaticTokenChannel, 6 bytes, Send { channel: StaticTokenChannel, body: [33] }
-21 00 00 00 05 => lane 8, DataChannel, 5 bytes, Issue { channel: DataChannel, amount: 5 }
-60 40 00 00 00 00 00 00 00 => lane 7, ReconciliationChannel, 9 bytes, LimitReceiving { channel: ReconciliationChannel, bound: 4611686018427387904 }
-70 => lane 0, ReconciliationChannel, 1 bytes, Finish { channel: ReconciliationChannel }
-71 => lane 1, DataChannel, 1 bytes, Finish { channel: DataChannel }
-76 => lane 6, StaticTokenChannel, 1 bytes, Finish { channel: StaticTokenChannel }
+    "11 00 00 00 02 68 69 => lane 1, Data, 7 bytes, Send { channel: Data, body: [104, 105] }
+16 00 00 00 01 21 => lane 6, StaticToken, 6 bytes, Send { channel: StaticToken, body: [33] }
+21 00 00 00 05 => lane 8, Data, 5 bytes, Issue { channel: Data, amount: 5 }
+60 40 00 00 00 00 00 00 00 => lane 7, Reconciliation, 9 bytes, LimitReceiving { channel: Reconciliation, bound: 4611686018427387904 }
+70 => lane 0, Reconciliation, 1 bytes, Finish { channel: Reconciliation }
+71 => lane 1, Data, 1 bytes, Finish { channel: Data }
+76 => lane 6, StaticToken, 1 bytes, Finish { channel: StaticToken }
 ";
 
 const FAULTS_IN_TWO: &str = "11 00 00 00 00 => Fault(ZeroLength)

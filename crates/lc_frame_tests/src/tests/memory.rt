@@ -5,7 +5,7 @@ use std::alloc::{AllocError, Global};
 use std::process::Abort;
 use std::test::Fail;
 
-const CHANNEL: Channel = Channel::DataChannel;
+const CHANNEL: Channel = Channel::Data;
 
 const SEND: FrameRef<'static> = FrameRef::Send {
     channel: CHANNEL,
@@ -18,7 +18,7 @@ const ISSUE: FrameRef<'static> = FrameRef::Issue {
 };
 
 const LIMIT: FrameRef<'static> = FrameRef::LimitReceiving {
-    channel: Channel::ReconciliationChannel,
+    channel: Channel::Reconciliation,
     bound: 10,
 };
 

@@ -1,7 +1,8 @@
 //! Calls on receiving rings, a call and its answer on each line, with bytes in hexadecimal. `front`
 //! shows the first message's length and its two slices, `take` has the bytes of its buffer and shows
-//! them after the call, `show` formats the ring, and `turn` pushes a message and takes it. `fill` and
-//! `drain` push and pop messages of one byte.
+//! them after the call, `show` formats the ring, `lengths` the lengths alone, and `turn` pushes a
+//! message and takes it. `long` pushes a message of so many bytes; `fill` and `drain` push and pop
+//! messages of one byte.
 use super::{Subject, answers, same, text};
 use lc_frame::MAX_BODY;
 use lc_ring::{Full, NewFault, RecvRing};
@@ -15,6 +16,20 @@ fn push(alloc: Global, ring: &mut RecvRing, digits: &str) -> Option<String> {
         return None;
     }
     text(alloc, &ring.push(message.as_slice()))
+}
+
+fn push_long(alloc: Global, ring: &mut RecvRing, len: &str) -> Option<String> {
+    let message = vec![in alloc; 0x5a_u8; len.parse::<usize>().ok()?].ok()?;
+    if message.is_empty() || message.len() > MAX_BODY {
+        return None;
+    }
+    text(alloc, &ring.push(message.as_slice()))
+}
+
+fn lengths(alloc: Global, ring: &RecvRing) -> Option<String> {
+    let shown = text(alloc, ring)?;
+    let (_, lengths) = shown.split_once("lengths: ")?;
+    format!(in alloc; "{lengths}").ok()
 }
 
 fn front(alloc: Global, ring: &RecvRing) -> Option<String> {
@@ -78,6 +93,8 @@ impl Subject for RecvRing {
             "fill" => text(alloc, &fill(self)),
             "drain" => text(alloc, &drain(self)),
             "show" => text(alloc, self),
+            "lengths" => lengths(alloc, self),
+            "long" => push_long(alloc, self, word),
             _ => text(alloc, &(self.bytes(), self.free(), self.capacity())),
         }
     }
@@ -231,6 +248,38 @@ front => None
 fn a_full_ring_of_messages_of_one_byte(rt: HostRuntime) -> Result<(), Fail> {
     let mut ring = RecvRing::new(rt.alloc(), 200)?;
     answers(&rt, rt.alloc(), &mut ring, ONES);
+    Ok(())
+}
+
+// Messages around 256 bytes, from which on a length takes four bytes, and the longest that fits. The
+// ring goes on behind a full lap.
+const LENGTHS: &str = "long 255 => Ok(())
+long 256 => Ok(())
+long 1 => Ok(())
+long 257 => Ok(())
+long 1231 => Ok(())
+lengths => [255, 256, 1, 257, 1231] }
+long 1 => Err(Full { free: 0 })
+pop => Some(255)
+long 254 => Ok(())
+pop => Some(256)
+long 257 => Ok(())
+lengths => [1, 257, 1231, 254, 257] }
+pop => Some(1)
+pop => Some(257)
+pop => Some(1231)
+pop => Some(254)
+pop => Some(257)
+pop => None
+lengths => [] }
+long 2000 => Ok(())
+pop => Some(2000)
+";
+
+#[test]
+fn lengths_come_out_in_order(rt: HostRuntime) -> Result<(), Fail> {
+    let mut ring = RecvRing::new(rt.alloc(), 2_000)?;
+    answers(&rt, rt.alloc(), &mut ring, LENGTHS);
     Ok(())
 }
 

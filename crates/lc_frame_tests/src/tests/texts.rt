@@ -5,6 +5,7 @@ use std::alloc::Global;
 use std::fmt::Display;
 use std::process::Abort;
 
+// codes: begin faults
 const FRAME_FAULTS: [(FrameFault, &str); 4] = [
     (
         FrameFault::BadTag,
@@ -20,6 +21,7 @@ const FRAME_FAULTS: [(FrameFault, &str); 4] = [
         "4 the stream ends within a frame or a greeting",
     ),
 ];
+// codes: end
 
 // Compares a number and the text of its error.
 fn reads<E: Display>(rt: &impl Abort, alloc: Global, number: u8, error: &E, wanted: &str) {

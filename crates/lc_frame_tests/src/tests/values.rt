@@ -8,13 +8,13 @@ use std::process::Abort;
 use std::test::Fail;
 
 // Each channel by its number, and the lanes of a client's frames on it and of a server's.
-const CHANNELS: &str = "0: ReconciliationChannel 0 (0, 0, 0, 7)
-1: DataChannel 1 (1, 1, 1, 8)
-2: OverlapChannel 2 (2, 2, 2, 9)
-3: CapabilityChannel 3 (3, 3, 3, 10)
-4: AreaOfInterestChannel 4 (4, 4, 4, 11)
-5: PayloadRequestChannel 5 (5, 5, 5, 12)
-6: StaticTokenChannel 6 (6, 6, 6, 13)
+const CHANNELS: &str = "0: Reconciliation 0 (0, 0, 0, 7)
+1: Data 1 (1, 1, 1, 8)
+2: Overlap 2 (2, 2, 2, 9)
+3: Capability 3 (3, 3, 3, 10)
+4: AreaOfInterest 4 (4, 4, 4, 11)
+5: PayloadRequest 5 (5, 5, 5, 12)
+6: StaticToken 6 (6, 6, 6, 13)
 ";
 
 fn shown(alloc: Global, channel: Channel) -> Result<String, AllocError> {
@@ -67,7 +67,7 @@ fn is_not_valid(rt: &impl Abort, alloc: Global, what: &str, frame: FrameRef<'_>)
 
 #[test]
 fn other_frames_are_not_valid_in_version_one(rt: HostRuntime) {
-    let channel = Channel::DataChannel;
+    let channel = Channel::Data;
     let (target, bound) = (16_777_217, 4_611_686_018_427_387_905);
     for frame in &[
         FrameRef::Send { channel, body: b"" },
@@ -82,7 +82,7 @@ fn other_frames_are_not_valid_in_version_one(rt: HostRuntime) {
 
 #[test]
 fn amounts_out_of_range_are_not_valid(rt: HostRuntime) {
-    let channel = Channel::DataChannel;
+    let channel = Channel::Data;
     for &amount in &[0, 16_777_217, u32::MAX] {
         let (issue, absolve) = (
             FrameRef::Issue { channel, amount },
@@ -110,7 +110,7 @@ fn bodies_are_their_bytes(rt: HostRuntime) -> Result<(), Fail> {
 #[test]
 fn a_slice_takes_a_frame_only_where_there_is_room(rt: HostRuntime) {
     let frame = FrameRef::Issue {
-        channel: Channel::DataChannel,
+        channel: Channel::Data,
         amount: 5,
     };
     let (mut short, mut long) = ([0xaa_u8; 4], [0xaa_u8; 6]);
