@@ -1,22 +1,22 @@
 -- What the lengths of a ring cut out of its bytes.
-use Rattle.std.proofs.Common.{◌≡◌, ℕ, ◌+◌, ◌-◌, ◌<◌, ◌≤◌, inl, inr, List, [], ◌∷◌, ◌++◌, length, take, drop, Some, refl, sym, ap, ◌∙◌, subst, arith, append_assoc}
+use Rattle.std.proofs.Common.{◌≡◌, ℕ, ◌+◌, ◌<◌, ◌≤◌, inl, inr, List, [], ◌∷◌, ◌++◌, length, take, drop, Option, None, Some, refl, sym, ap, ◌∙◌, subst, arith, append_assoc}
 use Rattle.std.proofs.lemmas.List.{length-append, length-take, length-take-le, length-drop, append-nil, take-append-le, drop-append-le, take_all, drop_all}
 use Rattle.std.proofs.lemmas.List.Sums.{sum_by-cons, sum_by-append}
-use Rattle.std.specs.Prelude.{slice_get}
-use Rattle.std.specs.List.{AllByRecursion, sum_by}
+use Rattle.std.specs.Prelude.{slice_get, IfSome}
+use Rattle.std.specs.List.{AllByRecursion, sum, sum_by}
 use Rattle.std.specs.Option.{option_map}
-use Rattle.circular_buffer.specs.Buffer.{keep_last, Buffer, buffer}
 use Rattle.lc_frame.specs.declared.version.Version.TheVariants.{Two}
 use Rattle.lc_frame.specs.Kind.{max_body}
 use Rattle.lc_ring.specs.Ring.{Ring, IsLength, IsRing, bytes, front, push, pop}
 use Rattle.lc_ring.specs.Laps.{Laps, waiting, IsPushed, IsTaken}
+use Rattle.lc_ring.specs.Lengths.{Lengths}
 use Rattle.lc_ring.specs.Cuts.{cut, IsCut, AreOneRing}
 
 abbrev ring_of : List (List ℕ) → ℕ → Ring
 ring_of messages capacity = record { messages = messages; capacity = capacity }
 
 -- the ring that a ring of lengths and bytes in laps show
-abbrev pub shown : Buffer ℕ → Laps → Ring
+abbrev pub shown : Lengths → Laps → Ring
 shown lengths bytes = ring_of (cut lengths.items (waiting bytes)) bytes.turn
 
 -- the lengths cut all of the bytes into messages, wherever the lap ends
@@ -51,19 +51,22 @@ each-cut (n ∷ ns) bytes h =
     (record { at_least = omega (arith, len, h.0); at_most = omega (arith, len, h.1) }, each-cut ns (drop n bytes) h.3)
 
 -- the bytes of the messages are those that wait
-pub bytes-shown : (ls : Buffer ℕ) (bs : Laps) → AreOneRing ls bs → bytes (shown ls bs) ≡ length bs.near + length bs.far
-bytes-shown ls bs h = bytes-cut ls.items (waiting bs) (is_whole ls.items bs.near bs.far h.is_cut) ∙ length-append bs.near bs.far
+pub bytes-shown : (ls : Lengths) (bs : Laps) (at : ℕ) → AreOneRing ls bs at → bytes (shown ls bs) ≡ length bs.near + length bs.far
+bytes-shown ls bs at h = bytes-cut ls.items (waiting bs) (is_whole ls.items bs.near bs.far h.is_cut) ∙ length-append bs.near bs.far
 
 -- what every ring keeps
-pub ring_is_kept : (ls : Buffer ℕ) (bs : Laps) → AreOneRing ls bs → IsRing (shown ls bs)
-ring_is_kept ls bs h =
+pub ring_is_kept : (ls : Lengths) (bs : Laps) (at : ℕ) → AreOneRing ls bs at → IsRing (shown ls bs)
+ring_is_kept ls bs at h =
     let whole = is_whole ls.items bs.near bs.far h.is_cut in
     record { capacity = h.capacity; fits = omega (arith, bytes-cut ls.items (waiting bs) whole, h.fits); each = each-cut ls.items (waiting bs) whole }
 
--- there are at most as many messages as bytes
-count_small : (ns bytes : List ℕ) → IsWhole ns bytes → length ns ≤ length bytes
-count_small [] bytes h = omega arith
-count_small (n ∷ ns) bytes h = omega (arith, count_small ns (drop n bytes) h.3, length-drop n bytes, h.0, h.2)
+-- the lengths add up to the bytes
+sum-cut : (ns bytes : List ℕ) → IsWhole ns bytes → sum ns ≡ length bytes
+sum-cut [] bs h = sym (ap length h)
+sum-cut (n ∷ ns) bs h = omega (arith, sum_by-cons (λ x. x) n ns, sum-cut ns (drop n bs) h.3, length-drop n bs, h.2)
+
+pub sum-lengths : (ls : Lengths) (bs : Laps) (at : ℕ) → AreOneRing ls bs at → sum ls.items ≡ length bs.near + length bs.far
+sum-lengths ls bs at h = sum-cut ls.items (waiting bs) (is_whole ls.items bs.near bs.far h.is_cut) ∙ length-append bs.near bs.far
 
 -- a message more, in the lap at the front
 near-push : (ns near m : List ℕ) → 1 ≤ length m → length m ≤ max_body Two → IsCut ns near [] → IsCut (ns ++ length m ∷ []) (near ++ m) []
@@ -91,12 +94,12 @@ pub bytes-push : (r : Ring) (m : List ℕ) → bytes (push r m) ≡ bytes r + le
 bytes-push r m = sum_by-append length r.messages (m ∷ []) ∙ omega arith
 
 -- what waits, and the turn, where a message came
-pushed-waits : (bs bs' : Laps) (m : List ℕ) → IsPushed bs m bs' → (waiting bs' ≡ waiting bs ++ m) × (bs'.turn ≡ bs.turn)
+pushed-waits : (bs bs' : Laps) (m : List ℕ) → IsPushed bs m bs' → (waiting bs' ≡ waiting bs ++ m) × (bs'.turn ≡ bs.turn) × (bs'.longest ≡ bs.longest)
 pushed-waits bs bs' m h = elim h [
   | inl near ↦
       let none : waiting bs ≡ bs.near = ap (λ (xs : List ℕ). bs.near ++ xs) near.0 ∙ append-nil bs.near in
-      rw near.1 (ap (λ (xs : List ℕ). (bs.near ++ m) ++ xs) near.0 ∙ append-nil (bs.near ++ m) ∙ ap (λ (xs : List ℕ). xs ++ m) (sym none), refl)
-  | inr far ↦ rw far.1 (sym (append_assoc bs.near bs.far m), refl)
+      rw near.1 (ap (λ (xs : List ℕ). (bs.near ++ m) ++ xs) near.0 ∙ append-nil (bs.near ++ m) ∙ ap (λ (xs : List ℕ). xs ++ m) (sym none), refl, refl)
+  | inr far ↦ rw far.1 (sym (append_assoc bs.near bs.far m), refl, refl)
 ]
 
 pushed-cut : (ns : List ℕ) (bs bs' : Laps) (m : List ℕ) → 1 ≤ length m → length m ≤ max_body Two → IsPushed bs m bs' → IsCut ns bs.near bs.far → IsCut (ns ++ length m ∷ []) bs'.near bs'.far
@@ -105,44 +108,42 @@ pushed-cut ns bs bs' m some short h is_cut = elim h [
   | inr far ↦ rw far.1 (far-push ns bs.near bs.far m some short far.0 is_cut)
 ]
 
--- a buffer that has room keeps all
-kept : (b b' : Buffer ℕ) (ys : List ℕ) → b' ≡ buffer (keep_last b.capacity (b.items ++ ys)) b.capacity → length b.items + length ys ≤ b.capacity → b' ≡ buffer (b.items ++ ys) b.capacity
-kept b b' ys e h =
-    let none : length (b.items ++ ys) - b.capacity ≡ 0 = omega (arith, length-append b.items ys) in
-    e ∙ ap (λ (k : ℕ). buffer (drop k (b.items ++ ys)) b.capacity) none
-
-module _ (ls ls' : Buffer ℕ) (bs bs' : Laps) (m : List ℕ)
-    (keeps : AreOneRing ls bs)
+module _ (ls ls' : Lengths) (bs bs' : Laps) (m : List ℕ) (at : ℕ)
+    (keeps : AreOneRing ls bs at)
     (some : 1 ≤ length m) (short : length m ≤ max_body Two) (room : length bs.near + length bs.far + length m ≤ bs.turn)
     (e : IsPushed bs m bs')
-    (e' : ls' ≡ buffer (keep_last ls.capacity (ls.items ++ length m ∷ [])) ls.capacity) where
+    (e' : ls' ≡ record ls { items = ls.items ++ length m ∷ [] }) where
   whole : IsWhole ls.items (waiting bs)
   whole = is_whole ls.items bs.near bs.far keeps.is_cut
 
-  with_length : ls' ≡ buffer (ls.items ++ length m ∷ []) ls.capacity
-  with_length = kept ls ls' (length m ∷ []) e' (omega (arith, count_small ls.items (waiting bs) whole, keeps.same, length-append bs.near bs.far, room, some))
-
   -- a ring that took a message in keeps what every ring keeps, and shows the message as its last
-  pub push_is_one : AreOneRing ls' bs'
+  pub push_is_one : AreOneRing ls' bs' at
   push_is_one =
       let waits = pushed-waits bs bs' m e in
-      rw with_length (record { is_cut = pushed-cut ls.items bs bs' m some short e keeps.is_cut; fits = omega (arith, ap length waits.0, length-append (waiting bs) m, length-append bs.near bs.far, room, waits.1); same = keeps.same ∙ sym waits.1; capacity = rw waits.1 keeps.capacity })
+      rw e' (record {
+        is_cut = pushed-cut ls.items bs bs' m some short e keeps.is_cut;
+        fits = omega (arith, ap length waits.0, length-append (waiting bs) m, length-append bs.near bs.far, room, waits.1);
+        same = keeps.same ∙ sym waits.1;
+        longest = waits.2 ∙ keeps.longest;
+        ahead = rw waits.1 keeps.ahead;
+        capacity = rw waits.1 keeps.capacity;
+      })
 
   pub shown-push : shown ls' bs' ≡ push (shown ls bs) m
   shown-push =
       let waits = pushed-waits bs bs' m e in
-      rw (with_length, waits.0, waits.1) (ap (λ (ms : List (List ℕ)). ring_of ms bs.turn) (cut-push ls.items (waiting bs) m whole))
+      rw (e', waits.0, waits.1) (ap (λ (ms : List (List ℕ)). ring_of ms bs.turn) (cut-push ls.items (waiting bs) m whole))
 
 -- the first length is that of the first message, and within what a message may have
-pub front-len : (ls : Buffer ℕ) (bs : Laps) → AreOneRing ls bs → slice_get ls.items 0 ≡ option_map length (front (shown ls bs))
-front-len ls bs h = go ls.items (waiting bs) (is_whole ls.items bs.near bs.far h.is_cut)
+pub front-len : (ls : Lengths) (bs : Laps) (at : ℕ) → AreOneRing ls bs at → slice_get ls.items 0 ≡ option_map length (front (shown ls bs))
+front-len ls bs at h = go ls.items (waiting bs) (is_whole ls.items bs.near bs.far h.is_cut)
   where
     go : (ns bytes : List ℕ) → IsWhole ns bytes → slice_get ns 0 ≡ option_map length (slice_get (cut ns bytes) 0)
     go [] bytes h = refl
     go (n ∷ ns) bytes h = ap (λ (m : ℕ). Some m) (sym (length-take-le n bytes h.2))
 
-pub front_in_range : (ls : Buffer ℕ) (bs : Laps) (len : ℕ) → AreOneRing ls bs → Some len ≡ slice_get ls.items 0 → IsLength len × (len ≤ bytes (shown ls bs))
-front_in_range ls bs len h e =
+pub front_in_range : (ls : Lengths) (bs : Laps) (len at : ℕ) → AreOneRing ls bs at → Some len ≡ slice_get ls.items 0 → IsLength len × (len ≤ bytes (shown ls bs))
+front_in_range ls bs len at h e =
     let whole = is_whole ls.items bs.near bs.far h.is_cut in
     rw (bytes-cut ls.items (waiting bs) whole) (go ls.items (waiting bs) whole e)
   where
@@ -152,9 +153,14 @@ front_in_range ls bs len h e =
         let same : len ≡ n = cc in
         rw same (record { at_least = h.0; at_most = h.1 }, h.2)
 
+-- the same of a length that may be
+pub front-range : (ls : Lengths) (bs : Laps) (found : Option ℕ) (at : ℕ) → AreOneRing ls bs at → found ≡ slice_get ls.items 0 → IfSome found IsLength × IfSome found (λ len. len ≤ bytes (shown ls bs))
+front-range ls bs None at h e = (tt, tt)
+front-range ls bs (Some len) at h e = front_in_range ls bs len at h e
+
 -- the first message lies in the lap at the front, as the bytes up to its length
-pub first : (ls : Buffer ℕ) (bs : Laps) (len : ℕ) → AreOneRing ls bs → Some len ≡ option_map length (front (shown ls bs)) → (len ≤ length bs.near) × (Some (take len bs.near) ≡ front (shown ls bs))
-first ls bs len h e = go ls.items bs.near bs.far h.is_cut (e ∙ sym (front-len ls bs h))
+pub first : (ls : Lengths) (bs : Laps) (len at : ℕ) → AreOneRing ls bs at → Some len ≡ option_map length (front (shown ls bs)) → (len ≤ length bs.near) × (Some (take len bs.near) ≡ front (shown ls bs))
+first ls bs len at h e = go ls.items bs.near bs.far h.is_cut (e ∙ sym (front-len ls bs at h))
   where
     go : (ns near far : List ℕ) → IsCut ns near far → Some len ≡ slice_get ns 0 → (len ≤ length near) × (Some (take len near) ≡ slice_get (cut ns (near ++ far)) 0)
     go [] near far h e = absurd cc
@@ -174,20 +180,20 @@ first_is_message r message h e = go r.messages h.each e
         rw same h.0
 
 -- a ring whose first message was taken
-module _ (ls ls' : Buffer ℕ) (bs bs' : Laps) (len : ℕ)
-    (keeps : AreOneRing ls bs)
+module _ (ls ls' : Lengths) (bs bs' : Laps) (len at at' : ℕ)
+    (keeps : AreOneRing ls bs at)
     (n : Some len ≡ slice_get ls.items 0)
     (e : IsTaken len bs bs')
-    (e' : ls' ≡ buffer (drop 1 ls.items) ls.capacity) where
-  taken-waits : (waiting bs' ≡ drop len (waiting bs)) × (bs'.turn ≡ bs.turn)
+    (e' : ls' ≡ record ls { items = drop 1 ls.items }) where
+  taken-waits : (waiting bs' ≡ drop len (waiting bs)) × (bs'.turn ≡ bs.turn) × (bs'.longest ≡ bs.longest)
   taken-waits = elim e [
-    | inl part ↦ rw part.1 (sym (within-lap len bs.near bs.far part.0), refl)
-    | inr whole ↦ rw whole.1 (sym (whole-lap len bs.near bs.far whole.0), refl)
+    | inl part ↦ rw part.1 (sym (within-lap len bs.near bs.far part.0), refl, refl)
+    | inr whole ↦ rw whole.1 (sym (whole-lap len bs.near bs.far whole.0), refl, refl)
   ]
 
   taken-cut : (ns near far : List ℕ) → near ≡ bs.near → far ≡ bs.far → IsCut ns near far → Some len ≡ slice_get ns 0 → IsCut (drop 1 ns) bs'.near bs'.far × (cut (drop 1 ns) (drop len (near ++ far)) ≡ drop 1 (cut ns (near ++ far)))
-  taken-cut [] near far a b h at = absurd cc
-  taken-cut (k ∷ ks) near far a b h at =
+  taken-cut [] near far a b h first = absurd cc
+  taken-cut (k ∷ ks) near far a b h first =
       let same : len ≡ k = cc in (
         elim h.2 [
           | inl part ↦ elim e [
@@ -202,11 +208,13 @@ module _ (ls ls' : Buffer ℕ) (bs bs' : Laps) (len : ℕ)
         rw same refl,
       )
 
-  pub pop_is_one : AreOneRing ls' bs'
-  pop_is_one = rw e' (record {
+  pub pop_is_one : (1 ≤ at') × (at' ≤ bs'.turn) → AreOneRing ls' bs' at'
+  pop_is_one ahead = rw e' (record {
     is_cut = (taken-cut ls.items bs.near bs.far refl refl keeps.is_cut n).0;
     fits = omega (arith, ap length taken-waits.0, length-drop len (waiting bs), keeps.fits, taken-waits.1);
     same = keeps.same ∙ sym taken-waits.1;
+    longest = taken-waits.2 ∙ keeps.longest;
+    ahead = ahead;
     capacity = rw taken-waits.1 keeps.capacity;
   })
 

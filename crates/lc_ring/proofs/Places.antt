@@ -5,7 +5,7 @@ use Rattle.std.proofs.Math.Seq.{drop-append-add, take-append-add, take-append_se
 use Rattle.lc_ring.specs.Laps.{Laps, IsPushed, AreLaps}
 
 abbrev laps_in : List ℕ → ℕ → ℕ → ℕ → ℕ → ℕ → Laps
-laps_in items gone end next turn cut = record { near = drop gone (take end items); far = take next items; turn = turn; cut = cut }
+laps_in items gone end next turn longest = record { near = drop gone (take end items); far = take next items; turn = turn; longest = longest }
 
 -- a run of bytes, from its first on
 run_from : (items : List ℕ) (from to : ℕ) → from ≤ to → drop from (take to items) ≡ take (to - from) (drop from items)
@@ -35,9 +35,9 @@ module _ (items bytes : List ℕ) (at : ℕ) (within : at ≤ length items) wher
       ∙ drop-drop more (at + length bytes) items
       ∙ ap (λ (n : ℕ). drop n items) (omega (arith, h))
 
-module _ (items bytes block : List ℕ) (gone end next turn cut capacity : ℕ)
-    (keeps : AreLaps items gone end next turn cut capacity)
-    (old : Laps) (shows : laps_in items gone end next turn cut ≡ old)
+module _ (items bytes block : List ℕ) (gone end next turn longest capacity : ℕ)
+    (keeps : AreLaps items gone end next turn longest capacity)
+    (old : Laps) (shows : laps_in items gone end next turn longest ≡ old)
     (room : length old.near + length old.far + length bytes ≤ old.turn)
     (over : turn ≤ end)
     (e : block ≡ take next items ++ bytes ++ drop (next + length bytes) items) where
@@ -61,10 +61,10 @@ module _ (items bytes block : List ℕ) (gone end next turn cut capacity : ℕ)
       ∙ sym (run_from items gone end keeps.within)
 
   -- a lap that is over takes none of them, and they lie at the front of the block
-  pub pushed-far : IsPushed old bytes (laps_in block gone end (next + length bytes) turn cut)
+  pub pushed-far : IsPushed old bytes (laps_in block gone end (next + length bytes) turn longest)
   pushed-far =
       let busy : 1 ≤ length (drop gone (take end items)) = omega (arith, near-length, keeps.idle, keeps.is_turn.at_least, over) in
-      subst (λ (l : Laps). IsPushed l bytes (laps_in block gone end (next + length bytes) turn cut)) shows
+      subst (λ (l : Laps). IsPushed l bytes (laps_in block gone end (next + length bytes) turn longest)) shows
       (inr (busy, rw (near-stays, ap (take (next + length bytes)) e ∙ written-front items bytes next next_held) refl))
 
 -- a run of bytes that is written piece by piece: one more piece of them stands behind those so far

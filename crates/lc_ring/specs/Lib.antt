@@ -1,3 +1,4 @@
 pub mod Ring
 pub mod Laps
+pub mod Lengths
 pub mod Cuts

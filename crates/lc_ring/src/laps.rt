@@ -1,19 +1,15 @@
 //! Bytes that wait in a row, in one block that they go round in laps.
 //!
-//! A message lies in the block in one piece. A lap that reaches its turn is over, and what comes
-//! next lies at the front of the block again; the block has room behind the turn for the rest of the
-//! message that reached it. Where no byte waits the next lap begins at once, so that bytes which are
-//! soon taken lie where the last ones did, in memory that is near and resident. The number of bytes
-//! up to the next cut is kept beside: it counts round the turn whatever the laps do, and says where
-//! a message is shown in two slices.
-ghost use Rattle.std.specs.Prelude.{◌≡◌, ◌+◌, ◌≤◌, ◌++◌, min, length, take, drop, vec_capacity, IfOk};
+//! What is pushed at once, as a message, lies in the block in one piece. A lap that reaches its turn
+//! is over, and the next piece lies at the front of the block again; the block has room behind the
+//! turn for the rest of the piece that reached it. Where no byte waits the next lap begins at once,
+//! so that bytes which are soon taken lie where the last ones did, in memory that is near and
+//! resident.
+ghost use Rattle.std.specs.Prelude.{◌≡◌, ◌+◌, ◌≤◌, ◌++◌, length, take, drop, vec_capacity, IfOk};
 ghost use Rattle.lc_frame.specs.Bounds.{IsCapacity};
-ghost use Rattle.lc_frame.specs.declared.version.Version.TheVariants.{Two};
-ghost use Rattle.lc_frame.specs.Kind.{max_body};
 ghost use Rattle.lc_ring.specs.Laps.{new_laps, IsPushed, IsTaken};
 
 use crate::pieces::{append, copy};
-use lc_frame::MAX_BODY;
 use std::alloc::{AllocError, Global};
 use std::fmt::{self, Debug, Formatter};
 use std::marker::Model;
@@ -28,7 +24,7 @@ pub(crate) struct LapBytes {
     end: usize,
     next: usize,
     turn: usize,
-    until_cut: usize,
+    longest: usize,
 }
 
 impl Model for LapBytes {
@@ -37,19 +33,16 @@ impl Model for LapBytes {
 
     ghost Value = { Laps };
 
-    ghost view = { λ b. record { near = drop b.gone (take b.end b.block.items); far = take b.next b.block.items; turn = b.turn; cut = b.until_cut } };
+    ghost view = { λ b. record { near = drop b.gone (take b.end b.block.items); far = take b.next b.block.items; turn = b.turn; longest = b.longest } };
 
-    ghost invariant = { λ b. AreLaps b.block.items b.gone b.end b.next b.turn b.until_cut (vec_capacity b.block) };
+    ghost invariant = { λ b. AreLaps b.block.items b.gone b.end b.next b.turn b.longest (vec_capacity b.block) };
 }
 
 impl Debug for LapBytes {
     fn fmt<W: fmt::Write>(&self, f: &mut Formatter<W>) -> fmt::Result {
-        let (lap, _) = self.block.as_slice().split_at(self.end);
-        let (_, near) = lap.split_at(self.gone);
-        let (far, _) = self.block.as_slice().split_at(self.next);
         f.debug_list()
-            .entries(near.iter())
-            .entries(far.iter())
+            .entries(self.near().iter())
+            .entries(self.far().iter())
             .finish()
     }
 }
@@ -93,18 +86,18 @@ fn put(block: &mut Vec<u8>, at: usize, bytes: &[u8])
 }
 
 impl LapBytes {
-    /// No bytes, in laps of so many. None of the memory is touched.
-    pub(crate) fn new(alloc: Global, turn: usize) -> Result<LapBytes, AllocError>
+    /// No bytes, in laps of so many, for pieces of at most `longest`. None of the memory is touched.
+    pub(crate) fn new(alloc: Global, turn: usize, longest: usize) -> Result<LapBytes, AllocError>
         requires { IsCapacity turn }
-        ensures { IfOk result (λ laps. laps ≡ new_laps turn) }
+        ensures { IfOk result (λ laps. laps ≡ new_laps turn longest) }
     {
         Ok(LapBytes {
-            block: Vec::with_capacity(alloc, turn + turn.min(MAX_BODY))?,
+            block: Vec::with_capacity(alloc, turn + turn.min(longest))?,
             gone: 0,
             end: 0,
             next: 0,
             turn,
-            until_cut: turn,
+            longest,
         })
     }
 
@@ -123,6 +116,23 @@ impl LapBytes {
         self.end - self.gone + self.next
     }
 
+    /// The bytes of the lap.
+    #[inline]
+    pub(crate) fn near(&self) -> &[u8]
+        ensures { result.now ≡ self.now.near }
+    {
+        let (lap, _) = self.block.as_slice().split_at(self.end);
+        lap.split_at(self.gone).1
+    }
+
+    /// The bytes of the next lap.
+    #[inline]
+    pub(crate) fn far(&self) -> &[u8]
+        ensures { result.now ≡ self.now.far }
+    {
+        self.block.as_slice().split_at(self.next).0
+    }
+
     /// The first bytes of the lap.
     #[inline]
     pub(crate) fn first(&self, len: usize) -> &[u8]
@@ -133,25 +143,11 @@ impl LapBytes {
         near.split_at(len).0
     }
 
-    /// The first bytes of the lap, up to the next cut and from there on.
-    #[inline]
-    pub(crate) fn parts(&self, len: usize) -> (&[u8], &[u8])
-        requires { len ≤ length self.now.near }
-        ensures whole { result.0.now ++ result.1.now ≡ take len self.now.near }
-        ensures cut { length result.0.now ≡ min len self.now.cut }
-    {
-        let first = self.first(len);
-        if len <= self.until_cut {
-            return (first, &[]);
-        }
-        first.split_at(self.until_cut)
-    }
-
     /// Takes bytes in as the last, in one piece.
     #[inline]
     pub(crate) fn push(&mut self, bytes: &[u8])
         requires room { length self.old.near + length self.old.far + length bytes.now ≤ self.old.turn }
-        requires at_most { length bytes.now ≤ max_body Two }
+        requires at_most { length bytes.now ≤ self.old.longest }
         ensures { IsPushed self.old bytes.now self.new }
     {
         if self.end < self.turn {
@@ -169,11 +165,6 @@ impl LapBytes {
         requires { len ≤ length self.old.near }
         ensures { IsTaken len self.old self.new }
     {
-        self.until_cut = if len < self.until_cut {
-            self.until_cut - len
-        } else {
-            self.until_cut + self.turn - len
-        };
         self.gone += len;
         if self.gone == self.end {
             self.gone = 0;

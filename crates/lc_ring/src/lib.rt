@@ -1,8 +1,8 @@
-//! Receiving rings: the messages that wait on a channel, in memory that is taken once and never
-//! grows.
+//! Ring buffers for received messages, in memory that is allocated once and never grows.
 #![tactic(auto)]
 
 mod laps;
+mod lengths;
 mod pieces;
 mod ring;
 

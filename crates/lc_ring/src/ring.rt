@@ -1,13 +1,14 @@
 //! A bounded list of messages.
 //!
-//! A `RecvRing` has bytes in laps (`laps.rt`) and one of the kit's circular buffers for lengths,
-//! with as many places as the ring has bytes, so that a ring full of messages of one byte fits.
-//! Contracts see neither: they see the list of messages that the lengths cut out of the bytes
-//! (`cut` in `specs/Cuts.antt`). A message goes in and comes out in one piece, copied as a slice.
-//! `RecvRing::new` asks for five bytes of address space for each byte of the ring, and for the
-//! longest message that fits it; a page of memory is taken by the system only once a message reaches
-//! it.
-ghost use Rattle.std.specs.Prelude.{◌≡◌, ◌+◌, ◌≤◌, ◌↔◌, ◌++◌, length, Err, IfOk, IfErr, IfSome, OnOk, is_ok, if◌then◌else◌};
+//! A `RecvRing` has the bytes of its messages in laps (`laps.rt`) and their lengths in others
+//! (`lengths.rt`), which are as long, so that a ring full of messages of one byte fits. Contracts see
+//! neither: they see the list of messages that the lengths cut out of the bytes (`cut` in
+//! `specs/Cuts.antt`). A message goes in and comes out in one piece, copied as a slice.
+//! `RecvRing::new` asks for two bytes of address space for each byte of the ring, and for the longest
+//! message that fits it; a page of memory is taken by the system only once a message or a length
+//! reaches it. A ring that is full for the first time has at most two resident bytes for each of its
+//! capacity.
+ghost use Rattle.std.specs.Prelude.{◌≡◌, ◌+◌, ◌^◌, ◌<◌, ◌≤◌, ◌↔◌, ◌++◌, min, length, Some, Err, IfOk, IfErr, IfSome, OnOk, is_ok, if◌then◌else◌};
 ghost use Rattle.std.specs.Option.{option_map};
 ghost use Rattle.std.specs.Result.{result_err};
 ghost use Rattle.lc_frame.specs.Bounds.{IsCapacity};
@@ -16,10 +17,11 @@ ghost use Rattle.lc_frame.specs.Kind.{max_body};
 ghost use Rattle.lc_ring.specs.Ring.{new_ring, IsLength, IsRing, bytes, free, push_refusal, push, front, pop, take_answer, with_front};
 
 use crate::laps::LapBytes;
+use crate::lengths::Lengths;
 use crate::pieces::copy;
-use circular_buffer::HeapCircularBuffer;
-use lc_frame::{BufferTooSmall, is_capacity};
+use lc_frame::{BufferTooSmall, MAX_BODY, is_capacity};
 use std::alloc::{AllocError, Global};
+use std::fmt::{self, Debug, Formatter};
 use std::marker::Model;
 use thiserror::Error;
 
@@ -45,10 +47,21 @@ pub enum NewFault {
 /// The messages that came and were not taken yet, in order, in a ring of bytes. A message has 1 to
 /// `MAX_BODY` bytes, a ring has room for 1 to `MAX_AMOUNT`. Contracts see the list of the messages
 /// and the capacity.
-#[derive(Debug)]
 pub struct RecvRing {
     bytes: LapBytes,
-    lengths: HeapCircularBuffer<u32>,
+    lengths: Lengths,
+    // The bytes up to the next cut. They count round the turn whatever the laps do, and say where a
+    // message is shown in two slices.
+    until_cut: usize,
+}
+
+impl Debug for RecvRing {
+    fn fmt<W: fmt::Write>(&self, f: &mut Formatter<W>) -> fmt::Result {
+        f.debug_struct("RecvRing")
+            .field("bytes", &self.bytes)
+            .field("lengths", &self.lengths)
+            .finish()
+    }
 }
 
 // One call, wherever a ring is dropped.
@@ -57,6 +70,7 @@ impl Drop for RecvRing {
         let RecvRing {
             bytes: _,
             lengths: _,
+            until_cut: _,
         } = self;
     }
 }
@@ -71,19 +85,47 @@ impl Model for RecvRing {
 
     ghost view = { λ ring. record { messages = cut ring.lengths.items (waiting ring.bytes); capacity = ring.bytes.turn } };
 
-    ghost invariant = { λ ring. AreOneRing ring.lengths ring.bytes };
+    ghost invariant = { λ ring. AreOneRing ring.lengths ring.bytes ring.until_cut };
 }
 
-// A ring of so many places for bytes, and as many for lengths, so that it holds as many messages of
-// one byte.
+// A ring of so many places for bytes, and as many for the bytes of lengths, so that it holds as many
+// messages of one byte.
 fn with_room(alloc: Global, capacity: usize) -> Result<RecvRing, AllocError>
     requires { IsCapacity capacity }
     ensures value { IfOk result (λ ring. ring ≡ new_ring capacity) }
 {
     Ok(RecvRing {
-        bytes: LapBytes::new(alloc, capacity)?,
-        lengths: HeapCircularBuffer::with_capacity(alloc, capacity)?,
+        bytes: LapBytes::new(alloc, capacity, MAX_BODY)?,
+        lengths: Lengths::new(alloc, capacity)?,
+        until_cut: capacity,
     })
+}
+
+// The bytes up to the next cut of a turn, once so many more were taken.
+#[inline]
+fn cut_after(until_cut: usize, turn: usize, len: usize) -> usize
+    requires ahead { (1 ≤ until_cut) × (until_cut ≤ turn) }
+    requires within { len ≤ turn }
+    requires fits { turn ≤ 2 ^ 24 }
+    ensures { (1 ≤ result) × (result ≤ turn) }
+{
+    if len < until_cut {
+        until_cut - len
+    } else {
+        until_cut + turn - len
+    }
+}
+
+// A message up to the cut and from there on.
+#[inline]
+fn parts(message: &[u8], until_cut: usize) -> (&[u8], &[u8])
+    ensures whole { result.0.now ++ result.1.now ≡ message.now }
+    ensures cut { length result.0.now ≡ min (length message.now) until_cut }
+{
+    if message.len() <= until_cut {
+        return (message, &[]);
+    }
+    message.split_at(until_cut)
 }
 
 impl RecvRing {
@@ -138,10 +180,7 @@ impl RecvRing {
         ensures range { IfSome result IsLength }
         ensures within { IfSome result (λ len. len ≤ bytes self.now) }
     {
-        match self.lengths.front() {
-            Some(len) => Some(*len as usize),
-            None => None,
-        }
+        self.lengths.front()
     }
 
     // The first message in one piece, `None` where none waits.
@@ -155,13 +194,14 @@ impl RecvRing {
 
     /// The first message, `None` where none waits. It is the two slices, one after the other; the
     /// second is empty unless the message goes round the end of a memory of as many bytes as the
-    /// ring's capacity, in which each message lies behind the one before.
+    /// ring's capacity, in which each message lies behind the one before, and the first never is.
     #[inline]
     pub fn front(&self) -> Option<(&[u8], &[u8])>
-        ensures { option_map (λ parts. parts.0.now ++ parts.1.now) result ≡ front self.now }
+        ensures whole { option_map (λ parts. parts.0.now ++ parts.1.now) result ≡ front self.now }
+        ensures first { IfSome result (λ parts. 0 < length parts.0.now) }
     {
-        let len = self.front_len()?;
-        Some(self.bytes.parts(len))
+        let message = self.first()?;
+        Some(parts(message, self.until_cut))
     }
 
     /// Takes a message in as the last, exactly where it is no longer than what is free.
@@ -178,8 +218,20 @@ impl RecvRing {
             return Err(Full { free });
         }
         self.bytes.push(message);
-        self.lengths.push_back(message.len() as u32);
+        self.lengths.push_back(message.len());
         Ok(())
+    }
+
+    // Drops the first message, of which `len` is the length.
+    #[inline]
+    fn drop_first(&mut self, len: usize)
+        requires { Some len ≡ option_map length (front self.old) }
+        ensures after { self.new ≡ pop self.old }
+        ensures shrinks { bytes self.new + len ≡ bytes self.old }
+    {
+        self.lengths.drop_front(len);
+        self.bytes.take(len);
+        self.until_cut = cut_after(self.until_cut, self.bytes.turn(), len);
     }
 
     /// Drops the first message and answers its length, `None` where none waits.
@@ -190,8 +242,8 @@ impl RecvRing {
         ensures range { IfSome result IsLength }
         ensures shrinks { IfSome result (λ len. bytes self.new + len ≡ bytes self.old) }
     {
-        let len = self.lengths.pop_front()? as usize;
-        self.bytes.take(len);
+        let len = self.front_len()?;
+        self.drop_first(len);
         Some(len)
     }
 
@@ -218,6 +270,7 @@ impl RecvRing {
         }
         let (front, _) = buffer.split_at_mut(need);
         copy(front, message);
-        Ok(self.pop())
+        self.drop_first(need);
+        Ok(Some(need))
     }
 }

@@ -6,4 +6,4 @@ pub returns-clause-value : goal.returns-clause-value
 returns-clause-value c = search rules
 
 pub returns-clause-kept : goal.returns-clause-kept
-returns-clause-kept c = rw (← c.self.view_is) (ring_is_kept c.self.inside.lengths c.self.inside.bytes c.self.invariant)
+returns-clause-kept c = rw (← c.self.view_is) (ring_is_kept c.self.inside.lengths c.self.inside.bytes c.self.inside.until_cut c.self.invariant)
