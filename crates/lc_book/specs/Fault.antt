@@ -2,11 +2,17 @@
 -- project's own.
 use Rattle.std.specs.Prelude.{ℕ, Option, Some, None, List, [], ◌∷◌, codes}
 use Rattle.lc_frame.specs.FrameFault.{sentence_in}
+-- codes: begin refusals
 use Rattle.lc_book.specs.declared.fault.Refusal.{Refusal}
 use Rattle.lc_book.specs.declared.fault.Refusal.TheVariants.{EmptyBody, BodyTooLong, PastSendLimit, NoGuarantee, ZeroAmount, NotHeld, BoundTooLarge, LimitRaised, PastReceiveLimit, NoRoom, NothingToAsk, TotalReached, QueueFull, OutOfMemory, ChannelFinished, BufferTooSmall, WrongVersion}
+-- codes: end
+-- codes: begin violations
 use Rattle.lc_book.specs.declared.fault.Violation.{Violation}
 use Rattle.lc_book.specs.declared.fault.Violation.TheVariants.{NotGuaranteed, SentPastLimit, AbsolvedTooMuch, SendLimitRaised, IssuedPastLimit, TooManyGuarantees, ReceiveLimitRaised, TotalPassed, AfterFinish}
 
+-- codes: end
+
+-- codes: begin numbers and sentences
 -- the number of a refusal, 1 to 17
 abbrev pub refusal_number : Refusal → ℕ
 refusal_number EmptyBody = 1
@@ -86,3 +92,5 @@ detail_of (NoRoom room) = Some (codes "room", room)
 detail_of (NothingToAsk outstanding) = Some (codes "outstanding", outstanding)
 detail_of (BufferTooSmall need) = Some (codes "need", need)
 detail_of refusal = None
+
+-- codes: end

@@ -18,6 +18,7 @@ pub struct Detail {
 /// carry the number that was compared with, in bytes. Numbers and order are this project's own.
 #[derive(Clone, Copy, Debug, PartialEq, Eq)]
 pub enum Refusal {
+    // codes: begin refusals
     /// 1. A message has at least 1 byte.
     EmptyBody,
     /// 2. A message has at most `Version::max_body` bytes.
@@ -52,6 +53,7 @@ pub enum Refusal {
     BufferTooSmall { need: usize },
     /// 17. A stream of version One can't say that a channel is finished.
     WrongVersion,
+    // codes: end
 }
 
 impl Refusal {
@@ -60,6 +62,7 @@ impl Refusal {
         ensures { result ≡ refusal_number self }
     {
         match self {
+            // codes: begin numbers of refusals
             Refusal::EmptyBody => 1,
             Refusal::BodyTooLong => 2,
             Refusal::PastSendLimit { .. } => 3,
@@ -77,6 +80,7 @@ impl Refusal {
             Refusal::ChannelFinished => 15,
             Refusal::BufferTooSmall { .. } => 16,
             Refusal::WrongVersion => 17,
+            // codes: end
         }
     }
 
@@ -85,6 +89,7 @@ impl Refusal {
         ensures { option_map (λ sentence. sentence.now) result ≡ refusal_sentence number }
     {
         let sentence = match number {
+            // codes: begin sentences of refusals
             1 => "the message is empty",
             2 => "the message is too long",
             3 => "the message is longer than the limit on sending leaves",
@@ -102,6 +107,7 @@ impl Refusal {
             15 => "the channel is finished",
             16 => "the buffer is too small",
             17 => "version 1 of the format cannot finish a channel",
+            // codes: end
             _ => return None,
         };
         Some(sentence)
@@ -122,6 +128,7 @@ impl Refusal {
         ensures { option_map (λ detail. (detail.name.now, detail.value)) result ≡ detail_of self }
     {
         let (name, value) = match self {
+            // codes: begin details of refusals
             Refusal::PastSendLimit { left }
             | Refusal::LimitRaised { left }
             | Refusal::PastReceiveLimit { left } => ("left", left),
@@ -138,6 +145,7 @@ impl Refusal {
             | Refusal::OutOfMemory
             | Refusal::ChannelFinished
             | Refusal::WrongVersion => return None,
+            // codes: end
         };
         Some(Detail { name, value })
     }
@@ -159,6 +167,7 @@ impl Error for Refusal {}
 /// arrives stays as it was. Numbers and order are this project's own.
 #[derive(Clone, Copy, Debug, PartialEq, Eq)]
 pub enum Violation {
+    // codes: begin violations
     /// V1. The message is longer than what is outstanding.
     NotGuaranteed,
     /// V2. The message is longer than what the client's limit leaves.
@@ -177,6 +186,7 @@ pub enum Violation {
     TotalPassed,
     /// V9. A frame of the client comes behind its Finish.
     AfterFinish,
+    // codes: end
 }
 
 impl Violation {
@@ -185,6 +195,7 @@ impl Violation {
         ensures { result ≡ violation_number self }
     {
         match self {
+            // codes: begin numbers of violations
             Violation::NotGuaranteed => 1,
             Violation::SentPastLimit => 2,
             Violation::AbsolvedTooMuch => 3,
@@ -194,6 +205,7 @@ impl Violation {
             Violation::ReceiveLimitRaised => 7,
             Violation::TotalPassed => 8,
             Violation::AfterFinish => 9,
+            // codes: end
         }
     }
 
@@ -202,6 +214,7 @@ impl Violation {
         ensures { option_map (λ sentence. sentence.now) result ≡ violation_sentence number }
     {
         let sentence = match number {
+            // codes: begin sentences of violations
             1 => "a message longer than the guarantees outstanding",
             2 => "a message beyond the limit on sending",
             3 => "more guarantees absolved than are outstanding",
@@ -211,6 +224,7 @@ impl Violation {
             7 => "a limit on receiving that raises an earlier one",
             8 => "more than 2^62 guarantees on one channel",
             9 => "a frame of the client behind its Finish",
+            // codes: end
             _ => return None,
         };
         Some(sentence)

@@ -1,7 +1,10 @@
-//! The balances of one channel direction: what its client may send, and what its server may issue.
-//! A call refuses by the first case that holds, in the order that its contract cites, and then
-//! changes nothing. An own call stands in two as well, as `judge_spend` and `note_spent`, for who
-//! has to look for more between them, as a place for its frame.
+//! The ledgers of one direction of a channel: what its sender (the client) may send, and what its
+//! receiver (the server) may issue.
+//!
+//! A call is refused for the first reason that applies, in the order that its contract cites, and then
+//! changes nothing. Each local operation also exists in two halves, such as `judge_spend` and
+//! `note_spent`: one validates and one applies. A caller that has to reserve something else in
+//! between, such as a slot for the frame, uses the halves.
 #![tactic(auto)]
 
 mod client;

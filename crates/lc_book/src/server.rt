@@ -186,6 +186,30 @@ impl ServerBook {
         self.issued
     }
 
+    /// All bytes of messages that arrived, 0 to 2^62.
+    pub fn arrived(&self) -> u64
+        ensures value { result ≡ self.now.arrived }
+        ensures small { result ≤ max_total }
+    {
+        self.arrived
+    }
+
+    /// The bytes of messages that were taken, 0 to 2^62.
+    pub fn taken(&self) -> u64
+        ensures value { result ≡ self.now.taken }
+        ensures within { result + buffered self.now ≡ self.now.arrived }
+    {
+        self.taken
+    }
+
+    /// The guarantees that the client absolved, 0 to 2^62.
+    pub fn absolved(&self) -> u64
+        ensures value { result ≡ self.now.absolved }
+        ensures within { self.now.arrived + result + waived self.now ≤ self.now.issued }
+    {
+        self.absolved
+    }
+
     /// What the client may still send, 0 to 2^62; `None` without a limit.
     pub fn send_left(&self) -> Option<u64>
         ensures value { result ≡ self.now.send_left }
