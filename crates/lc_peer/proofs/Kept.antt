@@ -1,8 +1,9 @@
 -- How little is kept of a stream whose rings are known.
-use Rattle.std.proofs.Common.{◌≡◌, ℕ, ◌+◌, ◌<◌, ◌≤◌, Bool, false, List, [], ◌∷◌, length, get_or, take, drop, Option, Some, None, zero, suc, refl, sym, ap, subst, ◌∙◌, arith, inl, inr}
-use Rattle.std.specs.Prelude.{◌⊎◌, ◌==◌, slice_get, IsSomeAnd, All}
+use Rattle.std.proofs.Common.{◌≡◌, ℕ, ◌+◌, ◌<◌, ◌≤◌, Bool, true, false, List, [], ◌∷◌, length, get_or, take, drop, Option, Some, None, zero, suc, refl, sym, ap, subst, ◌∙◌, arith, inl, inr}
+use Rattle.std.specs.Prelude.{◌⊎◌, ◌==◌, slice_get, IsSomeAnd, All, IfNone, IfOk, Result, Ok, Err}
+use Rattle.std.proofs.lemmas.Bool.Decides.{nat_tests}
 use Rattle.std.proofs.lemmas.Bool.{cases_lt, true≢false}
-use Rattle.std.proofs.lemmas.List.{length-append, length-take-le, nil_from_length, take-append-drop, take_all}
+use Rattle.std.proofs.lemmas.List.{length-append, length-drop, length-take-le, nil_from_length, take-append-drop, take_all}
 use Rattle.lc_frame.specs.declared.version.Version.{Version}
 use Rattle.lc_frame.specs.declared.version.Version.TheVariants.{One, Two}
 use Rattle.lc_frame.specs.declared.channel.Channel.{Channel}
@@ -17,8 +18,9 @@ use Rattle.lc_frame.specs.Stored.{Stored, stored_in, fed, front, nothing_stored,
 use Rattle.lc_frame.specs.Progress.{Feeds}
 use Rattle.lc_frame.specs.declared.fill.Filled.{Filled}
 use Rattle.lc_frame.specs.declared.fill.Filled.TheVariants.{Few, Failed, Took}
-use Rattle.lc_frame.specs.Fill.{FilledAs}
-use Rattle.lc_frame.specs.Begun.{BeginsSend, BeginsSendIn, HasBegun}
+use Rattle.lc_frame.specs.Fill.{FilledAs, LacksMore}
+use Rattle.lc_frame.specs.Frame.{kind_of, IsValid}
+use Rattle.lc_frame.specs.Begun.{BeginsSend, BeginsSendIn, BeginsAtMost, HasBegun, HasBegunAtMost}
 use Rattle.lc_frame.proofs.Bytes.{IsBytes, IsBytes-take}
 use Rattle.lc_frame.proofs.Fronts.{length-header, length-encoding, bytes_from}
 use Rattle.lc_frame.proofs.Stored.{fed_fed, fed_nothing, fed_settled, fed_short, settled_none, has_fault_goes_on}
@@ -28,9 +30,10 @@ use Rattle.lc_book.specs.declared.fault.Violation.{Violation}
 use Rattle.lc_peer.specs.declared.delivery.Stop.TheVariants.{Fault, Violated}
 use Rattle.lc_peer.specs.declared.delivery.Step.{Step}
 use Rattle.lc_peer.specs.declared.delivery.Step.TheVariants.{Arrived, Open, Stopped}
-use Rattle.lc_peer.specs.Longer.{IsLonger, FitsRings, FitsGreatest, KeepsFew}
+use Rattle.lc_peer.specs.Longer.{IsLonger, FitsAny, FitsRings, FitsGreatest, KeepsFew}
 use Rattle.lc_peer.specs.declared.outgrown.Outgrown.{Outgrown}
-use Rattle.lc_peer.specs.Rings.{KeepsHead, GoesFrom, IsHeaded, IsMissing, StartsSend}
+use Rattle.lc_peer.specs.Rings.{KeepsHead, GoesFrom, IsHeaded, IsMissing, IsReady, StartsSend}
+use Rattle.lc_peer.proofs.Feeds.{shortest_fault}
 use Rattle.lc_peer.specs.Steps.{Steps, FrameArrives}
 use Rattle.lc_peer.proofs.Deliveries.{fed_bytes}
 use Rattle.lc_peer.proofs.Begun.{begun_back, part_open, begun_once, has_begun_no_fault, greeting_few, greeted_few, some_long, some_version}
@@ -259,7 +262,7 @@ module _ (rings : List ℕ) where
       of_frame (frames.Finish c) ok most short = omega (arith, length-encoding v (frames.Finish c))
 
   -- as few bytes as it takes that a fault stands
-  last_few : (h : Stored) (n : ℕ) → IsBytes h.bytes → IsSettled h → length h.bytes ≡ n → ((k : ℕ) → k < length h.bytes → IsUndecided (front k h)) → FitsRings rings h → FitsGreatest rings n
+  pub last_few : (h : Stored) (n : ℕ) → IsBytes h.bytes → IsSettled h → length h.bytes ≡ n → ((k : ℕ) → k < length h.bytes → IsUndecided (front k h)) → FitsRings rings h → FitsGreatest rings n
   last_few h zero bytes settled e shortest fits = few_bytes rings zero (omega arith)
   last_few h (suc k) bytes settled e shortest fits = λ most within.
       let few = stored_few most (front k h) (IsBytes-take k h.bytes bytes) (settled_front h.version k h.bytes settled) (shortest k (omega (arith, e))) (short_of rings (front k h) most (fits_take h.version k h.bytes fits) within) in
@@ -296,15 +299,15 @@ module _ (rings : List ℕ) (h1 : Stored) (rest : List ℕ) (fits : FitsRings ri
   step_keeps arrives violates (Stopped (Fault fault) count) p p' h2 o = record { fits = part_fits h2 count o.grown; few = fault_few h2 count o.grown o.shortest }
 
 -- a frame that arrived leaves nothing
-pub arrived_goes : {T : Type 0} (arrives : T → Frame → T → Type 0) (rings : List ℕ) (p : T) (h1 : Stored) (rest : List ℕ) (p' : T) (h2 : Stored) (count : ℕ) (later : List ℕ) → FrameArrives arrives p h1 rest p' h2 count → GoesFrom rings h2 later
-arrived_goes arrives rings p h1 rest p' h2 count later a = record {
-  kept = record { fits = λ v known long. fits_nothing rings h2 a.cleared; few = few_bytes rings (length h2.bytes) (omega (arith, ap length a.cleared)) };
-  headed = λ named some. inr (version_headed h2.version a.frame h2.bytes a.valid a.cleared);
+pub arrived_ready : {T : Type 0} (arrives : T → Frame → T → Type 0) (rings : List ℕ) (p : T) (h1 : Stored) (rest : List ℕ) (p' : T) (h2 : Stored) (count : ℕ) (later : List ℕ) → FrameArrives arrives p h1 rest p' h2 count → IsReady rings h2 later
+arrived_ready arrives rings p h1 rest p' h2 count later a = record {
+  few = few_bytes rings (length h2.bytes) (omega (arith, ap length a.cleared));
+  fits = inl (version_emptied h2.version a.frame h2.bytes a.valid a.cleared);
 }
   where
-    version_headed : (o : Option Version) (f : Frame) (bytes : List ℕ) → IsValidIn o f → bytes ≡ [] → IsHeaded (record { version = o; bytes = bytes })
-    version_headed None f bytes valid none = absurd valid
-    version_headed (Some v) f bytes valid none = record { version = v; known = refl; whole = λ some. absurd (omega (arith, some, ap length none)) }
+    version_emptied : (o : Option Version) (f : Frame) (bytes : List ℕ) → IsValidIn o f → bytes ≡ [] → (v : Version) × (record { version = o; bytes = bytes } ≡ stored_in v [])
+    version_emptied None f bytes valid none = absurd valid
+    version_emptied (Some v) f bytes valid none = (v, ap (stored_in v) none)
 
 -- ---- what leads up to a message
 
@@ -366,3 +369,115 @@ filled_keeps fills Failed before after old new v known long settled bytes f ring
 filled_keeps fills (Took n) before after old new v known long settled bytes f rings kept =
     let fits : FitsRings rings new = subst (FitsRings rings) (sym f.grown) (fits_on rings old (take n f.memory) v known long kept.fits) in
     record { fits = fits; few = few_open rings new (bytes_from new.bytes bytes) settled f.undecided fits }
+
+-- ---- where a delivery goes on
+
+-- what fits any ring
+pub any_fits : (rings : List ℕ) (most : ℕ) (v : Version) (bytes : List ℕ) → FitsAny most rings → BeginsAtMost v most bytes → FitsRings rings (stored_in v bytes)
+any_fits rings most v bytes any within = λ c len b longer. any v c len (within c len b) longer
+
+held_any_as : (rings : List ℕ) (most : ℕ) (o : Option Version) (bytes : List ℕ) → FitsAny most rings → HasBegunAtMost most (record { version = o; bytes = bytes }) → FitsRings rings (record { version = o; bytes = bytes })
+held_any_as rings most None bytes any within = λ c len b longer. b
+held_any_as rings most (Some v) bytes any within = any_fits rings most v bytes any within
+
+held_any : (rings : List ℕ) (most : ℕ) (h : Stored) → FitsAny most rings → HasBegunAtMost most h → FitsRings rings h
+held_any rings most h any within = held_any_as rings most h.version h.bytes any within
+
+is_emptied : (h : Stored) (v : Version) → h.version ≡ Some v → h.bytes ≡ [] → h ≡ stored_in v []
+is_emptied h v e n = λ i. record { version = e i; bytes = n i }
+
+-- by how many bytes are held, the version being known
+pub ready_known : (rings : List ℕ) (h : Stored) (rest : List ℕ) (v : Version) → IsSettled h → h.version ≡ Some v → 0 < length rings → GoesFrom rings h rest → (length h.bytes ≡ header_len v Send → FitsRings rings (fed h rest)) → IsReady rings h rest
+ready_known rings h rest v settled known named g headed = record { few = g.kept.few; fits = by (length h.bytes) refl }
+  where
+    by : (n : ℕ) → length h.bytes ≡ n → ((v : Version) × (h ≡ stored_in v [])) ⊎ FitsRings rings (fed h rest)
+    by zero e = inl (v, is_emptied h v known (nil_from_length h.bytes e))
+    by (suc n) e =
+        elim (cases_lt (length h.bytes) (header_len v Send)) [
+          | inl few ↦ inr (fits_other rings h rest v settled known (omega (arith, e)) (λ same. omega (arith, few, same)) named g)
+          | inr long ↦
+              elim (cases_lt (header_len v Send) (length h.bytes)) [
+                | inl more ↦ inr (fits_other rings h rest v settled known (omega (arith, e)) (λ same. omega (arith, more, same)) named g)
+                | inr all ↦ inr (headed (omega (arith, long, all)))
+              ]
+        ]
+
+pub ready_unknown : (rings : List ℕ) (h : Stored) (rest : List ℕ) → IsSettled h → h.version ≡ None → 0 < length rings → GoesFrom rings h rest → IsReady rings h rest
+ready_unknown rings h rest settled none named g = record { few = g.kept.few; fits = inr (fits_unknown rings h rest settled none named g) }
+
+goes_ready_as : (rings : List ℕ) (h : Stored) (rest : List ℕ) (o : Option Version) → h.version ≡ o → IsSettled h → 0 < length rings → GoesFrom rings h rest → FitsRings rings h → IsReady rings h rest
+goes_ready_as rings h rest None e settled named g fits = ready_unknown rings h rest settled e named g
+goes_ready_as rings h rest (Some v) e settled named g fits = ready_known rings h rest v settled e named g (λ all. fits_on rings h rest v e (omega (arith, all)) fits)
+
+-- few bytes were taken behind few, after which no long Send is begun
+module _ (rings : List ℕ) (most : ℕ) (old new : Stored) (piece : List ℕ) (count : ℕ) (feeds : Feeds old new piece count) (within : HasBegunAtMost most new) (settled : IsSettled old) (settled_new : IsSettled new) (bytes : All (λ b. b < 256) new.bytes) (any : FitsAny most rings) (named : 0 < length rings) (kept : KeepsFew rings old) where
+  few_taken : (n : ℕ) → count ≡ n → FitsGreatest rings (length new.bytes)
+  few_taken zero none =
+      let still : new ≡ old = feeds.held ∙ ap (λ (i : ℕ). fed old (take i piece)) none ∙ fed_nothing old settled in
+      subst (λ (h : Stored). FitsGreatest rings (length h.bytes)) (sym still) kept.few
+  few_taken (suc n) some = last_few rings new (length new.bytes) (bytes_from new.bytes bytes) settled_new refl (shortest_fault old new piece count feeds (omega (arith, some))) (held_any rings most new any within)
+
+  pub led_ready : IsReady rings new (drop count piece)
+  led_ready = goes_ready_as rings new (drop count piece) new.version refl settled_new named (record {
+    kept = record { fits = λ v known long. held_any rings most new any within; few = few_taken count refl };
+    headed = λ some more. inl (feeds.stop (omega (arith, more, length-drop count piece)));
+  }) (held_any rings most new any within)
+
+-- nothing is missing of the header that is held
+pub lead_none : (rings : List ℕ) (h : Stored) (rest : List ℕ) (v : Version) (stored head : ℕ) → h.version ≡ Some v → stored ≡ length h.bytes → head ≡ header_len v Send → (0 < stored → head ≤ stored) → KeepsFew rings h → IsReady rings h rest
+lead_none rings h rest v stored head known e is long kept = record { few = kept.few; fits = by (length h.bytes) refl }
+  where
+    by : (n : ℕ) → length h.bytes ≡ n → ((v : Version) × (h ≡ stored_in v [])) ⊎ FitsRings rings (fed h rest)
+    by zero none = inl (v, is_emptied h v known (nil_from_length h.bytes none))
+    by (suc n) some = inr (fits_on rings h rest v known (omega (arith, long (omega (arith, some, e)), e, is)) kept.fits)
+
+pub no_rings : (rings : List ℕ) (b : Bool) → b ≡ (length rings == 0) → b ≡ true → rings ≡ []
+no_rings [] b e t = refl
+no_rings (r ∷ rings) b e t = let some : (length (r ∷ rings) == 0) ≡ false = grind (arith, nat_tests) in absurd (true≢false (sym t ∙ e ∙ some))
+
+pub if_none_then : {X : Type 0} (o : Option X) (P Q : Type 0) → (P → Q) → IfNone o P → IfNone o Q
+if_none_then None P Q then p = then p
+if_none_then (Some x) P Q then p = tt
+
+pub if_ok_then : {X Y : Type 0} (r : Result X Y) (P Q R : X → Type 0) → ((x : X) → P x → Q x → R x) → IfOk r P → IfOk r Q → IfOk r R
+if_ok_then (Ok x) P Q R then p q = then x p q
+if_ok_then (Err y) P Q R then p q = tt
+
+-- ---- one step from there
+
+-- what is held is not nothing
+pub ready_fits : (rings : List ℕ) (h : Stored) (rest : List ℕ) → IsReady rings h rest → ((v : Version) → ¬ (h ≡ stored_in v [])) → FitsRings rings (fed h rest)
+ready_fits rings h rest ready some = elim ready.fits [ inl empty ↦ absurd (some empty.0 empty.1) | inr fits ↦ fits ]
+
+pub none_is_not : (h : Stored) → h.version ≡ None → (v : Version) → ¬ (h ≡ stored_in v [])
+none_is_not h none v e = absurd (none_some (sym none ∙ ap (λ (x : Stored). x.version) e))
+  where
+    none_some : {v : Version} → None ≡ Some v → ⊥
+    none_some e = cc
+
+pub some_is_not : (h : Stored) → 0 < length h.bytes → (v : Version) → ¬ (h ≡ stored_in v [])
+some_is_not h some v e = omega (arith, some, ap (λ (x : Stored). length x.bytes) e)
+
+-- ---- bytes that are not there
+
+-- before its tag and its length are held, no Send lacks so many
+pub lacks_headed : (h : Stored) (v : Version) (head : ℕ) → h.version ≡ Some v → head ≡ header_len v Send → length h.bytes < head → ¬ LacksMore h
+lacks_headed h v head known is few l = of_frame l.frame l.valid l.headed (omega (arith, ap length l.is, length-append h.bytes l.missing, l.more))
+  where
+    same : header_len v Send ≡ header_len l.version Send
+    same = same_head (sym known ∙ l.known)
+
+    of_frame : (f : Frame) → IsValid l.version f → header_len l.version (kind_of f) ≤ length h.bytes → length h.bytes + 512 < length (encoding l.version f) → ⊥
+    of_frame (frames.Send c body) valid headed more = omega (arith, headed, few, is, same)
+    of_frame (frames.Issue c n) valid headed more = omega (arith, more, length-encoding l.version (frames.Issue c n))
+    of_frame (frames.Absolve c n) valid headed more = omega (arith, more, length-encoding l.version (frames.Absolve c n))
+    of_frame (frames.Plead c n) valid headed more = omega (arith, more, length-encoding l.version (frames.Plead c n))
+    of_frame (frames.LimitSending c n) valid headed more = omega (arith, more, length-encoding l.version (frames.LimitSending c n))
+    of_frame (frames.LimitReceiving c n) valid headed more = omega (arith, more, length-encoding l.version (frames.LimitReceiving c n))
+    of_frame (frames.Finish c) valid headed more = omega (arith, more, length-encoding l.version (frames.Finish c))
+
+pub lacks_version : (h : Stored) → h.version ≡ None → ¬ LacksMore h
+lacks_version h none l = absurd (none_some (sym none ∙ l.known))
+  where
+    none_some : {v : Version} → None ≡ Some v → ⊥
+    none_some e = cc

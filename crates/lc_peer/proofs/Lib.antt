@@ -1,6 +1,6 @@
 pub mod Mapped
 pub mod Versions
-pub mod Rings
+pub mod RingSizes
 pub mod Begun
 pub mod Feeds
 pub mod Sinks

@@ -28,7 +28,7 @@ use Rattle.lc_frame.specs.declared.frame.Frame.TheVariants as frames
 use Rattle.lc_frame.specs.Kind.{IsInRange}
 use Rattle.lc_frame.proofs.Openings.{undecided_of}
 use Rattle.lc_peer.specs.declared.skip.Skip.{Skip}
-use Rattle.lc_peer.specs.Longer.{IsLonger, FitsGreatest}
+use Rattle.lc_peer.specs.Longer.{IsLonger, FitsRings, FitsGreatest}
 use Rattle.lc_frame.proofs.Bytes.{IsBytes}
 use Rattle.lc_peer.specs.declared.delivery.Stop.{Stop}
 use Rattle.lc_peer.specs.declared.delivery.Stop.TheVariants.{Violated}
@@ -36,7 +36,7 @@ use Rattle.lc_peer.specs.Sinks.{AllArrive, IsNext, ArriveUpTo}
 use Rattle.lc_peer.specs.Steps.{Steps, StaysOpen, FrameViolates, SoFar}
 use Rattle.lc_peer.specs.Skips.{step_of, stop_by, Skips, Goes}
 use Rattle.lc_peer.proofs.Deliveries.{begins_so, nothing_led, fed_bytes, ends_open, ends_stopped}
-use Rattle.lc_peer.specs.RingIntake.{IsSkip, IsRingIntake, KeepsWith, held_of, held_with}
+use Rattle.lc_peer.specs.RingIntake.{IsSkip, IsKept, IsRingIntake, KeepsWith, held_of, held_with}
 use Rattle.lc_peer.specs.Rings.{ComesTo, ReachesBy, Leads}
 use Rattle.lc_peer.proofs.Feeds.{shortest_fault}
 
@@ -65,6 +65,10 @@ leads_on old h1 h2 piece part taken cut count led is feeds =
                 subst (λ (h : Stored). (k : ℕ) → k < length h.bytes → IsUndecided (front k h)) (sym still) (led.shortest (omega (arith, some, no)))
           ];
     }
+
+-- what was fed leads up to what is held
+pub feeds_leads : (old new : Stored) (piece : List ℕ) (taken : ℕ) → Feeds old new piece taken → Leads old new piece taken
+feeds_leads old new piece taken f = record { within = f.count; grown = f.held; shortest = λ some. shortest_fault old new piece taken f some }
 
 -- where no rings are named, none is longer
 pub goes_through : {T : Type 0} (o : Option Outgrown) (arrives : T → Frame → T → Type 0) (violates : Violation → T → Frame → T → Type 0) (rings : List ℕ) (p : T) (held : Stored) (piece : List ℕ) (p' : T) (held' : Stored) (d : Delivery) → rings ≡ []
@@ -197,10 +201,26 @@ header_bytes Two c n (suc (suc (suc (suc (suc i))))) = omega arith
 held_bytes : (rings : List ℕ) (s : Skip) → IsSkip rings s → All (λ b. b < 256) (held_of s).bytes
 held_bytes rings s h = All-append (λ (b : ℕ). b < 256) (header s.version Send s.channel s.len) s.body.bytes (λ k d less. subst (λ (n : ℕ). n < 256) (get_or_default (header s.version Send s.channel s.len) k 0 d less) (header_bytes s.version s.channel s.len k)) h.bytes
 
--- what a decoder keeps is few
-pub kept_few : (rings : List ℕ) (skip : Option Skip) (decoder : Stored) → KeepsWith rings skip decoder → FitsGreatest rings (length decoder.bytes)
-kept_few rings None decoder kept = kept.few
-kept_few rings (Some s) decoder kept = kept
+-- a message that is not kept is begun, and is longer than its ring
+pub skip_longer : (rings : List ℕ) (s : Skip) → IsSkip rings s → ¬ FitsRings rings (held_of s)
+skip_longer rings s h fits = fits s.channel s.len (begun_of s h.in_range) h.longer
+
+send_few : (v : Version) → header_len v Send ≤ 5
+send_few One = omega arith
+send_few Two = omega arith
+
+-- what a decoder keeps is little
+pub is_kept : (rings : List ℕ) (skip : Option Skip) (decoder : Stored) (stop : Option Stop) → IfSome skip (IsSkip rings) → KeepsWith rings skip decoder → IsKept (record { held = held_with decoder skip; kept = length decoder.bytes; stop = stop; rings = rings })
+is_kept rings None decoder stop skips kept = record { all = λ fits. refl; header = λ c len begun longer. absurd (kept.fits c len begun longer); most = kept.few }
+is_kept rings (Some s) decoder stop skips kept = record {
+  all = λ fits. absurd (skip_longer rings s skips fits);
+  header = λ c len begun longer. omega (arith, kept, send_few s.version);
+  most = λ most within. omega (arith, kept, send_few s.version);
+}
+
+-- nor does it once more of the message came
+pub kept_on : (rings : List ℕ) (old new : Skip) (decoder : Stored) → new.version ≡ old.version → KeepsWith rings (Some old) decoder → KeepsWith rings (Some new) decoder
+kept_on rings old new decoder same kept = omega (arith, kept, ap (λ (v : Version). header_len v Send) same)
 
 -- so what is held of a stream is bytes, and settled
 pub held_with_bytes : (rings : List ℕ) (decoder : Stored) (skip : Option Skip) → All (λ b. b < 256) decoder.bytes → IfSome skip (IsSkip rings) → All (λ b. b < 256) (held_with decoder skip).bytes

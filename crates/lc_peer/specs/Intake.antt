@@ -7,9 +7,10 @@ use Rattle.lc_peer.specs.declared.delivery.Delivery.{Delivery}
 use Rattle.lc_peer.specs.declared.delivery.Stop.{Stop}
 use Rattle.lc_peer.specs.declared.delivery.Stop.TheVariants.{Fault}
 
--- what is held after the last frame that arrived, why the stream was given up, if it was, and the bytes of the channels' rings, none where they are not known
+-- what is held after the last frame that arrived, of which so many bytes are kept in memory, why the stream was given up, if it was, and the bytes of the channels' rings, none where they are not known
 pub record IntakeState : Type 0 where
   pub held : Stored
+  pub kept : ℕ
   pub stop : Option Stop
   pub rings : List ℕ
 

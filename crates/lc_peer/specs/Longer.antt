@@ -1,6 +1,9 @@
 -- Messages that their channel's ring can never hold, and how little is kept where none of them is. That a message has no more bytes than its receiver's buffer is LCMUX's; the rest is this project's own.
 use Rattle.std.specs.Prelude.{ℕ, ◌+◌, ◌<◌, ◌≤◌, List, length, slice_get, IsSomeAnd}
+use Rattle.lc_frame.specs.declared.version.Version.{Version}
 use Rattle.lc_frame.specs.declared.channel.Channel.{Channel}
+use Rattle.lc_frame.specs.declared.kind.Kind.TheVariants.{Send}
+use Rattle.lc_frame.specs.Kind.{header_len}
 use Rattle.lc_frame.specs.Channel.{number_of}
 use Rattle.lc_frame.specs.Stored.{Stored}
 use Rattle.lc_frame.specs.Begun.{HasBegun}
@@ -12,6 +15,10 @@ IsLonger rings c len = IsSomeAnd (slice_get rings (number_of c)) (λ ring. ring 
 -- at the front of what is held no Send is begun whose message is longer than its ring
 abbrev pub FitsRings : List ℕ → Stored → Type 0
 FitsRings rings h = (c : Channel) (len : ℕ) → HasBegun c len h → ¬ IsLonger rings c len
+
+-- a Send of at most so many bytes, its tag and its length among them, is no longer than its ring, whichever its channel is
+abbrev pub FitsAny : ℕ → List ℕ → Type 0
+FitsAny most rings = (v : Version) (c : Channel) (len : ℕ) → header_len v Send + len ≤ most → ¬ IsLonger rings c len
 
 -- so many bytes are no more than the greatest of the rings has, and the longest tag with its number, which has 9
 abbrev pub FitsGreatest : List ℕ → ℕ → Type 0

@@ -1,5 +1,5 @@
 -- How a delivery comes to a Send that is longer than its channel's ring, for src/delivery.rt. A device of the proofs: what a delivery does is in Deliveries.antt, without it.
-use Rattle.std.specs.Prelude.{◌≡◌, ℕ, ◌+◌, ◌<◌, ◌≤◌, ◌⊎◌, List, length, take, drop, Option, Some, None}
+use Rattle.std.specs.Prelude.{◌≡◌, ℕ, ◌+◌, ◌<◌, ◌≤◌, ◌⊎◌, List, [], length, take, drop, Option, Some, None}
 use Rattle.lc_frame.specs.declared.kind.Kind.TheVariants.{Send}
 use Rattle.lc_frame.specs.declared.frame.Frame.{Frame}
 use Rattle.lc_frame.specs.declared.version.Version.{Version}
@@ -13,8 +13,9 @@ use Rattle.lc_peer.specs.Steps.{SoFar}
 use Rattle.lc_peer.specs.Deliveries.{DeliversTo}
 use Rattle.lc_peer.specs.Longer.{IsLonger, FitsRings, FitsGreatest, KeepsFew}
 
--- with so many bytes of the rest, the tag and the length of a Send are held, and nothing else
+-- with so many bytes of the rest, the tag and the length of a Send are held, and nothing else; before it no more bytes are
 pub record StartsSend (held : Stored) (rest : List ℕ) (o : Outgrown) : Type 0 where
+  pub few : length held.bytes ≤ header_len o.version Send
   pub in_range : IsInRange o.version Send o.len
   pub within : o.behind ≤ length rest
   pub is : fed held (take o.behind rest) ≡ stored_in o.version (header o.version Send o.channel o.len)
@@ -52,10 +53,19 @@ pub record GoesFrom (rings : List ℕ) (h : Stored) (rest : List ℕ) : Type 0 w
   pub kept : KeepsHead rings h
   pub headed : 0 < length rings → 0 < length rest → IsDecided h ⊎ IsHeaded h
 
--- what is kept where a delivery ends, or where it comes to a longer Send than its ring
+-- where a delivery goes on with the rest: what is held is few, and either it is nothing, or no Send longer than its ring is begun in it and the rest
+pub record IsReady (rings : List ℕ) (h : Stored) (rest : List ℕ) : Type 0 where
+  pub few : FitsGreatest rings (length h.bytes)
+  pub fits : ((v : Version) × (h ≡ stored_in v [])) ⊎ FitsRings rings (fed h rest)
+
+-- a Send longer than its ring starts where a delivery goes on with the rest
+abbrev pub StartsLonger : List ℕ → Stored → List ℕ → Outgrown → Type 0
+StartsLonger rings held rest o = StartsSend held rest o × IsLonger rings o.channel o.len
+
+-- what is kept where a delivery ends, or of a Send longer than its ring where it comes to one
 abbrev pub KeepsBy : Option Outgrown → List ℕ → Stored → Type 0
 KeepsBy None rings h = KeepsFew rings h
-KeepsBy (Some o) rings h = FitsGreatest rings (length h.bytes)
+KeepsBy (Some o) rings h = length h.bytes ≤ header_len o.version Send
 
 -- how many bytes are missing of a greeting, or of the tag and the length of a Send, where so many are held
 abbrev pub IsMissing : Option Version → ℕ → ℕ → Type 0

@@ -27,6 +27,7 @@ stop_by (Some violation) = Some (Violated violation)
 pub record Skips {T : Type 0} (arrives : T → Frame → T → Type 0) (violates : Violation → T → Frame → T → Type 0) (rings : List ℕ) (count : ℕ) (violation : Option Violation) (p : T) (old : Skip) (rest : List ℕ) (p' : T) (new : Skip) : Type 0 where
   pub steps : Steps arrives violates (step_of count violation) p (held_of old) rest p' (held_of new)
   pub within : count ≤ length rest
+  pub version : new.version ≡ old.version
   pub skip : IsSkip rings new
   pub missing : violation ≡ None → 0 < new.missing
 

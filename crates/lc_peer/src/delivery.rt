@@ -1,13 +1,14 @@
 //! The bytes of a stream, delivered in pieces.
-ghost use Rattle.std.specs.Prelude.{◌≡◌, [], drop};
-ghost use Rattle.lc_frame.specs.Stored.{stored_in};
+ghost use Rattle.std.specs.Prelude.{◌≡◌, [], Some, None, IfSome, IfNone, IfOk, IfErr};
+ghost use Rattle.lc_frame.specs.Stored.{stored_in, fed};
 ghost use Rattle.lc_frame.specs.Progress.{Feeds};
+ghost use Rattle.lc_frame.specs.Begun.{BeginsAtMost};
 ghost use Rattle.lc_peer.specs.Deliveries.{Delivers, DeliversTo};
 ghost use Rattle.lc_peer.specs.Steps.{Steps};
-ghost use Rattle.lc_peer.specs.Longer.{KeepsFew};
-ghost use Rattle.lc_peer.specs.Rings.{ReachesBy, Leads, GoesFrom, KeepsBy};
+ghost use Rattle.lc_peer.specs.Longer.{FitsRings, FitsAny, KeepsFew};
+ghost use Rattle.lc_peer.specs.Rings.{ReachesBy, StartsLonger, IsReady, KeepsBy};
 
-use crate::outgrown::{Outgrown, find_outgrown, lead_in};
+use crate::outgrown::{Lead, Outgrown, find_in_piece, lead_up};
 use crate::peer::Peer;
 use crate::sink::FrameSink;
 use lc_book::Violation;
@@ -52,7 +53,38 @@ fn feed(decoder: &mut StreamDecoder, piece: &[u8]) -> usize
 }
 
 // Where the version is known and nothing is held: a frame that lies whole in the piece arrives from there.
+// `None` where the frame that stands or is begun there has more than `most` bytes, and nothing is done.
+#[inline(always)]
 fn step_in_piece<C, S: FrameSink<C>>(
+    sink: &mut S,
+    context: &C,
+    version: Version,
+    decoder: &mut StreamDecoder,
+    most: usize,
+    piece: &[u8],
+) -> Option<Step>
+    requires { decoder.old ≡ stored_in version [] }
+    ensures steps { IfSome result (λ step. Steps S.arrived S.violated step sink.old decoder.old piece.now sink.new decoder.new) }
+    ensures within { IfSome result (λ step. BeginsAtMost version most piece.now) }
+    ensures none { IfNone result ((sink.new ≡ sink.old) × (decoder.new ≡ decoder.old)) }
+{
+    let decoded = match decoder.decode_or_take(version, piece, most) {
+        Some(decoded) => decoded,
+        None => return None,
+    };
+    match decoded {
+        Decoded::Whole { frame, used } => match sink.arrive_in(context, frame) {
+            Ok(()) => Some(Step::Arrived(used)),
+            Err(violation) => Some(Step::Stopped(Stop::Violated(violation), feed(decoder, piece))),
+        },
+        Decoded::More => Some(Step::Open(piece.len())),
+        Decoded::Fault(fault) => Some(Step::Stopped(Stop::Fault(fault), feed(decoder, piece))),
+    }
+}
+
+// The same of a frame of any length.
+#[inline(never)]
+fn step_in_any<C, S: FrameSink<C>>(
     sink: &mut S,
     context: &C,
     version: Version,
@@ -62,13 +94,21 @@ fn step_in_piece<C, S: FrameSink<C>>(
     requires { decoder.old ≡ stored_in version [] }
     ensures { Steps S.arrived S.violated result sink.old decoder.old piece.now sink.new decoder.new }
 {
-    match decoder.decode_or_take(version, piece) {
-        Decoded::Whole { frame, used } => match sink.arrive_in(context, frame) {
-            Ok(()) => Step::Arrived(used),
-            Err(violation) => Step::Stopped(Stop::Violated(violation), feed(decoder, piece)),
-        },
-        Decoded::More => Step::Open(piece.len()),
-        Decoded::Fault(fault) => Step::Stopped(Stop::Fault(fault), feed(decoder, piece)),
+    match step_in_piece(sink, context, version, decoder, usize::MAX, piece) {
+        Some(step) => step,
+        None => complete(sink, context, decoder, piece),
+    }
+}
+
+// The same without a call while a whole frame stands, of which the decoder takes nothing more.
+#[inline(always)]
+fn feed_open(decoder: &mut StreamDecoder, piece: &[u8]) -> usize
+    ensures { Feeds decoder.old decoder.new piece.now result }
+{
+    let _stored = decoder.stored();
+    match decoder.frame() {
+        Some(_frame) => 0,
+        None => feed(decoder, piece),
     }
 }
 
@@ -81,7 +121,7 @@ fn complete<C, S: FrameSink<C>>(
 ) -> Step
     ensures { Steps S.arrived S.violated result sink.old decoder.old piece.now sink.new decoder.new }
 {
-    let taken = feed(decoder, piece);
+    let taken = feed_open(decoder, piece);
     match decoder.frame() {
         Some(frame) => match sink.arrive_in(context, frame) {
             Ok(()) => {
@@ -112,21 +152,57 @@ fn step_in_decoder<C, S: FrameSink<C>>(
     complete(sink, context, decoder, piece)
 }
 
-// One step: what stands at the front of what is held and of the piece is dealt with.
+// Where the version is known and nothing is held: one step, or the Send at the front, if it is longer than
+// its ring, of which no byte is taken.
+#[inline(always)]
+fn step_or_find<C, S: FrameSink<C>>(
+    sink: &mut S,
+    context: &C,
+    version: Version,
+    decoder: &mut StreamDecoder,
+    rings: &[u32],
+    most: usize,
+    piece: &[u8],
+) -> Result<Step, Outgrown>
+    requires { decoder.old ≡ stored_in version [] }
+    ensures steps { IfOk result (λ step. Steps S.arrived S.violated step sink.old decoder.old piece.now sink.new decoder.new) }
+    ensures fits { IfOk result (λ step. FitsAny most rings.now → FitsRings rings.now (fed decoder.old piece.now)) }
+    ensures longer { IfErr result (λ o. StartsLonger rings.now decoder.old piece.now o) }
+    ensures same { IfErr result (λ o. (sink.new ≡ sink.old) × (decoder.new ≡ decoder.old)) }
+{
+    match step_in_piece(sink, context, version, decoder, most, piece) {
+        Some(step) => Ok(step),
+        None => match find_in_piece(version, rings, piece) {
+            Some(outgrown) => Err(outgrown),
+            None => Ok(step_in_any(sink, context, version, decoder, piece)),
+        },
+    }
+}
+
+// One step: what stands at the front of what is held and of the piece is dealt with; or the Send at the
+// front, if it is longer than its ring.
+#[inline(always)]
 fn go_on<C, S: FrameSink<C>>(
     sink: &mut S,
     context: &C,
     decoder: &mut StreamDecoder,
+    rings: &[u32],
+    most: usize,
     piece: &[u8],
-) -> Step
-    ensures { Steps S.arrived S.violated result sink.old decoder.old piece.now sink.new decoder.new }
+) -> Result<Step, Outgrown>
+    ensures steps { IfOk result (λ step. Steps S.arrived S.violated step sink.old decoder.old piece.now sink.new decoder.new) }
+    ensures kept { IfOk result (λ step. FitsAny most rings.now → IsReady rings.now decoder.old piece.now → KeepsFew rings.now decoder.new) }
+    ensures longer { IfErr result (λ o. StartsLonger rings.now decoder.old piece.now o) }
+    ensures same { IfErr result (λ o. (sink.new ≡ sink.old) × (decoder.new ≡ decoder.old)) }
 {
-    match decoder.version() {
-        Some(version) if decoder.stored() == 0 => {
-            step_in_piece(sink, context, version, decoder, piece)
-        }
-        _ => step_in_decoder(sink, context, decoder, piece),
+    let stored = decoder.stored();
+    let Some(version) = decoder.version() else {
+        return Ok(step_in_decoder(sink, context, decoder, piece));
+    };
+    if stored > 0 {
+        return Ok(step_in_decoder(sink, context, decoder, piece));
     }
+    step_or_find(sink, context, version, decoder, rings, most, piece)
 }
 
 /// How far a delivery went: the first Send that is longer than its ring, if it came to one.
@@ -137,34 +213,32 @@ pub(crate) struct Reached {
 }
 
 /// Delivers a piece up to the first Send that is longer than its channel's ring, where the bytes of
-/// the rings are named: of that no byte behind its header is taken.
+/// the rings are named: of that no byte behind its header is taken. A Send of at most `most` bytes is
+/// known to fit its ring, whichever that is.
 pub(crate) fn deliver_up_to<C, S: FrameSink<C>>(
     sink: &mut S,
     context: &C,
     decoder: &mut StreamDecoder,
     rings: &[u32],
+    most: usize,
     piece: &[u8],
 ) -> Reached
     ensures reaches { ReachesBy result.outgrown S.arrived S.violated rings.now sink.old decoder.old piece.now sink.new decoder.new result.delivery }
-    ensures kept { KeepsFew rings.now decoder.old → KeepsBy result.outgrown rings.now decoder.new }
+    ensures kept { FitsAny most rings.now → KeepsFew rings.now decoder.old → KeepsBy result.outgrown rings.now decoder.new }
 {
     let _stored = decoder.stored();
-    let mut taken = lead(rings, decoder, piece);
-    let mut frames = 0;
+    let Lead { taken, outgrown } = lead_up(rings, most, decoder, piece);
+    let (mut taken, mut frames) = (taken, 0);
+    if let Some(outgrown) = outgrown {
+        return comes_to(taken, frames, outgrown);
+    }
     'frames: loop {
         let rest = piece.split_at(taken).1;
-        let _held = decoder.stored();
-        if let Some(outgrown) = find_outgrown(rings, decoder, rest) {
-            return Reached {
-                delivery: Delivery {
-                    taken,
-                    frames,
-                    stop: None,
-                },
-                outgrown: Some(outgrown),
-            };
-        }
-        let (count, stop) = match go_on(sink, context, decoder, rest) {
+        let step = match go_on(sink, context, decoder, rings, most, rest) {
+            Ok(step) => step,
+            Err(outgrown) => return comes_to(taken, frames, outgrown),
+        };
+        let (count, stop) = match step {
             Step::Arrived(count) if taken + count < piece.len() => {
                 taken += count;
                 frames += 1;
@@ -189,16 +263,18 @@ pub(crate) fn deliver_up_to<C, S: FrameSink<C>>(
     }
 }
 
-// Where no rings are named, nothing has to be known of a header before the rest is taken.
-fn lead(rings: &[u32], decoder: &mut StreamDecoder, piece: &[u8]) -> usize
-    ensures leads { Leads decoder.old decoder.new piece.now result }
-    ensures goes { KeepsFew rings.now decoder.old → GoesFrom rings.now decoder.new (drop result piece.now) }
+// It came to a Send that is longer than its ring.
+fn comes_to(taken: usize, frames: u64, outgrown: Outgrown) -> Reached
+    ensures { result ≡ record { delivery = record { taken = taken; frames = frames; stop = None }; outgrown = Some outgrown } }
 {
-    let _stored = decoder.stored();
-    if rings.is_empty() {
-        return 0;
+    Reached {
+        delivery: Delivery {
+            taken,
+            frames,
+            stop: None,
+        },
+        outgrown: Some(outgrown),
     }
-    lead_in(decoder, piece)
 }
 
 /// What `Peer::deliver` does, at any sink.
@@ -210,7 +286,7 @@ pub fn deliver_to<C, S: FrameSink<C>>(
 ) -> Delivery
     ensures { DeliversTo S.arrived S.violated sink.old decoder.old piece.now sink.new decoder.new result }
 {
-    let reached = deliver_up_to(sink, context, decoder, &[], piece);
+    let reached = deliver_up_to(sink, context, decoder, &[], usize::MAX, piece);
     reached.delivery
 }
 

@@ -1,5 +1,5 @@
 //! The receiving end of one channel.
-ghost use Rattle.std.specs.Prelude.{◌≡◌, ◌≤◌, ◌↔◌, ◌++◌, length, if◌then◌else◌, is_ok, Err, None, IfOk, IfErr, IfSome};
+ghost use Rattle.std.specs.Prelude.{◌≡◌, ◌<◌, ◌≤◌, ◌↔◌, ◌++◌, length, if◌then◌else◌, is_ok, Err, None, IfOk, IfErr, IfSome};
 ghost use Rattle.std.specs.Option.{option_map};
 ghost use Rattle.std.specs.Result.{result_err};
 ghost use Rattle.lc_frame.specs.Bounds.{IsCapacity};
@@ -197,7 +197,8 @@ impl Inbox {
     /// `RecvRing::front` cuts it. `None` where none waits.
     #[inline]
     pub fn front(&self) -> Option<(&[u8], &[u8])>
-        ensures { option_map (λ parts. parts.0.now ++ parts.1.now) result ≡ front self.now.ring }
+        ensures whole { option_map (λ parts. parts.0.now ++ parts.1.now) result ≡ front self.now.ring }
+        ensures first { IfSome result (λ parts. 0 < length parts.0.now) }
     {
         self.ring.front()
     }

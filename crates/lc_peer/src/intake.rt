@@ -20,12 +20,12 @@ pub struct Intake {
 }
 
 impl Model for Intake {
-    ghost use Rattle.std.specs.Prelude.{[]};
+    ghost use Rattle.std.specs.Prelude.{[], length};
     ghost use Rattle.lc_peer.specs.Intake.{IntakeState, IsOpenUnlessStopped};
 
     ghost Value = { IntakeState };
 
-    ghost view = { λ intake. record { held = intake.decoder; stop = intake.stop; rings = [] } };
+    ghost view = { λ intake. record { held = intake.decoder; kept = length intake.decoder.bytes; stop = intake.stop; rings = [] } };
 
     ghost invariant = { λ intake. IsOpenUnlessStopped intake.decoder intake.stop };
 }
@@ -34,7 +34,7 @@ impl Intake {
     /// The start of a stream. It takes the memory for `MAX_FRAME` bytes here and none later; the
     /// error is want of it.
     pub fn new(alloc: Global) -> Result<Intake, AllocError>
-        ensures { IfOk result (λ intake. intake ≡ record { held = nothing_stored; stop = None; rings = [] }) }
+        ensures { IfOk result (λ intake. intake ≡ record { held = nothing_stored; kept = 0; stop = None; rings = [] }) }
     {
         Ok(Intake {
             decoder: StreamDecoder::new(alloc)?,

@@ -1,7 +1,9 @@
 //! Intakes, as what reads a stream sees them.
 ghost use Rattle.std.specs.Prelude.{◌≡◌, ◌<◌, None, All, IfSome};
 ghost use Rattle.lc_frame.specs.Stored.{IsUndecided, IsSettled};
-ghost use Rattle.lc_frame.specs.Fill.{FilledAs};
+ghost use Rattle.lc_frame.specs.declared.fill.Filled.TheVariants.{Few};
+ghost use Rattle.lc_frame.specs.Fill.{FilledAs, LacksMore};
+ghost use Rattle.lc_peer.specs.Longer.{FitsRings};
 ghost use Rattle.lc_peer.specs.Deliveries.{DeliversTo};
 ghost use Rattle.lc_peer.specs.Intake.{IntakeEnds, GivesUp};
 
@@ -49,6 +51,7 @@ pub trait IntakeFor<C, S: FrameSink<C>> {
     /// [`Intake::fill`] does; else, or where it keeps none of them, it does nothing.
     fn fill<R, F: Fill<R>>(&mut self, filler: &F, source: &mut R) -> Filled
         ensures held { FilledAs F.fills result source.old source.new (state self.old).held (state self.new).held }
+        ensures few { result ≡ Few → FitsRings (state self.old).rings (state self.old).held → ¬ LacksMore (state self.old).held }
         ensures bytes { All (λ b. b < 256) (state self.new).held.bytes }
         ensures stop { (state self.new).stop ≡ (state self.old).stop }
         ensures rings { (state self.new).rings ≡ (state self.old).rings };

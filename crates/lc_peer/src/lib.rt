@@ -1,5 +1,5 @@
-//! One side of a session as one value: everything that it may do and everything that may come to
-//! it, with no thread, no reader and no writer.
+//! One side of a session as a value (sans I/O): every local operation, and every arriving frame, with
+//! no thread, no reader and no writer.
 #![tactic(auto)]
 
 mod channel_state;
@@ -14,6 +14,7 @@ mod peer;
 mod questions;
 mod ring_intake;
 mod ring_sink;
+mod rings;
 mod sink;
 mod skip;
 mod unkept;

@@ -1,11 +1,11 @@
 //! A Send that is longer than its channel's ring, found by its header.
-ghost use Rattle.std.specs.Prelude.{◌≡◌, ◌<◌, ℕ, List, drop, length, Some, IfSome, IfNone};
+ghost use Rattle.std.specs.Prelude.{◌≡◌, ◌<◌, ℕ, List, [], drop, length, IsTrue, false, Some, IfSome, IfNone};
 ghost use Rattle.lc_frame.specs.declared.kind.Kind.TheVariants.{Send};
 ghost use Rattle.lc_frame.specs.Kind.{header_len};
-ghost use Rattle.lc_frame.specs.Stored.{fed, IsSettled};
+ghost use Rattle.lc_frame.specs.Stored.{stored_in, IsSettled};
 ghost use Rattle.lc_frame.specs.Progress.{Feeds};
-ghost use Rattle.lc_peer.specs.Longer.{IsLonger, FitsRings, KeepsFew};
-ghost use Rattle.lc_peer.specs.Rings.{StartsSend, Leads, GoesFrom, IsMissing};
+ghost use Rattle.lc_peer.specs.Longer.{IsLonger, FitsRings, FitsAny, KeepsFew};
+ghost use Rattle.lc_peer.specs.Rings.{StartsLonger, Leads, GoesFrom, IsReady, IsMissing};
 
 use lc_frame::{Channel, GREETING, StreamDecoder, Version, begun_send};
 
@@ -27,48 +27,56 @@ pub(crate) fn head_len(version: Version) -> usize
     version.max_frame() - version.max_body()
 }
 
-// The Send that is begun, where the decoder holds nothing, or its tag and its length alone.
-#[inline(always)]
-fn find_begun(version: Version, decoder: &StreamDecoder, rest: &[u8]) -> Option<Outgrown>
-    requires { decoder.now.version ≡ Some version }
-    ensures starts { IfSome result (λ o. StartsSend decoder.now rest.now o) }
-    ensures none { IfNone result ((rings : List ℕ) → 0 < length rings → GoesFrom rings decoder.now rest.now → FitsRings rings (fed decoder.now rest.now)) }
+// Whether a message of this length is longer than its channel's ring.
+#[inline]
+fn is_longer(rings: &[u32], channel: Channel, len: usize) -> bool
+    ensures yes { IsTrue result → IsLonger rings.now channel len }
+    ensures no { result ≡ false → ¬ IsLonger rings.now channel len }
 {
-    let stored = decoder.stored();
-    let head = head_len(version);
-    let (begun, behind) = if stored == 0 {
-        (begun_send(version, rest)?, head)
-    } else if stored == head {
-        (decoder.begun()?, 0)
-    } else {
+    match rings.get(channel.index()) {
+        Some(ring) => len > *ring as usize,
+        None => false,
+    }
+}
+
+/// The Send that is begun at the front of a piece, where nothing is held, if it is longer than the ring
+/// of its channel.
+pub(crate) fn find_in_piece(version: Version, rings: &[u32], piece: &[u8]) -> Option<Outgrown>
+    ensures some { IfSome result (λ o. StartsLonger rings.now (stored_in version []) piece.now o) }
+    ensures none { IfNone result (FitsRings rings.now (stored_in version piece.now)) }
+{
+    let begun = begun_send(version, piece)?;
+    if !is_longer(rings, begun.channel, begun.len) {
         return None;
-    };
+    }
     Some(Outgrown {
         version,
         channel: begun.channel,
         len: begun.len,
-        behind,
+        behind: head_len(version),
     })
 }
 
-/// The same, if it is longer than the ring of its channel.
-#[inline(always)]
-pub(crate) fn find_outgrown(rings: &[u32], decoder: &StreamDecoder, rest: &[u8]) -> Option<Outgrown>
-    ensures starts { IfSome result (λ o. StartsSend decoder.now rest.now o) }
-    ensures longer { IfSome result (λ o. IsLonger rings.now o.channel o.len) }
-    ensures none { IfNone result (GoesFrom rings.now decoder.now rest.now → FitsRings rings.now (fed decoder.now rest.now)) }
+// The Send whose tag and length are held, and nothing more, if it is longer than the ring of its channel.
+fn find_headed(rings: &[u32], decoder: &StreamDecoder) -> Option<Outgrown>
+    ensures some { IfSome result (λ o. (rest : List ℕ) → StartsLonger rings.now decoder.now rest o) }
+    ensures none { IfNone result ((rest : List ℕ) → 0 < length rings.now → GoesFrom rings.now decoder.now rest → IsReady rings.now decoder.now rest) }
 {
-    let _stored = decoder.stored();
-    if rings.is_empty() {
-        return None;
-    }
+    let stored = decoder.stored();
     let version = decoder.version()?;
-    let begun = find_begun(version, decoder, rest)?;
-    let ring = *rings.get(begun.channel.index())?;
-    if begun.len <= ring as usize {
+    if stored != head_len(version) {
         return None;
     }
-    Some(begun)
+    let begun = decoder.begun()?;
+    if !is_longer(rings, begun.channel, begun.len) {
+        return None;
+    }
+    Some(Outgrown {
+        version,
+        channel: begun.channel,
+        len: begun.len,
+        behind: 0,
+    })
 }
 
 // How many bytes are missing of a greeting, or of what tells which Send is begun, of which a part is
@@ -94,10 +102,9 @@ fn feed(decoder: &mut StreamDecoder, piece: &[u8]) -> usize
     decoder.feed(piece)
 }
 
-/// Takes the bytes that are missing of a greeting or of a header, so that it is known which Send is
-/// begun before a byte of its message is taken.
-#[inline(always)]
-pub(crate) fn lead_in(decoder: &mut StreamDecoder, piece: &[u8]) -> usize
+// Takes the bytes that are missing of a greeting or of a header, so that it is known which Send is
+// begun before a byte of its message is taken.
+fn lead_in(decoder: &mut StreamDecoder, piece: &[u8]) -> usize
     ensures leads { Leads decoder.old decoder.new piece.now result }
     ensures goes { (rings : List ℕ) → KeepsFew rings decoder.old → GoesFrom rings decoder.new (drop result piece.now) }
 {
@@ -114,5 +121,67 @@ pub(crate) fn lead_in(decoder: &mut StreamDecoder, piece: &[u8]) -> usize
         if count < cut {
             return taken;
         }
+    }
+}
+
+/// How many bytes led up to where a delivery goes on, or to a Send that is longer than its ring.
+#[derive(Clone, Copy)]
+pub(crate) struct Lead {
+    pub taken: usize,
+    pub outgrown: Option<Outgrown>,
+}
+
+// Where part of a greeting or of a header is held. Few bytes are mostly taken at once.
+#[inline(never)]
+fn lead_on(rings: &[u32], most: usize, decoder: &mut StreamDecoder, piece: &[u8]) -> Lead
+    ensures leads { Leads decoder.old decoder.new piece.now result.taken }
+    ensures some { IfSome result.outgrown (λ o. StartsLonger rings.now decoder.new (drop result.taken piece.now) o) }
+    ensures none { IfNone result.outgrown (FitsAny most rings.now → 0 < length rings.now → KeepsFew rings.now decoder.old → IsReady rings.now decoder.new (drop result.taken piece.now)) }
+{
+    let _old = decoder.stored();
+    match decoder.feed_few(piece, most) {
+        Some(taken) => {
+            let _new = decoder.stored();
+            Lead {
+                taken,
+                outgrown: None,
+            }
+        }
+        None => {
+            let taken = lead_in(decoder, piece);
+            Lead {
+                taken,
+                outgrown: find_headed(rings, decoder),
+            }
+        }
+    }
+}
+
+/// Takes bytes up to where a delivery goes on. Where rings are named and part of a greeting or of a
+/// header is held, it is known then which Send is begun, and no byte of a longer one is taken.
+#[inline(always)]
+pub(crate) fn lead_up(rings: &[u32], most: usize, decoder: &mut StreamDecoder, piece: &[u8]) -> Lead
+    ensures leads { Leads decoder.old decoder.new piece.now result.taken }
+    ensures some { IfSome result.outgrown (λ o. StartsLonger rings.now decoder.new (drop result.taken piece.now) o) }
+    ensures none { IfNone result.outgrown (FitsAny most rings.now → KeepsFew rings.now decoder.old → IsReady rings.now decoder.new (drop result.taken piece.now)) }
+{
+    let stored = decoder.stored();
+    if rings.is_empty() {
+        return Lead {
+            taken: 0,
+            outgrown: None,
+        };
+    }
+    match decoder.version() {
+        Some(version) => {
+            if stored == 0 || stored >= head_len(version) {
+                return Lead {
+                    taken: 0,
+                    outgrown: None,
+                };
+            }
+            lead_on(rings, most, decoder, piece)
+        }
+        None => lead_on(rings, most, decoder, piece),
     }
 }

@@ -155,8 +155,20 @@ impl Peer {
         };
         self.judge_slot()?;
         let body = Body::copied(room, body);
-        self.place(Frame::Send { channel, body });
+        self.send_owned(channel, body);
         Ok(())
+    }
+
+    /// Moves a message into the outbound queue: its book allows it, and one more frame may wait.
+    /// Nothing is copied, and no memory is asked for.
+    #[inline(always)]
+    pub fn send_owned(&mut self, channel: Channel, body: Body)
+        requires valid { IsValid self.old.version (Send channel body) }
+        requires accepted { spend_refusal (client self.old channel) (length body) ≡ None }
+        requires room { queue_refusal self.old ≡ None }
+        ensures { self.new ≡ put self.old (Send channel body) }
+    {
+        self.place(Frame::Send { channel, body });
     }
 
     /// `n` guarantees are given up. Refused by 15, 5, 6 and 13, in this order.
@@ -309,7 +321,8 @@ impl Peer {
     /// The first message that waits on the channel.
     #[inline]
     pub fn front(&self, channel: Channel) -> Option<(&[u8], &[u8])>
-        ensures { option_map (λ parts. parts.0.now ++ parts.1.now) result ≡ front (inbox self.now channel).ring }
+        ensures whole { option_map (λ parts. parts.0.now ++ parts.1.now) result ≡ front (inbox self.now channel).ring }
+        ensures first { IfSome result (λ parts. 0 < length parts.0.now) }
     {
         self.channels[channel.index()].inbox.front()
     }

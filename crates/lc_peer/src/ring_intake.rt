@@ -1,16 +1,18 @@
 //! The bytes of a stream on their way to a sink whose rings have known sizes.
-ghost use Rattle.std.specs.Prelude.{◌≡◌, ◌<◌, ℕ, List, [], None, All, IfOk, IfSome, IsSome};
-ghost use Rattle.lc_frame.specs.Stored.{nothing_stored, IsUndecided, IsSettled};
-ghost use Rattle.lc_frame.specs.Fill.{FilledAs};
+ghost use Rattle.std.specs.Prelude.{◌≡◌, ◌<◌, ℕ, List, [], Some, None, All, IfOk, IfSome, IsSome};
+ghost use Rattle.lc_frame.specs.Stored.{Stored, nothing_stored, IsUndecided, IsSettled};
+ghost use Rattle.lc_frame.specs.declared.fill.Filled.TheVariants.{Few};
+ghost use Rattle.lc_frame.specs.Fill.{FilledAs, LacksMore};
 ghost use Rattle.lc_peer.specs.Deliveries.{DeliversTo};
 ghost use Rattle.lc_peer.specs.Intake.{IntakeEnds, GivesUp};
-ghost use Rattle.lc_peer.specs.Longer.{FitsGreatest, KeepsFew};
+ghost use Rattle.lc_peer.specs.Longer.{FitsRings, KeepsFew};
 ghost use Rattle.lc_peer.specs.Skips.{stop_by, Goes};
-ghost use Rattle.lc_peer.specs.RingIntake.{IsSkip, KeepsWith, held_of};
+ghost use Rattle.lc_peer.specs.RingIntake.{IsSkip, IsKept, KeepsWith, held_of};
 
 use crate::delivery::{Delivery, Reached, Stop, deliver_up_to};
 use crate::outgrown::{Outgrown, head_len};
 use crate::ring_sink::RingSink;
+use crate::rings::Rings;
 use crate::skip::{Skip, Skipped, skip_on};
 use crate::unkept::Unkept;
 use lc_book::Violation;
@@ -21,24 +23,25 @@ use std::fmt::{Debug, Formatter};
 use std::marker::Model;
 
 /// What [`Intake`](crate::Intake) is, for one sink whose rings keep their sizes. It answers the same,
-/// and of a Send that is longer than its ring it keeps the tag and the length, and no byte of the
-/// message: it counts them to their end. So it never keeps more than the greatest ring has, and the
-/// 9 bytes of the longest tag and number.
+/// and of a Send that is longer than its ring it keeps at most the tag and the length, and no byte of
+/// the message: it counts them to their end. So it never keeps more than the greatest ring has, and
+/// the 9 bytes of the longest tag and number.
 #[derive(Drop)]
 pub struct RingIntake {
     decoder: StreamDecoder,
-    rings: [u32; CHANNELS],
+    rings: Rings,
     skip: Option<Skip>,
     stop: Option<Stop>,
 }
 
 impl Model for RingIntake {
+    ghost use Rattle.std.specs.Prelude.{length};
     ghost use Rattle.lc_peer.specs.Intake.{IntakeState};
     ghost use Rattle.lc_peer.specs.RingIntake.{IsRingIntake, held_with};
 
     ghost Value = { IntakeState };
 
-    ghost view = { λ i. record { held = held_with i.decoder i.skip; stop = i.stop; rings = i.rings } };
+    ghost view = { λ i. record { held = held_with i.decoder i.skip; kept = length i.decoder.bytes; stop = i.stop; rings = i.rings } };
 
     ghost invariant = { λ i. IsRingIntake i.decoder i.rings i.skip i.stop };
 }
@@ -65,7 +68,7 @@ fn deliver_kept<C, S: RingSink<C>>(
     sink: &mut S,
     context: &C,
     decoder: &mut StreamDecoder,
-    rings: &[u32; CHANNELS],
+    rings: &Rings,
     piece: &[u8],
 ) -> Went
     requires rings { S.rings sink.old ≡ rings.now }
@@ -74,7 +77,14 @@ fn deliver_kept<C, S: RingSink<C>>(
     ensures kept { KeepsWith rings.now result.skip decoder.new }
 {
     let _stored = decoder.stored();
-    let Reached { delivery, outgrown } = deliver_up_to(sink, context, decoder, rings, piece);
+    let Reached { delivery, outgrown } = deliver_up_to(
+        sink,
+        context,
+        decoder,
+        rings.as_slice(),
+        rings.most(),
+        piece,
+    );
     match outgrown {
         None => Went {
             delivery,
@@ -119,6 +129,7 @@ fn deliver_unkept<C, S: RingSink<C>>(sink: &mut S, context: &C, skip: Skip, piec
     requires missing { 0 < skip.missing }
     ensures goes { Goes S.FrameSink.arrived S.FrameSink.violated (S.rings sink.old) sink.old (held_of skip) piece.now sink.new nothing_stored result.skip result.delivery }
     ensures some { IsSome result.skip }
+    ensures kept { (rings : List ℕ) (decoder : Stored) → KeepsWith rings (Some skip) decoder → KeepsWith rings result.skip decoder }
 {
     let Skipped {
         skip,
@@ -139,17 +150,19 @@ fn deliver_unkept<C, S: RingSink<C>>(sink: &mut S, context: &C, skip: Skip, piec
 fn fill_begun<R, F: Fill<R>>(decoder: &mut StreamDecoder, filler: &F, source: &mut R) -> Filled
     ensures held { FilledAs F.fills result source.old source.new decoder.old decoder.new }
     ensures kept { (rings : List ℕ) → KeepsFew rings decoder.old → KeepsFew rings decoder.new }
+    ensures few { result ≡ Few → ¬ LacksMore decoder.old }
     ensures bytes { All (λ b. b < 256) decoder.new.bytes }
 {
     let stored = decoder.stored();
-    match decoder.version() {
-        Some(version) if stored >= head_len(version) => {
-            let filled = decoder.fill(filler, source);
-            let _stored = decoder.stored();
-            filled
-        }
-        _ => Filled::Few,
+    let Some(version) = decoder.version() else {
+        return Filled::Few;
+    };
+    if stored < head_len(version) {
+        return Filled::Few;
     }
+    let filled = decoder.fill(filler, source);
+    let _stored = decoder.stored();
+    filled
 }
 
 impl Debug for RingIntake {
@@ -162,11 +175,11 @@ impl RingIntake {
     /// The start of a stream, to a sink whose rings have so many bytes. It takes the memory for
     /// `MAX_FRAME` bytes here and none later; the error is want of it.
     pub fn new(alloc: Global, rings: [u32; CHANNELS]) -> Result<RingIntake, AllocError>
-        ensures { IfOk result (λ intake. intake ≡ record { held = nothing_stored; stop = None; rings = rings }) }
+        ensures { IfOk result (λ intake. intake ≡ record { held = nothing_stored; kept = 0; stop = None; rings = rings }) }
     {
         Ok(RingIntake {
             decoder: StreamDecoder::new(alloc)?,
-            rings,
+            rings: Rings::new(rings),
             skip: None,
             stop: None,
         })
@@ -183,9 +196,11 @@ impl RingIntake {
         self.stop
     }
 
-    /// How many bytes of the stream are kept in memory.
+    /// How many bytes of the stream are kept in memory: all that came since the last whole frame, unless
+    /// they begin a message that is longer than its ring, of which at most the tag and the length are.
     pub fn kept(&self) -> usize
-        ensures { FitsGreatest self.now.rings result }
+        ensures value { result ≡ self.now.kept }
+        ensures little { IsKept self.now }
     {
         self.decoder.stored()
     }
@@ -243,6 +258,7 @@ impl RingIntake {
     #[inline]
     pub fn fill<R, F: Fill<R>>(&mut self, filler: &F, source: &mut R) -> Filled
         ensures held { FilledAs F.fills result source.old source.new self.old.held self.new.held }
+        ensures few { result ≡ Few → FitsRings self.old.rings self.old.held → ¬ LacksMore self.old.held }
         ensures bytes { All (λ b. b < 256) self.new.held.bytes }
         ensures stop { self.new.stop ≡ self.old.stop }
         ensures rings { self.new.rings ≡ self.old.rings }

@@ -25,9 +25,9 @@ returns g c =
       | then-missing-gt0 w ↦
           let some : 0 < old.missing - count = omega (arith, w.if-missing-gt0.true) in
           let stays = stays_open g.S.FrameSink.arrived g.S.FrameSink.violated rings c.args.sink.now old new rest count c.requires.skip refl refl refl body within missing fits some (omega (arith, some, c.min-count.ensures)) in
-          subst Does (λ i. (sym w.violation-is i, sym w.sink-is i)) (record { steps = stays; within = within; skip = kept; missing = λ none. some })
+          subst Does (λ i. (sym w.violation-is i, sym w.sink-is i)) (record { steps = stays; within = within; version = refl; skip = kept; missing = λ none. some })
       | else-missing-gt0 w ↦
           let none : old.missing - count ≡ 0 = omega (arith, w.if-missing-gt0.false) in
           let refused = refuses g.S.FrameSink.arrived g.S.FrameSink.violated rings c.args.sink.now old new rest count c.requires.skip refl refl refl body within missing fits w.refuse_in.result w.refuse_in.new.self none w.refuse_in.ensures in
-          subst Does (λ i. (sym w.violation-is i, sym w.sink-is i)) (record { steps = refused; within = within; skip = kept; missing = λ nothing. absurd cc })
+          subst Does (λ i. (sym w.violation-is i, sym w.sink-is i)) (record { steps = refused; within = within; version = refl; skip = kept; missing = λ nothing. absurd cc })
     ]

@@ -3,7 +3,7 @@ use Rattle.std.proofs.lemmas.Grind.{common_steps}
 use Rattle.std.proofs.Math.Seq.{map-set_same}
 use Rattle.lc_peer.specs.PeerFields.{ring_of}
 use Rattle.std.proofs.lemmas.List.{get_or_read}
-use Rattle.lc_peer.proofs.Rings.{ring_kept}
+use Rattle.lc_peer.proofs.RingSizes.{ring_kept}
 use Rattle.lc_frame.specs.FrameRef.{frame_of}
 use Rattle.lc_peer.proofs.peer.Peer.arrive.Goals as goal
 

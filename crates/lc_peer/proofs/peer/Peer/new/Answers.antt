@@ -4,7 +4,7 @@ use Rattle.lc_peer.specs.declared.channel_state.ChannelState.{ChannelState}
 use Rattle.lc_peer.specs.Peer.{new_channel}
 use Rattle.lc_peer.proofs.Versions.{made_versions}
 use Rattle.lc_peer.specs.PeerFields.{ring_of}
-use Rattle.lc_peer.proofs.Rings.{made_rings}
+use Rattle.lc_peer.proofs.RingSizes.{made_rings}
 use Rattle.lc_peer.proofs.peer.Peer.new.Goals as goal
 
 pub invariant_of-result : goal.invariant_of-result

@@ -2,7 +2,7 @@ use Rattle.std.proofs.Common.{get_or, ap, ◌∙◌, arith}
 use Rattle.std.proofs.lemmas.Grind.{common_steps}
 use Rattle.std.proofs.Math.Seq.{map-set_same}
 use Rattle.lc_peer.specs.PeerFields.{ring_of}
-use Rattle.lc_peer.proofs.Rings.{ring_put}
+use Rattle.lc_peer.proofs.RingSizes.{ring_put}
 use Rattle.lc_frame.specs.FrameRef.{frame_of}
 use Rattle.lc_peer.proofs.peer.Peer.place.Goals as goal
 

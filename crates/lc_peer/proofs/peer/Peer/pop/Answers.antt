@@ -4,7 +4,7 @@ use Rattle.std.proofs.Math.Seq.{map-set_same}
 use Rattle.lc_peer.specs.PeerFields.{ring_of}
 use Rattle.std.proofs.lemmas.List.{get_or_read}
 use Rattle.lc_peer.specs.Inbox.{InboxState}
-use Rattle.lc_peer.proofs.Rings.{ring_taken}
+use Rattle.lc_peer.proofs.RingSizes.{ring_taken}
 use Rattle.lc_peer.proofs.peer.Peer.pop.Goals as goal
 
 pub invariant_of-self : goal.invariant_of-self

@@ -3,7 +3,7 @@ use Rattle.std.proofs.lemmas.Grind.{common_steps}
 use Rattle.std.proofs.Math.Seq.{map-set_same}
 use Rattle.lc_peer.specs.PeerFields.{ring_of}
 use Rattle.std.proofs.lemmas.List.{get_or_read}
-use Rattle.lc_peer.proofs.Rings.{taken_kept}
+use Rattle.lc_peer.proofs.RingSizes.{taken_kept}
 use Rattle.lc_peer.proofs.peer.Peer.take_into.Goals as goal
 
 pub invariant_of-self : goal.invariant_of-self
