@@ -2,24 +2,25 @@
 //!
 //! # Where bytes wait
 //!
-//! `Outgo` has one buffer of the longest frame's length, and the version of its stream. At first
-//! it holds the greeting. In a call of `write_out` it holds what is left of that or of the frame
-//! that was begun, and after it copies of the first frames that wait; `note_taken` (in
-//! `writing.rt`) lets those leave the peer whose first byte a write took, and a fault cuts the
-//! copies off again. Between calls it holds the rest of the greeting or of one frame at most.
-//! `Intake` is a `StreamDecoder` and why the stream was given up, if it was. `read_in` reads into
-//! 512 bytes of its own and hands them to `deliver_to`; inside a frame that lacks more it reads to
-//! where the decoder holds that. `RingIntake` (both are an `IntakeFor` a sink) knows the rings of its
-//! sink, and keeps no message that is longer than its ring: that breaks the rules whatever happens
-//! until its end. A `Link` has one.
+//! `Outgo` has one buffer of the longest frame's length, and the version of its stream. At first the
+//! buffer holds the greeting. During a call of `write_out` it holds the unwritten rest of the greeting or
+//! of a frame, followed by copies of the first queued frames. `note_taken` (in `writing.rt`) removes a
+//! frame from the peer once a write took the frame's first byte, and a fault cuts the other copies off.
+//! Between calls the buffer holds the rest of the greeting or of one frame at most.
 //!
-//! Each of the three loops stands once, for a peer and for who has bytes, or a sink of frames, of
-//! its own: `write_all` (in `writing.rt`) writes bytes until all are written, `deliver_to` (in
-//! `lc_peer`) has the frames of a piece arrive, and `read_into` (in `reading.rt`) reads and
-//! delivers. The last two are generic over a `FrameSink`, which is what frames arrive at: it says
-//! by two relations what a frame leaves that arrives, and what one leaves that violates. A peer
-//! is a sink that needs no context; one whose calls may wait is given its runtime as the context.
-//! `Peer::deliver` and `read_in` are one call each of those loops.
+//! `Intake` is a `StreamDecoder` and the reason why the stream was given up, if it was. `read_in` reads
+//! into 512 bytes of its own and passes them to `deliver_to`; inside a frame that lacks more than that it
+//! reads directly behind what the decoder has stored. `RingIntake` (both are an `IntakeFor` a sink) knows
+//! the rings of its sink, and stores no message that is longer than its ring, since such a message breaks
+//! the rules whatever follows. A `Link` has a `RingIntake`.
+//!
+//! Each of the three loops is written once, for a peer and for programs that have bytes, or a sink of
+//! frames, of their own: `write_all` (in `writing.rt`) writes bytes until all are written, `deliver_to`
+//! (in `lc_peer`) has the frames of a chunk arrive, and `read_into` (in `reading.rt`) reads and delivers.
+//! The last two are generic over a `FrameSink`, at which frames arrive. A sink says by two relations what
+//! an arriving frame leaves, and what a violating one leaves. A peer is a sink that needs no context; a
+//! sink whose calls may wait gets its runtime as the context. `Peer::deliver` and `read_in` are one call
+//! each of those loops.
 #![tactic(auto)]
 
 mod counted;

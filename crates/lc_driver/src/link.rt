@@ -4,7 +4,7 @@ ghost use Rattle.std.specs.Result.{result_err};
 ghost use Rattle.lc_frame.specs.Kind.{max_frame};
 ghost use Rattle.lc_frame.specs.Stored.{nothing_stored};
 ghost use Rattle.lc_peer.specs.Config.{IsNewAnswer, new_peer};
-ghost use Rattle.lc_peer.specs.Longer.{FitsGreatest};
+ghost use Rattle.lc_peer.specs.RingIntake.{IsKept};
 ghost use Rattle.lc_driver.specs.Outgo.{new_outgo};
 ghost use Rattle.lc_driver.specs.Writing.{Writes, CountsWrites, written_in};
 ghost use Rattle.lc_driver.specs.Reading.{Reads, CountsReads, CountsAll, EndsInput, end_of};
@@ -46,7 +46,7 @@ impl Link {
         ensures answer { IsNewAnswer config (result_err result) }
         ensures peer { IfOk result (λ link. link.peer ≡ new_peer config) }
         ensures outgo { IfOk result (λ link. link.outgo ≡ new_outgo config.version) }
-        ensures intake { IfOk result (λ link. link.intake ≡ record { held = nothing_stored; stop = None; rings = config.capacities }) }
+        ensures intake { IfOk result (λ link. link.intake ≡ record { held = nothing_stored; kept = 0; stop = None; rings = config.capacities }) }
     {
         let peer = Peer::new(alloc, config)?;
         let Ok(outgo) = Outgo::new(alloc, config.version) else {
@@ -106,7 +106,8 @@ impl Link {
     /// How many bytes of the incoming stream are kept, which are no whole frame yet: never more than
     /// the greatest of the peer's rings has, and the 9 bytes of the longest tag and number.
     pub fn kept(&self) -> usize
-        ensures { FitsGreatest self.now.intake.rings result }
+        ensures value { result ≡ self.now.intake.kept }
+        ensures little { IsKept self.now.intake }
     {
         self.intake.kept()
     }

@@ -12,7 +12,7 @@ const FAULTS: [([u32; CHANNELS], u32, &str); 4] = [
     (
         [8, 8, 0, 8, 8, 0, 8],
         4,
-        "BadCapacity { channel: OverlapChannel }: the capacity of OverlapChannel is not 1 to 2^24",
+        "BadCapacity { channel: Overlap }: the capacity of Overlap is not 1 to 2^24",
     ),
     ([8; CHANNELS], 0, "BadSlots: the slots are not 1 to 65,536"),
     (
@@ -23,7 +23,7 @@ const FAULTS: [([u32; CHANNELS], u32, &str); 4] = [
     (
         [8, 8, 8, 8, 8, 8, 16_777_217],
         0,
-        "BadCapacity { channel: StaticTokenChannel }: the capacity of StaticTokenChannel is not 1 to 2^24",
+        "BadCapacity { channel: StaticToken }: the capacity of StaticToken is not 1 to 2^24",
     ),
 ];
 
@@ -74,7 +74,7 @@ fn want_of_memory_has_its_text(rt: HostRuntime) {
     same(&rt, "new", found, "OutOfMemory: out of memory");
 }
 
-const CHANNEL: Channel = Channel::DataChannel;
+const CHANNEL: Channel = Channel::Data;
 
 fn widest_answers(rt: &impl Abort, alloc: Global) -> Option<()> {
     let mut widest = [16_777_216; CHANNELS];
@@ -118,7 +118,7 @@ fn are_bad(rt: &impl Abort, alloc: Global) {
     let inbox = Inbox::new(alloc, 0).err();
     let capacity = fault(alloc, [8, 8, 8, 8, 8, 8, 0], 7);
     let slots = fault(alloc, [8; CHANNELS], 0);
-    let channel = Channel::StaticTokenChannel;
+    let channel = Channel::StaticToken;
     let bad = Some(PeerFault::BadCapacity { channel });
     let wanted = (Some(NewFault::BadCapacity), bad, Some(PeerFault::BadSlots));
     equal(rt, "bad bounds", (inbox, capacity, slots), wanted);

@@ -10,7 +10,7 @@ use std::io::Write;
 use std::process::Abort;
 use std::test::Fail;
 
-const CHANNEL: Channel = Channel::DataChannel;
+const CHANNEL: Channel = Channel::Data;
 
 /// How many bytes go out at once in version Two: those of the longest frame.
 const BATCH: usize = 1_048_581;

@@ -63,19 +63,19 @@ fn length(number: u8) -> usize {
 fn send(rt: &impl Abort, link: &mut Link, number: u8) {
     let bytes = [number; 16];
     let body = bytes.get(..length(number)).unwrap_or(&[]);
-    let sent = link.peer.send(Channel::DataChannel, body);
+    let sent = link.peer.send(Channel::Data, body);
     equal(rt, "a send", sent, Ok(()));
 }
 
 fn issue(rt: &impl Abort, link: &mut Link, amount: u32) {
-    let issued = link.peer.issue(Channel::DataChannel, amount);
+    let issued = link.peer.issue(Channel::Data, amount);
     equal(rt, "an issue", issued, Ok(()));
 }
 
 // Takes the message of this number, if it is there, and issues as much again.
 fn take(rt: &impl Abort, link: &mut Link, number: u8) -> bool {
     let mut buffer = [0; 16];
-    let Ok(Take::Took(len)) = link.peer.take_into(Channel::DataChannel, &mut buffer) else {
+    let Ok(Take::Took(len)) = link.peer.take_into(Channel::Data, &mut buffer) else {
         return false;
     };
     let bytes = [number; 16];

@@ -223,6 +223,33 @@ fn messages_about_their_ring_in_two(rt: HostRuntime) {
     messages_of(&rt, rt.alloc(), Version::Two);
 }
 
+// Inside a message as long as its ring all that came of it is kept.
+fn is_kept_inside(
+    rt: &impl Abort,
+    alloc: Global,
+    version: Version,
+    channel: Channel,
+) -> Option<()> {
+    let bytes = stream_of(alloc, version, channel, ring_of(channel)).ok()?;
+    let greeting = version.greeting().len();
+    for came in greeting..bytes.len() {
+        let mut sides = Sides::new(alloc)?;
+        let (part, _) = bytes.as_slice().split_at(came);
+        let _ = sides.read(rt, part, 0);
+        let kept = sides.link.kept().saturating_add(greeting);
+        equal(rt, "the bytes of a message", kept, came);
+    }
+    Some(())
+}
+
+#[test]
+fn a_message_that_fits_is_kept(rt: HostRuntime) {
+    for channel in Channel::ALL {
+        ran(&rt, is_kept_inside(&rt, rt.alloc(), Version::One, channel));
+        ran(&rt, is_kept_inside(&rt, rt.alloc(), Version::Two, channel));
+    }
+}
+
 // A stream of a Finish and a message that is longer than its ring.
 fn finished_stream(alloc: Global, channel: Channel) -> Result<Vec<u8>, AllocError> {
     let version = Version::Two;

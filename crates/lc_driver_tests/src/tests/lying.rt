@@ -12,7 +12,7 @@ use std::io;
 use std::io::Read;
 use std::process::Abort;
 
-const CHANNEL: Channel = Channel::DataChannel;
+const CHANNEL: Channel = Channel::Data;
 
 const CAPACITY: u32 = 65_536;
 

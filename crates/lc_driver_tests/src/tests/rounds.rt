@@ -16,7 +16,7 @@ use std::test::Fail;
 use std::thread::{Threads, join};
 use std::time::{Clock, Duration, Instant};
 
-const CHANNEL: Channel = Channel::DataChannel;
+const CHANNEL: Channel = Channel::Data;
 
 /// The bytes of a ring, and how many guarantees the answers need in all.
 const RING: u32 = 1 << 21;

@@ -302,10 +302,10 @@ fn a_device_counts(rt: HostRuntime) {
 
 // What waits goes out, and what comes arrives.
 fn moves(rt: &impl Abort, side: &mut FailingLink, empty: Pipe, full: Pipe) {
-    let issued = side.link.peer.issue(Channel::DataChannel, 5);
+    let issued = side.link.peer.issue(Channel::Data, 5);
     let wrote = side.write(Plan::whole(), empty).0;
     let end = side.read(Plan::whole(), full, 10).0;
-    let held = side.link.peer.client(Channel::DataChannel).held();
+    let held = side.link.peer.client(Channel::Data).held();
     let wanted = (Ok(()), Ok(5), ReadEnd::Clean, 5);
     equal(rt, "what moves", (issued, wrote, end, held), wanted);
 }
