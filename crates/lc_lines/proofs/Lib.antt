@@ -1,0 +1,11 @@
+pub mod Queued
+pub mod Bytes
+pub mod Slots
+pub mod Next
+pub mod Stamps
+pub mod Fields
+pub mod Runs
+pub mod Order
+pub mod Blocking
+pub mod Accepted
+pub mod Fair

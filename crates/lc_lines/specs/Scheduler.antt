@@ -1,0 +1,346 @@
+-- The send scheduler: a peer with the wait queues of its seven channels, which call proceeds next, and what that leaves. Guarantees are LCMUX's; the rules of scheduling are this project's own.
+use Rattle.std.specs.Prelude.{◌≡◌, ℕ, ◌+◌, ◌-◌, ◌≤◌, ◌==◌, ◌^◌, ◌&&◌, ◌⊎◌, ◌++◌, nat_lt, nat_le, min, Bool, true, false, if◌then◌else◌, List, [], ◌∷◌, length, slice_get, slice_index_or, slice_set, replicate, is_none, Option, Some, None}
+use Rattle.std.specs.Option.{option_or}
+use Rattle.std.specs.List.{AllByRecursion}
+use Rattle.lc_frame.specs.declared.channel.Channel.{Channel}
+use Rattle.lc_frame.specs.declared.frame.Frame.{Frame}
+use Rattle.lc_frame.specs.declared.frame.Frame.TheVariants.{Send, Issue, Absolve, Plead, LimitSending, LimitReceiving, Finish}
+use Rattle.lc_frame.specs.Channel.{channel_count, number_of}
+use Rattle.lc_book.specs.Client.{spend_refusal}
+use Rattle.lc_book.specs.declared.fault.Refusal.{Refusal}
+use Rattle.lc_book.specs.declared.fault.Refusal.TheVariants.{NoGuarantee, OutOfMemory, QueueFull}
+use Rattle.lc_peer.specs.Peer.{PeerState, client}
+use Rattle.lc_peer.specs.declared.config.Config.{Config}
+use Rattle.lc_peer.specs.declared.config.PeerFault.{PeerFault}
+use Rattle.lc_peer.specs.declared.config.PeerFault.TheVariants as fault
+use Rattle.lc_peer.specs.Config.{new_peer, config_fault}
+use Rattle.lc_peer.specs.Calls.{put, refusal_by_books, next, without_next}
+use Rattle.lc_peer.specs.declared.questions.Needs.{Needs}
+use Rattle.lc_peer.specs.declared.questions.Needs.TheVariants.{Nothing, Never, Slot}
+use Rattle.lc_peer.specs.Questions.{needs}
+use Rattle.lc_lines.specs.declared.queue.Ask.TheVariants.{Message}
+use Rattle.lc_lines.specs.declared.queue.Call.{Call}
+use Rattle.lc_lines.specs.declared.scheduler.Attempt.{Attempt}
+use Rattle.lc_lines.specs.declared.scheduler.Attempt.TheVariants.{Sent, Lacks}
+use Rattle.lc_lines.specs.declared.scheduler.Control.{Control}
+use Rattle.lc_lines.specs.declared.scheduler.Control.TheVariants as control
+use Rattle.lc_lines.specs.declared.scheduler.Notice.{Notice}
+use Rattle.lc_lines.specs.declared.scheduler.Outcome.TheVariants.{Completed, Notified, Hopeless}
+use Rattle.lc_lines.specs.declared.scheduler.Progress.{Progress}
+use Rattle.lc_lines.specs.declared.scheduler.Progress.TheVariants.{Proceeded, Waits}
+use Rattle.lc_lines.specs.Queue.{QueueState, empty_queue, call_len, is_offer, first_waiting, without_first, without_ticket}
+use Rattle.lc_lines.specs.Outbound.{every_channel, control_slots, least_slots, most_queued, unused, message_bytes, message_count, message_len, none, has_slot, has_control_slot, fits, Counts, counts_of}
+
+-- a peer, the wait queues of its channels by their numbers, how many messages entered the outbound queue so far, and how many bytes of the message that left it last are not written yet
+pub record SchedulerState : Type 0 where
+  pub peer : PeerState
+  pub queues : List QueueState
+  pub sent : ℕ
+  pub begun : ℕ
+
+-- a new peer: no call waits, and nothing was sent
+abbrev pub new_scheduler : Config → SchedulerState
+new_scheduler config = record { peer = new_peer config; queues = replicate channel_count empty_queue; sent = 0; begun = 0 }
+
+-- what is wrong with a configuration: too few slots, or what its peer would say
+abbrev pub scheduler_fault : Config → Option PeerFault
+scheduler_fault config = if nat_lt config.slots least_slots then Some fault.BadSlots else config_fault config
+
+-- why there is no scheduler: that fault, or want of memory where there is none
+abbrev pub IsSchedulerAnswer : Config → Option PeerFault → Type 0
+IsSchedulerAnswer config answer = (answer ≡ scheduler_fault config) ⊎ ((scheduler_fault config ≡ None) × (answer ≡ Some fault.OutOfMemory))
+
+-- the wait queue of a channel
+abbrev pub queue : SchedulerState → Channel → QueueState
+queue s c = slice_index_or s.queues (number_of c) empty_queue
+
+-- the first call of a channel
+abbrev pub first : SchedulerState → Channel → Option Call
+first s c = slice_get (queue s c).calls 0
+
+-- the first call of a channel, unless it was notified and has not come since
+abbrev pub front : SchedulerState → Channel → Option Call
+front s c = first_waiting (queue s c)
+
+-- the bytes of messages that are queued or begun and not written yet
+abbrev pub unwritten : SchedulerState → ℕ
+unwritten s = message_bytes s.peer.waiting + s.begun
+
+-- whether a channel's guarantees suffice for a message of so many bytes, and nothing else refuses it
+abbrev pub has_guarantees : PeerState → Channel → ℕ → Bool
+has_guarantees p c len = is_none (spend_refusal (client p c) len)
+
+-- whether a message of a channel of so many bytes has its guarantees and a slot, so that it waits for bytes at most
+abbrev pub is_able : PeerState → Channel → ℕ → Bool
+is_able p c len = has_guarantees p c len && has_slot p c
+
+-- the same of a call, if there is one
+abbrev pub is_able_call : PeerState → Channel → Option Call → Bool
+is_able_call p c None = false
+is_able_call p c (Some call) = is_able p c (call_len call)
+
+-- whether the first call of a channel waits for bytes at most
+abbrev pub waits_for_bytes : SchedulerState → Channel → Bool
+waits_for_bytes s c = is_able_call s.peer c (front s c)
+
+-- whether a channel sent no later than another one, where the first call of that waits for bytes at most
+abbrev pub is_no_later : SchedulerState → Channel → Channel → Bool
+is_no_later s c d = if waits_for_bytes s d then nat_le (queue s c).last (queue s d).last else true
+
+-- whether a channel sent no later than each of these whose first call waits for bytes at most
+abbrev pub is_turn_among : SchedulerState → Channel → List Channel → Bool
+is_turn_among s c [] = true
+is_turn_among s c (d ∷ channels) = is_no_later s c d && is_turn_among s c channels
+
+-- whether no other channel that sent less recently waits for bytes alone
+abbrev pub is_turn : SchedulerState → Channel → Bool
+is_turn s c = is_turn_among s c every_channel
+
+-- whether a message of a channel of so many bytes can proceed: its guarantees are there, a slot is free for it, its bytes fit, and no other channel that sent less recently waits for bytes alone
+abbrev pub can_proceed : SchedulerState → Channel → ℕ → Bool
+can_proceed s c len = is_able s.peer c len && (fits (unwritten s) len && is_turn s c)
+
+-- the same of a call, if there is one
+abbrev pub can_call_proceed : SchedulerState → Channel → Option Call → Bool
+can_call_proceed s c None = false
+can_call_proceed s c (Some call) = can_proceed s c (call_len call)
+
+-- whether the bytes of a call, if there is one, fit beside those that are queued or begun
+abbrev pub call_fits : SchedulerState → Option Call → Bool
+call_fits s None = false
+call_fits s (Some call) = fits (unwritten s) (call_len call)
+
+-- whether the first call of a channel can proceed
+abbrev pub can_front_proceed : SchedulerState → Channel → Bool
+can_front_proceed s c = can_call_proceed s c (front s c)
+
+-- of these channels, the first whose first call can proceed
+abbrev pub next_among : SchedulerState → List Channel → Option Channel
+next_among s [] = None
+next_among s (c ∷ channels) = if can_front_proceed s c then Some c else next_among s channels
+
+-- the channel whose first call proceeds next
+abbrev pub next_channel : SchedulerState → Option Channel
+next_channel s = next_among s every_channel
+
+-- no first call can proceed that was not notified
+abbrev pub IsSettled : SchedulerState → Type 0
+IsSettled s = (c : Channel) → can_front_proceed s c ≡ false
+
+-- the count of messages one message later, which stops at the greatest number
+abbrev pub count_after : ℕ → ℕ
+count_after sent = min (sent + 1) (2 ^ 64 - 1)
+
+-- this is the wait queue of a channel
+abbrev pub with_queue : SchedulerState → Channel → QueueState → SchedulerState
+with_queue s c q = record s { queues = slice_set s.queues (number_of c) q }
+
+-- a message of a channel enters the outbound queue as the last frame, and its channel sent last
+abbrev pub send : SchedulerState → Channel → List ℕ → SchedulerState
+send s c body = record s {
+  peer = put s.peer (Send c body);
+  queues = slice_set s.queues (number_of c) (record (queue s c) { last = count_after s.sent });
+  sent = count_after s.sent;
+}
+
+-- the first call of a channel proceeds: it is out of its wait queue, and its message enters the outbound queue
+abbrev pub proceed : SchedulerState → Channel → List ℕ → SchedulerState
+proceed s c body = send (with_queue s c (without_first (queue s c))) c body
+
+-- a call joins its wait queue, as the last
+abbrev pub join : SchedulerState → Channel → Call → SchedulerState
+join s c call = with_queue s c (record (queue s c) { calls = (queue s c).calls ++ call ∷ [] })
+
+-- the first call of a channel is notified, or has come
+abbrev pub with_notified : SchedulerState → Channel → Bool → SchedulerState
+with_notified s c notified = with_queue s c (record (queue s c) { notified = notified })
+
+-- the first call of a ticket is given up: it is out of its wait queue
+abbrev pub cancel : SchedulerState → Channel → ℕ → SchedulerState
+cancel s c ticket = with_queue s c (without_ticket ticket (queue s c))
+
+-- a refusal for good: any but that guarantees are missing
+abbrev pub for_good : Option Refusal → Option Refusal
+for_good (Some (NoGuarantee held)) = None
+for_good refusal = refusal
+
+-- why a message of so many bytes is refused at once: what its book refuses for good, or want of memory where that is nothing
+abbrev pub IsCallAnswer : PeerState → Channel → ℕ → Option Refusal → Type 0
+IsCallAnswer p c len answer = (answer ≡ for_good (spend_refusal (client p c) len)) ⊎ ((for_good (spend_refusal (client p c) len) ≡ None) × (answer ≡ Some OutOfMemory))
+
+-- whether no call of a channel waits, and a new one of so many bytes can proceed
+abbrev pub goes_at_once : SchedulerState → Channel → ℕ → Bool
+goes_at_once s c len = length (queue s c).calls == 0 && can_proceed s c len
+
+-- how far a new call comes: it is sent, or waits
+abbrev pub progress_of : SchedulerState → Channel → ℕ → Progress
+progress_of s c len = if goes_at_once s c len then Proceeded else Waits
+
+-- what a new call that is accepted leaves: its message is sent, or it joins its wait queue
+abbrev pub start : SchedulerState → Channel → ℕ → List ℕ → SchedulerState
+start s c ticket body = if goes_at_once s c (length body) then send s c body else join s c (record { ticket = ticket; ask = Message body })
+
+-- what a message lacks that is not sent at once: guarantees, what never comes, or else a slot, bytes or its turn
+abbrev pub lack : Needs → Needs
+lack Nothing = Slot
+lack needed = needed
+
+-- why an attempt is refused: what its book refuses for good, or want of memory where the message goes at once
+abbrev pub IsAttemptAnswer : SchedulerState → Channel → ℕ → Option Refusal → Type 0
+IsAttemptAnswer s c len answer = (answer ≡ for_good (spend_refusal (client s.peer c) len)) ⊎ ((goes_at_once s c len ≡ true) × (answer ≡ Some OutOfMemory))
+
+-- the answer of an attempt: the message is sent, or lacks something
+abbrev pub attempt : SchedulerState → Channel → ℕ → Attempt
+attempt s c len = if goes_at_once s c len then Sent else Lacks (lack (needs s.peer c len))
+
+-- what an attempt leaves
+abbrev pub try_send : SchedulerState → Channel → List ℕ → SchedulerState
+try_send s c body = if goes_at_once s c (length body) then send s c body else s
+
+-- whether a call, if there is one, is an offer
+abbrev pub is_offer_call : Option Call → Bool
+is_offer_call None = false
+is_offer_call (Some call) = is_offer call.ask
+
+-- whether a call, if there is one, is an offer of this ticket
+abbrev pub is_offer_of : ℕ → Option Call → Bool
+is_offer_of ticket None = false
+is_offer_of ticket (Some call) = call.ticket == ticket && is_offer call.ask
+
+-- whether an offer is completed by a message of so many bytes: it is the first of its channel, and that message can proceed
+abbrev pub completes : SchedulerState → Channel → ℕ → ℕ → Bool
+completes s c ticket len = is_offer_of ticket (first s c) && can_proceed s c len
+
+-- why a message that completes an offer is refused: what its book refuses for good, or want of memory where it is sent
+abbrev pub IsCompleteAnswer : SchedulerState → Channel → ℕ → ℕ → Option Refusal → Type 0
+IsCompleteAnswer s c ticket len answer = (answer ≡ for_good (spend_refusal (client s.peer c) len)) ⊎ ((completes s c ticket len ≡ true) × (answer ≡ Some OutOfMemory))
+
+-- how far an offer comes by a message of so many bytes
+abbrev pub complete_progress : SchedulerState → Channel → ℕ → ℕ → Progress
+complete_progress s c ticket len = if completes s c ticket len then Proceeded else Waits
+
+-- what the message of an offer leaves: where the offer is the first call, the message is sent, or the offer waits again, to be notified anew
+abbrev pub complete : SchedulerState → Channel → ℕ → List ℕ → SchedulerState
+complete s c ticket body = if is_offer_of ticket (first s c) then (if can_proceed s c (length body) then proceed s c body else with_notified s c false) else s
+
+-- a call can proceed: it is the first of its channel and was not notified, it has its guarantees and a slot, its bytes fit, and no channel that sent less recently waits for bytes alone
+pub record IsNext (s : SchedulerState) (c : Channel) (call : Call) : Type 0 where
+  pub first : front s c ≡ Some call
+  pub able : is_able s.peer c (call_len call) ≡ true
+  pub bytes : fits (unwritten s) (call_len call) ≡ true
+  pub turn : is_turn s c ≡ true
+
+-- a call that left its message proceeds, and its ticket is noticed
+pub record Proceeds (notice : Notice) (old new : SchedulerState) : Type 0 where
+  pub call : Call
+  pub body : List ℕ
+  pub ticket : notice.ticket ≡ call.ticket
+  pub outcome : notice.outcome ≡ Completed
+  pub next : IsNext old notice.channel call
+  pub ask : call.ask ≡ Message body
+  pub after : new ≡ proceed old notice.channel body
+
+-- the caller of an offer is notified that it can proceed: it holds nothing, and its call stays the first of its channel
+pub record Notifies (notice : Notice) (old new : SchedulerState) : Type 0 where
+  pub call : Call
+  pub ticket : notice.ticket ≡ call.ticket
+  pub outcome : notice.outcome ≡ Notified
+  pub next : IsNext old notice.channel call
+  pub ask : is_offer call.ask ≡ true
+  pub after : new ≡ with_notified old notice.channel true
+
+-- a call that can proceed is completed, or its caller is notified
+abbrev pub Steps : Notice → SchedulerState → SchedulerState → Type 0
+Steps notice old new = Proceeds notice old new ⊎ Notifies notice old new
+
+-- the frame of a control call
+abbrev pub frame_of_control : Control → Frame
+frame_of_control (control.Issue c amount) = Issue c amount
+frame_of_control (control.Absolve c amount) = Absolve c amount
+frame_of_control (control.Plead c target) = Plead c target
+frame_of_control (control.LimitSending c bound) = LimitSending c bound
+frame_of_control (control.LimitReceiving c bound) = LimitReceiving c bound
+frame_of_control (control.Finish c) = Finish c
+
+-- why a control call is refused: its books come first, and then 13 where no slot is free for a control frame
+abbrev pub control_refusal : PeerState → Frame → Option Refusal
+control_refusal p f = option_or (refusal_by_books p f) (if has_control_slot p then None else Some QueueFull)
+
+-- a frame enters the outbound queue
+abbrev pub put_frame : SchedulerState → Frame → SchedulerState
+put_frame s f = record s { peer = put s.peer f }
+
+-- the bytes of the message of a frame, if there is one
+abbrev pub begun_by : Option Frame → ℕ → ℕ
+begun_by None begun = begun
+begun_by (Some f) begun = message_len f
+
+-- the first frame leaves the outbound queue: its message is begun, and that before it is written
+abbrev pub take_frame : SchedulerState → SchedulerState
+take_frame s = record s { peer = without_next s.peer; begun = begun_by (next s.peer) s.begun }
+
+-- of the message that is begun at most so many bytes are not written yet
+abbrev pub write : SchedulerState → ℕ → SchedulerState
+write s left = record s { begun = min left s.begun }
+
+-- whether a need is for what never comes
+abbrev pub is_never : Needs → Bool
+is_never Never = true
+is_never needed = false
+
+-- whether a call, if there is one, will never proceed
+abbrev pub is_hopeless_call : PeerState → Channel → Option Call → Bool
+is_hopeless_call p c None = false
+is_hopeless_call p c (Some call) = is_never (needs p c (call_len call))
+
+-- whether the first call of a channel will never proceed
+abbrev pub is_hopeless : SchedulerState → Channel → Bool
+is_hopeless s c = is_hopeless_call s.peer c (first s c)
+
+-- of these channels, the first whose first call will never proceed
+abbrev pub hopeless_among : SchedulerState → List Channel → Option Channel
+hopeless_among s [] = None
+hopeless_among s (c ∷ channels) = if is_hopeless s c then Some c else hopeless_among s channels
+
+-- the first channel whose first call will never proceed
+abbrev pub next_hopeless : SchedulerState → Option Channel
+next_hopeless s = hopeless_among s every_channel
+
+-- each first call may still proceed
+abbrev pub NoneIsHopeless : SchedulerState → Type 0
+NoneIsHopeless s = (c : Channel) → is_hopeless s c ≡ false
+
+-- a call that will never proceed is out of the front of its wait queue, and nothing else changed
+pub record GivesUp (notice : Notice) (old new : SchedulerState) : Type 0 where
+  pub call : Call
+  pub ticket : notice.ticket ≡ call.ticket
+  pub outcome : notice.outcome ≡ Hopeless
+  pub first : first old notice.channel ≡ Some call
+  pub hopeless : is_hopeless old notice.channel ≡ true
+  pub after : new ≡ with_queue old notice.channel (without_first (queue old notice.channel))
+
+-- the messages that are queued or begun have few enough bytes, or there is one
+abbrev pub FitsBytes : List Frame → ℕ → Type 0
+FitsBytes frames begun = (message_bytes frames + begun ≤ most_queued) ⊎ (message_count frames + (1 - none begun) ≤ 1)
+
+-- what the slots of the outbound queue keep: the unused ones of the channels' own are free, and so are those for control frames, but for control frames that take them
+pub record KeepsSlots (p : PeerState) : Type 0 where
+  pub own : unused p.waiting + length p.waiting ≤ p.slots
+  pub control : message_count p.waiting + unused p.waiting + control_slots ≤ p.slots
+
+-- the bytes of the greatest message, which is the most that is queued or begun
+abbrev pub most_unwritten : ℕ
+most_unwritten = 1048576
+
+-- a channel sent last when so many messages had been sent, or before
+abbrev pub SentBy : ℕ → QueueState → Type 0
+SentBy sent q = q.last ≤ sent
+
+-- every channel has its wait queue, the messages that are queued are counted, and their slots and bytes are within bounds
+pub record AreSchedulerFields (p : PeerState) (queues : List QueueState) (sent begun : ℕ) (counts : Counts) : Type 0 where
+  pub places : length queues ≡ channel_count
+  pub stamps : AllByRecursion (SentBy sent) queues
+  pub counted : counts ≡ counts_of p.waiting
+  pub slots : KeepsSlots p
+  pub bytes : FitsBytes p.waiting begun
+  pub bounded : message_bytes p.waiting + begun ≤ most_unwritten

@@ -1,0 +1,44 @@
+//! Laws over the definitions, each the contract of a function that does nothing.
+ghost use Rattle.lc_lines.specs.Order.{CallsProceedInOrder, ProceedingKeepsOrder};
+ghost use Rattle.lc_lines.specs.Blocking.{NoHeadOfLineBlocking, FirstCallsWaitForBytes};
+ghost use Rattle.lc_lines.specs.Runs.{RunsAreCalls};
+ghost use Rattle.lc_lines.specs.Fair.{EachSendsOnceMeanwhile, EachCallIsCounted};
+
+/// Whatever calls proceeded, those of each channel are the first of its wait queue, in their order; each is noticed,
+/// and its message is queued once, whole, behind all earlier messages of its channel.
+pub fn calls_proceed_in_order()
+    ensures { CallsProceedInOrder }
+{}
+
+/// The messages of a channel that are queued, and those of its calls that wait, in this order, are the same before and
+/// after calls proceed.
+pub fn proceeding_keeps_order()
+    ensures { ProceedingKeepsOrder }
+{}
+
+/// Whatever calls of other channels wait, or were notified and do not come: where no message is unwritten, a first call
+/// whose channel's own slot is free, and which was not notified, waits for guarantees alone.
+pub fn no_head_of_line_blocking()
+    ensures { NoHeadOfLineBlocking }
+{}
+
+/// A first call that has its guarantees and a slot waits for bytes: its own, or those of a channel that sent no later.
+pub fn first_calls_wait_for_bytes()
+    ensures { FirstCallsWaitForBytes }
+{}
+
+/// Whatever calls proceeded, the peer accepted each message: so what is true of all peers is true of this one.
+pub fn runs_are_calls()
+    ensures { RunsAreCalls }
+{}
+
+/// Where a channel sends twice, and another one not between, the first call of that other one did not wait for bytes
+/// alone when the channel sent again: so while a call does, each other channel sends once at most.
+pub fn each_sends_once_meanwhile()
+    ensures { EachSendsOnceMeanwhile }
+{}
+
+/// Each call counts the messages so: one more where a channel sent, and none where all else happened.
+pub fn each_call_is_counted()
+    ensures { EachCallIsCounted }
+{}

@@ -1,0 +1,266 @@
+//! The calls of seven channels, completed or notified as soon as they can proceed.
+//!
+//! A `Lines` is a scheduler whose steps are taken at once: whatever changes, each call that can proceed is completed, or
+//! its caller is notified, and its ticket is noticed. Notices lie in a fixed number of entries until they are taken, so
+//! only a call that leaves a message or joins a wait queue asks for memory. Where the entries are full the steps go on
+//! once a notice is taken.
+ghost use Rattle.std.specs.Prelude.{◌≡◌, ◌<◌, ◌++◌, ◌∷◌, [], if◌then◌else◌, is_ok, length, IfOk, IfNone, IfSome, OnErr, OnOk};
+ghost use Rattle.std.specs.Result.{result_err};
+ghost use Rattle.circular_buffer.specs.Buffer.{buffer};
+ghost use Rattle.lc_frame.specs.Frame.{IsValid};
+ghost use Rattle.lc_frame.specs.FrameRef.{frame_of};
+ghost use Rattle.lc_frame.specs.declared.version.Version.TheVariants.{Two};
+ghost use Rattle.lc_peer.specs.Inbox.{IsTake, take_answer};
+ghost use Rattle.lc_peer.specs.Peer.{inbox};
+ghost use Rattle.lc_peer.specs.Calls.{next, take_on};
+ghost use Rattle.lc_peer.specs.Arrivals.{arrivals};
+ghost use Rattle.lc_lines.specs.Queue.{waits};
+ghost use Rattle.lc_lines.specs.declared.queue.Ask.TheVariants.{Offer};
+ghost use Rattle.lc_lines.specs.Scheduler.{IsSchedulerAnswer, IsSettled, NoneIsHopeless, queue, start, join, complete, complete_progress, IsCompleteAnswer, progress_of, cancel, IsCallAnswer, IsAttemptAnswer, attempt, try_send, frame_of_control, control_refusal, put_frame, take_frame, write, KeepsSlots, FitsBytes};
+ghost use Rattle.lc_lines.specs.Lines.{new_lines, Runs, Settles, NoticesNext, DeliversAndSettles, with_scheduler};
+
+use crate::scheduler::{Attempt, Control, Notice, Progress, Scheduler};
+use circular_buffer::HeapCircularBuffer;
+use lc_book::{Refusal, Violation};
+use lc_frame::{Channel, Frame, FrameRef, StreamDecoder};
+use lc_peer::{Config, Delivery, Peer, PeerFault, Take};
+use std::alloc::Global;
+use std::marker::Model;
+
+/// How many notices lie in a `Lines` at most.
+pub const NOTICES: usize = 64;
+
+/// A peer with the wait queues of its channels, in which no call that can proceed waits without having been notified.
+pub struct Lines {
+    scheduler: Scheduler,
+    notices: HeapCircularBuffer<Notice>,
+}
+
+// One call, wherever it is dropped.
+impl Drop for Lines {
+    fn drop(self) {
+        let Lines {
+            scheduler: _,
+            notices: _,
+        } = self;
+    }
+}
+
+impl Model for Lines {
+    ghost use Rattle.lc_lines.specs.Lines.{LinesState, AreLinesFields};
+
+    ghost Value = { LinesState };
+
+    ghost view = { λ l. record { scheduler = l.scheduler; notices = l.notices.items; entries = l.notices.capacity } };
+
+    ghost invariant = { λ l. AreLinesFields l.scheduler l.notices.items l.notices.capacity };
+}
+
+// Adds a notice, where an entry is free.
+fn notify(notices: &mut HeapCircularBuffer<Notice>, notice: Notice)
+    requires { length notices.old.items < notices.old.capacity }
+    ensures { notices.new ≡ buffer (notices.old.items ++ notice ∷ []) notices.old.capacity }
+{
+    match notices.try_push_back(notice) {
+        Ok(()) => {}
+        Err(_) => unreachable!(),
+    }
+}
+
+// Each call that can proceed is completed or notified, while entries for notices are free.
+fn settle(scheduler: &mut Scheduler, notices: &mut HeapCircularBuffer<Notice>)
+    ensures runs { Runs scheduler.old notices.old.items scheduler.new notices.new.items }
+    ensures settled { length notices.new.items < notices.new.capacity → IsSettled scheduler.new }
+    ensures entries { notices.new.capacity ≡ notices.old.capacity }
+{
+    'steps: while notices.len() < notices.capacity() {
+        match scheduler.step() {
+            Some(notice) => notify(notices, notice),
+            None => return,
+        }
+    }
+}
+
+impl Lines {
+    /// A new peer, and no call waits. `BadSlots` comes first, where there are fewer than
+    /// [`LEAST_SLOTS`](crate::LEAST_SLOTS).
+    pub fn new(alloc: Global, config: Config) -> Result<Lines, PeerFault>
+        ensures answer { IsSchedulerAnswer config (result_err result) }
+        ensures value { IfOk result (λ l. l ≡ new_lines config) }
+    {
+        let scheduler = Scheduler::new(alloc, config)?;
+        let Ok(notices) = HeapCircularBuffer::with_capacity(alloc, NOTICES) else {
+            return Err(PeerFault::OutOfMemory);
+        };
+        Ok(Lines { scheduler, notices })
+    }
+
+    /// The peer: its books, its messages and the frames that are queued.
+    #[inline]
+    pub fn peer(&self) -> &Peer
+        ensures value { result.now ≡ self.now.scheduler.peer }
+        ensures slots { KeepsSlots self.now.scheduler.peer }
+        ensures bytes { FitsBytes self.now.scheduler.peer.waiting self.now.scheduler.begun }
+    {
+        self.scheduler.peer()
+    }
+
+    /// A call to send a message, by a ticket of the caller's choice. Its message enters the outbound queue at once where
+    /// that is possible; else the call waits with a copy of the message, and its ticket is noticed once the message
+    /// entered. Refused by 15, 1, 2 and 3, and by 14 where memory is refused; then nothing changed.
+    pub fn send(&mut self, channel: Channel, ticket: u64, body: &[u8]) -> Result<Progress, Refusal>
+        ensures answer { IsCallAnswer self.old.scheduler.peer channel (length body.now) (result_err result) }
+        ensures progress { IfOk result (λ progress. progress ≡ progress_of self.old.scheduler channel (length body.now)) }
+        ensures refused { OnErr result (self.new ≡ self.old) }
+        ensures starts { OnOk result (Settles (with_scheduler self.old (start self.old.scheduler channel ticket body.now)) self.new) }
+        ensures settled { length self.new.notices < self.new.entries → IsSettled self.new.scheduler }
+    {
+        let progress = self.scheduler.send(channel, ticket, body)?;
+        settle(&mut self.scheduler, &mut self.notices);
+        Ok(progress)
+    }
+
+    /// An attempt to send a message at once, behind all calls of its channel that wait. Refused by 15, 1, 2 and 3, and by
+    /// 14 where it can proceed and memory is refused; then nothing changed.
+    pub fn try_send(&mut self, channel: Channel, body: &[u8]) -> Result<Attempt, Refusal>
+        ensures answer { IsAttemptAnswer self.old.scheduler channel (length body.now) (result_err result) }
+        ensures attempt { IfOk result (λ answer. answer ≡ attempt self.old.scheduler channel (length body.now)) }
+        ensures refused { OnErr result (self.new ≡ self.old) }
+        ensures sends { OnOk result (Settles (with_scheduler self.old (try_send self.old.scheduler channel body.now)) self.new) }
+        ensures settled { length self.new.notices < self.new.entries → IsSettled self.new.scheduler }
+    {
+        let answer = self.scheduler.try_send(channel, body)?;
+        settle(&mut self.scheduler, &mut self.notices);
+        Ok(answer)
+    }
+
+    /// An offer of a message of so many bytes, by a ticket of the caller's choice: the call waits, and its ticket is
+    /// noticed once the message can proceed. Then the caller hands the message over by [`Lines::complete`], or gives the
+    /// call up by [`Lines::cancel`]. Refused by 15, 1, 2 and 3, and by 14 where memory is refused; then nothing changed.
+    pub fn offer(&mut self, channel: Channel, ticket: u64, len: usize) -> Result<(), Refusal>
+        ensures answer { IsCallAnswer self.old.scheduler.peer channel len (result_err result) }
+        ensures refused { OnErr result (self.new ≡ self.old) }
+        ensures joins { OnOk result (Settles (with_scheduler self.old (join self.old.scheduler channel (record { ticket = ticket; ask = Offer len }))) self.new) }
+        ensures settled { length self.new.notices < self.new.entries → IsSettled self.new.scheduler }
+    {
+        self.scheduler.offer(channel, ticket, len)?;
+        settle(&mut self.scheduler, &mut self.notices);
+        Ok(())
+    }
+
+    /// The message of an offer is handed over. It is sent where the offer is the first call of its channel and the message
+    /// can proceed now; else the offer waits at its place, and its ticket is noticed anew. Refused by 15, 1, 2 and 3,
+    /// and by 14 where it can proceed and memory is refused; then nothing changed.
+    pub fn complete(
+        &mut self,
+        channel: Channel,
+        ticket: u64,
+        body: &[u8],
+    ) -> Result<Progress, Refusal>
+        ensures answer { IsCompleteAnswer self.old.scheduler channel ticket (length body.now) (result_err result) }
+        ensures progress { IfOk result (λ progress. progress ≡ complete_progress self.old.scheduler channel ticket (length body.now)) }
+        ensures refused { OnErr result (self.new ≡ self.old) }
+        ensures completes { OnOk result (Settles (with_scheduler self.old (complete self.old.scheduler channel ticket body.now)) self.new) }
+        ensures settled { length self.new.notices < self.new.entries → IsSettled self.new.scheduler }
+    {
+        let progress = self.scheduler.complete(channel, ticket, body)?;
+        settle(&mut self.scheduler, &mut self.notices);
+        Ok(progress)
+    }
+
+    /// Gives up the first call of a ticket that waits: nothing of it was sent, and nothing will be. The answer is whether
+    /// one waited; where none did, its message entered the outbound queue, and stays there.
+    pub fn cancel(&mut self, channel: Channel, ticket: u64) -> bool
+        ensures waited { result ≡ waits ticket (queue self.old.scheduler channel).calls }
+        ensures after { Settles (with_scheduler self.old (cancel self.old.scheduler channel ticket)) self.new }
+        ensures settled { length self.new.notices < self.new.entries → IsSettled self.new.scheduler }
+    {
+        let waited = self.scheduler.cancel(channel, ticket);
+        settle(&mut self.scheduler, &mut self.notices);
+        waited
+    }
+
+    /// A control call: its frame enters the outbound queue before messages that wait. It is refused as at the peer, and
+    /// by 13 where no slot is free for a control frame.
+    pub fn control(&mut self, control: Control) -> Result<(), Refusal>
+        ensures answer { result_err result ≡ control_refusal self.old.scheduler.peer (frame_of_control control) }
+        ensures refused { OnErr result (self.new ≡ self.old) }
+        ensures puts { OnOk result (Settles (with_scheduler self.old (put_frame self.old.scheduler (frame_of_control control))) self.new) }
+        ensures settled { length self.new.notices < self.new.entries → IsSettled self.new.scheduler }
+    {
+        self.scheduler.control(control)?;
+        settle(&mut self.scheduler, &mut self.notices);
+        Ok(())
+    }
+
+    /// A frame arrives.
+    pub fn arrive(&mut self, frame: FrameRef<'_>) -> Result<(), Violation>
+        requires { IsValid Two (frame_of frame) }
+        ensures answer { result_err result ≡ (arrivals self.old.scheduler.peer (frame_of frame.entry ∷ [])).violation }
+        ensures after { Settles (with_scheduler self.old (record self.old.scheduler { peer = (arrivals self.old.scheduler.peer (frame_of frame.entry ∷ [])).peer })) self.new }
+        ensures settled { length self.new.notices < self.new.entries → IsSettled self.new.scheduler }
+    {
+        let answer = self.scheduler.arrive(frame);
+        settle(&mut self.scheduler, &mut self.notices);
+        answer
+    }
+
+    /// Bytes of the other side's stream arrive, and then each call proceeds that can.
+    pub fn deliver(&mut self, decoder: &mut StreamDecoder, piece: &[u8]) -> Delivery
+        ensures after { DeliversAndSettles self.old decoder.old piece.now self.new decoder.new result }
+        ensures settled { length self.new.notices < self.new.entries → IsSettled self.new.scheduler }
+    {
+        let delivery = self.scheduler.deliver(decoder, piece);
+        settle(&mut self.scheduler, &mut self.notices);
+        delivery
+    }
+
+    /// Takes the first message of a channel and drops it.
+    pub fn pop(&mut self, channel: Channel) -> Take
+        ensures range { IsTake result }
+        ensures answer { result ≡ take_answer (inbox self.old.scheduler.peer channel) }
+        ensures after { Settles (with_scheduler self.old (record self.old.scheduler { peer = take_on self.old.scheduler.peer channel })) self.new }
+        ensures settled { length self.new.notices < self.new.entries → IsSettled self.new.scheduler }
+    {
+        let take = self.scheduler.pop(channel);
+        settle(&mut self.scheduler, &mut self.notices);
+        take
+    }
+
+    /// Takes the first frame out of the outbound queue, to be written. Its message counts as unwritten until
+    /// [`Lines::note_written`] says otherwise, or the next frame is taken.
+    pub fn next_out(&mut self) -> Option<Frame>
+        ensures value { result ≡ next self.old.scheduler.peer }
+        ensures after { Settles (with_scheduler self.old (take_frame self.old.scheduler)) self.new }
+        ensures settled { length self.new.notices < self.new.entries → IsSettled self.new.scheduler }
+    {
+        let frame = self.scheduler.next_out();
+        settle(&mut self.scheduler, &mut self.notices);
+        frame
+    }
+
+    /// Of the message that was taken last at most so many bytes are not written yet.
+    pub fn note_written(&mut self, left: usize)
+        ensures after { Settles (with_scheduler self.old (write self.old.scheduler left)) self.new }
+        ensures settled { length self.new.notices < self.new.entries → IsSettled self.new.scheduler }
+    {
+        self.scheduler.note_written(left);
+        settle(&mut self.scheduler, &mut self.notices);
+    }
+
+    /// The next notice: of a call whose message entered the outbound queue, or of an offer that can proceed; and where
+    /// there is none of these, of a first call that will never proceed, and is given up. Where there is none at all, no
+    /// call that can proceed waits without having been notified, and no first call never will.
+    pub fn next_notice(&mut self) -> Option<Notice>
+        ensures some { IfSome result (λ notice. NoticesNext notice self.old self.new) }
+        ensures none { IfNone result ((self.new ≡ self.old) × (IsSettled self.new.scheduler × NoneIsHopeless self.new.scheduler)) }
+        ensures settled { length self.new.notices < self.new.entries → IsSettled self.new.scheduler }
+    {
+        let notice = match self.notices.pop_front() {
+            Some(notice) => notice,
+            None => self.scheduler.give_up()?,
+        };
+        settle(&mut self.scheduler, &mut self.notices);
+        Some(notice)
+    }
+}
