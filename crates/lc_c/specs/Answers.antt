@@ -1,10 +1,11 @@
 -- The codes of what calls answer, and the number that goes with each. They are this project's own.
-use Rattle.std.specs.Prelude.{ℕ, Bool, ◌==◌, Option, Some, None}
+use Rattle.std.specs.Prelude.{ℕ, Bool, ◌==◌, nat_lt, if◌then◌else◌, Option, Some, None}
 use Rattle.std.specs.Option.{option_map_or}
 use Rattle.lc_book.specs.declared.fault.Refusal.{Refusal}
 use Rattle.lc_book.specs.Fault.{detail_of, refusal_number}
 use Rattle.lc_c.specs.declared.answer.LcmuxAnswer.{LcmuxAnswer}
 
+-- codes: begin results
 -- the code of a call that was done
 abbrev pub done : ℕ
 done = 0
@@ -37,6 +38,10 @@ bad_slots = 37
 abbrev pub no_code : ℕ
 no_code = 38
 
+-- the code where the caller's struct is shorter than that of this version; the number is that size
+abbrev pub bad_size : ℕ
+bad_size = 39
+
 -- the code where no message waits
 abbrev pub empty : ℕ
 empty = 48
@@ -49,9 +54,19 @@ ended = 49
 abbrev pub never : ℕ
 never = 50
 
+-- codes: end
+
 -- the answer that is a code alone
 abbrev pub only : ℕ → LcmuxAnswer
 only code = record { code = code; number = 0 }
+
+-- the answer of a call that fills a struct of so many bytes: the struct that the caller has is as long, or the number says how long it has to be
+abbrev pub sized : ℕ → ℕ → LcmuxAnswer
+sized size needed = if nat_lt size needed then record { code = bad_size; number = needed } else only done
+
+-- what such a call leaves in the struct
+abbrev pub filled : {A : Type 0} → ℕ → ℕ → A → A → A
+filled size needed new old = if nat_lt size needed then old else new
 
 -- the number that a refusal carries, 0 where it has none
 abbrev pub number_in : Refusal → ℕ

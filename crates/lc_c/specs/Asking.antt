@@ -11,7 +11,7 @@ use Rattle.lc_c.specs.declared.answer.LcmuxAnswer.{LcmuxAnswer}
 use Rattle.lc_c.specs.declared.asking.LcmuxChannelReady.{LcmuxChannelReady}
 use Rattle.lc_c.specs.declared.asking.LcmuxReady.{LcmuxReady}
 use Rattle.lc_c.specs.Side.{Side}
-use Rattle.lc_c.specs.Answers.{done, only, no_peer, never, refusal_answer, answer_of}
+use Rattle.lc_c.specs.Answers.{done, only, no_peer, never, refusal_answer, answer_of, sized, filled}
 use Rattle.lc_c.specs.Balances.{flag}
 use Rattle.lc_c.specs.Reach.{answered}
 
@@ -44,7 +44,11 @@ wants_answer (Some side) = told (flag (nat_lt 0 (length side.pending.bytes + len
 abbrev pub ready_shown : Ready → LcmuxChannelReady
 ready_shown r = record { message = flag r.message; ended = flag r.ended; plead = flag r.plead; finished = flag r.finished; finished_there = flag r.finished_there }
 
--- what there is to do on these channels behind a handle; an empty one says nothing
+-- the bytes of a struct for what there is to do
+abbrev pub ready_size : ℕ
+ready_size = 288
+
+-- what there is to do on these channels behind a handle, in a struct whose size the caller wrote into it; an empty handle says nothing
 abbrev pub ReadyBehind : List Channel → Option Side → LcmuxReady → LcmuxReady → LcmuxAnswer → Type 0
 ReadyBehind channels None old new answer = (new ≡ old) × (answer ≡ only no_peer)
-ReadyBehind channels (Some side) old new answer = (new.channels ≡ map ready_shown (map (ready_on side.peer) channels)) × (answer ≡ only done)
+ReadyBehind channels (Some side) old new answer = (new ≡ filled old.size ready_size (record { size = old.size; channels = map ready_shown (map (ready_on side.peer) channels) }) old) × (answer ≡ sized old.size ready_size)

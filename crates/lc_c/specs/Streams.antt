@@ -2,6 +2,7 @@
 use Rattle.std.specs.Prelude.{◌≡◌, ℕ, ◌+◌, ◌<◌, ◌≤◌, ◌==◌, min, List, [], ◌++◌, length, take, drop, if◌then◌else◌, Option, Some, None}
 use Rattle.std.specs.List.{flat_map}
 use Rattle.lc_frame.specs.FrameFault.{fault_number}
+use Rattle.lc_frame.specs.Frame.{body_of}
 use Rattle.lc_frame.specs.Encoding.{encoding}
 use Rattle.lc_book.specs.Fault.{violation_number}
 use Rattle.lc_peer.specs.declared.delivery.Delivery.{Delivery}
@@ -122,6 +123,10 @@ EndsBehind (Some side) answer = EndsWith side.intake answer.code × (answer.numb
 abbrev pub next_bytes : Side → List ℕ
 next_bytes side = if length side.pending.bytes == 0 then flat_map (encoding side.peer.version) (take 1 side.peer.waiting) else []
 
+-- the bytes of the message of that frame, none where it has none
+abbrev pub next_body : Side → List ℕ
+next_body side = if length side.pending.bytes == 0 then flat_map body_of (take 1 side.peer.waiting) else []
+
 -- what the call answers that lends them, and the one that counts them as gone: the number is how many they are
 abbrev pub next_shown : ℕ → LcmuxAnswer
 next_shown n = record { code = if n == 0 then empty else done; number = n }
@@ -135,6 +140,11 @@ next_answer (Some side) = next_shown (length (next_bytes side))
 abbrev pub next_of : Option Side → List ℕ
 next_of None = []
 next_of (Some side) = next_bytes side
+
+-- the bytes of the message among them
+abbrev pub body_of_next : Option Side → List ℕ
+body_of_next None = []
+body_of_next (Some side) = next_body side
 
 -- they went out of a side behind a handle, as by a write of as many bytes
 pub record SentNext (side : Side) (after : Option Side) : Type 0 where

@@ -10,6 +10,7 @@ use Rattle.lc_c.specs.Answers.{done, only, no_code, refusal_answer}
 abbrev pub version : ℕ → ℕ → ℕ → ℕ
 version major minor patch = 65536 * major + 256 * minor + patch
 
+-- codes: begin sentences of results
 -- done, and the codes of handles, configurations and takes
 abbrev pub own_sentence : ℕ → Option (List ℕ)
 own_sentence = sentence_in
@@ -21,10 +22,13 @@ own_sentence = sentence_in
     ∷ (36, codes "a capacity is not 1 to 2^24")
     ∷ (37, codes "the slots are not 1 to 65,536")
     ∷ (38, codes "there is no such code")
+    ∷ (39, codes "a struct is shorter than its size has to be")
     ∷ (48, codes "no message waits")
     ∷ (49, codes "no message waits, and none will come")
     ∷ (50, codes "the message can never be sent")
     ∷ [])
+
+-- codes: end
 
 -- the sentence of a code: a refusal's is its number, a violation's 100 more and a fault's 200 more; a
 -- number that is no code has none

@@ -1,7 +1,7 @@
 //! What calls answer: one table of codes for all of them.
 ghost use Rattle.std.specs.Prelude.{◌≡◌, false, is_ok};
 ghost use Rattle.std.specs.Result.{result_err};
-ghost use Rattle.lc_c.specs.Answers.{answer_of, is_done, only, number_in, refusal_answer};
+ghost use Rattle.lc_c.specs.Answers.{answer_of, is_done, only, number_in, refusal_answer, sized};
 
 use lc_book::Refusal;
 
@@ -13,6 +13,7 @@ pub struct LcmuxAnswer {
     pub number: u64,
 }
 
+// codes: begin results
 pub(crate) const DONE: u32 = 0;
 
 /// The handle is empty.
@@ -36,6 +37,9 @@ pub(crate) const BAD_SLOTS: u32 = 37;
 /// There is no such code.
 pub(crate) const NO_CODE: u32 = 38;
 
+/// The caller's struct is shorter than that of this version, whose size comes with it.
+pub(crate) const BAD_SIZE: u32 = 39;
+
 /// No message waits.
 pub(crate) const EMPTY: u32 = 48;
 
@@ -44,12 +48,26 @@ pub(crate) const ENDED: u32 = 49;
 
 /// The message can never be sent.
 pub(crate) const NEVER: u32 = 50;
+// codes: end
 
 /// A code alone.
 pub(crate) fn only(code: u32) -> LcmuxAnswer
     ensures { result ≡ only code }
 {
     LcmuxAnswer { code, number: 0 }
+}
+
+/// The answer of a call that fills a struct of `needed` bytes if the caller's is as long.
+pub(crate) fn sized(size: u64, needed: u64) -> LcmuxAnswer
+    ensures { result ≡ sized size needed }
+{
+    if size < needed {
+        return LcmuxAnswer {
+            code: BAD_SIZE,
+            number: needed,
+        };
+    }
+    only(DONE)
 }
 
 // The number that a refusal carries.

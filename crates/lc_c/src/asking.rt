@@ -1,22 +1,25 @@
 //! What the calls of a peer would answer, and what there is to do, behind its handle. Nothing changes.
-ghost use Rattle.std.specs.Prelude.{◌≡◌};
+ghost use Rattle.std.specs.Prelude.{◌≡◌, map};
 ghost use Rattle.lc_frame.specs.declared.frame.Frame.TheVariants.{Issue, Absolve, Plead, LimitSending, LimitReceiving, Finish};
 ghost use Rattle.lc_frame.specs.Channel.{channel_at};
-ghost use Rattle.lc_peer.specs.Questions.{needs};
+ghost use Rattle.lc_peer.specs.Questions.{needs, ready_on};
 ghost use Rattle.lc_c.specs.Answers.{answer_of};
 ghost use Rattle.lc_c.specs.Reach.{answered};
 ghost use Rattle.lc_c.specs.Calls.{frame_answer, honour_answer};
 ghost use Rattle.lc_c.specs.Asking.{would_send_answer, needs_shown, ready_shown, told, slots_answer, wants_answer, ReadyBehind};
 
-use crate::answer::{DONE, LcmuxAnswer, NEVER, NO_PEER, answer, only, refused};
+use crate::answer::{DONE, LcmuxAnswer, NEVER, NO_PEER, answer, only, refused, sized};
 use crate::balances::flag;
 use crate::own::honoured;
 use crate::peer::{LcmuxPeer, open};
 use crate::reach::{Target, reach};
 use lc_book::Refusal;
 use lc_frame::{CHANNELS, Channel};
-use lc_peer::{Needs, Ready};
+use lc_peer::{Needs, Peer, Ready};
 use std::alloc::Global;
+
+/// The size of [`LcmuxReady`].
+const READY_SIZE: u64 = 288;
 
 /// What there is to do on a channel: 1 where it is so, else 0.
 #[repr(C)]
@@ -33,6 +36,8 @@ pub struct LcmuxChannelReady {
 #[repr(C)]
 #[derive(Clone, Copy)]
 pub struct LcmuxReady {
+    /// The bytes of the caller's struct, which may be of a later version.
+    pub size: u64,
     pub channels: [LcmuxChannelReady; CHANNELS],
 }
 
@@ -289,7 +294,13 @@ fn ready_shown(ready: Ready) -> LcmuxChannelReady
     }
 }
 
-/// What there is to do on each channel.
+fn all_shown(peer: &Peer) -> [LcmuxChannelReady; CHANNELS]
+    ensures { result ≡ map ready_shown (map (ready_on peer.now) Channel.ALL) }
+{
+    peer.ready().map(ready_shown)
+}
+
+/// What there is to do on each channel. Code 39, where the struct is too short, and stays as it was.
 #[unsafe(no_mangle)]
 pub extern "C" fn lcmux_peer_ready(
     alloc: Global,
@@ -302,9 +313,12 @@ pub extern "C" fn lcmux_peer_ready(
     match open(peer, alloc) {
         None => only(NO_PEER),
         Some(side) => {
-            ready.channels = side.peer.ready().map(ready_shown);
+            let answer = sized(ready.size, READY_SIZE);
+            if ready.size >= READY_SIZE {
+                ready.channels = all_shown(&side.peer);
+            }
             *peer = LcmuxPeer::of(side);
-            only(DONE)
+            answer
         }
     }
 }

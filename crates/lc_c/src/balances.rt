@@ -2,11 +2,11 @@
 ghost use Rattle.std.specs.Prelude.{◌≡◌};
 ghost use Rattle.lc_frame.specs.Channel.{channel_at};
 ghost use Rattle.lc_peer.specs.Peer.{client, server};
-ghost use Rattle.lc_c.specs.Answers.{only, done};
+ghost use Rattle.lc_c.specs.Answers.{sized, filled};
 ghost use Rattle.lc_c.specs.Reach.{answered, given};
-ghost use Rattle.lc_c.specs.Balances.{or_no_limit, flag, client_shown, server_shown};
+ghost use Rattle.lc_c.specs.Balances.{or_no_limit, flag, client_size, client_shown, server_size, server_shown};
 
-use crate::answer::{DONE, LcmuxAnswer, only};
+use crate::answer::{LcmuxAnswer, sized};
 use crate::peer::LcmuxPeer;
 use crate::reach::{Target, reach};
 use lc_book::{ClientBook, ServerBook};
@@ -15,10 +15,18 @@ use std::alloc::Global;
 /// What stands in place of a number that is not there: a limit, or a plead.
 pub const NO_LIMIT: u64 = u64::MAX;
 
+/// The size of [`LcmuxClient`].
+const CLIENT_SIZE: u64 = 80;
+
+/// The size of [`LcmuxServer`].
+const SERVER_SIZE: u64 = 104;
+
 /// The balances of a channel at its client, in bytes of messages.
 #[repr(C)]
 #[derive(Clone, Copy)]
 pub struct LcmuxClient {
+    /// The bytes of the caller's struct, which may be of a later version.
+    pub size: u64,
     pub held: u64,
     pub received: u64,
     pub spent: u64,
@@ -34,8 +42,13 @@ pub struct LcmuxClient {
 #[repr(C)]
 #[derive(Clone, Copy)]
 pub struct LcmuxServer {
+    /// The bytes of the caller's struct, which may be of a later version.
+    pub size: u64,
     pub capacity: u64,
     pub issued: u64,
+    pub received: u64,
+    pub taken: u64,
+    pub absolved: u64,
     pub outstanding: u64,
     pub buffered: u64,
     pub room: u64,
@@ -71,10 +84,11 @@ fn or_no_plead(asked: Option<u32>) -> u64
     }
 }
 
-fn client_shown(book: &ClientBook) -> LcmuxClient
-    ensures { result ≡ client_shown book.now }
+fn client_shown(size: u64, book: &ClientBook) -> LcmuxClient
+    ensures { result ≡ client_shown size book.now }
 {
     LcmuxClient {
+        size,
         held: book.held(),
         received: book.received(),
         spent: book.spent(),
@@ -87,12 +101,16 @@ fn client_shown(book: &ClientBook) -> LcmuxClient
     }
 }
 
-fn server_shown(book: &ServerBook) -> LcmuxServer
-    ensures { result ≡ server_shown book.now }
+fn server_shown(size: u64, book: &ServerBook) -> LcmuxServer
+    ensures { result ≡ server_shown size book.now }
 {
     LcmuxServer {
+        size,
         capacity: u64::from(book.capacity()),
         issued: book.issued(),
+        received: book.arrived(),
+        taken: book.taken(),
+        absolved: book.absolved(),
         outstanding: book.outstanding(),
         buffered: book.buffered(),
         room: book.room(),
@@ -103,7 +121,7 @@ fn server_shown(book: &ServerBook) -> LcmuxServer
     }
 }
 
-/// The balances of a channel as client.
+/// The balances of a channel as client. Code 39, where the struct is too short, and stays as it was.
 #[unsafe(no_mangle)]
 pub extern "C" fn lcmux_peer_client(
     alloc: Global,
@@ -111,21 +129,24 @@ pub extern "C" fn lcmux_peer_client(
     channel: u32,
     balances: &mut LcmuxClient,
 ) -> LcmuxAnswer
-    ensures answer { result ≡ answered peer.old.slot.held (channel_at channel) (λ side c. only done) }
-    ensures balances { balances.new ≡ given peer.old.slot.held (channel_at channel) (λ side c. client_shown (client side.peer c)) balances.old }
+    ensures answer { result ≡ answered peer.old.slot.held (channel_at channel) (λ side c. sized balances.old.size client_size) }
+    ensures balances { balances.new ≡ given peer.old.slot.held (channel_at channel) (λ side c. filled balances.old.size client_size (client_shown balances.old.size (client side.peer c)) balances.old) balances.old }
     ensures same { peer.new.slot.held ≡ peer.old.slot.held }
 {
     match reach(peer, alloc, channel) {
         Target::Barred(answer) => answer,
         Target::At(side, channel) => {
-            *balances = client_shown(&side.peer.client(channel));
+            let answer = sized(balances.size, CLIENT_SIZE);
+            if balances.size >= CLIENT_SIZE {
+                *balances = client_shown(balances.size, &side.peer.client(channel));
+            }
             *peer = LcmuxPeer::of(side);
-            only(DONE)
+            answer
         }
     }
 }
 
-/// The balances of a channel as server.
+/// The balances of a channel as server. Code 39, where the struct is too short, and stays as it was.
 #[unsafe(no_mangle)]
 pub extern "C" fn lcmux_peer_server(
     alloc: Global,
@@ -133,16 +154,19 @@ pub extern "C" fn lcmux_peer_server(
     channel: u32,
     balances: &mut LcmuxServer,
 ) -> LcmuxAnswer
-    ensures answer { result ≡ answered peer.old.slot.held (channel_at channel) (λ side c. only done) }
-    ensures balances { balances.new ≡ given peer.old.slot.held (channel_at channel) (λ side c. server_shown (server side.peer c)) balances.old }
+    ensures answer { result ≡ answered peer.old.slot.held (channel_at channel) (λ side c. sized balances.old.size server_size) }
+    ensures balances { balances.new ≡ given peer.old.slot.held (channel_at channel) (λ side c. filled balances.old.size server_size (server_shown balances.old.size (server side.peer c)) balances.old) balances.old }
     ensures same { peer.new.slot.held ≡ peer.old.slot.held }
 {
     match reach(peer, alloc, channel) {
         Target::Barred(answer) => answer,
         Target::At(side, channel) => {
-            *balances = server_shown(&side.peer.server(channel));
+            let answer = sized(balances.size, SERVER_SIZE);
+            if balances.size >= SERVER_SIZE {
+                *balances = server_shown(balances.size, &side.peer.server(channel));
+            }
             *peer = LcmuxPeer::of(side);
-            only(DONE)
+            answer
         }
     }
 }

@@ -1,5 +1,5 @@
 //! A message of a peer, behind its handle, where it lies.
-ghost use Rattle.std.specs.Prelude.{◌≡◌, ◌+◌, length};
+ghost use Rattle.std.specs.Prelude.{◌≡◌, ◌+◌, ◌<◌, length};
 ghost use denote.RawPtr.{block_ptr};
 ghost use Rattle.lc_frame.specs.Channel.{channel_at};
 ghost use Rattle.lc_c.specs.Reach.{answered};
@@ -44,7 +44,8 @@ impl LcmuxPiece {
 
 impl LcmuxFront {
     fn of(first: &[u8], rest: &[u8]) -> LcmuxFront
-        ensures { result.first.len + result.rest.len ≡ length first.now + length rest.now }
+        ensures first { result.first.len ≡ length first.now }
+        ensures rest { result.rest.len ≡ length rest.now }
     {
         LcmuxFront {
             first: LcmuxPiece::of(first),
@@ -55,7 +56,8 @@ impl LcmuxFront {
 
 // The first message of a channel where it lies, and no byte where none waits.
 fn lend(peer: &Peer, channel: Channel) -> LcmuxFront
-    ensures { result.first.len + result.rest.len ≡ (front_answer peer.now channel).number }
+    ensures message { result.first.len + result.rest.len ≡ (front_answer peer.now channel).number }
+    ensures first { 0 < result.rest.len → 0 < result.first.len }
 {
     match peer.front(channel) {
         Some((first, rest)) => LcmuxFront::of(first, rest),
@@ -74,6 +76,7 @@ pub extern "C" fn lcmux_peer_front(
 ) -> LcmuxAnswer
     ensures answer { result ≡ answered peer.old.slot.held (channel_at channel) (λ side c. front_answer side.peer c) }
     ensures message { message.new.first.len + message.new.rest.len ≡ result.number }
+    ensures first { 0 < result.number → 0 < message.new.first.len }
     ensures same { peer.new.slot.held ≡ peer.old.slot.held }
 {
     match reach(peer, alloc, channel) {

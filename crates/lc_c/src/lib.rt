@@ -1,26 +1,26 @@
 //! The peer for programs in C, behind a handle.
 //!
-//! Each call takes the side out of the handle, works on it and puts it back. Nothing is required of
-//! what C passes but what the types say, which nothing tests: that a handle began as zero and is the
-//! one that the last call left, and that a slice is as long as its length says.
+//! Each call takes the side out of the handle, works on it and puts it back. The calls require of C only
+//! what the types say, which nothing tests: that a handle began as zero and is the one that the last
+//! call left, and that a slice is as long as its length says.
 //!
-//! C keeps an `LcmuxPeer`: a mark that is 0 where the handle is empty, and a `Slot`, whose
-//! pointer is that of a `Box<CPeer>`. A raw pointer may cross to C and a box may not, so `Slot`
-//! (in `handle.rt`) is a box with its fields in sight; its five functions, and the one that lends a
-//! message by its address, are the only ones that are proved by hand, and the contracts of all others see which side, if any, a handle holds.
-//! `open` takes it out, and `reach` where there is a channel too.
+//! C keeps an `LcmuxPeer`: a mark that is 0 if the handle is empty, and a `Slot`, whose pointer is that
+//! of a `Box<CPeer>`. A raw pointer may cross to C and a box may not, so `Slot` (in `handle.rt`) is a box
+//! whose fields are visible. Its five functions, and the one that lends a message by its address, are the
+//! only ones that are proved by hand. The contracts of all others see which side, if any, a handle has.
+//! `open` takes it out, and `reach` does if the call also names a channel.
 //!
-//! A `CPeer` is a peer, the `RingIntake` of its stream, and `Pending`, what is left of the greeting
-//! or of the frame that was begun to go out; contracts see it as a `Side`. The intake knows the sizes
-//! of the peer's rings, which never change: that is the invariant of a `CPeer`, and why no message
-//! is kept that is longer than its ring. Bytes come in by `RingIntake::deliver`. They go out by
-//! `give` (in `streams.rt`): what is pending, then frame by frame what waits, each encoded into the
-//! buffer of `Pending` and copied as far as there is room. So a call writes exactly as many bytes as
-//! there are and have room, which `Outgo` can't promise: it hands its bytes to a writer, of which
-//! nothing is known.
+//! A `CPeer` is a peer, the `RingIntake` of its inbound stream, and `Pending`, the rest of the greeting or
+//! of a frame that is partly written. Contracts see it as a `Side`. The intake knows the sizes of the
+//! peer's rings, which never change: that is the invariant of a `CPeer`, and the reason why no message
+//! that is longer than its ring is stored. Inbound bytes go through `RingIntake::deliver`. Outbound bytes
+//! go through `give` (in `streams.rt`): first the pending bytes, then the queued frames one by one, each
+//! encoded into the buffer of `Pending` and copied as far as there is room. So a call writes exactly as
+//! many bytes as there are and have room. `Outgo` could not promise that, since it hands its bytes to a
+//! writer, of which nothing is known.
 //!
-//! Codes are 0, the numbers of refusals, 32 to 49 for handles, configurations and takes, 100 more
-//! than the number of a violation and 200 more than that of a fault.
+//! Codes are 0, the numbers of refusals, 32 to 50 for handles, configurations and takes, the number of a
+//! violation plus 100, and that of a fault plus 200.
 #![tactic(auto)]
 
 mod answer;

@@ -3,10 +3,10 @@ ghost use Rattle.std.specs.Prelude.{◌≡◌, ◌+◌, ◌≤◌, ◌∷◌, []
 ghost use Rattle.std.specs.Int.{w16, w32, to_be_bytes};
 ghost use Rattle.lc_frame.specs.declared.frame.Frame.TheVariants.{Send};
 ghost use Rattle.lc_frame.specs.Kind.{max_body};
-ghost use Rattle.lc_frame.specs.Frame.{IsValid};
+ghost use Rattle.lc_frame.specs.Frame.{body_of, IsValid};
 ghost use Rattle.lc_frame.specs.FrameRef.{frame_of};
 ghost use Rattle.lc_frame.specs.Encoding.{encoding};
-ghost use Rattle.lc_c.specs.Streams.{GivesOut, next_bytes, next_shown, next_answer, next_of, SentBehind};
+ghost use Rattle.lc_c.specs.Streams.{GivesOut, next_body, next_bytes, next_shown, next_answer, next_of, body_of_next, SentBehind};
 
 use crate::answer::{DONE, EMPTY, LcmuxAnswer, NO_PEER, only};
 use crate::c_peer::CPeer;
@@ -42,6 +42,7 @@ impl LcmuxNext {
     // A frame that is valid in its version.
     fn of(version: Version, frame: FrameRef<'_>) -> LcmuxNext
         requires { IsValid version (frame_of frame) }
+        ensures message { result.message.len ≡ length (body_of (frame_of frame.entry)) }
         ensures len { result.header_len + result.message.len ≡ length (encoding version (frame_of frame.entry)) }
         ensures header { take result.header_len result.header ≡ take result.header_len (encoding version (frame_of frame.entry)) }
     {
@@ -53,6 +54,7 @@ impl LcmuxNext {
 
     fn of_message(version: Version, channel: Channel, message: &[u8]) -> LcmuxNext
         requires { length message.now ≤ max_body version }
+        ensures message { result.message.len ≡ length message.now }
         ensures len { result.header_len + result.message.len ≡ length (encoding version (Send channel message.now)) }
         ensures header { take result.header_len result.header ≡ take result.header_len (encoding version (Send channel message.now)) }
     {
@@ -72,6 +74,7 @@ impl LcmuxNext {
     fn of_short(version: Version, frame: FrameRef<'_>) -> LcmuxNext
         requires valid { IsValid version (frame_of frame) }
         requires short { length (encoding version (frame_of frame)) ≤ 9 }
+        ensures message { result.message.len ≡ 0 }
         ensures len { result.header_len + result.message.len ≡ length (encoding version (frame_of frame.entry)) }
         ensures header { take result.header_len result.header ≡ take result.header_len (encoding version (frame_of frame.entry)) }
     {
@@ -106,8 +109,10 @@ fn long(tag: u8, number: u32) -> ([u8; HEADER], usize)
 // The frame that goes out next, where nothing is left of what was begun before it.
 fn next(side: &CPeer) -> Option<FrameRef<'_>>
     ensures some { IfSome result (λ f. encoding side.now.peer.version (frame_of f) ≡ next_bytes side.now) }
+    ensures body { IfSome result (λ f. body_of (frame_of f) ≡ next_body side.now) }
     ensures valid { IfSome result (λ f. IsValid side.now.peer.version (frame_of f)) }
     ensures none { IfNone result (next_bytes side.now ≡ []) }
+    ensures no_body { IfNone result (next_body side.now ≡ []) }
 {
     if side.pending.len() > 0 {
         return None;
@@ -128,6 +133,7 @@ fn next_len(side: &CPeer) -> usize
 // The same where it lies.
 fn lend(side: &CPeer) -> LcmuxNext
     ensures len { result.header_len + result.message.len ≡ length (next_bytes side.now) }
+    ensures message { result.message.len ≡ length (next_body side.now) }
     ensures header { take result.header_len result.header ≡ take result.header_len (next_bytes side.now) }
 {
     match next(side) {
@@ -176,6 +182,7 @@ pub extern "C" fn lcmux_peer_next(
 ) -> LcmuxAnswer
     ensures answer { result ≡ next_answer peer.old.slot.held }
     ensures len { next.new.header_len + next.new.message.len ≡ result.number }
+    ensures message { next.new.message.len ≡ length (body_of_next peer.old.slot.held) }
     ensures header { take next.new.header_len next.new.header ≡ take next.new.header_len (next_of peer.old.slot.held) }
     ensures same { peer.new.slot.held ≡ peer.old.slot.held }
 {

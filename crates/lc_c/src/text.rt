@@ -21,6 +21,7 @@ fn own_sentence(code: u32) -> Option<&'static str>
     ensures { option_map (λ sentence. sentence.now) result ≡ own_sentence code }
 {
     let sentence = match code {
+        // codes: begin sentences of results
         0 => "done",
         32 => "the handle is empty",
         33 => "the handle has a peer already",
@@ -29,9 +30,11 @@ fn own_sentence(code: u32) -> Option<&'static str>
         36 => "a capacity is not 1 to 2^24",
         37 => "the slots are not 1 to 65,536",
         38 => "there is no such code",
+        39 => "a struct is shorter than its size has to be",
         48 => "no message waits",
         49 => "no message waits, and none will come",
         50 => "the message can never be sent",
+        // codes: end
         _ => return None,
     };
     Some(sentence)
