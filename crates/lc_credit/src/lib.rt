@@ -1,43 +1,42 @@
-//! The guarantees of all channels, shared by the thread that reads frames and those that send.
+//! The guarantees (send credit) of all channels, shared by the reader thread and the sending threads.
 //!
-//! A channel's credit is one atomic word: what was received less what is used. The thread that
-//! reads raises it, and the channel's sending end alone lowers it, so no call waits for another
-//! thread, and none tries again. A second word holds the target of a plead that was not taken yet.
-//! An end that is finished waives what the word has, and what still comes. No memory is taken but by
-//! [`credits`].
+//! A channel's credit is one atomic word: guarantees received minus guarantees used. The reader thread
+//! raises it, and only the channel's sending handle lowers it, so no call waits for another thread and
+//! none retries. A second word holds the target of a plead that the sender has not taken yet. A handle
+//! that is finished waives what the word holds and what still arrives. Only [`credits`] allocates.
 //!
 //! # What threads share
 //!
-//! A channel's guarantees are known to two threads: the one that reads frames, which receives
-//! them, and the one that sends on the channel, which uses them. `credits` makes a `CreditIn` for
-//! the first, with all channels, and a `CreditOut` of each channel for the one that sends there.
+//! Two threads know a channel's guarantees: the reader thread, which receives them, and the thread
+//! that sends on the channel, which uses them. `credits` makes one `CreditIn` for the reader, with all
+//! channels, and a `CreditOut` for each channel's sender.
 //!
-//! | shared | who changes it, and how |
+//! | shared | which thread changes it, and how |
 //! |---|---|
-//! | credit word | the reading side adds what it receives; the sending end subtracts what it uses, and adds what it gives back |
-//! | asked word | the reading side stores a target, in place of an older one; the sending end swaps it with 0 |
+//! | credit word | the reader adds what it receives; the sender subtracts what it uses, and adds what it gives back |
+//! | asked word | the reader stores a target in place of an older one; the sender swaps it with 0 |
 //!
 //! | not shared | whose |
 //! |---|---|
-//! | the sum of what was received, and what the server's limit leaves | the reading side's own |
-//! | the sums of what was spent and absolved, what is pending between its use and its frame, and what was waived, once the end is finished | the sending end's own |
+//! | the sum of the guarantees received, and what the server's limit leaves | the reader's |
+//! | the sums of the guarantees spent and absolved, the amount pending between its use and its frame, and, once the handle is finished, the amount waived | the sender's |
 //!
-//! Each change of a word is one atomic step, sequentially consistent, and no call makes it depend
-//! on winning a race: only the sending end lowers its word, so what it loaded stays enough for
-//! what it then subtracts. These are the kinds of step: on the credit word a load and an addition
-//! by the reading side, a load, a subtraction and an addition by the sending end, and a last load
-//! when both settle; on the asked word a store and a swap; and making, parting and joining the
-//! two sides. `rule.rt` has a type for each that changes or loads a word, and one for parting and
-//! joining, and `proofs/Steps.antt` a lemma that the step keeps the rule.
+//! Each change of a word is one atomic, sequentially consistent step, and no call depends on winning a
+//! race: only the sender lowers its word, so what it loaded stays enough for what it then subtracts.
+//! The kinds of steps are: on the credit word a load and an addition by the reader, a load, a
+//! subtraction and an addition by the sender, and a last load when both settle; on the asked word a
+//! store and a swap; and making, parting and joining the two sides. `rule.rt` has a type for each
+//! step that changes or loads a word, and one for parting and joining. `proofs/Steps.antt` has a lemma
+//! for each that the step keeps the rule.
 //!
-//! A use has two halves, since the frame comes between them: `spend` or `absolve` takes the
-//! amount out of the word and leaves it pending; when the frame was put `confirm` counts it, and
-//! when it was not `give_back` puts it back. Meanwhile the amount is neither held nor spent, and
-//! no other call is made.
+//! A use has two halves, since the frame is pushed between them: `spend` or `absolve` takes the amount
+//! out of the word and leaves it pending; `confirm` counts it once the frame was pushed, and
+//! `give_back` returns it to the word otherwise. Meanwhile the amount is neither held nor spent, and no
+//! other call is made.
 //!
-//! An end is finished by one load and one subtraction of all that was loaded. From then on it
-//! uses nothing and looks at no word; what still comes stays there, and is counted as waived when
-//! both sides settle.
+//! A handle is finished by one load and one subtraction of all that was loaded. From then on it uses
+//! nothing and reads no word. What still arrives stays in the word, and is counted as waived when both
+//! sides settle.
 #![tactic(auto)]
 
 mod balance;

@@ -1,26 +1,25 @@
-//! The inbox of a channel with the lane that its server puts on, shared by the thread that reads
-//! frames and the one that takes messages.
+//! The inbox of a channel together with the lane of its server, shared by the reader thread and the
+//! thread that receives the messages.
 //!
-//! What both do to it is one history, of which each side knows how it begins and all its own
-//! entries. No memory is taken but by [`share`] and [`share_all`].
+//! What both threads do to it is one history. Each thread knows a prefix of it and all its own
+//! entries. Only [`share`] and [`share_all`] allocate.
 //!
 //! # What threads share
 //!
-//! The messages of a channel come from the thread that reads frames and go to the one that takes
-//! them. `share` makes an `InboxIn` for the first and an `InboxOut` for the second; `share_all`
-//! does so for all seven channels, from the ends of one queue. When both threads are done,
-//! `finish` takes both sides and gives back the book and the lane's end, and `finish_all` those
-//! of all seven.
+//! The reader thread stores the messages of a channel, and the receiving thread takes them. `share`
+//! makes an `InboxIn` for the first and an `InboxOut` for the second; `share_all` does so for all seven
+//! channels, from the lane ends of one queue. When both threads are done, `finish` takes both sides and
+//! gives back the ledger and the lane end, and `finish_all` those of all seven channels.
 //!
 //! | | |
 //! |---|---|
-//! | shared | a slot with the `InboxEnd` (the channel's `Inbox` and the end of its server's lane), a word that says which side has it, and a mutex |
-//! | a side's own | in no memory: what it knows of the inbox's history and how many turns it had, which exist in proofs alone |
+//! | shared | a slot with the `InboxEnd` (the channel's `Inbox` and its server's lane end), a word that says which side has it, and a mutex |
+//! | a side's own | nothing in memory: what it knows of the inbox's history, and how many turns it had, exist in proofs alone |
 //!
-//! Each call takes the slot, works on the inbox where it lies, and gives the slot back: nothing
-//! is moved. Each of the two is one atomic step on the word, so that the proof sees whose the
-//! inbox is; the mutex, which is held from before the first to after the second, lets the other
-//! side sleep meanwhile, and no promise rests on it.
+//! Each call takes the slot, works on the inbox in place, and gives the slot back: nothing is moved.
+//! Taking and giving back are one atomic step each on the word, by which the proof knows the owner. The
+//! mutex is held from before the first step to after the second, so that the other side can block; no
+//! promise rests on it.
 #![tactic(auto)]
 
 mod arrays;

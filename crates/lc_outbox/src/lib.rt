@@ -1,22 +1,21 @@
-//! The sending end of a channel, as the one thread that sends there has it: the end of the lane on
-//! which the channel's client puts its frames, with the guarantees that these use up.
+//! The sending handle of a channel, for one thread: the lane end on which the channel's client pushes
+//! its frames, together with the guarantees that the frames use up.
 //!
-//! What a client's book refuses an outbox refuses too, in the same order; what is held it looks up
-//! in the credit at each call. A call that is refused puts nothing.
+//! An outbox refuses what a client's ledger refuses, in the same order. It reads the guarantees held
+//! from the credit at each call. A refused call pushes nothing.
 //!
-//! # What a thread that sends has
+//! # What a sending thread has
 //!
-//! An `Outbox` is shared with nobody: one thread at a time calls it. It holds the end of the lane
-//! on which the channel's client puts and the sending end of the channel's credit, which are its
-//! parts of what threads share, and two numbers of its own: what is left of the limit on sending,
-//! and the target of a plead that it took and has not answered.
+//! An `Outbox` is shared with no other thread: one thread at a time calls it. It has the lane end and
+//! the sending side of the channel's credit, which are its parts of the shared values, and two numbers
+//! of its own: what is left of the limit on sending, and the target of a plead that it took and has not
+//! answered.
 //!
-//! Each of its calls goes the same way. Its own numbers judge first (`after_message`,
-//! `check_limit`, an amount of 0). Then the amount is taken out of the credit word, which judges
-//! by what it finds there. Then the frame is made and pushed, and the amount is counted or given
-//! back. So what is held, as any thread sees it, is never more than what may still be sent, and a
-//! message's body is copied only once there are guarantees for it. An honour looks twice before
-//! that: at the asked word, and at what is held.
+//! Each call has the same order. Its own numbers are validated first (`after_message`, `check_limit`, an
+//! amount of 0). Then the amount is taken out of the credit word, which is the check against the
+//! guarantees held. Then the frame is made and pushed, and the amount is counted or given back. So no
+//! thread ever sees more guarantees held than may still be spent, and a message's body is copied only
+//! once its guarantees are taken. An honour first reads the asked word and the guarantees held.
 #![tactic(auto)]
 
 mod outbox;

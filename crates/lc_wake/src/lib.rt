@@ -1,9 +1,10 @@
-//! How the threads of a session sleep and are woken. Waking is advice: nothing that a session
-//! promises rests on it; `wakers.rt` says why no wake-up is lost.
+//! How the threads of a session block and wake up: an eventcount for each handle. No promise of a
+//! session rests on wake-ups; `wakers.rt` says why none is lost.
 //!
-//! Each end notes what it was told of when a wait of it ends, and sleeps only while nothing was told
-//! since. So whatever comes after any look at its channel or at the queue wakes it; what came before
-//! the look wakes it once too often at most. What other channels do wakes no end, and no end waits for it.
+//! A handle records the events that it was notified of when one of its waits ends, and blocks only while
+//! no new event has occurred. So each event after any look at its channel or at the queue wakes it up,
+//! and an event before the look causes at most one spurious wake-up. What other channels do wakes no
+//! handle, and no handle waits for it.
 #![tactic(auto)]
 
 mod pump_waiter;

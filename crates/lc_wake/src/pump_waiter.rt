@@ -10,7 +10,7 @@ use std::sync::{Arc, Wait};
 use std::thread;
 
 /// How often the pump yields the processor before it sleeps, where it finds the queue empty.
-/// What a wait takes with that is in `docs/performance.md`.
+/// What a wait takes with that is in `docs/explanation/performance.md`.
 const YIELDS: u32 = 1;
 
 /// The lanes of which frames were popped.

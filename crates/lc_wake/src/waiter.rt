@@ -8,7 +8,7 @@ use std::thread;
 use std::time::{Clock, Duration};
 
 /// How often an end that found nothing yields the processor before it sleeps. What a wait takes
-/// with that is in `docs/performance.md`.
+/// with that is in `docs/explanation/performance.md`.
 const YIELDS: u32 = 1;
 
 /// Why a wait ended. It is advice: nothing is promised of it.

@@ -17,7 +17,7 @@ fn takes(rt: &(impl Wait + Abort), alloc: Global, outgoing: &mut InboxOut, wante
 }
 
 fn issued(amount: u32) -> Frame {
-    let channel = Channel::DataChannel;
+    let channel = Channel::Data;
     Frame::Issue { channel, amount }
 }
 

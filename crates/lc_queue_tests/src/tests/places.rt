@@ -16,7 +16,7 @@ const SLOTS: u32 = 2;
 fn put<R: Wait + Abort>(rt: &R, end: &mut LaneEnd) {
     for _ in rt.forever() {
         let frame = Frame::Plead {
-            channel: Channel::DataChannel,
+            channel: Channel::Data,
             target: 0,
         };
         assert!(rt; frame.is_valid(end.version()) && frame.lane() == end.lane());

@@ -11,9 +11,9 @@ use std::sync::Wait;
 use std::test::Fail;
 use test_threads::keeps_order;
 
-const RECONCILIATION: Channel = Channel::ReconciliationChannel;
+const RECONCILIATION: Channel = Channel::Reconciliation;
 
-const DATA: Channel = Channel::DataChannel;
+const DATA: Channel = Channel::Data;
 
 fn send(alloc: Global, channel: Channel, text: &[u8]) -> Result<Frame, AllocError> {
     let body = Body::from_vec(Vec::from_slice(alloc, text)?);

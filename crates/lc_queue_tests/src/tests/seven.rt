@@ -24,11 +24,11 @@ const CAPACITIES: [([u32; CHANNELS], &str); 4] = [
     ),
     (
         [8, 8, 0, 8, 8, 0, 8],
-        "Err(BadCapacity { channel: OverlapChannel })",
+        "Err(BadCapacity { channel: Overlap })",
     ),
     (
         [8, 8, 8, 8, 8, 8, 16_777_217],
-        "Err(BadCapacity { channel: StaticTokenChannel })",
+        "Err(BadCapacity { channel: StaticToken })",
     ),
 ];
 
