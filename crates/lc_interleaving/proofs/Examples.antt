@@ -6,7 +6,7 @@ use Rattle.atomic_table.specs.Seated.{TableId}
 use Rattle.lc_frame.specs.declared.version.Version.{Version}
 use Rattle.lc_frame.specs.declared.version.Version.TheVariants.{One, Two}
 use Rattle.lc_frame.specs.declared.channel.Channel.{Channel}
-use Rattle.lc_frame.specs.declared.channel.Channel.TheVariants.{ReconciliationChannel, DataChannel, OverlapChannel, CapabilityChannel, AreaOfInterestChannel, PayloadRequestChannel, StaticTokenChannel}
+use Rattle.lc_frame.specs.declared.channel.Channel.TheVariants.{Reconciliation, Data, Overlap, Capability, AreaOfInterest, PayloadRequest, StaticToken}
 use Rattle.lc_frame.specs.declared.kind.Kind.TheVariants as kinds
 use Rattle.lc_frame.specs.declared.frame.Frame.{Frame}
 use Rattle.lc_frame.specs.declared.frame.Frame.TheVariants.{Send, Issue, Absolve, Plead, LimitSending, LimitReceiving, Finish}
@@ -41,31 +41,31 @@ all_of P (x ∷ xs) h zero d below = h.0
 all_of P (x ∷ xs) h (suc k) d below = all_of P xs h.1 k d (omega (arith, below))
 
 -- what holds on each channel, shown on each
-pub each : (P : Channel → Type 0) → P ReconciliationChannel → P DataChannel → P OverlapChannel → P CapabilityChannel → P AreaOfInterestChannel → P PayloadRequestChannel → P StaticTokenChannel → (c : Channel) → P c
-each P p0 p1 p2 p3 p4 p5 p6 ReconciliationChannel = p0
-each P p0 p1 p2 p3 p4 p5 p6 DataChannel = p1
-each P p0 p1 p2 p3 p4 p5 p6 OverlapChannel = p2
-each P p0 p1 p2 p3 p4 p5 p6 CapabilityChannel = p3
-each P p0 p1 p2 p3 p4 p5 p6 AreaOfInterestChannel = p4
-each P p0 p1 p2 p3 p4 p5 p6 PayloadRequestChannel = p5
-each P p0 p1 p2 p3 p4 p5 p6 StaticTokenChannel = p6
+pub each : (P : Channel → Type 0) → P Reconciliation → P Data → P Overlap → P Capability → P AreaOfInterest → P PayloadRequest → P StaticToken → (c : Channel) → P c
+each P p0 p1 p2 p3 p4 p5 p6 Reconciliation = p0
+each P p0 p1 p2 p3 p4 p5 p6 Data = p1
+each P p0 p1 p2 p3 p4 p5 p6 Overlap = p2
+each P p0 p1 p2 p3 p4 p5 p6 Capability = p3
+each P p0 p1 p2 p3 p4 p5 p6 AreaOfInterest = p4
+each P p0 p1 p2 p3 p4 p5 p6 PayloadRequest = p5
+each P p0 p1 p2 p3 p4 p5 p6 StaticToken = p6
 
 -- the same thing at every channel but the data channel
 abbrev pub listed : {X : Type 0} → (Channel → X) → X → List X
-listed of other = of ReconciliationChannel ∷ other ∷ of OverlapChannel ∷ of CapabilityChannel ∷ of AreaOfInterestChannel ∷ of PayloadRequestChannel ∷ of StaticTokenChannel ∷ []
+listed of other = of Reconciliation ∷ other ∷ of Overlap ∷ of Capability ∷ of AreaOfInterest ∷ of PayloadRequest ∷ of StaticToken ∷ []
 
 abbrev pub message : List ℕ
 message = 1 ∷ 2 ∷ 3 ∷ []
 
 abbrev pub a_frames : List Frame
-a_frames = LimitSending DataChannel 10 ∷ Send DataChannel message ∷ Absolve DataChannel 1 ∷ Finish DataChannel ∷ []
+a_frames = LimitSending Data 10 ∷ Send Data message ∷ Absolve Data 1 ∷ Finish Data ∷ []
 
 abbrev pub b_frames : List Frame
-b_frames = LimitReceiving DataChannel 9 ∷ Issue DataChannel 5 ∷ Plead DataChannel 1 ∷ Issue DataChannel 2 ∷ []
+b_frames = LimitReceiving Data 9 ∷ Issue Data 5 ∷ Plead Data 1 ∷ Issue Data 2 ∷ []
 
 -- what each had heard at the end
 abbrev pub a_heard : List Frame
-a_heard = LimitReceiving DataChannel 9 ∷ Issue DataChannel 5 ∷ Plead DataChannel 1 ∷ []
+a_heard = LimitReceiving Data 9 ∷ Issue Data 5 ∷ Plead Data 1 ∷ []
 
 -- the history of A's credit, and of B's inbox, each as far as one thread had seen it, and the whole
 abbrev pub credit_begun : List credit.Entry
@@ -75,16 +75,16 @@ abbrev pub credit_whole : List credit.Entry
 credit_whole = Received 5 ∷ Used 4 ∷ Returned 4 ∷ Used 3 ∷ Asked 1 ∷ Taken 1 ∷ Used 1 ∷ Used 1 ∷ []
 
 abbrev pub inbox_begun : List Entry
-inbox_begun = Put (LimitReceiving DataChannel 9) ∷ Put (Issue DataChannel 5) ∷ Put (Plead DataChannel 1) ∷ Heard (LimitSending DataChannel 10) ∷ Heard (Send DataChannel message) ∷ Took message ∷ Heard (Absolve DataChannel 1) ∷ Put (Issue DataChannel 2) ∷ []
+inbox_begun = Put (LimitReceiving Data 9) ∷ Put (Issue Data 5) ∷ Put (Plead Data 1) ∷ Heard (LimitSending Data 10) ∷ Heard (Send Data message) ∷ Took message ∷ Heard (Absolve Data 1) ∷ Put (Issue Data 2) ∷ []
 
 abbrev pub inbox_whole : List Entry
-inbox_whole = Put (LimitReceiving DataChannel 9) ∷ Put (Issue DataChannel 5) ∷ Put (Plead DataChannel 1) ∷ Heard (LimitSending DataChannel 10) ∷ Heard (Send DataChannel message) ∷ Took message ∷ Heard (Absolve DataChannel 1) ∷ Put (Issue DataChannel 2) ∷ Heard (Finish DataChannel) ∷ []
+inbox_whole = Put (LimitReceiving Data 9) ∷ Put (Issue Data 5) ∷ Put (Plead Data 1) ∷ Heard (LimitSending Data 10) ∷ Heard (Send Data message) ∷ Took message ∷ Heard (Absolve Data 1) ∷ Put (Issue Data 2) ∷ Heard (Finish Data) ∷ []
 
 abbrev pub order : List Joint
 order =
-    at_b (puts (LimitReceiving DataChannel 9)) ∷ at_b (puts (Issue DataChannel 5)) ∷ at_a (hears (LimitReceiving DataChannel 9)) ∷ at_a (hears (Issue DataChannel 5)) ∷ at_a (puts (LimitSending DataChannel 10)) ∷ at_a (puts (Send DataChannel message))
-    ∷ at_b (puts (Plead DataChannel 1)) ∷ at_a (hears (Plead DataChannel 1)) ∷ at_a (puts (Absolve DataChannel 1)) ∷ at_a (puts (Finish DataChannel)) ∷ at_b (hears (LimitSending DataChannel 10)) ∷ at_b (hears (Send DataChannel message)) ∷ at_b (takes DataChannel message) ∷ at_b (hears (Absolve DataChannel 1))
-    ∷ at_b (puts (Issue DataChannel 2)) ∷ at_b (hears (Finish DataChannel)) ∷ []
+    at_b (puts (LimitReceiving Data 9)) ∷ at_b (puts (Issue Data 5)) ∷ at_a (hears (LimitReceiving Data 9)) ∷ at_a (hears (Issue Data 5)) ∷ at_a (puts (LimitSending Data 10)) ∷ at_a (puts (Send Data message))
+    ∷ at_b (puts (Plead Data 1)) ∷ at_a (hears (Plead Data 1)) ∷ at_a (puts (Absolve Data 1)) ∷ at_a (puts (Finish Data)) ∷ at_b (hears (LimitSending Data 10)) ∷ at_b (hears (Send Data message)) ∷ at_b (takes Data message) ∷ at_b (hears (Absolve Data 1))
+    ∷ at_b (puts (Issue Data 2)) ∷ at_b (hears (Finish Data)) ∷ []
 
 abbrev pub nothing : Balance
 nothing = record { received = 0; held = 0; spent = 0; absolved = 0; waived = 0 }
@@ -107,19 +107,19 @@ module _ (id : TableId) (base : InboxSide) where
   abbrev pub session : Version → OutboxState → Incoming → List Entry → List Entry → SessionState
   session v o i reads receives = record {
     sending = listed (λ c. outbox v c [] (new_outgoing id) None) o;
-    receiving = listed (λ c. side v c []) (side v DataChannel receives);
+    receiving = listed (λ c. side v c []) (side v Data receives);
     reading = record {
-      side = record { credits = listed (λ c. new_incoming id) i; inboxes = listed (λ c. side v c []) (side v DataChannel reads) };
-      intake = record { held = nothing_stored; stop = None; rings = listed (λ c. 6) 6 };
+      side = record { credits = listed (λ c. new_incoming id) i; inboxes = listed (λ c. side v c []) (side v Data reads) };
+      intake = record { held = nothing_stored; kept = 0; stop = None; rings = listed (λ c. 6) 6 };
     };
     writing = new_pumping (new_outlet id v);
   }
 
   abbrev pub books : Version → List Entry → List Server
-  books v history = listed (λ c. book_after (key v c) []) (book_after (key v DataChannel) history)
+  books v history = listed (λ c. book_after (key v c) []) (book_after (key v Data) history)
 
   abbrev pub lanes : Version → List Entry → List End
-  lanes v history = listed (λ c. lane_after (key v c) []) (lane_after (key v DataChannel) history)
+  lanes v history = listed (λ c. lane_after (key v c) []) (lane_after (key v Data) history)
 
   -- a channel that was not used
   unfoldable pub unused : (c : Channel) → IsSettled (new_incoming id) (new_outgoing id) nothing
@@ -156,7 +156,7 @@ module _ (id : TableId) (base : InboxSide) where
 
   -- A, which sent and finished, in version Two
   abbrev pub a_outbox : OutboxState
-  a_outbox = outbox Two DataChannel a_frames (record { credit = id; seen = credit_whole; looks = 0; spent = 3; absolved = 1; waived = Some 1; pending = None; least = 0 }) (Some 7)
+  a_outbox = outbox Two Data a_frames (record { credit = id; seen = credit_whole; looks = 0; spent = 3; absolved = 1; waived = Some 1; pending = None; least = 0 }) (Some 7)
 
   abbrev pub a_incoming : Incoming
   a_incoming = record { credit = id; seen = credit_begun; looks = 0; received = 5; left = Some 4 }
@@ -192,12 +192,12 @@ module _ (id : TableId) (base : InboxSide) where
   pub a_is_outbox : IsOutbox a_outbox
   a_is_outbox = record { lane = refl; idle = refl; spent = refl; absolved = refl; uses = refl; finished = refl; left = refl; rules = ((refl, refl, refl), ((refl, refl, refl), ((refl, refl, (omega arith, omega arith)), ((refl, refl, refl), tt)))) }
 
-  pub one_session : (v : Version) (o : OutboxState) (i : Incoming) (reads receives : List Entry) → o.channel ≡ DataChannel → o.lane.queue ≡ id → o.lane.version ≡ v → o.credit.credit ≡ i.credit → i.credit ≡ id → AreOfOneSession (session v o i reads receives)
+  pub one_session : (v : Version) (o : OutboxState) (i : Incoming) (reads receives : List Entry) → o.channel ≡ Data → o.lane.queue ≡ id → o.lane.version ≡ v → o.credit.credit ≡ i.credit → i.credit ≡ id → AreOfOneSession (session v o i reads receives)
   one_session v o i reads receives channel queue version credits known = record {
     senders = cc;
     receivers = refl;
-    clients_put = all_of (PutsOn id v) (session v o i reads receives).sending (unused_puts ReconciliationChannel, (record { queue_is = cc; version_is = version }, (unused_puts OverlapChannel, (unused_puts CapabilityChannel, (unused_puts AreaOfInterestChannel, (unused_puts PayloadRequestChannel, (unused_puts StaticTokenChannel, tt)))))));
-    servers_put = all_of (ServesOn id v) (session v o i reads receives).reading.side.inboxes (serves ReconciliationChannel [], (serves DataChannel reads, (serves OverlapChannel [], (serves CapabilityChannel [], (serves AreaOfInterestChannel [], (serves PayloadRequestChannel [], (serves StaticTokenChannel [], tt)))))));
+    clients_put = all_of (PutsOn id v) (session v o i reads receives).sending (unused_puts Reconciliation, (record { queue_is = cc; version_is = version }, (unused_puts Overlap, (unused_puts Capability, (unused_puts AreaOfInterest, (unused_puts PayloadRequest, (unused_puts StaticToken, tt)))))));
+    servers_put = all_of (ServesOn id v) (session v o i reads receives).reading.side.inboxes (serves Reconciliation [], (serves Data reads, (serves Overlap [], (serves Capability [], (serves AreaOfInterest [], (serves PayloadRequest [], (serves StaticToken [], tt)))))));
     credits_match = cc;
     inboxes_match = refl;
   }
@@ -211,11 +211,11 @@ module _ (id : TableId) (base : InboxSide) where
   unfoldable pub a_report : IsReport a.session a.clients a.servers a.left a.partly
   a_report = record {
     last = a_frames;
-    outboxes = all_of IsOutbox a.session.sending (unused_outbox Two ReconciliationChannel, (a_is_outbox, (unused_outbox Two OverlapChannel, (unused_outbox Two CapabilityChannel, (unused_outbox Two AreaOfInterestChannel, (unused_outbox Two PayloadRequestChannel, (unused_outbox Two StaticTokenChannel, tt)))))));
+    outboxes = all_of IsOutbox a.session.sending (unused_outbox Two Reconciliation, (a_is_outbox, (unused_outbox Two Overlap, (unused_outbox Two Capability, (unused_outbox Two AreaOfInterest, (unused_outbox Two PayloadRequest, (unused_outbox Two StaticToken, tt)))))));
     clients_gave = all_of (GaveAll a_frames) a.session.sending (refl, (refl, (refl, (refl, (refl, (refl, (refl, tt)))))));
-    settled = (unused ReconciliationChannel, (a_settled, (unused OverlapChannel, (unused CapabilityChannel, (unused AreaOfInterestChannel, (unused PayloadRequestChannel, (unused StaticTokenChannel, tt)))))));
+    settled = (unused Reconciliation, (a_settled, (unused Overlap, (unused Capability, (unused AreaOfInterest, (unused PayloadRequest, (unused StaticToken, tt)))))));
     lanes = lanes Two [];
-    finished = (unused_inbox Two ReconciliationChannel, (unused_inbox Two DataChannel, (unused_inbox Two OverlapChannel, (unused_inbox Two CapabilityChannel, (unused_inbox Two AreaOfInterestChannel, (unused_inbox Two PayloadRequestChannel, (unused_inbox Two StaticTokenChannel, tt)))))));
+    finished = (unused_inbox Two Reconciliation, (unused_inbox Two Data, (unused_inbox Two Overlap, (unused_inbox Two Capability, (unused_inbox Two AreaOfInterest, (unused_inbox Two PayloadRequest, (unused_inbox Two StaticToken, tt)))))));
     servers_gave = all_of (GaveAllOf a_frames) (lanes Two []) (refl, (refl, (refl, (refl, (refl, (refl, (refl, tt)))))));
     left_is = refl;
     partly_is = refl;
@@ -237,7 +237,7 @@ module _ (id : TableId) (base : InboxSide) where
   -- B, which took, and writes in version One
   abbrev pub b : Finished
   b = record {
-    session = session One (outbox One DataChannel [] (new_outgoing id) None) (new_incoming id) inbox_whole inbox_begun;
+    session = session One (outbox One Data [] (new_outgoing id) None) (new_incoming id) inbox_whole inbox_begun;
     arrived = a_frames;
     clients = listed (λ c. nothing) nothing;
     servers = books One inbox_whole;
@@ -245,12 +245,12 @@ module _ (id : TableId) (base : InboxSide) where
     partly = 0;
   }
 
-  unfoldable pub b_inbox : sides.IsFinished (side One DataChannel inbox_whole) (side One DataChannel inbox_begun) (book_after (key One DataChannel) inbox_whole) (lane_after (key One DataChannel) inbox_whole)
+  unfoldable pub b_inbox : sides.IsFinished (side One Data inbox_whole) (side One Data inbox_begun) (book_after (key One Data) inbox_whole) (lane_after (key One Data) inbox_whole)
   b_inbox = record {
     history = inbox_whole;
     legal = ((refl, refl), ((refl, refl), ((refl, refl), ((refl, refl), ((refl, refl), (refl, ((refl, refl), ((refl, refl), ((refl, refl), tt)))))))));
     reads = record { later = []; begins = refl; others = refl };
-    receives = record { later = Heard (Finish DataChannel) ∷ []; begins = refl; others = refl };
+    receives = record { later = Heard (Finish Data) ∷ []; begins = refl; others = refl };
     book_is = refl;
     lane_is = refl;
     heard = refl;
@@ -262,11 +262,11 @@ module _ (id : TableId) (base : InboxSide) where
   unfoldable pub b_report : IsReport b.session b.clients b.servers b.left b.partly
   b_report = record {
     last = b_frames;
-    outboxes = all_of IsOutbox b.session.sending (unused_outbox One ReconciliationChannel, (unused_outbox One DataChannel, (unused_outbox One OverlapChannel, (unused_outbox One CapabilityChannel, (unused_outbox One AreaOfInterestChannel, (unused_outbox One PayloadRequestChannel, (unused_outbox One StaticTokenChannel, tt)))))));
+    outboxes = all_of IsOutbox b.session.sending (unused_outbox One Reconciliation, (unused_outbox One Data, (unused_outbox One Overlap, (unused_outbox One Capability, (unused_outbox One AreaOfInterest, (unused_outbox One PayloadRequest, (unused_outbox One StaticToken, tt)))))));
     clients_gave = all_of (GaveAll b_frames) b.session.sending (refl, (refl, (refl, (refl, (refl, (refl, (refl, tt)))))));
-    settled = (unused ReconciliationChannel, (unused DataChannel, (unused OverlapChannel, (unused CapabilityChannel, (unused AreaOfInterestChannel, (unused PayloadRequestChannel, (unused StaticTokenChannel, tt)))))));
+    settled = (unused Reconciliation, (unused Data, (unused Overlap, (unused Capability, (unused AreaOfInterest, (unused PayloadRequest, (unused StaticToken, tt)))))));
     lanes = lanes One inbox_whole;
-    finished = (unused_inbox One ReconciliationChannel, (b_inbox, (unused_inbox One OverlapChannel, (unused_inbox One CapabilityChannel, (unused_inbox One AreaOfInterestChannel, (unused_inbox One PayloadRequestChannel, (unused_inbox One StaticTokenChannel, tt)))))));
+    finished = (unused_inbox One Reconciliation, (b_inbox, (unused_inbox One Overlap, (unused_inbox One Capability, (unused_inbox One AreaOfInterest, (unused_inbox One PayloadRequest, (unused_inbox One StaticToken, tt)))))));
     servers_gave = all_of (GaveAllOf b_frames) (lanes One inbox_whole) (refl, (refl, (refl, (refl, (refl, (refl, (refl, tt)))))));
     left_is = refl;
     partly_is = refl;
@@ -283,7 +283,7 @@ module _ (id : TableId) (base : InboxSide) where
       (record { inbox = refl; received = refl; left = refl; asked = refl })
 
   unfoldable pub b_finished : IsFinished b
-  b_finished = record { one = one_session One (outbox One DataChannel [] (new_outgoing id) None) (new_incoming id) inbox_whole inbox_begun refl refl refl refl refl; heard = b_has_heard; report = b_report }
+  b_finished = record { one = one_session One (outbox One Data [] (new_outgoing id) None) (new_incoming id) inbox_whole inbox_begun refl refl refl refl refl; heard = b_has_heard; report = b_report }
 
   -- the order is one of their steps
   pub enough : 5 ≤ 5
@@ -304,7 +304,7 @@ module _ (id : TableId) (base : InboxSide) where
       inboxes = each (λ c. entries c (of_b order) ≡ without_refusals ((trace b b_finished).inbox c)) refl refl refl refl refl refl refl;
       in_time = (tt, (tt, (tt, (tt, (tt, (tt, (tt, (tt, (tt, tt)))))))));
     };
-    causal = (tt, (tt, ((Issue DataChannel 5 ∷ [], refl), (([], refl), (tt, (tt, (tt, (([], refl), (tt, (tt, ((Send DataChannel message ∷ Absolve DataChannel 1 ∷ Finish DataChannel ∷ [], refl), ((Absolve DataChannel 1 ∷ Finish DataChannel ∷ [], refl), (tt, ((Finish DataChannel ∷ [], refl), (tt, (([], refl), tt))))))))))))))));
+    causal = (tt, (tt, ((Issue Data 5 ∷ [], refl), (([], refl), (tt, (tt, (tt, (([], refl), (tt, (tt, ((Send Data message ∷ Absolve Data 1 ∷ Finish Data ∷ [], refl), ((Absolve Data 1 ∷ Finish Data ∷ [], refl), (tt, ((Finish Data ∷ [], refl), (tt, (([], refl), tt))))))))))))))));
   }
 
   pub were_one : WereOne 6 a b a_finished b_finished order
@@ -328,11 +328,11 @@ module _ (id : TableId) (base : InboxSide) where
 
   came_back : HasEntry (trace a a_finished) Returned
   unfolding a_finished a_report a_settled unused
-  came_back = (DataChannel, 4, (2, omega arith, refl))
+  came_back = (Data, 4, (2, omega arith, refl))
 
   honoured : HasEntry (trace a a_finished) Taken
   unfolding a_finished a_report a_settled unused
-  honoured = (DataChannel, 1, (5, omega arith, refl))
+  honoured = (Data, 1, (5, omega arith, refl))
 
 pub premises_can_be_met : PremisesCanBeMet
 premises_can_be_met id base = record {

@@ -4,7 +4,7 @@ use Rattle.std.specs.Prelude.{All, slice_get, slice_index_or, is_some, option_to
 use Rattle.lc_history.specs.History.{IsHistory}
 use Rattle.lc_frame.specs.declared.version.Version.{Version}
 use Rattle.lc_frame.specs.declared.channel.Channel.{Channel}
-use Rattle.lc_frame.specs.declared.channel.Channel.TheVariants.{ReconciliationChannel, DataChannel, OverlapChannel, CapabilityChannel, AreaOfInterestChannel, PayloadRequestChannel, StaticTokenChannel}
+use Rattle.lc_frame.specs.declared.channel.Channel.TheVariants.{Reconciliation, Data, Overlap, Capability, AreaOfInterest, PayloadRequest, StaticToken}
 use Rattle.lc_frame.specs.declared.frame.Frame.{Frame}
 use Rattle.lc_frame.specs.Channel.{number_of}
 use Rattle.lc_frame.specs.Stream.{of_lane, cost, absolved, issued, finished}
@@ -51,13 +51,13 @@ keeps_at Keeps (suc n) c (b ∷ cs) (x ∷ xs) (y ∷ ys) d there h =
     record { other = rest.other; there = rest.there; keeps = rest.keeps }
 
 channel_there : (c : Channel) → slice_get channels (number_of c) ≡ Some c
-channel_there ReconciliationChannel = refl
-channel_there DataChannel = refl
-channel_there OverlapChannel = refl
-channel_there CapabilityChannel = refl
-channel_there AreaOfInterestChannel = refl
-channel_there PayloadRequestChannel = refl
-channel_there StaticTokenChannel = refl
+channel_there Reconciliation = refl
+channel_there Data = refl
+channel_there Overlap = refl
+channel_there Capability = refl
+channel_there AreaOfInterest = refl
+channel_there PayloadRequest = refl
+channel_there StaticToken = refl
 
 -- a list without its first still has what each of it has
 all_rest : {X : Type 0} (P : X → Type 0) (x : X) (xs : List X) → All P (x ∷ xs) → All P xs

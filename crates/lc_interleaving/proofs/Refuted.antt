@@ -3,7 +3,7 @@ use Rattle.std.proofs.Common.{◌≡◌, List, [], ◌∷◌, refl, inl, inr}
 use Rattle.atomic_table.specs.Seated.{TableId}
 use Rattle.lc_history.specs.History.{IsHistory}
 use Rattle.lc_frame.specs.declared.channel.Channel.{Channel}
-use Rattle.lc_frame.specs.declared.channel.Channel.TheVariants.{DataChannel}
+use Rattle.lc_frame.specs.declared.channel.Channel.TheVariants.{Data}
 use Rattle.lc_frame.specs.declared.frame.Frame.TheVariants.{Send, Issue, Absolve, Plead, LimitSending, LimitReceiving, Finish}
 use Rattle.lc_inbox.specs.Sides.{InboxSide}
 use Rattle.lc_world.specs.State.{Versions, opening}
@@ -20,15 +20,15 @@ use Rattle.lc_interleaving.proofs.Examples.{each, message, a, b, a_finished, b_f
 -- the order of the example, but the message stands before the guarantees were heard
 abbrev too_early : List Joint
 too_early =
-    at_b (puts (LimitReceiving DataChannel 9)) ∷ at_b (puts (Issue DataChannel 5)) ∷ at_a (hears (LimitReceiving DataChannel 9)) ∷ at_a (puts (LimitSending DataChannel 10)) ∷ at_a (puts (Send DataChannel message)) ∷ at_a (hears (Issue DataChannel 5))
-    ∷ at_b (puts (Plead DataChannel 1)) ∷ at_a (hears (Plead DataChannel 1)) ∷ at_a (puts (Absolve DataChannel 1)) ∷ at_a (puts (Finish DataChannel)) ∷ at_b (hears (LimitSending DataChannel 10)) ∷ at_b (hears (Send DataChannel message)) ∷ at_b (takes DataChannel message) ∷ at_b (hears (Absolve DataChannel 1))
-    ∷ at_b (puts (Issue DataChannel 2)) ∷ at_b (hears (Finish DataChannel)) ∷ []
+    at_b (puts (LimitReceiving Data 9)) ∷ at_b (puts (Issue Data 5)) ∷ at_a (hears (LimitReceiving Data 9)) ∷ at_a (puts (LimitSending Data 10)) ∷ at_a (puts (Send Data message)) ∷ at_a (hears (Issue Data 5))
+    ∷ at_b (puts (Plead Data 1)) ∷ at_a (hears (Plead Data 1)) ∷ at_a (puts (Absolve Data 1)) ∷ at_a (puts (Finish Data)) ∷ at_b (hears (LimitSending Data 10)) ∷ at_b (hears (Send Data message)) ∷ at_b (takes Data message) ∷ at_b (hears (Absolve Data 1))
+    ∷ at_b (puts (Issue Data 2)) ∷ at_b (hears (Finish Data)) ∷ []
 
 -- the same, but the message is heard before it was put
 abbrev unheard_of : List Joint
 unheard_of =
-    at_b (puts (LimitReceiving DataChannel 9)) ∷ at_b (puts (Issue DataChannel 5)) ∷ at_b (puts (Plead DataChannel 1)) ∷ at_b (hears (LimitSending DataChannel 10)) ∷ at_b (hears (Send DataChannel message)) ∷ at_b (takes DataChannel message) ∷ at_b (hears (Absolve DataChannel 1)) ∷ at_b (puts (Issue DataChannel 2))
-    ∷ at_b (hears (Finish DataChannel)) ∷ at_a (hears (LimitReceiving DataChannel 9)) ∷ at_a (hears (Issue DataChannel 5)) ∷ at_a (puts (LimitSending DataChannel 10)) ∷ at_a (puts (Send DataChannel message)) ∷ at_a (hears (Plead DataChannel 1)) ∷ at_a (puts (Absolve DataChannel 1)) ∷ at_a (puts (Finish DataChannel)) ∷ []
+    at_b (puts (LimitReceiving Data 9)) ∷ at_b (puts (Issue Data 5)) ∷ at_b (puts (Plead Data 1)) ∷ at_b (hears (LimitSending Data 10)) ∷ at_b (hears (Send Data message)) ∷ at_b (takes Data message) ∷ at_b (hears (Absolve Data 1)) ∷ at_b (puts (Issue Data 2))
+    ∷ at_b (hears (Finish Data)) ∷ at_a (hears (LimitReceiving Data 9)) ∷ at_a (hears (Issue Data 5)) ∷ at_a (puts (LimitSending Data 10)) ∷ at_a (puts (Send Data message)) ∷ at_a (hears (Plead Data 1)) ∷ at_a (puts (Absolve Data 1)) ∷ at_a (puts (Finish Data)) ∷ []
 
 -- what the premise asks of one session, but for the time of its frames
 record IsOrderBut (t : Trace) (steps : List Step) : Type 0 where
@@ -60,7 +60,7 @@ module _ (id : TableId) (base : InboxSide) where
     a_order = record { put_is = refl; heard_is = refl; inboxes = each (λ c. entries c (of_a too_early) ≡ without_refusals ((trace (a id base) (a_finished id base)).inbox c)) refl refl refl refl refl refl refl };
     b_order = record { put_is = refl; heard_is = refl; inboxes = each (λ c. entries c (of_b too_early) ≡ without_refusals ((trace (b id base) (b_finished id base)).inbox c)) refl refl refl refl refl refl refl };
     b_in_time = (tt, (tt, (tt, (tt, (tt, (tt, (tt, (tt, (tt, tt)))))))));
-    causal = (tt, (tt, ((Issue DataChannel 5 ∷ [], refl), (tt, (tt, (([], refl), (tt, (([], refl), (tt, (tt, ((Send DataChannel message ∷ Absolve DataChannel 1 ∷ Finish DataChannel ∷ [], refl), ((Absolve DataChannel 1 ∷ Finish DataChannel ∷ [], refl), (tt, ((Finish DataChannel ∷ [], refl), (tt, (([], refl), tt))))))))))))))));
+    causal = (tt, (tt, ((Issue Data 5 ∷ [], refl), (tt, (tt, (([], refl), (tt, (([], refl), (tt, (tt, ((Send Data message ∷ Absolve Data 1 ∷ Finish Data ∷ [], refl), ((Absolve Data 1 ∷ Finish Data ∷ [], refl), (tt, ((Finish Data ∷ [], refl), (tt, (([], refl), tt))))))))))))))));
   }
 
   -- all of the premise but that nothing is heard before it was put

@@ -1,5 +1,5 @@
-//! Two sessions that ran apart: what each one's own histories, and one order of the steps of both,
-//! say of the two together.
+//! Laws of two sessions that ran apart: what each session's own histories, together with one
+//! linearization of the steps of both, say of the two sessions.
 #![tactic(auto)]
 
 pub mod laws;

@@ -9,7 +9,9 @@ use std::sync::Wait;
 
 /// Ends two sessions, each of which read what the other wrote. Where the steps of both fell into one
 /// order, in which nothing was heard before it was put, the two keep on every channel and each way
-/// what `laws::finished_sessions_keep_promises` says. That there was such an order is not proved.
+/// what `laws::finished_sessions_keep_promises` says, the order is a legal history of two peers, and at
+/// each of its moments the next frame of each stream breaks no rule. That there was such an order is
+/// not proved.
 ///
 /// A program that made both sessions, and has from its threads what `HasPlayed` asks for, has that
 /// by the clause `played_out`, with this order as the one premise.

@@ -168,7 +168,7 @@ begun q v ins out incoming outgoing intake = record {
 
 begun_is_new : (config : Config) (q : QueueId) (ins : List Incoming) (out : List Outgoing) (incoming outgoing : List InboxSide) (intake : IntakeState)
     → length out ≡ channel_count → credits.AreNew ins out → credits.AreMatched ins out → inboxes.AreNew config.capacities (drop channel_count (new_ends q config.version)) incoming outgoing → inboxes.AreMatched incoming outgoing
-    → intake ≡ record { held = nothing_stored; stop = None; rings = config.capacities } → places_of q ≡ config.slots + lane_count → config_fault config ≡ None
+    → intake ≡ record { held = nothing_stored; kept = 0; stop = None; rings = config.capacities } → places_of q ≡ config.slots + lane_count → config_fault config ≡ None
     → IsNewSession config (begun q config.version ins out incoming outgoing intake)
 begun_is_new config q ins out incoming outgoing intake seven new matched sides pairs nothing slots lawful =
     let same = credits_of q config.version channels out seven in
@@ -195,7 +195,7 @@ pub new_session : (config : Config) (s : SessionState) (drain : Outlet) (ends la
     → s.sending ≡ new_outboxes channels lanes out → s.receiving ≡ outgoing → s.reading ≡ record { side = record { credits = ins; inboxes = incoming }; intake = intake } → s.writing ≡ new_pumping drain
     → drain ≡ new_outlet drain.queue config.version → ends ≡ new_ends drain.queue config.version → lanes ≡ take channel_count ends
     → length out ≡ channel_count → credits.AreNew ins out → credits.AreMatched ins out → inboxes.AreNew config.capacities (drop channel_count ends) incoming outgoing → inboxes.AreMatched incoming outgoing
-    → intake ≡ record { held = nothing_stored; stop = None; rings = config.capacities } → places_of drain.queue ≡ config.slots + lane_count → config_fault config ≡ None
+    → intake ≡ record { held = nothing_stored; kept = 0; stop = None; rings = config.capacities } → places_of drain.queue ≡ config.slots + lane_count → config_fault config ≡ None
     → IsNewSession config s
 new_session config s drain ends lanes ins out incoming outgoing intake sending receiving reading writing empty are first seven new matched sides pairs nothing slots lawful =
     subst (IsNewSession config)

@@ -4,7 +4,7 @@ use Rattle.std.specs.Prelude.{slice_get, IsSomeAnd}
 use Rattle.std.proofs.Math.ListN.{get_or-map}
 use Rattle.std.proofs.lemmas.List.{map-set}
 use Rattle.lc_frame.specs.declared.channel.Channel.{Channel}
-use Rattle.lc_frame.specs.declared.channel.Channel.TheVariants.{ReconciliationChannel, DataChannel, OverlapChannel, CapabilityChannel, AreaOfInterestChannel, PayloadRequestChannel, StaticTokenChannel}
+use Rattle.lc_frame.specs.declared.channel.Channel.TheVariants.{Reconciliation, Data, Overlap, Capability, AreaOfInterest, PayloadRequest, StaticToken}
 use Rattle.lc_frame.specs.Channel.{number_of}
 use Rattle.lc_inbox.specs.Sides.{InboxSide}
 use Rattle.lc_peer.specs.Longer.{IsLonger}
@@ -12,22 +12,22 @@ use Rattle.lc_session.specs.Channels.{channels}
 use Rattle.lc_session.specs.Reading.{ring_of_side}
 
 channel_there : (c d : Channel) → get_or channels (number_of c) d ≡ c
-channel_there ReconciliationChannel d = refl
-channel_there DataChannel d = refl
-channel_there OverlapChannel d = refl
-channel_there CapabilityChannel d = refl
-channel_there AreaOfInterestChannel d = refl
-channel_there PayloadRequestChannel d = refl
-channel_there StaticTokenChannel d = refl
+channel_there Reconciliation d = refl
+channel_there Data d = refl
+channel_there Overlap d = refl
+channel_there Capability d = refl
+channel_there AreaOfInterest d = refl
+channel_there PayloadRequest d = refl
+channel_there StaticToken d = refl
 
 channel_set : (c : Channel) → set channels (number_of c) c ≡ channels
-channel_set ReconciliationChannel = refl
-channel_set DataChannel = refl
-channel_set OverlapChannel = refl
-channel_set CapabilityChannel = refl
-channel_set AreaOfInterestChannel = refl
-channel_set PayloadRequestChannel = refl
-channel_set StaticTokenChannel = refl
+channel_set Reconciliation = refl
+channel_set Data = refl
+channel_set Overlap = refl
+channel_set Capability = refl
+channel_set AreaOfInterest = refl
+channel_set PayloadRequest = refl
+channel_set StaticToken = refl
 
 -- where each place has its channel, it is the channel of that number
 pub channel_here : {A : Type 0} (f : A → Channel) (c : Channel) (xs : List A) (i : ℕ) (d : A) → map f xs ≡ channels → i ≡ number_of c → f (get_or xs i d) ≡ c

@@ -88,7 +88,7 @@ run_hears reader reader' before after old was intake new max_reads end given rea
 
 -- ---- a pump that did not run yet
 
-pub hears_nothing : (r : Reading) (rings : List ℕ) → r.intake ≡ record { held = record { version = None; bytes = [] }; stop = None; rings = rings } → HearsMore r r
+pub hears_nothing : (r : Reading) (rings : List ℕ) → r.intake ≡ record { held = record { version = None; bytes = [] }; kept = 0; stop = None; rings = rings } → HearsMore r r
 hears_nothing r rings is = record {
   same = reading_itself r.side;
   read = [];

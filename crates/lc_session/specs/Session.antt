@@ -27,6 +27,6 @@ pub record IsNewSession (config : Config) (s : SessionState) : Type 0 where
   pub sending_new : s.sending ≡ new_outboxes channels (take channel_count (new_ends s.writing.drain.queue config.version)) (outgoing_of s)
   pub credits_new : credits.AreNew s.reading.side.credits (outgoing_of s)
   pub inboxes_new : inboxes.AreNew config.capacities (drop channel_count (new_ends s.writing.drain.queue config.version)) s.reading.side.inboxes s.receiving
-  pub reading_new : s.reading.intake ≡ record { held = nothing_stored; stop = None; rings = config.capacities }
+  pub reading_new : s.reading.intake ≡ record { held = nothing_stored; kept = 0; stop = None; rings = config.capacities }
   pub writing_new : s.writing ≡ new_pumping (new_outlet s.writing.drain.queue config.version)
   pub places_are : places_of s.writing.drain.queue ≡ config.slots + lane_count

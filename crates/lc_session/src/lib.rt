@@ -1,4 +1,5 @@
-//! A session in threads: two ends for each channel, a pump that reads and a pump that writes.
+//! A session in threads: a sending and a receiving handle for each channel, a pump that reads and a
+//! pump that writes.
 #![tactic(auto)]
 
 mod batch;

@@ -273,7 +273,7 @@ fn meet_to_send<R: Wait + Abort>(rt: &R, end: &mut SendEnd) {
 
 // So has a receiving one, unless all its frames are there already.
 fn meet_to_take<R: Wait + Abort>(rt: &R, end: &mut RecvEnd) {
-    let fills = end.channel() == Channel::ReconciliationChannel;
+    let fills = end.channel() == Channel::Reconciliation;
     let first = if fills { Ok(()) } else { end.limit(rt, 9) };
     let calls = (first, end.limit(rt, 9));
     equal(rt, "to receive", calls, (Ok(()), Err(Refusal::QueueFull)));

@@ -123,14 +123,14 @@ impl<R: Wait> Clock for Beside<'_, R> {
 }
 
 // Ends at the two sides of the border between the kinds of lanes.
-const FIRST: Lane = Lane::Client(Channel::StaticTokenChannel);
+const FIRST: Lane = Lane::Client(Channel::StaticToken);
 
-const SECOND: Lane = Lane::Server(Channel::ReconciliationChannel);
+const SECOND: Lane = Lane::Server(Channel::Reconciliation);
 
 // The other ends of their channels.
-const BESIDE_FIRST: Lane = Lane::Server(Channel::StaticTokenChannel);
+const BESIDE_FIRST: Lane = Lane::Server(Channel::StaticToken);
 
-const BESIDE_SECOND: Lane = Lane::Client(Channel::ReconciliationChannel);
+const BESIDE_SECOND: Lane = Lane::Client(Channel::Reconciliation);
 
 /// Whether the first of two ends met a full queue, as the second did, what comes while both wait, and how
 /// often each reads its clock: once where it was woken, twice where it was not, and never where it did not sleep.

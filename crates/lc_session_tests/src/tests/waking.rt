@@ -200,7 +200,7 @@ fn a_clone_stops_a_pump_that_sleeps(rt: HostRuntime) {
 
 // Issues where there is no slot yet, and stops the session.
 fn issue_and_stop<R: Wait + Abort>(rt: &R, ends: &mut Ends, session: &Session) {
-    issue(rt, &mut ends.receiving[Channel::DataChannel.index()], 2);
+    issue(rt, &mut ends.receiving[Channel::Data.index()], 2);
     session.stop();
 }
 
