@@ -147,12 +147,12 @@ pub(crate) fn flight_sample<W: Write>(out: &mut W, at: Point) -> io::Result<()>
 /// The name of a channel.
 pub(crate) fn name_of(channel: Channel) -> &'static str {
     match channel {
-        Channel::ReconciliationChannel => "Reconciliation",
-        Channel::DataChannel => "Data",
-        Channel::OverlapChannel => "Overlap",
-        Channel::CapabilityChannel => "Capability",
-        Channel::AreaOfInterestChannel => "AreaOfInterest",
-        Channel::PayloadRequestChannel => "PayloadRequest",
-        Channel::StaticTokenChannel => "StaticToken",
+        Channel::Reconciliation => "Reconciliation",
+        Channel::Data => "Data",
+        Channel::Overlap => "Overlap",
+        Channel::Capability => "Capability",
+        Channel::AreaOfInterest => "AreaOfInterest",
+        Channel::PayloadRequest => "PayloadRequest",
+        Channel::StaticToken => "StaticToken",
     }
 }

@@ -179,8 +179,8 @@ impl Sample {
         requires y { (78 ≤ at.y) × (at.y ≤ 100000) }
     {
         match self {
-            Sample::Frame => frame_mark(out, Channel::DataChannel, at),
-            Sample::Taken => take_mark(out, Channel::DataChannel, at),
+            Sample::Frame => frame_mark(out, Channel::Data, at),
+            Sample::Taken => take_mark(out, Channel::Data, at),
             Sample::Refused => wrong_mark(out, 4, at),
             Sample::Flight => flight_sample(out, at),
             Sample::Bar(name) => bar_sample(out, name, at),

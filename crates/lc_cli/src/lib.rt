@@ -1,5 +1,5 @@
-//! What the program `lcmux` does, over readers, writers and arguments: it replays scripts of events
-//! between two peers, prints the frames of a stream, and lets two sessions exchange messages.
+//! The program `lcmux` as a library, over readers, writers and arguments: it replays scripts of events
+//! between two peers, lists the frames of a stream, and lets two sessions exchange messages.
 #![tactic(auto)]
 
 mod answer;

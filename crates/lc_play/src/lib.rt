@@ -1,5 +1,5 @@
-//! Scripts and streams for a host that has numbers and memory alone, as a web page has: what `lcmux`
-//! prints of them, what `lcmux_chart` draws, and what stands at both peers, from one buffer into another.
+//! Scripts and streams for a host that has only numbers and memory, such as a web page: what `lcmux`
+//! prints of them, what `lcmux_chart` draws, and the state of both peers, from one buffer into another.
 #![tactic(auto)]
 
 mod exports;

@@ -4,7 +4,7 @@ use Rattle.std.specs.Prelude.{if◌then◌else◌, Bool, true, false}
 use Rattle.std.specs.List.{AllByRecursion, cons_option}
 use Rattle.std.proofs.lemmas.List.{drop_more, length-drop}
 use Rattle.lc_frame.specs.declared.channel.Channel.{Channel}
-use Rattle.lc_frame.specs.declared.channel.Channel.TheVariants.{ReconciliationChannel, DataChannel, OverlapChannel, CapabilityChannel, AreaOfInterestChannel, PayloadRequestChannel, StaticTokenChannel}
+use Rattle.lc_frame.specs.declared.channel.Channel.TheVariants.{Reconciliation, Data, Overlap, Capability, AreaOfInterest, PayloadRequest, StaticToken}
 use Rattle.lc_frame.specs.Channel.{number_of}
 use Rattle.lc_frame.specs.Stream.{messages}
 use Rattle.lc_frame.proofs.Channels.{cases_same}
@@ -102,24 +102,24 @@ drain_all (p ∷ places) w g h =
 
 abbrev every_place : List (Side × Channel)
 every_place =
-    (A, ReconciliationChannel) ∷ (A, DataChannel) ∷ (A, OverlapChannel) ∷ (A, CapabilityChannel) ∷ (A, AreaOfInterestChannel) ∷ (A, PayloadRequestChannel) ∷ (A, StaticTokenChannel)
-    ∷ (B, ReconciliationChannel) ∷ (B, DataChannel) ∷ (B, OverlapChannel) ∷ (B, CapabilityChannel) ∷ (B, AreaOfInterestChannel) ∷ (B, PayloadRequestChannel) ∷ (B, StaticTokenChannel) ∷ []
+    (A, Reconciliation) ∷ (A, Data) ∷ (A, Overlap) ∷ (A, Capability) ∷ (A, AreaOfInterest) ∷ (A, PayloadRequest) ∷ (A, StaticToken)
+    ∷ (B, Reconciliation) ∷ (B, Data) ∷ (B, Overlap) ∷ (B, Capability) ∷ (B, AreaOfInterest) ∷ (B, PayloadRequest) ∷ (B, StaticToken) ∷ []
 
 at_place : (w : State) → AllByRecursion (λ p. IsDry w p) every_place → (s : Side) (c : Channel) → waiting c (line w s) ≡ []
-at_place w h A ReconciliationChannel = h.0
-at_place w h A DataChannel = h.1.0
-at_place w h A OverlapChannel = h.1.1.0
-at_place w h A CapabilityChannel = h.1.1.1.0
-at_place w h A AreaOfInterestChannel = h.1.1.1.1.0
-at_place w h A PayloadRequestChannel = h.1.1.1.1.1.0
-at_place w h A StaticTokenChannel = h.1.1.1.1.1.1.0
-at_place w h B ReconciliationChannel = h.1.1.1.1.1.1.1.0
-at_place w h B DataChannel = h.1.1.1.1.1.1.1.1.0
-at_place w h B OverlapChannel = h.1.1.1.1.1.1.1.1.1.0
-at_place w h B CapabilityChannel = h.1.1.1.1.1.1.1.1.1.1.0
-at_place w h B AreaOfInterestChannel = h.1.1.1.1.1.1.1.1.1.1.1.0
-at_place w h B PayloadRequestChannel = h.1.1.1.1.1.1.1.1.1.1.1.1.0
-at_place w h B StaticTokenChannel = h.1.1.1.1.1.1.1.1.1.1.1.1.1.0
+at_place w h A Reconciliation = h.0
+at_place w h A Data = h.1.0
+at_place w h A Overlap = h.1.1.0
+at_place w h A Capability = h.1.1.1.0
+at_place w h A AreaOfInterest = h.1.1.1.1.0
+at_place w h A PayloadRequest = h.1.1.1.1.1.0
+at_place w h A StaticToken = h.1.1.1.1.1.1.0
+at_place w h B Reconciliation = h.1.1.1.1.1.1.1.0
+at_place w h B Data = h.1.1.1.1.1.1.1.1.0
+at_place w h B Overlap = h.1.1.1.1.1.1.1.1.1.0
+at_place w h B Capability = h.1.1.1.1.1.1.1.1.1.1.0
+at_place w h B AreaOfInterest = h.1.1.1.1.1.1.1.1.1.1.1.0
+at_place w h B PayloadRequest = h.1.1.1.1.1.1.1.1.1.1.1.1.0
+at_place w h B StaticToken = h.1.1.1.1.1.1.1.1.1.1.1.1.1.0
 
 still_at : (w : State) → Still w → (s : Side) → (line w s).in_flight ≡ []
 still_at w h A = h.a

@@ -6,7 +6,7 @@ use Rattle.std.proofs.Math.Seq.{drop-append_seam}
 use Rattle.lc_frame.specs.Stored.{opened_as}
 use Rattle.lc_frame.specs.declared.version.Version.{Version}
 use Rattle.lc_frame.specs.declared.channel.Channel.{Channel}
-use Rattle.lc_frame.specs.declared.channel.Channel.TheVariants.{ReconciliationChannel, DataChannel, OverlapChannel, CapabilityChannel, AreaOfInterestChannel, PayloadRequestChannel, StaticTokenChannel}
+use Rattle.lc_frame.specs.declared.channel.Channel.TheVariants.{Reconciliation, Data, Overlap, Capability, AreaOfInterest, PayloadRequest, StaticToken}
 use Rattle.lc_frame.specs.declared.frame.Frame.{Frame}
 use Rattle.lc_frame.specs.Channel.{channel_count, number_of}
 use Rattle.lc_frame.specs.Stream.{messages, finished}
@@ -94,13 +94,13 @@ kept_twice true o = refl
 kept_twice false o = refl
 
 kept_read : (mine theirs : Line) (c : Channel) → kept_plead c (forget_finished mine theirs) ≡ kept (finished c (stream mine)) (kept_plead c theirs)
-kept_read mine theirs ReconciliationChannel = refl
-kept_read mine theirs DataChannel = refl
-kept_read mine theirs OverlapChannel = refl
-kept_read mine theirs CapabilityChannel = refl
-kept_read mine theirs AreaOfInterestChannel = refl
-kept_read mine theirs PayloadRequestChannel = refl
-kept_read mine theirs StaticTokenChannel = refl
+kept_read mine theirs Reconciliation = refl
+kept_read mine theirs Data = refl
+kept_read mine theirs Overlap = refl
+kept_read mine theirs Capability = refl
+kept_read mine theirs AreaOfInterest = refl
+kept_read mine theirs PayloadRequest = refl
+kept_read mine theirs StaticToken = refl
 
 module _ (k : ℕ) (mine theirs : Line) where
   abbrev mine' : Line
@@ -166,7 +166,7 @@ module _ (k : ℕ) (mine theirs : Line) (me peer : Endpoint) (h : AreEnds k mine
   their_line_is = line_is k theirs mine peer me h.their_line h.their_end h.my_end
 
   pub capacity_is : capacity_of me ≡ k
-  capacity_is = ap (λ (b : Server). b.capacity) (server_is k mine theirs me.peer h.my_end.peer ReconciliationChannel)
+  capacity_is = ap (λ (b : Server). b.capacity) (server_is k mine theirs me.peer h.my_end.peer Reconciliation)
 
   pub in_step : AreInStep me peer
   in_step = record {
@@ -198,7 +198,7 @@ module _ (a b a' b' : Endpoint) (act : Act) (answer : Answer) where
 
   module _ (h : AreInStep a b) (s : Acts b a b' a' act answer) where
     one_capacity : capacity_of b ≡ capacity_of a
-    one_capacity = ap (λ (x : Server). x.capacity) (server_is (capacity_of a) (line_of b a) (line_of a b) b.peer h.ends.their_end.peer ReconciliationChannel)
+    one_capacity = ap (λ (x : Server). x.capacity) (server_is (capacity_of a) (line_of b a) (line_of a b) b.peer h.ends.their_end.peer Reconciliation)
 
     pub b_answers : IsAnswer (state_between a b) (record { side = B; act = act }) answer
     b_answers = subst (λ (k : ℕ). IsAnswerOf k (line_of b a) (line_of a b) act answer) one_capacity s.right

@@ -7,7 +7,7 @@ use Rattle.std.proofs.lemmas.List.Elements.{All-from_recursion}
 use Rattle.lc_frame.specs.declared.version.Version.{Version}
 use Rattle.lc_frame.specs.declared.version.Version.TheVariants.{One, Two}
 use Rattle.lc_frame.specs.declared.channel.Channel.{Channel}
-use Rattle.lc_frame.specs.declared.channel.Channel.TheVariants.{ReconciliationChannel, DataChannel, OverlapChannel, CapabilityChannel, AreaOfInterestChannel, PayloadRequestChannel, StaticTokenChannel}
+use Rattle.lc_frame.specs.declared.channel.Channel.TheVariants.{Reconciliation, Data, Overlap, Capability, AreaOfInterest, PayloadRequest, StaticToken}
 use Rattle.lc_frame.specs.Bounds.{IsCapacity}
 use Rattle.lc_frame.specs.Channel.{channel_count, number_of}
 use Rattle.lc_frame.specs.Stored.{nothing_stored}
@@ -38,13 +38,13 @@ no_bad_slots v k h = elim h [ inl e ↦ no_slots_fault (first_bad (replicate cha
 
 -- the streams of a new peer are those of two lines on which nothing has happened
 one_capacity : (k : ℕ) (c : Channel) → slice_index (replicate channel_count k) (number_of c) ≡ k
-one_capacity k ReconciliationChannel = refl
-one_capacity k DataChannel = refl
-one_capacity k OverlapChannel = refl
-one_capacity k CapabilityChannel = refl
-one_capacity k AreaOfInterestChannel = refl
-one_capacity k PayloadRequestChannel = refl
-one_capacity k StaticTokenChannel = refl
+one_capacity k Reconciliation = refl
+one_capacity k Data = refl
+one_capacity k Overlap = refl
+one_capacity k Capability = refl
+one_capacity k AreaOfInterest = refl
+one_capacity k PayloadRequest = refl
+one_capacity k StaticToken = refl
 
 streams_new : (v w : Version) (k : ℕ) → new_streams (record { version = v; capacities = replicate channel_count k; slots = 1 }) ≡ streams_of k (new_line v) (new_line w)
 streams_new v w k = λ i. let s : Streams = record { version = v; put = []; arrived = []; capacity = λ c. one_capacity k c i; taken = λ c. sym (none_taken w c) i; asked = λ c. sym (none_kept w c) i } in s

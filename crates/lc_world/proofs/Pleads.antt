@@ -7,7 +7,7 @@ use Rattle.std.proofs.lemmas.List.{append_assoc, append-nil, length-set, get_or-
 use Rattle.std.proofs.Math.Seq.{drop-append_seam}
 use Rattle.lc_frame.specs.declared.version.Version.{Version}
 use Rattle.lc_frame.specs.declared.channel.Channel.{Channel}
-use Rattle.lc_frame.specs.declared.channel.Channel.TheVariants.{ReconciliationChannel, DataChannel, OverlapChannel, CapabilityChannel, AreaOfInterestChannel, PayloadRequestChannel, StaticTokenChannel}
+use Rattle.lc_frame.specs.declared.channel.Channel.TheVariants.{Reconciliation, Data, Overlap, Capability, AreaOfInterest, PayloadRequest, StaticToken}
 use Rattle.lc_frame.specs.declared.frame.Frame.{Frame}
 use Rattle.lc_frame.specs.declared.frame.Frame.TheVariants as frame
 use Rattle.lc_frame.specs.Channel.{channel_count, number_of, is_same}
@@ -137,13 +137,13 @@ writer_hears c l (Some f) = hears_none c _ _ refl refl
 
 -- a finished channel keeps no plead
 pub kept_forgets : (mine theirs : Line) (c : Channel) → kept_plead c (forget_finished mine theirs) ≡ kept (finished c (stream mine)) (kept_plead c theirs)
-kept_forgets mine theirs ReconciliationChannel = refl
-kept_forgets mine theirs DataChannel = refl
-kept_forgets mine theirs OverlapChannel = refl
-kept_forgets mine theirs CapabilityChannel = refl
-kept_forgets mine theirs AreaOfInterestChannel = refl
-kept_forgets mine theirs PayloadRequestChannel = refl
-kept_forgets mine theirs StaticTokenChannel = refl
+kept_forgets mine theirs Reconciliation = refl
+kept_forgets mine theirs Data = refl
+kept_forgets mine theirs Overlap = refl
+kept_forgets mine theirs Capability = refl
+kept_forgets mine theirs AreaOfInterest = refl
+kept_forgets mine theirs PayloadRequest = refl
+kept_forgets mine theirs StaticToken = refl
 
 keeps_none : (d : Bool) → kept d None ≡ None
 keeps_none true = refl
@@ -240,13 +240,13 @@ opening_places capacity versions A = refl
 opening_places capacity versions B = refl
 
 pub none_kept : (v : Version) (c : Channel) → kept_plead c (new_line v) ≡ None
-none_kept v ReconciliationChannel = refl
-none_kept v DataChannel = refl
-none_kept v OverlapChannel = refl
-none_kept v CapabilityChannel = refl
-none_kept v AreaOfInterestChannel = refl
-none_kept v PayloadRequestChannel = refl
-none_kept v StaticTokenChannel = refl
+none_kept v Reconciliation = refl
+none_kept v Data = refl
+none_kept v Overlap = refl
+none_kept v Capability = refl
+none_kept v AreaOfInterest = refl
+none_kept v PayloadRequest = refl
+none_kept v StaticToken = refl
 
 opening_kept : (capacity : ℕ) (versions : Versions) (s : Side) (c : Channel) → plead_kept s c (opening capacity versions) ≡ None
 opening_kept capacity versions A c = none_kept (versions B) c

@@ -7,7 +7,7 @@ use Rattle.std.proofs.lemmas.List.{append_assoc, take-append-le, length-append, 
 use Rattle.std.proofs.lemmas.List.Sums.{sum_by-take-le, sum_by_more}
 use Rattle.lc_frame.specs.declared.version.Version.{Version}
 use Rattle.lc_frame.specs.declared.channel.Channel.{Channel}
-use Rattle.lc_frame.specs.declared.channel.Channel.TheVariants.{ReconciliationChannel, DataChannel, OverlapChannel, CapabilityChannel, AreaOfInterestChannel, PayloadRequestChannel, StaticTokenChannel}
+use Rattle.lc_frame.specs.declared.channel.Channel.TheVariants.{Reconciliation, Data, Overlap, Capability, AreaOfInterest, PayloadRequest, StaticToken}
 use Rattle.lc_frame.specs.declared.frame.Frame.{Frame}
 use Rattle.lc_frame.specs.declared.frame.Frame.TheVariants.{Send, Issue, Absolve, Plead, LimitSending, LimitReceiving, Finish}
 use Rattle.lc_frame.specs.Channel.{number_of, is_same}
@@ -247,13 +247,13 @@ sound_settles capacity c mine theirs a b s = record { solvent = s.solvent; roomy
 
 -- nothing has happened
 pub none_taken : (v : Version) (c : Channel) → taken_count c (new_line v) ≡ 0
-none_taken v ReconciliationChannel = refl
-none_taken v DataChannel = refl
-none_taken v OverlapChannel = refl
-none_taken v CapabilityChannel = refl
-none_taken v AreaOfInterestChannel = refl
-none_taken v PayloadRequestChannel = refl
-none_taken v StaticTokenChannel = refl
+none_taken v Reconciliation = refl
+none_taken v Data = refl
+none_taken v Overlap = refl
+none_taken v Capability = refl
+none_taken v AreaOfInterest = refl
+none_taken v PayloadRequest = refl
+none_taken v StaticToken = refl
 
 pub sound_opening : (capacity : ℕ) (v w : Version) (c : Channel) → Sound capacity c (new_line v) (new_line w)
 sound_opening capacity v w c = record { solvent = omega arith; roomy = omega arith; total = omega arith; taken_of_arrived = omega (arith, none_taken v c); places = number_below c }

@@ -4,7 +4,7 @@ use Rattle.std.specs.List.{AllByRecursion}
 use Rattle.lc_frame.specs.Stored.{Stored, opened_as, opened}
 use Rattle.lc_frame.specs.declared.version.Version.{Version}
 use Rattle.lc_frame.specs.Version.{greeting}
-use Rattle.lc_frame.specs.declared.channel.Channel.TheVariants.{ReconciliationChannel}
+use Rattle.lc_frame.specs.declared.channel.Channel.TheVariants.{Reconciliation}
 use Rattle.lc_frame.specs.declared.frame.Frame.{Frame}
 use Rattle.lc_frame.specs.Kind.{max_amount}
 use Rattle.lc_frame.specs.Frame.{IsValid}
@@ -47,7 +47,7 @@ line_of writer reader = line_in writer.peer.version writer.stream.items writer.d
 
 -- the capacity of an end's rings, which all have one
 abbrev pub capacity_of : Endpoint → ℕ
-capacity_of e = (server e.peer ReconciliationChannel).capacity
+capacity_of e = (server e.peer Reconciliation).capacity
 
 -- the state of two peers that two ends stand for
 abbrev pub state_between : Endpoint → Endpoint → State

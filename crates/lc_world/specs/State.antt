@@ -3,7 +3,7 @@ use Rattle.std.specs.Prelude.{ℕ, ◌+◌, ◌-◌, nat_lt, if◌then◌else◌
 use Rattle.lc_frame.specs.declared.version.Version.{Version}
 use Rattle.lc_frame.specs.declared.version.Version.TheVariants.{One}
 use Rattle.lc_frame.specs.declared.channel.Channel.{Channel}
-use Rattle.lc_frame.specs.declared.channel.Channel.TheVariants.{ReconciliationChannel, DataChannel, OverlapChannel, CapabilityChannel, AreaOfInterestChannel, PayloadRequestChannel, StaticTokenChannel}
+use Rattle.lc_frame.specs.declared.channel.Channel.TheVariants.{Reconciliation, Data, Overlap, Capability, AreaOfInterest, PayloadRequest, StaticToken}
 use Rattle.lc_frame.specs.declared.frame.Frame.{Frame}
 use Rattle.lc_frame.specs.declared.frame.Frame.TheVariants.{Plead}
 use Rattle.lc_frame.specs.Version.{greeting}
@@ -124,7 +124,7 @@ deliver_on count l = deliver_over l.in_flight (l.begun + (count - l.greeting_lef
 
 -- the channels by their numbers
 abbrev pub every_channel : List Channel
-every_channel = ReconciliationChannel ∷ DataChannel ∷ OverlapChannel ∷ CapabilityChannel ∷ AreaOfInterestChannel ∷ PayloadRequestChannel ∷ StaticTokenChannel ∷ []
+every_channel = Reconciliation ∷ Data ∷ Overlap ∷ Capability ∷ AreaOfInterest ∷ PayloadRequest ∷ StaticToken ∷ []
 
 -- the second line, whose reader writes the first: it keeps no plead on a channel that it finished
 abbrev pub forget_finished : Line → Line → Line

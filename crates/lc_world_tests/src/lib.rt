@@ -1,4 +1,4 @@
-//! Tests of `lc_book` and `lc_world`: what no clause says. Their values come from worked examples of
+//! Tests of `lc_book` and `lc_world` for what no clause says. Expected values come from worked examples of
 //! the rules, written down as text.
 #![tactic(auto)]
 

@@ -1,4 +1,4 @@
-//! The program `lcmux`: what `lc_cli` does, on the arguments and the standard streams of a process.
+//! The program `lcmux`: `lc_cli` on the arguments and the standard streams of a process.
 #![tactic(auto)]
 
 use lc_loopback::loopback;

@@ -1,5 +1,4 @@
-//! The program `lcmux_chart`: what `lc_chart` does, on the arguments and the standard streams of a
-//! process.
+//! The program `lcmux_chart`: `lc_chart` on the arguments and the standard streams of a process.
 #![tactic(auto)]
 
 use std::env;

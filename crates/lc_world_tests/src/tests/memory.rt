@@ -6,7 +6,7 @@ use std::alloc::{AllocError, Global};
 use std::process::Abort;
 use std::test::Fail;
 
-const CHANNEL: Channel = Channel::DataChannel;
+const CHANNEL: Channel = Channel::Data;
 
 const CAPACITY: u32 = 8;
 

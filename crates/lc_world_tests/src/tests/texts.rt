@@ -5,6 +5,7 @@ use std::alloc::Global;
 use std::fmt::Display;
 use std::process::Abort;
 
+// codes: begin refusals
 const REFUSALS: [(Refusal, &str); 17] = [
     (Refusal::EmptyBody, "1 the message is empty"),
     (Refusal::BodyTooLong, "2 the message is too long"),
@@ -54,7 +55,9 @@ const REFUSALS: [(Refusal, &str); 17] = [
         "17 version 1 of the format cannot finish a channel",
     ),
 ];
+// codes: end
 
+// codes: begin violations
 const VIOLATIONS: [(Violation, &str); 9] = [
     (
         Violation::NotGuaranteed,
@@ -93,6 +96,7 @@ const VIOLATIONS: [(Violation, &str); 9] = [
         "9 a frame of the client behind its Finish",
     ),
 ];
+// codes: end
 
 // Compares a number and the text of its error.
 fn reads<E: Display>(rt: &impl Abort, alloc: Global, number: u8, error: &E, wanted: &str) {

@@ -7,7 +7,7 @@ use std::alloc::Global;
 use std::process::Abort;
 use std::test::Fail;
 
-const CHANNEL: Channel = Channel::DataChannel;
+const CHANNEL: Channel = Channel::Data;
 
 // An event is answered so.
 fn step(rt: &impl Abort, alloc: Global, world: &mut World, event: &Event, wanted: &str) {
