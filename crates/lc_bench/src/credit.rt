@@ -15,7 +15,7 @@ const CALLS: u32 = 1_000;
 /// What one call adds or spends.
 const AMOUNT: u32 = 16;
 
-const CHANNEL: Channel = Channel::DataChannel;
+const CHANNEL: Channel = Channel::Data;
 
 // Which of both sides a turn is made of. The other makes one call for all of them.
 #[derive(Clone, Copy)]

@@ -1,9 +1,9 @@
-//! How fast the codec, the stream decoder, the receiving ring, the peer, the queue, the credit, the
-//! shared inbox and two sessions are.
+//! Measures the codec, the stream decoder, the receiving ring, the peer, the queue, the credit, the
+//! shared inbox and two sessions.
 //!
-//! Prints a line `name value unit` for each figure, or with the argument `list` the names alone.
-//! Another argument is what the names of the figures begin with that are taken. The environment
-//! variable BENCH_REPS says how often each figure is taken, of which the middle one is printed. With
+//! Prints a line `name value unit` for each figure, or with the argument `list` the names alone. Any
+//! other argument is a prefix of the names of the figures to measure. The environment variable
+//! BENCH_REPS is the number of repetitions of each figure, of which the median is printed. With
 //! BENCH_FIXED=TURNS nothing is timed: each figure runs that many turns, and the line says how many
 //! frames, messages or calls a turn has.
 #![tactic(auto)]
@@ -49,7 +49,7 @@ const OPERATIONS: [Operation; 6] = [
 ];
 
 fn frame_of(rt: &HostRuntime, len: usize) -> io::Result<Frame> {
-    let channel = Channel::DataChannel;
+    let channel = Channel::Data;
     if len == 0 {
         return Ok(Frame::Issue { channel, amount: 5 });
     }

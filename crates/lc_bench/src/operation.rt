@@ -104,7 +104,7 @@ impl<'a> Walk<'a> {
             }
             Operation::Decode => {
                 let mut last = FrameRef::Issue {
-                    channel: Channel::DataChannel,
+                    channel: Channel::Data,
                     amount: 1,
                 };
                 decode_turns(version, &self.bytes, turns, &mut last);

@@ -19,7 +19,7 @@ const WIRE: usize = 70_000;
 /// The messages that are measured: the figure's name, and the length in bytes.
 const MESSAGES: [(&str, u32); 3] = [("peer.16", 16), ("peer.1k", 1_024), ("peer.60k", 61_440)];
 
-const CHANNEL: Channel = Channel::DataChannel;
+const CHANNEL: Channel = Channel::Data;
 
 fn new_link(alloc: Global) -> io::Result<Link> {
     let config = Config {

@@ -7,7 +7,7 @@ use std::alloc::Global;
 use std::io;
 
 /// The channel of all frames of a walk.
-pub const CHANNEL: Channel = Channel::DataChannel;
+pub const CHANNEL: Channel = Channel::Data;
 
 /// A peer that has room for all messages of a walk, and promised it.
 #[derive(Drop)]

@@ -1,4 +1,4 @@
-//! Tests of `lc_session`: what goes on beside ends whose threads are held.
+//! Tests of `lc_session` while the threads of some handles are held.
 #![tactic(auto)]
 
 #[cfg(test)]

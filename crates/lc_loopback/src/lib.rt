@@ -1,5 +1,5 @@
-//! Two sessions in one process, over sockets: every end and every pump in a thread of its own, and
-//! every message compared with the one that was due.
+//! Two sessions in one process, over sockets: each handle and each pump runs in a thread of its own,
+//! and each message is compared with the expected one.
 #![tactic(auto)]
 
 mod balance;

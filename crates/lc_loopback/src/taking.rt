@@ -1,5 +1,5 @@
 //! What a receiving end does.
-ghost use Rattle.std.specs.Prelude.{◌≡◌, ◌≤◌, ◌∷◌, [], ◌++◌, IfOk, IfSome, OnOk};
+ghost use Rattle.std.specs.Prelude.{◌≡◌, ◌+◌, ◌<◌, ◌≤◌, ◌⊎◌, ◌∷◌, [], ◌++◌, IfOk, IfSome, OnOk};
 ghost use Rattle.lc_frame.specs.declared.version.Version.TheVariants.{Two};
 ghost use Rattle.lc_frame.specs.Kind.{max_body};
 ghost use Rattle.lc_inbox.specs.History.{took};
@@ -78,6 +78,7 @@ impl Owed {
     ) -> Result<(), LoopFault>
         ensures same { IsSameSide end.old end.new }
         ensures took { took end.new.seen ≡ took end.old.seen }
+        ensures none { OnOk result (self.new.bytes ≡ 0) }
     {
         issue(rt, end, self.bytes, patience)?;
         self.bytes = 0;
@@ -94,6 +95,8 @@ impl Owed {
     ) -> Result<(), LoopFault>
         ensures same { IsSameSide end.old end.new }
         ensures took { took end.new.seen ≡ took end.old.seen }
+        ensures later { self.old.bytes + len < self.old.issue_from → (end.new ≡ end.old) × (self.new.bytes ≡ self.old.bytes + len) }
+        ensures owed { OnOk result (self.new.bytes < self.new.issue_from ⊎ (self.new.bytes ≡ 0)) }
     {
         self.bytes = self.bytes.saturating_add(len);
         if self.bytes < self.issue_from {

@@ -1,4 +1,4 @@
-//! What a run of two sessions comes to: what they carried, or why it failed.
+//! The result of a run of two sessions: what they carried, or why the run failed.
 #![tactic(auto)]
 
 mod fault;

@@ -1,22 +1,23 @@
-//! Runs what threads share, under load. The arguments are words, each with a number behind it:
-//! `queue FRAMES` sends so many frames through each lane of a queue, `credits ROUNDS` gives so many
-//! rounds of guarantees to the ends of seven credits, which use them up, and `inbox MESSAGES` reads
-//! so many messages into an inbox in one thread and takes them out in another.
+//! Runs what threads share under load. The arguments are words, each followed by a number:
+//! `queue FRAMES` sends that many frames through each lane of a queue, `credits ROUNDS` gives that many
+//! rounds of guarantees to the senders of seven channels, which use them up, and `inbox MESSAGES` stores
+//! that many messages in an inbox in one thread and receives them in another.
 //!
-//! `ends ROUNDS`, `pump ROUNDS`, `both ROUNDS` and `over ROUNDS` have the threads of a session wait
-//! for each other so often: an end for a pump, the writing pump for an end, all ends and the pump for
-//! each other, and an end for the end of a pump's run. `slot ROUNDS` and `slots ROUNDS` are as `both`,
-//! over one slot and over 64, where some ends wait with a timeout, and some soon never wait again.
+//! `ends ROUNDS`, `pump ROUNDS`, `both ROUNDS` and `over ROUNDS` have the threads of a session wait for
+//! each other that often: a handle for a pump, the writing pump for a handle, all handles and the pump
+//! for each other, and a handle for the end of a pump's run. `slot ROUNDS` and `slots ROUNDS` are like
+//! `both`, over one slot and over 64, where some handles wait with a timeout, and some soon stop waiting
+//! for good.
 //!
-//! `finishes MESSAGES` sends so many messages each way through each channel of two sessions, finishes
-//! all of them behind the last one, and takes until each has ended.
+//! `finishes MESSAGES` sends that many messages each way through each channel of two sessions, finishes
+//! all channels after the last message, and receives until each has ended.
 //!
-//! `beside MESSAGES` sends so many messages through each of six channels, beside one whose ends are slow, over
-//! one slot and over 64, and says whether one of them was longer on its way than a minute. `turns SCHEDULES`
-//! lets the ends and the writing pump of a session go on by so many made schedules, and says whether any frame
-//! was passed by more than may pass it.
+//! `beside MESSAGES` sends that many messages through each of six channels beside one whose handles are
+//! slow, over one slot and over 64, and reports whether a message took longer than a minute.
+//! `turns SCHEDULES` runs the handles and the writing pump of a session through that many generated
+//! schedules, and reports whether more frames passed a frame than the bound allows.
 //!
-//! `lanes SLOTS` makes a queue, and `inboxes SLOTS` seven inboxes over one, which then end: both say
+//! `lanes SLOTS` makes a queue, and `inboxes SLOTS` seven inboxes over one, which then end: both report
 //! whether there was memory.
 #![tactic(auto)]
 

@@ -348,7 +348,7 @@ fn read_in_runs<R: Wait>(rt: &R, pump: &mut ReadPump, reader: PipeReader) {
 // in each round. How often it waited.
 fn wait_for_runs<R: Wait>(rt: &R, end: &mut SendEnd, mut writer: PipeWriter, rounds: u32) -> u32 {
     let frame = FrameRef::LimitReceiving {
-        channel: Channel::DataChannel,
+        channel: Channel::Data,
         bound: 0,
     };
     let mut buffer = [0; 16];

@@ -1,14 +1,14 @@
-//! Work whose time is compared between two builds of this repository. The arguments are in threes: a
-//! kind, a number that its input grows from, and how much of it is done. For each a line is printed: the
-//! kind, and a digest of all that came of it, which is the same at each run.
+//! Workloads whose time is compared between two builds of this repository. The arguments are in
+//! threes: a kind, a number from which its input is generated, and how much of it is done. For each a
+//! line is printed: the kind, and a digest of the results, which is the same at each run.
 //!
 //! Between two peers on one thread, over streams in memory: `small` sends messages of up to 4 KiB on all
-//! channels, `bulk` ones of up to 512 KiB, and `crumbs` ones of up to 8 bytes, whose streams come in
-//! pieces of up to 8 bytes; `uneven` sends messages of 16 to 102,400 bytes through rings that never get
-//! empty. `session` sends messages between the ends of a session in threads, over a pipe of the system, and
-//! `latency` over TCP, so many on one channel, one each millisecond, while six carry bulk: within how many
-//! microseconds half of these and 99 in a hundred came goes to standard error. `replay` replays scripts,
-//! `chart` draws them, and `frames` lists streams.
+//! channels, `bulk` messages of up to 512 KiB, and `crumbs` messages of up to 8 bytes, whose streams
+//! arrive in chunks of up to 8 bytes; `uneven` sends messages of 16 to 102,400 bytes through rings that
+//! never get empty. `session` sends messages between the handles of a session in threads, over a pipe of
+//! the system. `latency` sends messages over TCP on one channel, one each millisecond, while six channels
+//! carry bulk; the median and the 99th percentile of their latency, in microseconds, go to standard
+//! error. `replay` replays scripts, `chart` draws them, and `frames` lists streams.
 #![tactic(auto)]
 
 mod digest;

@@ -1,4 +1,4 @@
-//! What threads share, made and put together again. Each edit here mixes the parts of two.
+//! The shared values of threads, made and joined again. Each mutation test here mixes the parts of two.
 #![tactic(auto)]
 
 mod credit;

@@ -2,9 +2,9 @@
 use lc_frame::{CHANNELS, Channel, Lane};
 
 /// The one channel that goes on beside six, and the one of which an end is held alone.
-pub const LAST: Channel = Channel::StaticTokenChannel;
+pub const LAST: Channel = Channel::StaticToken;
 
-const FIRST: Channel = Channel::ReconciliationChannel;
+const FIRST: Channel = Channel::Reconciliation;
 
 /// Which of the two sessions.
 #[derive(Clone, Copy, PartialEq, Eq)]
