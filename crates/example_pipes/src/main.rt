@@ -3,7 +3,7 @@
 
 use anyhow::{Error, ensure};
 use lc_driver::{Counted, Link, ReadEnd};
-use lc_frame::Channel::{self, CapabilityChannel, DataChannel, OverlapChannel};
+use lc_frame::Channel::{self, Capability, Data, Overlap};
 use lc_frame::{CHANNELS, Version};
 use lc_peer::{Config, Take};
 
@@ -43,7 +43,7 @@ fn exchange(rt: &HostRuntime, alice: &mut Link, bob: &mut Link, at: Channel) -> 
 
 fn main(rt: HostRuntime) -> Result<(), Error> {
     let (mut alice, mut bob) = (new_link(&rt)?, new_link(&rt)?);
-    for at in [DataChannel, OverlapChannel, CapabilityChannel] {
+    for at in [Data, Overlap, Capability] {
         exchange(&rt, &mut alice, &mut bob, at)?;
     }
     Ok(())

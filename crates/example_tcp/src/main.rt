@@ -1,6 +1,6 @@
-//! Two processes make their lists of items equal, over one TCP connection and a session of threads:
-//! `example_tcp listen 7000` in one, then `example_tcp connect 7000` in the other. Each prints the items
-//! that it lacked. With no arguments both sides run in this process.
+//! Two processes make their lists of items equal, over one TCP connection and a session in threads:
+//! `example_tcp listen 7000` in one terminal, then `example_tcp connect 7000` in another. Each prints the
+//! items that it lacked. Without arguments both sides run in this process.
 #![tactic(auto)]
 
 mod calls;

@@ -1,8 +1,8 @@
 //! Two sessions in one process, over two pipes of the system: Alice sends on one channel, and Bob
-//! takes. Each pump, and each side's end, has a thread of its own.
+//! receives. Each pump and each handle has a thread of its own.
 //!
-//! This program has the threads of both, so what two sessions keep together stands in the contract
-//! of `exchange`, by `lc_interleaving::finish_both`.
+//! This program has the threads of both sides, so the contract of `exchange` says what the two sessions
+//! keep together, by `lc_interleaving::finish_both`.
 #![tactic(auto)]
 
 ghost use Rattle.std.specs.Prelude.{◌≡◌, IfOk};
@@ -44,7 +44,7 @@ enum Role {
 }
 
 /// The channel on which they go.
-const CHANNEL: Channel = Channel::DataChannel;
+const CHANNEL: Channel = Channel::Data;
 
 /// The ends of each kind.
 type Ends = ([SendEnd; CHANNELS], [RecvEnd; CHANNELS]);
