@@ -1,5 +1,5 @@
-/* The calls in which a program may pass NULL, which the proved calls behind them never see: for a buffer of length 0,
- * and for no peer at all where one is freed. */
+/* The calls in which a program may pass NULL: for a buffer of length 0, and for the handle of lcmux_peer_free. The
+ * proved calls behind them never get a NULL. */
 #include "lcmux.h"
 
 lcmux_answer lcmux_proved_send(lcmux_peer *peer, uint32_t channel, const uint8_t *body, size_t len);

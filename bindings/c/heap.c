@@ -1,12 +1,11 @@
-/* The three functions by which the library asks for memory. A program that defines all three itself
- * gets its own in their place. */
+/* The three functions by which the library allocates memory. A program that defines all three itself replaces them. */
 #include "lcmux_heap.h"
 
 #include <stdlib.h>
 
 static char nothing;
 
-/* malloc aligns to each power of two up to 16 that divides the size. */
+/* malloc aligns a block to each power of two up to 16 that divides its size. */
 struct lcmux_tried lcmux_alloc(size_t size, size_t align) {
     void *at = malloc(size ? size : align);
     return (struct lcmux_tried){at != NULL, at ? at : &nothing};

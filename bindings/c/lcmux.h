@@ -1,55 +1,74 @@
-/* lcmux: seven logical channels each way between two peers, over one ordered byte stream each way.
+/* lcmux: seven logical channels each way between two peers, over one ordered byte stream each way, with
+ * credit-based flow control for each channel.
  *
- * A peer is fed the bytes that come and asked for the bytes that go out; sockets, threads and waiting
- * are the program's. On each channel the receiver issues guarantees, each the promise of room for one
- * byte, and the sender sends no more than it holds. All amounts, bounds and balances count bytes of
- * messages. Channels are numbered 0 to 6 and run both ways.
+ * A peer is one side of a session: a state machine without input and output of its own. The program passes
+ * inbound bytes to it by lcmux_peer_deliver and fetches outbound bytes from it by lcmux_peer_write. Sockets,
+ * threads and waiting belong to the program.
  *
- * The handle. `lcmux_peer p = LCMUX_PEER_EMPTY;`, then lcmux_peer_new, and lcmux_peer_free at the end.
- * The library owns what stands behind the handle; the program owns the handle itself and every buffer,
- * none of which the library keeps after a call. An empty handle is lawful everywhere and answers
- * LCMUX_NO_PEER. After lcmux_peer_free the handle is empty, so a later call, and a second free, answer
- * that code and do nothing.
+ * Flow control. On each channel the receiver issues guarantees. A guarantee is one byte of send credit: the
+ * promise of one free byte in the receiver's ring buffer. The sender sends no more bytes than it holds
+ * guarantees for. All amounts, bounds and balances count bytes of messages. Channels are numbered 0 to 6 and
+ * run in both directions; each side is the sender of one direction and the receiver of the other.
  *
- * The library makes no system call. A program that writes to a socket whose other side is gone gets the signal
- * SIGPIPE, which ends it by default: it sends with MSG_NOSIGNAL, or ignores the signal.
+ * The handle. Initialise it by `lcmux_peer p = LCMUX_PEER_EMPTY;`, make the peer by lcmux_peer_new, and free
+ * it by lcmux_peer_free. The library owns the memory behind the handle. The program owns the handle itself
+ * and every buffer; the library keeps no pointer to a buffer after a call. An empty handle is allowed in
+ * every call, which then returns LCMUX_NO_PEER and does nothing. lcmux_peer_free empties the handle, so a
+ * later call and a second free do just that.
  *
- * What the library takes as written, and cannot test:
- *  - a handle is LCMUX_PEER_EMPTY at first, its two fields are changed by this library alone, and no
- *    copy of it is used beside it or after it (to move a peer, copy the handle and empty the old one);
- *  - no pointer is NULL but that of a buffer of length 0 and the handle of lcmux_peer_free, and a buffer is as
- *    long as its length says;
- *  - no buffer overlaps the handle, the output of the same call or another of its buffers. What lcmux_peer_front
- *    lends may be the body of lcmux_peer_send, also on the same peer: a send reads it, and changes no ring;
- *  - of the calls on one handle one runs at a time. Different handles are independent, and a handle may
- *    go to another thread where something orders the two, such as a lock or a join;
+ * The library makes no system call. A program that writes to a socket whose peer is gone gets the signal
+ * SIGPIPE, which terminates it by default: send with MSG_NOSIGNAL, or ignore the signal.
+ *
+ * Preconditions that the library cannot check:
+ *  - a handle is LCMUX_PEER_EMPTY at first, only this library changes its two fields, and no copy of it is
+ *    used beside it or after it (to move a peer, copy the handle and empty the old one);
+ *  - no pointer is NULL, apart from that of a buffer of length 0 and the handle of lcmux_peer_free, and a
+ *    buffer is as long as its length says;
+ *  - no buffer overlaps the handle, the output of the same call or another buffer of it. A message that
+ *    lcmux_peer_front borrows may be the body of lcmux_peer_send, also on the same peer: a send only reads it
+ *    and changes no ring buffer;
+ *  - the calls on one handle run one at a time, also those that take a const handle: they leave it as it was,
+ *    but write to it meanwhile, so a handle is never in read-only memory. Different handles are independent, and a handle may move to
+ *    another thread if something orders the two threads, such as a lock or a join;
+ *  - a struct that a call fills is at least as long as the size in it says;
  *  - no call is made from a signal handler, or in the child of a fork in a program with threads.
  *
- * Codes. Each call answers a code of the table below, and a number that goes with some codes; the
- * number is 0 with all others. After a code other than LCMUX_OK nothing has changed, unless the call
- * says so. lcmux_peer_deliver answers more than that, in a struct of its own.
+ * Codes. Each call returns a code of the enum below, and a number that belongs to some codes and is 0 with
+ * all others. After a code other than LCMUX_OK nothing has changed, unless the call says so. Any call on a
+ * peer can return LCMUX_NO_PEER, and any call on a channel LCMUX_NO_CHANNEL; the lists of the calls leave
+ * these two out. The other codes of a call are listed in the order in which they are checked.
+ * lcmux_peer_deliver returns a struct of its own.
  *
- * Later, or never. LCMUX_NO_GUARANTEE means later: keep the message, read, and send it once enough is
- * held; of a message that is longer than the other side's ring it comes for good. LCMUX_QUEUE_FULL means
- * later, too: write, and make the same call again. LCMUX_OUT_OF_MEMORY may pass. LCMUX_NO_ROOM, LCMUX_NOT_HELD
- * and LCMUX_NOTHING_TO_ASK tell how much there is now, which moves with what is taken and with what comes.
- * LCMUX_CHANNEL_FINISHED, LCMUX_PAST_SEND_LIMIT and the other refusals are for good: the call is not allowed,
- * and waiting changes nothing. lcmux_peer_needs tells of a message which of these it is.
+ * Backpressure. These refusals can pass:
+ *  - LCMUX_NO_GUARANTEE: keep the message, read, and send it once enough guarantees arrived. A message that is
+ *    longer than the peer's ring buffer is refused in this way forever;
+ *  - LCMUX_QUEUE_FULL: write pending frames, and make the same call again;
+ *  - LCMUX_OUT_OF_MEMORY: the same call may succeed later;
+ *  - LCMUX_NO_ROOM, LCMUX_NOT_HELD and LCMUX_NOTHING_TO_ASK: their number is the current amount, which changes
+ *    as messages are taken and frames arrive.
+ * LCMUX_CHANNEL_FINISHED, LCMUX_PAST_SEND_LIMIT and the other refusals are final: the call is not allowed,
+ * and waiting changes nothing. lcmux_peer_needs returns what a message needs.
  *
- * Waiting. Read also while there is something to write. Two sides that each write all before they read
- * wait for each other for ever, once both have more to write than the sockets between them hold: let
- * poll wait for both directions of a socket that does not block, and keep what a write did not take.
+ * Deadlock. Read also while bytes are pending. Two sides that both write everything before they read wait for
+ * each other forever, once both have more to write than the sockets between them buffer. Use a non-blocking
+ * socket, let poll wait for both directions, and keep the bytes that a write did not accept.
  *
- * A program goes round: it takes on each channel until that answers LCMUX_EMPTY or LCMUX_ENDED, issues anew
- * what was taken, makes the calls again that were refused for now, waits for bytes that come and, where
- * lcmux_peer_wants_write says 1 or a write left bytes, for room to write, writes, reads and delivers. When it
- * has nothing more to send and to issue, and all is written, it shuts its direction of the socket down and
- * reads on until the other side has, too. A side that has read the end may still have bytes to write.
+ * The main loop of a program takes messages from each channel until that returns LCMUX_EMPTY or LCMUX_ENDED,
+ * issues the bytes of the taken messages again, and repeats the calls that backpressure refused. Then it waits
+ * until the socket is readable and, if lcmux_peer_wants_write returns 1 or a write left bytes, until it is
+ * writable; it writes, reads and delivers.
  *
- * Memory. The library asks for memory in lcmux_peer_new and lcmux_peer_send alone, by the three
- * functions of heap.c. A program may bring its own: lcmux_heap.h says how.
+ * Closing. Once a program has nothing more to send, it finishes all seven channels, also those on which it
+ * sent nothing: by lcmux_peer_finish, or in version One by lcmux_peer_limit_sending with a bound of 0. It
+ * writes all pending bytes, shuts down its direction of the socket and reads until the peer has done so, too
+ * (half-close). A session of the libraries for Rust and JavaScript reports a stream that ends with an
+ * unfinished channel as cut. A side that has read the end of the peer's stream may still have bytes to write.
  *
- * For Linux, in the C calling convention of the processor: x86-64 with SSE4.2 (x86-64-v2), or aarch64.
+ * Memory. Only lcmux_peer_new and lcmux_peer_send allocate, by the three functions of heap.c. A program may
+ * replace them: see lcmux_heap.h. Receive memory is bounded: seven ring buffers and one frame buffer.
+ *
+ * The library is for Linux, in the C calling convention of the processor: x86-64 with SSE4.2 (x86-64-v2), or
+ * aarch64.
  */
 #ifndef LCMUX_H
 #define LCMUX_H
@@ -57,7 +76,10 @@
 #include <stddef.h>
 #include <stdint.h>
 
+/** The version of this header as a text. */
 #define LCMUX_VERSION "0.1.0"
+/** The version of this header as a number: 65,536 times the first number, plus 256 times the second, plus the
+ *  third. */
 #define LCMUX_VERSION_NUMBER 0x000100
 
 #ifdef __cplusplus
@@ -72,278 +94,455 @@ extern "C" {
 #define LCMUX_NONNULL_PEER
 #endif
 
+/** The number of channels, which are numbered from 0. */
+#define LCMUX_CHANNELS 7
+
+/** The codes that calls return. lcmux_text has a sentence for each. */
 enum {
-    LCMUX_OK = 0,                 /* done */
+    /* codes: begin codes */
+    /** The call succeeded. */
+    LCMUX_OK = 0,
 
     /* Refusals: the call is not allowed now, and nothing has changed. */
-    LCMUX_EMPTY_BODY = 1,         /* a message has at least 1 byte */
-    LCMUX_BODY_TOO_LONG = 2,      /* a message has at most 65,535 bytes in version 1, 1,048,576 in version 2 */
-    LCMUX_PAST_SEND_LIMIT = 3,    /* number: what the own limit on sending leaves */
-    LCMUX_NO_GUARANTEE = 4,       /* number: the guarantees that are held */
-    LCMUX_ZERO_AMOUNT = 5,        /* an amount is at least 1 */
-    LCMUX_NOT_HELD = 6,           /* number: the guarantees that are held */
-    LCMUX_BOUND_TOO_LARGE = 7,    /* a limit is at most 2^62 */
-    LCMUX_LIMIT_RAISED = 8,       /* number: what an earlier limit leaves */
-    LCMUX_PAST_RECEIVE_LIMIT = 9, /* number: what the own limit on receiving leaves */
-    LCMUX_NO_ROOM = 10,           /* number: the free bytes of the ring that are not promised */
-    LCMUX_NOTHING_TO_ASK = 11,    /* number: the guarantees that are outstanding */
-    LCMUX_TOTAL_REACHED = 12,     /* at most 2^62 guarantees are issued on a channel */
-    LCMUX_QUEUE_FULL = 13,        /* as many frames wait to go out as may: write some first */
+
+    /** The message is empty: a message has at least 1 byte. */
+    LCMUX_EMPTY_BODY = 1,
+    /** The message is too long: a message has at most 65,535 bytes in version 1 and 1,048,576 in version 2. */
+    LCMUX_BODY_TOO_LONG = 2,
+    /** The message is longer than this side's limit on sending allows. Number: what the limit still allows. */
+    LCMUX_PAST_SEND_LIMIT = 3,
+    /** The message is longer than the guarantees that this side holds. Number: the held guarantees. */
+    LCMUX_NO_GUARANTEE = 4,
+    /** The amount is zero: at least 1 guarantee is issued or absolved. */
+    LCMUX_ZERO_AMOUNT = 5,
+    /** The call would absolve more guarantees than this side holds. Number: the held guarantees. */
+    LCMUX_NOT_HELD = 6,
+    /** The bound of a limit is above 2^62. */
+    LCMUX_BOUND_TOO_LARGE = 7,
+    /** The bound is above what an earlier limit allows: a limit is only ever lowered. Number: what the earlier limit
+     *  still allows. */
+    LCMUX_LIMIT_RAISED = 8,
+    /** The call would issue more than this side's limit on receiving allows. Number: what the limit still allows. */
+    LCMUX_PAST_RECEIVE_LIMIT = 9,
+    /** The call would issue more guarantees than the ring buffer has free bytes that are not yet issued. Number:
+     *  what may be issued now. */
+    LCMUX_NO_ROOM = 10,
+    /** The target of the plead is not below the outstanding guarantees. Number: the outstanding guarantees. */
+    LCMUX_NOTHING_TO_ASK = 11,
+    /** The guarantees of the channel would exceed 2^62 in total. */
+    LCMUX_TOTAL_REACHED = 12,
+    /** The outbound queue is full: write some of its frames first. */
+    LCMUX_QUEUE_FULL = 13,
+    /** An allocation failed. The same call may be made again. */
     LCMUX_OUT_OF_MEMORY = 14,
-    LCMUX_CHANNEL_FINISHED = 15,  /* the channel's client finished it */
-    LCMUX_BUFFER_TOO_SMALL = 16,  /* number: how many bytes the buffer needs */
-    LCMUX_WRONG_VERSION = 17,     /* lcmux_peer_finish on a peer that writes version 1 */
+    /** The sender has finished the channel. */
+    LCMUX_CHANNEL_FINISHED = 15,
+    /** The buffer is too short. Number: the length that is needed. */
+    LCMUX_BUFFER_TOO_SMALL = 16,
+    /** Version 1 of the wire format has no frame that finishes a channel. */
+    LCMUX_WRONG_VERSION = 17,
 
-    /* Handles and configurations. */
-    LCMUX_NO_PEER = 32,           /* the handle is empty */
-    LCMUX_HAS_PEER = 33,          /* lcmux_peer_new on a handle that has a peer */
-    LCMUX_NO_CHANNEL = 34,        /* a channel above 6 */
-    LCMUX_BAD_VERSION = 35,       /* config.version is neither 1 nor 2 */
-    LCMUX_BAD_CAPACITY = 36,      /* number: the first channel whose ring would not have 1 to 2^24 bytes */
-    LCMUX_BAD_SLOTS = 37,         /* config.slots is not 1 to 65,536 */
-    LCMUX_NO_CODE = 38,           /* lcmux_text of a number that is no code */
+    /* Errors of handles, arguments and configurations. */
 
-    /* Takes. */
-    LCMUX_EMPTY = 48,             /* no message waits */
-    LCMUX_ENDED = 49,             /* no message waits, and none will come: the other side's limit on sending is used up, or it finished */
+    /** The handle is empty. */
+    LCMUX_NO_PEER = 32,
+    /** lcmux_peer_new on a handle that has a peer. */
+    LCMUX_HAS_PEER = 33,
+    /** The channel is above 6. */
+    LCMUX_NO_CHANNEL = 34,
+    /** The version of the configuration is neither 1 nor 2. */
+    LCMUX_BAD_VERSION = 35,
+    /** The size of a ring buffer is not in 1 to 2^24. Number: the first such channel. */
+    LCMUX_BAD_CAPACITY = 36,
+    /** The slots of the configuration are not in 1 to 65,536. */
+    LCMUX_BAD_SLOTS = 37,
+    /** lcmux_text of a number that is no code. */
+    LCMUX_NO_CODE = 38,
+    /** The size in a struct is less than that of this version's struct. Number: the size that it needs. */
+    LCMUX_BAD_SIZE = 39,
 
-    /* Questions. */
-    LCMUX_NEVER = 50,             /* lcmux_peer_needs of a message that can never be sent */
+    /* Results of takes. */
 
-    /* Violations: a frame that arrived breaks the rules. The session is over. */
+    /** No message is available now. */
+    LCMUX_EMPTY = 48,
+    /** No message is available, and none will arrive: the sender finished the channel or used up its limit. */
+    LCMUX_ENDED = 49,
+
+    /* Results of queries. */
+
+    /** lcmux_peer_needs of a message that can never be sent. */
+    LCMUX_NEVER = 50,
+
+    /* Violations: an inbound frame broke a rule of the protocol. The session is over. */
+
+    /** V1. The message is longer than the outstanding guarantees. */
     LCMUX_V1_NOT_GUARANTEED = 101,
+    /** V2. The message is longer than the sender's limit allows. */
     LCMUX_V2_SENT_PAST_LIMIT = 102,
+    /** V3. The frame absolves more guarantees than are outstanding. */
     LCMUX_V3_ABSOLVED_TOO_MUCH = 103,
+    /** V4. The sender's limit is above what an earlier limit allows. */
     LCMUX_V4_SEND_LIMIT_RAISED = 104,
+    /** V5. The frame issues more guarantees than the receiver's limit allows. */
     LCMUX_V5_ISSUED_PAST_LIMIT = 105,
+    /** V6. The sender would hold more than 2^24 guarantees. */
     LCMUX_V6_TOO_MANY_GUARANTEES = 106,
+    /** V7. The receiver's limit is above what an earlier limit allows. */
     LCMUX_V7_RECEIVE_LIMIT_RAISED = 107,
+    /** V8. The sender would receive more than 2^62 guarantees in total. */
     LCMUX_V8_TOTAL_PASSED = 108,
+    /** V9. A frame of the sender follows its Finish. */
     LCMUX_V9_AFTER_FINISH = 109,
 
-    /* Faults: the bytes that came are no frame. The session is over. */
+    /* Faults: the inbound bytes broke the framing. The session is over. */
+
+    /** F1. The first byte names no kind of frame or no channel, or a byte differs from the preface of version 2. */
     LCMUX_F1_BAD_TAG = 201,
+    /** F2. The length of a message is 0. */
     LCMUX_F2_ZERO_LENGTH = 202,
+    /** F3. A number is out of its range. */
     LCMUX_F3_BAD_NUMBER = 203,
-    LCMUX_F4_TRUNCATED = 204      /* lcmux_peer_end alone: the stream ends inside a frame or a greeting */
+    /** F4. The stream ends within a frame or within the preface of version 2. Only the end of the stream shows it. */
+    LCMUX_F4_TRUNCATED = 204
+    /* codes: end */
 };
 
-/* The handle of a peer: its fields are the library's. */
+/** The handle of a peer. Only the library reads and writes its fields. */
 typedef struct lcmux_peer {
+    /** Distinguishes an empty handle. */
     uint64_t mark;
+    /** The memory of the peer. */
     void *at;
 } lcmux_peer;
 
-/* An empty handle, to initialise one or to assign to it. */
+/** An empty handle, to initialise a handle or to assign to it. */
 #ifdef __cplusplus
 #define LCMUX_PEER_EMPTY {0, 0}
 #else
 #define LCMUX_PEER_EMPTY ((lcmux_peer){0, 0})
 #endif
 
+/** The result of a call. */
 typedef struct lcmux_answer {
+    /** LCMUX_OK, or the reason why the call did nothing. */
     uint32_t code;
+    /** The number that belongs to the code, else 0. */
     uint64_t number;
 } lcmux_answer;
 
+/** The configuration of a peer. */
 typedef struct lcmux_config {
-    uint32_t version;       /* of the format that goes out: 1 or 2. Either may come */
-    uint32_t slots;         /* how many frames may wait to go out, 1 to 65,536 */
-    uint32_t capacities[7]; /* the bytes of each channel's receiving ring, 1 to 2^24 */
+    /** The version of the outbound stream, 1 or 2. The inbound stream may have either version. */
+    uint32_t version;
+    /** The slots of the outbound queue, 1 to 65,536: the most frames that it holds. */
+    uint32_t slots;
+    /** The size of each channel's receive ring buffer in bytes, 1 to 2^24. */
+    uint32_t capacities[LCMUX_CHANNELS];
 } lcmux_config;
 
+/** The initial value of an lcmux_config: version 1, 16 slots and rings of 65,536 bytes. */
+#define LCMUX_CONFIG_INIT {1, 16, {65536, 65536, 65536, 65536, 65536, 65536, 65536}}
+
+/** The result of lcmux_peer_deliver. */
 typedef struct lcmux_delivery {
-    uint32_t code;   /* LCMUX_OK, a violation or F1 to F3, or LCMUX_NO_PEER */
-    size_t taken;    /* how many bytes were taken: all of them with LCMUX_OK */
-    uint64_t frames; /* how many frames arrived, also where it stopped after them */
+    /** LCMUX_OK, a violation, a fault F1 to F3, or LCMUX_NO_PEER. */
+    uint32_t code;
+    /** How many bytes were consumed: all of them with LCMUX_OK. */
+    size_t taken;
+    /** How many whole frames arrived, also before a protocol error. */
+    uint64_t frames;
 } lcmux_delivery;
 
-/* In place of a limit, or of the target of a plead, where there is none. */
+/** Stands for a limit that is not set, and for the target of a plead if none is pending. */
 #define LCMUX_NONE UINT64_MAX
 
-/* A channel as client, the side that sends. */
+/** The sender's ledger of a channel: the credit of this side as the one that sends, in bytes of messages. */
 typedef struct lcmux_client {
-    uint64_t held;         /* guarantees that may be used up now, 0 to 2^24 */
-    uint64_t received;     /* held + spent + absolved + waived */
-    uint64_t spent;        /* used up by messages */
-    uint64_t absolved;     /* given up */
-    uint64_t waived;       /* given up by lcmux_peer_finish, then and since */
-    uint64_t send_left;    /* what the own limit leaves, or LCMUX_NONE */
-    uint64_t receive_left; /* what the other side may still issue, or LCMUX_NONE */
-    uint64_t asked;        /* the target of the plead that is kept, or LCMUX_NONE */
-    uint64_t finished;     /* 1 where this side finished the channel, else 0 */
+    /** The size of the struct, which the program sets: LCMUX_CLIENT_INIT. */
+    uint64_t size;
+    /** The guarantees that messages may use now, 0 to 2^24: the send credit. */
+    uint64_t held;
+    /** All guarantees that arrived: held + spent + absolved + waived. */
+    uint64_t received;
+    /** The guarantees that messages used. */
+    uint64_t spent;
+    /** The guarantees that this side gave back to the receiver. */
+    uint64_t absolved;
+    /** The guarantees that this side waived by lcmux_peer_finish, then and since. */
+    uint64_t waived;
+    /** The bytes that this side's limit still allows, or LCMUX_NONE. */
+    uint64_t send_left;
+    /** The guarantees that the receiver may still issue, or LCMUX_NONE. */
+    uint64_t receive_left;
+    /** The target of the pending plead, or LCMUX_NONE. */
+    uint64_t asked;
+    /** 1 if this side finished the channel, else 0. */
+    uint64_t finished;
 } lcmux_client;
 
-/* A channel as server, the side that receives. */
+/** The initial value of an lcmux_client. */
+#define LCMUX_CLIENT_INIT {sizeof(lcmux_client), 0, 0, 0, 0, 0, 0, 0, 0, 0}
+
+/** The receiver's ledger of a channel: the credit that this side issued as the one that receives, in bytes of
+ *  messages. */
 typedef struct lcmux_server {
-    uint64_t capacity;     /* outstanding + buffered + room */
+    /** The size of the struct, which the program sets: LCMUX_SERVER_INIT. */
+    uint64_t size;
+    /** The size of the ring buffer: outstanding + buffered + room. */
+    uint64_t capacity;
+    /** All guarantees that this side issued: outstanding + received + absolved + waived. */
     uint64_t issued;
-    uint64_t outstanding;  /* issued, and neither used up, absolved nor waived as far as is known */
-    uint64_t buffered;     /* arrived, and not taken */
-    uint64_t room;         /* the most that may be issued now */
-    uint64_t waived;       /* given up by the other side's Finish */
-    uint64_t send_left;    /* what the other side may still send, or LCMUX_NONE; 0: it ends here */
-    uint64_t receive_left; /* what the own limit leaves, or LCMUX_NONE */
-    uint64_t finished;     /* 1 where the other side's Finish arrived, else 0 */
+    /** All bytes of messages that arrived: taken + buffered. */
+    uint64_t received;
+    /** The bytes of messages that the program took. */
+    uint64_t taken;
+    /** The guarantees that the sender gave back. */
+    uint64_t absolved;
+    /** The guarantees that the sender may still use: issued, and not used, absolved or waived as far as known. */
+    uint64_t outstanding;
+    /** The bytes of messages that arrived and were not taken. */
+    uint64_t buffered;
+    /** The most guarantees that may be issued now. */
+    uint64_t room;
+    /** The guarantees that the sender's Finish waived. */
+    uint64_t waived;
+    /** The bytes that the sender may still send, or LCMUX_NONE. 0: the channel ends here. */
+    uint64_t send_left;
+    /** The guarantees that this side's limit still allows, or LCMUX_NONE. */
+    uint64_t receive_left;
+    /** 1 if the sender's Finish arrived, else 0. */
+    uint64_t finished;
 } lcmux_server;
 
-/* What there is to do on a channel: 1 where it is so, else 0. */
+/** The initial value of an lcmux_server. */
+#define LCMUX_SERVER_INIT {sizeof(lcmux_server), 0, 0, 0, 0, 0, 0, 0, 0, 0, 0, 0, 0}
+
+/** The state of a channel that the program can act on. Each field is 1 or 0. */
 typedef struct lcmux_channel_ready {
-    uint64_t message;        /* a message waits to be taken */
-    uint64_t ended;          /* none waits, and none will come */
-    uint64_t plead;          /* a plead is kept, to be honoured or not */
-    uint64_t finished;       /* this side finished the channel */
-    uint64_t finished_there; /* the other side finished the channel */
+    /** A message is available. */
+    uint64_t message;
+    /** No message is available, and none will arrive. */
+    uint64_t ended;
+    /** A plead of the receiver is pending. */
+    uint64_t plead;
+    /** This side finished its direction of the channel. */
+    uint64_t finished;
+    /** The peer finished its direction of the channel. */
+    uint64_t finished_there;
 } lcmux_channel_ready;
 
+/** The state of all channels. */
 typedef struct lcmux_ready {
-    lcmux_channel_ready channels[7];
+    /** The size of the struct, which the program sets: LCMUX_READY_INIT. */
+    uint64_t size;
+    /** By the number of the channel. */
+    lcmux_channel_ready channels[LCMUX_CHANNELS];
 } lcmux_ready;
 
-/* Bytes where they lie; bytes is no null pointer where len is 0, either. */
+/** The initial value of an lcmux_ready. */
+#define LCMUX_READY_INIT {sizeof(lcmux_ready), {{0, 0, 0, 0, 0}}}
+
+/** Borrowed bytes: a zero-copy view. The pointer is never null, even if the length is 0. */
 typedef struct lcmux_piece {
+    /** The first byte. */
     const uint8_t *bytes;
+    /** The number of bytes. */
     size_t len;
 } lcmux_piece;
 
-/* A message where it lies: the bytes of the first piece, and then those of the rest, which lies right behind it and
- * is empty unless the message goes round the end of its ring. */
+/** A borrowed message: the bytes of the first piece, and then those of the rest. */
 typedef struct lcmux_front {
+    /** The message, up to the wrap point of its ring buffer. */
     lcmux_piece first;
+    /** The bytes after the wrap point; empty unless the message crosses it. It directly follows the first piece in
+     *  memory. */
     lcmux_piece rest;
 } lcmux_front;
 
-/* A frame where it lies: the first header_len bytes of header, and then those of message, which is empty unless the
- * frame carries one. */
+/** A borrowed outbound frame: the first header_len bytes of header, and then those of message. */
 typedef struct lcmux_next {
+    /** The tag and the number of the frame. */
     uint8_t header[9];
+    /** How many bytes of header the frame has. */
     size_t header_len;
+    /** The message, which is empty unless the frame carries one. */
     lcmux_piece message;
 } lcmux_next;
 
-/* Makes a peer behind an empty handle. LCMUX_HAS_PEER, LCMUX_BAD_VERSION, LCMUX_BAD_CAPACITY,
- * LCMUX_BAD_SLOTS and LCMUX_OUT_OF_MEMORY, in this order; the handle is then as it was. It asks for 18
- * blocks: the rings, the list of frames, two buffers of 1,048,581 bytes of addresses, for a frame that
- * comes and for one that goes out, and the peer. In version 2 the first bytes that go out are the
- * greeting of the stream, 4c 43 4d 02, which waits from here on. */
+/** Makes a peer behind an empty handle. In version 2 the preface of the stream, 4c 43 4d 02, is pending from
+ *  then on.
+ *
+ *  It makes 18 allocations: the rings, the list of frames, the peer, and two buffers of 1,048,581 bytes of
+ *  address space, for an inbound and an outbound frame.
+ *
+ *  Codes: LCMUX_HAS_PEER, LCMUX_BAD_VERSION, LCMUX_BAD_CAPACITY, LCMUX_BAD_SLOTS, LCMUX_OUT_OF_MEMORY. The handle
+ *  is unchanged then. */
 lcmux_answer lcmux_peer_new(const lcmux_config *config, lcmux_peer *peer) LCMUX_NONNULL;
 
-/* Gives all of it back, with the messages and frames that are there, and empties the handle. Where the handle is
- * empty, or peer is NULL, it does nothing, and the code is LCMUX_NO_PEER. */
+/** Frees the peer, with its messages and frames, and empties the handle. If the handle is empty, or peer is NULL,
+ *  it does nothing and returns LCMUX_NO_PEER. */
 lcmux_answer lcmux_peer_free(lcmux_peer *peer);
 
-/* Sends a copy of 1 to 65,535 bytes as one message, in version 2 of 1 to 1,048,576. Codes 15, 1, 2, 3,
- * 4, 14 and 13, in this order. */
+/** Enqueues a copy of the body as one message: 1 to 65,535 bytes, in version 2 1 to 1,048,576.
+ *
+ *  Codes: LCMUX_CHANNEL_FINISHED, LCMUX_EMPTY_BODY, LCMUX_BODY_TOO_LONG, LCMUX_PAST_SEND_LIMIT,
+ *  LCMUX_NO_GUARANTEE, LCMUX_OUT_OF_MEMORY, LCMUX_QUEUE_FULL. */
 lcmux_answer lcmux_peer_send(lcmux_peer *peer, uint32_t channel, const uint8_t *body, size_t len) LCMUX_NONNULL_PEER;
 
-/* Issues guarantees. Codes 15, 5, 9, 10, 12 and 13. */
+/** Issues guarantees: the sender may send that many bytes more.
+ *
+ *  Codes: LCMUX_CHANNEL_FINISHED, LCMUX_ZERO_AMOUNT, LCMUX_PAST_RECEIVE_LIMIT, LCMUX_NO_ROOM, LCMUX_TOTAL_REACHED,
+ *  LCMUX_QUEUE_FULL. */
 lcmux_answer lcmux_peer_issue(lcmux_peer *peer, uint32_t channel, uint32_t amount) LCMUX_NONNULL;
 
-/* Gives guarantees up. Codes 15, 5, 6 and 13. */
+/** Absolves: gives guarantees back to the receiver.
+ *
+ *  Codes: LCMUX_CHANNEL_FINISHED, LCMUX_ZERO_AMOUNT, LCMUX_NOT_HELD, LCMUX_QUEUE_FULL. */
 lcmux_answer lcmux_peer_absolve(lcmux_peer *peer, uint32_t channel, uint32_t amount) LCMUX_NONNULL;
 
-/* Asks the other side to absolve until it holds at most so many. Codes 15, 11 and 13. */
+/** Pleads: asks the sender to absolve guarantees until it holds at most the target.
+ *
+ *  Codes: LCMUX_CHANNEL_FINISHED, LCMUX_NOTHING_TO_ASK, LCMUX_QUEUE_FULL. */
 lcmux_answer lcmux_peer_plead(lcmux_peer *peer, uint32_t channel, uint32_t target) LCMUX_NONNULL;
 
-/* Absolves of what is held above the target of the plead that is kept, and forgets the plead. The
- * number is what was absolved, 0 where there was nothing to absolve. Code 15, and 13, which keeps the
- * plead. */
+/** Honours the pending plead: absolves the guarantees above its target. The plead is no longer pending. Number: how
+ *  many were absolved, 0 if there were none.
+ *
+ *  Codes: LCMUX_CHANNEL_FINISHED; LCMUX_QUEUE_FULL, which leaves the plead pending. */
 lcmux_answer lcmux_peer_honour(lcmux_peer *peer, uint32_t channel) LCMUX_NONNULL;
 
-/* At most so many bytes are sent from here on; 0 ends the channel. Codes 15, 7, 8 and 13. */
+/** Limits sending to at most the bound from here on; 0 ends the channel.
+ *
+ *  Codes: LCMUX_CHANNEL_FINISHED, LCMUX_BOUND_TOO_LARGE, LCMUX_LIMIT_RAISED, LCMUX_QUEUE_FULL. */
 lcmux_answer lcmux_peer_limit_sending(lcmux_peer *peer, uint32_t channel, uint64_t bound) LCMUX_NONNULL;
 
-/* At most so many guarantees are issued from here on. Codes 15, 7, 8 and 13. */
+/** Limits issuing to at most the bound from here on.
+ *
+ *  Codes: LCMUX_CHANNEL_FINISHED, LCMUX_BOUND_TOO_LARGE, LCMUX_LIMIT_RAISED, LCMUX_QUEUE_FULL. */
 lcmux_answer lcmux_peer_limit_receiving(lcmux_peer *peer, uint32_t channel, uint64_t bound) LCMUX_NONNULL;
 
-/* Nothing more is sent, and all guarantees that are held or still come are given up. The other side
- * learns that the channel has ended. For version 2. Codes 17, 15 and 13. */
+/** Finishes the channel: this side sends nothing more on it and waives all guarantees that it holds or that still
+ *  arrive. The receiver observes the end of the channel. Version 1 has no such frame; there, a limit of 0 on sending
+ *  ends a channel.
+ *
+ *  Codes: LCMUX_WRONG_VERSION, LCMUX_CHANNEL_FINISHED, LCMUX_QUEUE_FULL. */
 lcmux_answer lcmux_peer_finish(lcmux_peer *peer, uint32_t channel) LCMUX_NONNULL;
 
-/* What the call of that name would answer now, judged by the same rules; nothing changes. A send is
- * asked by its length, so a body need not be made before it may go, and code 14 is left out. */
-lcmux_answer lcmux_peer_would_send(lcmux_peer *peer, uint32_t channel, size_t len) LCMUX_NONNULL;
-lcmux_answer lcmux_peer_would_issue(lcmux_peer *peer, uint32_t channel, uint32_t amount) LCMUX_NONNULL;
-lcmux_answer lcmux_peer_would_absolve(lcmux_peer *peer, uint32_t channel, uint32_t amount) LCMUX_NONNULL;
-lcmux_answer lcmux_peer_would_plead(lcmux_peer *peer, uint32_t channel, uint32_t target) LCMUX_NONNULL;
-lcmux_answer lcmux_peer_would_honour(lcmux_peer *peer, uint32_t channel) LCMUX_NONNULL;
-lcmux_answer lcmux_peer_would_limit_sending(lcmux_peer *peer, uint32_t channel, uint64_t bound) LCMUX_NONNULL;
-lcmux_answer lcmux_peer_would_limit_receiving(lcmux_peer *peer, uint32_t channel, uint64_t bound) LCMUX_NONNULL;
-lcmux_answer lcmux_peer_would_finish(lcmux_peer *peer, uint32_t channel) LCMUX_NONNULL;
+/** Return what the call of that name would return now, by the same rules. Nothing changes. lcmux_peer_would_send
+ *  takes the length of the message, so a program need not build a body before it can be sent, and never returns
+ *  LCMUX_OUT_OF_MEMORY. */
+lcmux_answer lcmux_peer_would_send(const lcmux_peer *peer, uint32_t channel, size_t len) LCMUX_NONNULL;
+lcmux_answer lcmux_peer_would_issue(const lcmux_peer *peer, uint32_t channel, uint32_t amount) LCMUX_NONNULL;
+lcmux_answer lcmux_peer_would_absolve(const lcmux_peer *peer, uint32_t channel, uint32_t amount) LCMUX_NONNULL;
+lcmux_answer lcmux_peer_would_plead(const lcmux_peer *peer, uint32_t channel, uint32_t target) LCMUX_NONNULL;
+lcmux_answer lcmux_peer_would_honour(const lcmux_peer *peer, uint32_t channel) LCMUX_NONNULL;
+lcmux_answer lcmux_peer_would_limit_sending(const lcmux_peer *peer, uint32_t channel, uint64_t bound) LCMUX_NONNULL;
+lcmux_answer lcmux_peer_would_limit_receiving(const lcmux_peer *peer, uint32_t channel, uint64_t bound) LCMUX_NONNULL;
+lcmux_answer lcmux_peer_would_finish(const lcmux_peer *peer, uint32_t channel) LCMUX_NONNULL;
 
-/* What a message of so many bytes needs before it can be sent: LCMUX_OK, nothing; LCMUX_NO_GUARANTEE,
- * whose number is here how many guarantees are missing; LCMUX_QUEUE_FULL, a write; LCMUX_NEVER, what
- * never comes: it is empty, longer than the version or what is left of a limit of either side allows,
- * or the channel is finished. A client knows nothing of the other side's ring: a message longer than
- * that is told to need guarantees for good. */
-lcmux_answer lcmux_peer_needs(lcmux_peer *peer, uint32_t channel, size_t len) LCMUX_NONNULL;
+/** Returns what a message of this length needs before it can be sent. Nothing changes.
+ *
+ *  A sender does not know the size of the receiver's ring buffer: a message longer than the ring needs guarantees
+ *  that never arrive.
+ *
+ *  Codes:
+ *   - LCMUX_OK: nothing;
+ *   - LCMUX_NO_GUARANTEE: more guarantees. Number: how many are missing;
+ *   - LCMUX_QUEUE_FULL: a slot in the outbound queue, so write;
+ *   - LCMUX_NEVER: the message can never be sent: it is empty, it is longer than the version or a limit of either side
+ *     allows, or the channel is finished. */
+lcmux_answer lcmux_peer_needs(const lcmux_peer *peer, uint32_t channel, size_t len) LCMUX_NONNULL;
 
-/* The number is how many frames more may wait to go out. */
-lcmux_answer lcmux_peer_slots_left(lcmux_peer *peer) LCMUX_NONNULL;
+/** Returns how many slots of the outbound queue are free. Number: the free slots. */
+lcmux_answer lcmux_peer_slots_left(const lcmux_peer *peer) LCMUX_NONNULL;
 
-/* What there is to do on all channels, now: behind a take it may be another. With another code than LCMUX_OK
- * the struct is as it was. */
-lcmux_answer lcmux_peer_ready(lcmux_peer *peer, lcmux_ready *ready) LCMUX_NONNULL;
+/** Returns the current state of all channels, which the next call may change, in a struct whose size is set. With a
+ *  code other than LCMUX_OK the struct is unchanged.
+ *
+ *  Codes: LCMUX_BAD_SIZE. */
+lcmux_answer lcmux_peer_ready(const lcmux_peer *peer, lcmux_ready *ready) LCMUX_NONNULL;
 
-/* The next bytes of the stream that comes, of either version, cut anywhere; len may be 0. Whole frames
- * arrive, and part of one is kept inside. After a violation or a fault the stream is given up: the
- * frames before it have arrived, each further call takes nothing and answers the same code, and the
- * other calls still work. */
+/** Processes the next chunk of the inbound stream, which may have either version and may be cut anywhere; len may
+ *  be 0. Whole frames arrive, and the beginning of an incomplete frame is kept.
+ *
+ *  After a violation or a fault the frames before it have arrived, each further call consumes nothing and returns the
+ *  same code, and all other calls still work. */
 lcmux_delivery lcmux_peer_deliver(lcmux_peer *peer, const uint8_t *piece, size_t len) LCMUX_NONNULL_PEER;
 
-/* What it means that the stream ends here: LCMUX_OK between two frames, LCMUX_F4_TRUNCATED inside one
- * or inside a greeting, and the code of the delivery that stopped, where one did. Changes nothing. */
-lcmux_answer lcmux_peer_end(lcmux_peer *peer) LCMUX_NONNULL;
+/** Reports whether the inbound stream may end here. Nothing changes.
+ *
+ *  Codes: LCMUX_OK between two frames, LCMUX_F4_TRUNCATED inside a frame or inside the preface, and the code of an
+ *  earlier lcmux_peer_deliver that failed. */
+lcmux_answer lcmux_peer_end(const lcmux_peer *peer) LCMUX_NONNULL;
 
-/* The next bytes that go out, to the front of buffer: as many as there are and have room, which is the
- * number. What is left of a frame that was begun stays inside. The bytes count as sent: a program that
- * cannot send them has lost the stream. A buffer of 65,538 bytes holds any frame of version 1, one of
- * 1,048,581 bytes any of version 2. */
+/** Copies the next outbound bytes to the front of buffer. Number: how many bytes these are. A frame that does not fit
+ *  continues in the next call. The bytes count as sent: a program that cannot send them has lost the stream.
+ *
+ *  A buffer of 65,538 bytes holds any frame of version 1, one of 1,048,581 bytes any frame of version 2. */
 lcmux_answer lcmux_peer_write(lcmux_peer *peer, uint8_t *buffer, size_t len) LCMUX_NONNULL_PEER;
 
-/* The number is how many bytes lcmux_peer_write would give now. It looks at each frame that waits. */
-lcmux_answer lcmux_peer_pending(lcmux_peer *peer) LCMUX_NONNULL;
+/** Returns how many outbound bytes are pending. It visits each frame of the outbound queue. Number: the bytes. */
+lcmux_answer lcmux_peer_pending(const lcmux_peer *peer) LCMUX_NONNULL;
 
-/* The number is 1 where lcmux_peer_write would give any byte, else 0. */
-lcmux_answer lcmux_peer_wants_write(lcmux_peer *peer) LCMUX_NONNULL;
+/** Returns whether any outbound byte is pending. Number: 1 or 0. */
+lcmux_answer lcmux_peer_wants_write(const lcmux_peer *peer) LCMUX_NONNULL;
 
-/* Lends the frame that goes out next where it lies, without a copy; it stays, and the number is how many bytes it
- * has. Its message is the peer's: it lies there until the next lcmux_peer_sent, lcmux_peer_write or lcmux_peer_free
- * of it. LCMUX_EMPTY where no frame waits, or where something is left of what was begun before it, which
- * lcmux_peer_write gives. With another code than LCMUX_OK nothing is lent. */
-lcmux_answer lcmux_peer_next(lcmux_peer *peer, lcmux_next *next) LCMUX_NONNULL;
+/** Borrows the next outbound frame without copying it; the frame stays. Number: the size of the frame. The message
+ *  belongs to the peer and is valid until the next lcmux_peer_sent, lcmux_peer_write or lcmux_peer_free of the peer.
+ *
+ *  Codes: LCMUX_EMPTY if no frame is pending, or if lcmux_peer_write has to return the rest of an earlier frame or of
+ *  the preface first. With a code other than LCMUX_OK nothing is borrowed. */
+lcmux_answer lcmux_peer_next(const lcmux_peer *peer, lcmux_next *next) LCMUX_NONNULL;
 
-/* The frame that lcmux_peer_next lends went out, whole: it is dropped, and the next one takes its place. The answer
- * is that of lcmux_peer_next. */
+/** Counts the whole frame of lcmux_peer_next as sent and drops it. It returns what lcmux_peer_next returned. */
 lcmux_answer lcmux_peer_sent(lcmux_peer *peer) LCMUX_NONNULL;
 
-/* The number is the length of the first message, which stays. LCMUX_EMPTY, LCMUX_ENDED. */
-lcmux_answer lcmux_peer_front_len(lcmux_peer *peer, uint32_t channel) LCMUX_NONNULL;
+/** Returns the length of the first message, which stays. Number: the length.
+ *
+ *  Codes: LCMUX_EMPTY, LCMUX_ENDED. */
+lcmux_answer lcmux_peer_front_len(const lcmux_peer *peer, uint32_t channel) LCMUX_NONNULL;
 
-/* Lends the first message where it lies, without a copy; it stays, and the number is its length. Its bytes are
- * the peer's: they lie there until the next lcmux_peer_take or lcmux_peer_pop of this channel or lcmux_peer_free.
- * LCMUX_EMPTY, LCMUX_ENDED. With another code than LCMUX_OK both pieces are empty. */
-lcmux_answer lcmux_peer_front(lcmux_peer *peer, uint32_t channel, lcmux_front *message) LCMUX_NONNULL;
+/** Borrows the first message without copying it; the message stays. Number: its length. The bytes belong to the peer
+ *  and are valid until the next lcmux_peer_take or lcmux_peer_pop of this channel, or lcmux_peer_free.
+ *
+ *  Codes: LCMUX_EMPTY, LCMUX_ENDED. With a code other than LCMUX_OK both pieces are empty. */
+lcmux_answer lcmux_peer_front(const lcmux_peer *peer, uint32_t channel, lcmux_front *message) LCMUX_NONNULL;
 
-/* Drops the first message; the number is its length, and its bytes are room of the ring again. LCMUX_EMPTY,
- * LCMUX_ENDED. */
+/** Drops the first message. Its bytes become free in the ring buffer. Number: its length.
+ *
+ *  Codes: LCMUX_EMPTY, LCMUX_ENDED. */
 lcmux_answer lcmux_peer_pop(lcmux_peer *peer, uint32_t channel) LCMUX_NONNULL;
 
-/* Takes the first message, to the front of buffer; the number is its length, and its bytes are room of
- * the ring again. LCMUX_BUFFER_TOO_SMALL, which takes nothing, LCMUX_EMPTY, LCMUX_ENDED. */
+/** Copies the first message to the front of buffer and drops it. Its bytes become free in the ring buffer. Number: its
+ *  length.
+ *
+ *  Codes: LCMUX_BUFFER_TOO_SMALL, which leaves the message; LCMUX_EMPTY, LCMUX_ENDED. */
 lcmux_answer lcmux_peer_take(lcmux_peer *peer, uint32_t channel, uint8_t *buffer, size_t len) LCMUX_NONNULL_PEER;
 
-/* The balances of a channel. With another code than LCMUX_OK the struct is as it was. */
-lcmux_answer lcmux_peer_client(lcmux_peer *peer, uint32_t channel, lcmux_client *balances) LCMUX_NONNULL;
-lcmux_answer lcmux_peer_server(lcmux_peer *peer, uint32_t channel, lcmux_server *balances) LCMUX_NONNULL;
+/** Returns the sender's ledger of a channel in a struct whose size is set. With a code other than LCMUX_OK the struct is
+ *  unchanged.
+ *
+ *  Codes: LCMUX_BAD_SIZE. */
+lcmux_answer lcmux_peer_client(const lcmux_peer *peer, uint32_t channel, lcmux_client *balances) LCMUX_NONNULL;
+/** Returns the receiver's ledger of a channel in a struct whose size is set. With a code other than LCMUX_OK the struct is
+ *  unchanged.
+ *
+ *  Codes: LCMUX_BAD_SIZE. */
+lcmux_answer lcmux_peer_server(const lcmux_peer *peer, uint32_t channel, lcmux_server *balances) LCMUX_NONNULL;
 
-/* LCMUX_VERSION_NUMBER of the library that is linked: a program that may meet another one than that of
- * this header compares the two before its first peer. */
+/** Returns LCMUX_VERSION_NUMBER of the linked library. A program that may be linked with another version than that of
+ *  this header compares the two before it makes a peer. */
 uint32_t lcmux_version(void);
 
-/* A sentence in English and a zero byte, to the front of buffer; the number is its length without the
- * zero byte. 64 bytes hold each. LCMUX_NO_CODE, LCMUX_BUFFER_TOO_SMALL: then buffer is as it was. */
+/** Copies an English sentence about a code, and a zero byte, to the front of buffer. 64 bytes are enough for each code.
+ *  Number: the length without the zero byte.
+ *
+ *  Codes: LCMUX_NO_CODE, LCMUX_BUFFER_TOO_SMALL. The buffer is unchanged then. */
 lcmux_answer lcmux_text(uint32_t code, char *buffer, size_t len);
+
+/** Returns the sentence about a code that lcmux_text copies, and "there is no such code" if it is none. The string is
+ *  static: it is valid for the rest of the program, and may be read by several threads at once. */
+const char *lcmux_strerror(uint32_t code);
 
 #ifdef __cplusplus
 }

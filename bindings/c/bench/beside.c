@@ -24,16 +24,17 @@
 #include <time.h>
 #include <unistd.h>
 
-enum { CHANNELS = 7, RING = 262144, SLOTS = 64, LONGEST = 65535 };
+enum { RING = 262144, SLOTS = 64, LONGEST = 65535 };
 
-/* The bytes of a read and of a write, and of what a channel sends in its turn. */
+/* The size of a read, of a write, and of a channel's burst. */
 enum { PIECE = 65536, BURST = 4096 };
 
-/* Of the quiet load: its channel, the bytes of its message and of one of bulk, and how long bulk goes before it. */
+/* Of the quiet load: its channel, the sizes of its messages and of bulk messages, and the duration of bulk before its
+ * first message. */
 enum { QUIET = 0, STAMP = 16, BULK = 61440 };
 static const uint64_t PACE = 1000000, BEFORE = 200000000;
 
-/* So long a side waits before it takes the other for dead. Times are in nanoseconds. */
+/* The time after which a side takes the other for dead, in nanoseconds. */
 static const uint64_t PATIENCE = 10000000000;
 
 typedef struct load {
@@ -43,7 +44,7 @@ typedef struct load {
 } load;
 
 typedef struct lane {
-    uint32_t sent, taken, owed; /* messages, messages, and bytes that were taken and not issued anew */
+    uint32_t sent, taken, owed; /* messages, messages, and bytes that were taken and not issued again */
     uint8_t message[LONGEST], due[LONGEST];
 } lane;
 
@@ -51,19 +52,19 @@ typedef struct side {
     const load *load;
     lcmux_peer peer;
     int fd;
-    bool is_sender, is_idle, has_ended; /* of the quiet load; nothing more to send now; the other side's stream did */
+    bool is_sender, is_idle, has_ended; /* of the quiet load; nothing to send now; the peer's stream has ended */
     unsigned turn;                      /* the channel that sends next */
     size_t written, have;               /* of out */
-    uint64_t due, began, bulk;          /* of the quiet load: when its next message goes, its first came, bytes since */
+    uint64_t due, began, bulk;          /* of the quiet load: times of its next and first message, bytes since */
     double *times;                      /* how long each took, in microseconds */
-    lane lanes[CHANNELS];
+    lane lanes[LCMUX_CHANNELS];
     uint8_t out[PIECE], in[PIECE];
 } side;
 
 static void check(bool holds, const char *what) {
     if (!holds) {
         fprintf(stderr, "beside: %s\n", what);
-        _exit(1); /* the other side may be about to, too */
+        _exit(1); /* the other side may exit at the same time */
     }
 }
 
@@ -73,8 +74,8 @@ static uint64_t nanoseconds(void) {
     return (uint64_t)now.tv_sec * 1000000000 + (uint64_t)now.tv_nsec;
 }
 
-/* Writes a message, which is its number and then the channel's in each byte, and says how long it is. Of bulk the
- * number alone is written anew. */
+/* Writes a message, which is its number and then the channel's in each byte, and returns its length. For bulk only
+ * the number is written. */
 static size_t write_message(const load *load, uint32_t number, uint8_t channel, uint8_t *message) {
     size_t len = load->length ? load->length : 4 + number % 13;
     uint32_t first = htonl(number);
@@ -88,7 +89,7 @@ static bool is_stamp(const side *s, unsigned channel) {
     return s->load->is_quiet && channel == QUIET;
 }
 
-/* Whether a message is to be sent on a channel now. */
+/* Returns whether a message is to be sent on a channel now. */
 static bool is_due(const side *s, unsigned channel) {
     if (!s->load->is_quiet)
         return s->lanes[channel].sent < s->load->count;
@@ -106,7 +107,7 @@ static size_t next_message(side *s, unsigned channel) {
     return sizeof stamp;
 }
 
-/* Sends a channel's burst, or what of it goes now, and says whether that was any. */
+/* Sends a channel's burst, or the part of it that can be sent now. Returns whether it sent anything. */
 static bool send_burst(side *s, unsigned channel) {
     lane *l = &s->lanes[channel];
     size_t sent = 0;
@@ -124,16 +125,16 @@ static bool send_burst(side *s, unsigned channel) {
     return sent > 0;
 }
 
-/* Sends on one channel after the other until there is enough for a write, or nothing more goes. What is due at a time
- * goes before any other. */
+/* Sends on one channel after the other until there are enough bytes for a write, or no message can be sent. A timed
+ * message precedes all others. */
 static void fill(side *s) {
     unsigned idle = 0;
-    for (; idle < CHANNELS && s->have < PIECE; s->turn = (s->turn + 1) % CHANNELS) {
+    for (; idle < LCMUX_CHANNELS && s->have < PIECE; s->turn = (s->turn + 1) % LCMUX_CHANNELS) {
         bool was_due = is_stamp(s, QUIET) && send_burst(s, QUIET);
         idle = send_burst(s, s->turn) || was_due ? 0 : idle + 1;
         s->have += lcmux_peer_write(&s->peer, s->out + s->have, PIECE - s->have).number;
     }
-    s->is_idle = idle == CHANNELS;
+    s->is_idle = idle == LCMUX_CHANNELS;
 }
 
 static void flush(side *s) {
@@ -166,14 +167,14 @@ static void compare(side *s, unsigned channel, const lcmux_front *front) {
     s->bulk += len;
 }
 
-/* Issues what was taken anew, or keeps it where no frame more may wait. */
+/* Issues the bytes of taken messages again, or keeps them if the queue is full. */
 static void give_back(side *s, unsigned channel) {
     lane *l = &s->lanes[channel];
     if (l->owed > 0 && lcmux_peer_issue(&s->peer, channel, l->owed).code == LCMUX_OK)
         l->owed = 0;
 }
 
-/* Takes all messages that wait on a channel. */
+/* Takes all available messages of a channel. */
 static void take(side *s, unsigned channel) {
     lane *l = &s->lanes[channel];
     lcmux_front front;
@@ -187,7 +188,7 @@ static void take(side *s, unsigned channel) {
     give_back(s, channel);
 }
 
-/* Reads once, and says whether there was anything. */
+/* Reads once. Returns whether any bytes were available. */
 static bool read_in(side *s) {
     if (s->has_ended)
         return false;
@@ -210,13 +211,14 @@ static void wait_for(side *s) {
     check(ppoll(&it, 1, &timeout, NULL) > 0 || is_timed, "nothing came");
 }
 
-/* Whether all messages went out and came. Who takes the quiet load learns that from the end of the stream. */
+/* Returns whether all messages were sent and received. The receiver of the quiet load detects that by the end of the
+ * stream. */
 static bool is_over(const side *s) {
     if (s->written < s->have || !s->is_idle)
         return false;
     if (s->load->is_quiet)
         return s->is_sender ? s->lanes[QUIET].sent == s->load->count : s->has_ended;
-    for (unsigned channel = 0; channel < CHANNELS; channel++)
+    for (unsigned channel = 0; channel < LCMUX_CHANNELS; channel++)
         if (s->lanes[channel].sent < s->load->count || s->lanes[channel].taken < s->load->count)
             return false;
     return true;
@@ -226,7 +228,7 @@ static void *drive(void *with) {
     side *s = with;
     bool is_shut = false;
     while (!is_shut || !s->has_ended) {
-        for (unsigned channel = 0; channel < CHANNELS; channel++)
+        for (unsigned channel = 0; channel < LCMUX_CHANNELS; channel++)
             take(s, channel);
         fill(s);
         flush(s);
@@ -266,7 +268,7 @@ static side *new_side(const load *load, int fd, bool is_sender) {
     s->due = nanoseconds() + BEFORE;
     s->times = calloc(load->count, sizeof *s->times);
     check(s->times != NULL && lcmux_peer_new(&config, &s->peer).code == LCMUX_OK, "memory");
-    for (unsigned channel = 0; channel < CHANNELS; channel++)
+    for (unsigned channel = 0; channel < LCMUX_CHANNELS; channel++)
         check(lcmux_peer_issue(&s->peer, channel, RING).code == LCMUX_OK, "issue");
     return s;
 }
@@ -290,7 +292,7 @@ static double microseconds(struct timeval time) {
 
 static void print_rate(const load *load, uint64_t took) {
     struct rusage used;
-    double messages = 2.0 * CHANNELS * load->count;
+    double messages = 2.0 * LCMUX_CHANNELS * load->count;
     check(getrusage(RUSAGE_SELF, &used) == 0, "getrusage");
     double spent = microseconds(used.ru_utime) + microseconds(used.ru_stime);
     printf("c.%zu %.0f messages/s %.2f us\n", load->length, messages * 1e9 / (double)took, spent / messages);
@@ -322,7 +324,7 @@ static void run(const load *load) {
     }
 }
 
-/* A word that is a number in a range. */
+/* Parses a number in a range. */
 static bool reads(const char *word, unsigned long least, unsigned long most, unsigned long *number) {
     char *end;
     *number = strtoul(word, &end, 10);

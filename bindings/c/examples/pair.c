@@ -1,4 +1,5 @@
-/* Two peers over a socket pair: Bob promises room, Alice sends within it, Bob takes and promises anew. */
+/* Two peers over a socket pair: Bob issues guarantees, Alice sends within them, Bob takes the messages and issues
+ * their bytes again. */
 #include "lcmux.h"
 
 #include <inttypes.h>
@@ -19,7 +20,7 @@ static void check(const char *what, lcmux_answer answer) {
         stop(what, answer.code);
 }
 
-/* All that waits goes into the socket. */
+/* Writes all pending bytes to the socket. */
 static void flush_out(lcmux_peer *peer, int fd) {
     uint8_t bytes[4096];
     for (;;) {
@@ -36,7 +37,7 @@ static void flush_out(lcmux_peer *peer, int fd) {
     }
 }
 
-/* What has come arrives: here one read has all of it. */
+/* Reads and delivers the available bytes: here one read gets all of them. */
 static void read_in(lcmux_peer *peer, int fd) {
     uint8_t bytes[4096];
     ssize_t n = read(fd, bytes, sizeof bytes);
@@ -75,7 +76,7 @@ int main(void) {
     took = lcmux_peer_take(&bob, DATA, message, sizeof message);
     printf("then: %s\n", took.code == LCMUX_ENDED ? "ended" : "not ended");
 
-    lcmux_server server;
+    lcmux_server server = LCMUX_SERVER_INIT;
     check("server", lcmux_peer_server(&bob, DATA, &server));
     printf("outstanding %" PRIu64 ", buffered %" PRIu64 ", room %" PRIu64 "\n", server.outstanding, server.buffered, server.room);
 

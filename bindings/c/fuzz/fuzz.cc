@@ -1,6 +1,6 @@
-/* Plays calls that are read from bytes at three peers and at the model of the rules, and compares all that
- * the two say after each call. A and B read each other's streams, cut anywhere; the stream of C is made
- * up. The program brings its own heap, to refuse memory and to see each block. */
+/* Reads calls from the input bytes, executes them on three peers and on the model of the rules, and compares all
+ * results after each call. A and B read each other's streams, cut anywhere; the stream of C is generated. The program
+ * has its own heap, which refuses requests and tracks each block. */
 #include "lcmux.h"
 #include "model.h"
 #include "watch.h"
@@ -21,12 +21,14 @@ constexpr uint64_t extremes[] = {
     1 << 24, (1 << 24) + 1, UINT32_MAX, (UINT64_C(1) << 62) - 1, UINT64_C(1) << 62, (UINT64_C(1) << 62) + 1, UINT64_MAX,
 };
 constexpr uint32_t codes[] = {
-    0, 1, 2, 3, 4, 5, 6, 7, 8, 9, 10, 11, 12, 13, 14, 15, 16, 17, 32, 33, 34, 35, 36, 37, 38, 48, 49, 50,
-    101, 102, 103, 104, 105, 106, 107, 108, 109, 201, 202, 203, 204,
+    /* codes: begin codes */
+    0, 1, 2, 3, 4, 5, 6, 7, 8, 9, 10, 11, 12, 13, 14, 15, 16, 17, 32, 33, 34, 35, 36, 37, 38, 39, 48, 49, 50, 101,
+    102, 103, 104, 105, 106, 107, 108, 109, 201, 202, 203, 204,
+    /* codes: end */
 };
 constexpr size_t longest = (1 << 20) + 1, blocks_of_a_peer = 18, many = 300;
 
-/* What all bodies are fronts of, each of another place. */
+/* The bytes of all bodies, each a prefix at its own offset. */
 const uint8_t *body_of(uint64_t serial) {
     static const Bytes all = [] {
         Bytes bytes(longest + 256);
@@ -38,7 +40,7 @@ const uint8_t *body_of(uint64_t serial) {
     return all.data() + serial % 256;
 }
 
-/* The bytes of the input, and zeros behind them. */
+/* The bytes of the input, followed by zeros. */
 class Input {
 public:
     Input(const uint8_t *at, size_t left) : at(at), left(left) {}
@@ -63,7 +65,7 @@ uint64_t extreme(uint8_t byte) {
     return extremes[byte % std::size(extremes)];
 }
 
-/* A number, mostly a small one or one about this limit. */
+/* A number, usually a small one or one near this limit. */
 uint64_t number_about(uint64_t limit, uint8_t how, uint8_t byte) {
     switch (how % 16) {
     case 0: return limit + 1;
@@ -79,7 +81,7 @@ uint64_t number_about(uint64_t limit, uint8_t how, uint8_t byte) {
     }
 }
 
-/* How much is left of a limit where none was set. */
+/* What an unset limit allows. */
 uint64_t left_or(uint64_t left, uint64_t most) {
     return std::min(left, most);
 }
@@ -87,7 +89,7 @@ uint64_t left_or(uint64_t left, uint64_t most) {
 struct Side {
     lcmux_peer peer = LCMUX_PEER_EMPTY;
     std::optional<model::Peer> model;
-    /* What comes and was not delivered, and the version of it where it is made up. */
+    /* The inbound bytes that were not delivered, and the version of a generated stream. */
     Bytes wire;
     uint32_t made_up = 0;
 };
@@ -124,12 +126,12 @@ private:
     uint64_t serial = 0;
 
     uint32_t channel_of(uint8_t where) const {
-        constexpr uint32_t beyond[] = {7, 8, 256, UINT32_MAX};
+        constexpr uint32_t beyond[] = {model::channels, 8, 256, UINT32_MAX};
         if (where % 32 == 0)
             return beyond[where / 64];
         if (where % 32 < 5)
             return special;
-        return where % 32 < 8 ? where / 32 % 7 : 1;
+        return where % 32 < 8 ? where / 32 % model::channels : 1;
     }
 
     lcmux_config config() {
@@ -139,22 +141,22 @@ private:
             config.slots = slots >= 252 ? 65536 : slots;
         for (uint32_t &capacity : config.capacities)
             capacity = 1 + size % 64;
-        special = traits / 2 % 7;
+        special = traits / 2 % model::channels;
         if (other >= 128)
             config.capacities[special] = uint32_t(std::clamp(extreme(other), UINT64_C(1), model::most_held));
         return config;
     }
 
-    /* Each field of it out of its range, and some. */
+    /* Each field of the configuration out of its range, and some combinations. */
     lcmux_config bad_config(uint8_t how, uint8_t byte) {
         constexpr uint32_t bad[] = {0, (1 << 24) + 1, UINT32_MAX};
         lcmux_config config = this->config();
         if (how & 1)
             config.version = byte % 2 ? 0 : 3;
         if (how & 2)
-            config.capacities[byte % 7] = bad[byte % 3];
+            config.capacities[byte % model::channels] = bad[byte % 3];
         if (how & 4)
-            config.capacities[byte / 7 % 7] = bad[byte / 7 % 3];
+            config.capacities[byte / 7 % model::channels] = bad[byte / 7 % 3];
         if (how & 8)
             config.slots = byte % 2 ? 0 : 65537;
         return config;
@@ -172,7 +174,7 @@ private:
         heap.requests = heap.refused = 0;
     }
 
-    /* Why a call comes to no peer or to no channel, where it does. */
+    /* The code for an empty handle or a bad channel, if either applies. */
     uint32_t barred(size_t me, uint32_t channel) const {
         if (!sides[me].model)
             return LCMUX_NO_PEER;
@@ -208,7 +210,7 @@ private:
         compare(me);
     }
 
-    /* Every answer of a peer that changes nothing. */
+    /* The results of all queries of a peer. */
     void compare(size_t me) {
         Side &side = sides[me];
         uint32_t code = barred(me, 0);
@@ -229,7 +231,7 @@ private:
         }
     }
 
-    /* The message that is lent is the first that waits. */
+    /* The borrowed message is the first one. */
     void front(size_t me, uint32_t channel) {
         uint32_t code = barred(me, channel);
         lcmux_answer want = code ? lcmux_answer{code, 0} : sides[me].model->channels[channel].front_len();
@@ -246,7 +248,7 @@ private:
     void ready(size_t me) {
         constexpr const char *names[] = {"a message", "an end", "a plead", "a Finish of this side", "a Finish of the other side"};
         uint32_t code = barred(me, 0);
-        lcmux_ready ready;
+        lcmux_ready ready = LCMUX_READY_INIT;
         for (lcmux_channel_ready &on : ready.channels)
             on = {1, 2, 3, 4, 5};
         answers(lcmux_peer_ready(&sides[me].peer, &ready), {code, 0});
@@ -255,11 +257,11 @@ private:
     }
 
     void books(size_t me, uint32_t channel) {
-        constexpr const char *of_client[] = {"held", "received", "spent", "absolved", "waived", "send_left", "receive_left", "asked", "finished"};
-        constexpr const char *of_server[] = {"capacity", "issued", "outstanding", "buffered", "room", "waived", "send_left", "receive_left", "finished"};
+        constexpr const char *of_client[] = {"size", "held", "received", "spent", "absolved", "waived", "send_left", "receive_left", "asked", "finished"};
+        constexpr const char *of_server[] = {"size", "capacity", "issued", "received", "taken", "absolved", "outstanding", "buffered", "room", "waived", "send_left", "receive_left", "finished"};
         uint32_t code = barred(me, channel);
-        lcmux_client client = {1, 2, 3, 4, 5, 6, 7, 8, 9}, want_client = client;
-        lcmux_server server = {1, 2, 3, 4, 5, 6, 7, 8, 9}, want_server = server;
+        lcmux_client client = {sizeof client, 1, 2, 3, 4, 5, 6, 7, 8, 9}, want_client = client;
+        lcmux_server server = {sizeof server, 1, 2, 3, 4, 5, 6, 7, 8, 9, 10, 11, 12}, want_server = server;
         if (code == LCMUX_OK) {
             want_client = sides[me].model->channels[channel].client();
             want_server = sides[me].model->channels[channel].server();
@@ -322,7 +324,7 @@ private:
         make(me, config(), how % 8 < 6 ? 1 + byte % blocks_of_a_peer : 0);
     }
 
-    /* What a call of this kind may name at most, by one of its rules. */
+    /* The largest argument of a call of this kind, by one of its rules. */
     uint64_t own_limit(Kind kind, size_t me, uint32_t channel, uint8_t byte) const {
         if (barred(me, channel) != LCMUX_OK)
             return byte;
@@ -364,7 +366,7 @@ private:
         answers(call(frame, me, body, refused), want, frame.kind == model::Send && asks);
     }
 
-    /* What the call would answer, and what a message needs. */
+    /* The result of the would-call, and what a message needs. */
     void ask(const Frame &frame, size_t me) {
         uint32_t code = barred(me, frame.channel);
         note("would", me, frame.channel, frame.number);
@@ -440,14 +442,14 @@ private:
             sides[1 - me].wire.insert(sides[1 - me].wire.end(), bytes, bytes + count);
     }
 
-    /* What the calls answer of the frame that goes out next. */
+    /* The results of the calls about the next outbound frame. */
     lcmux_answer about_next(size_t me) const {
         uint32_t code = barred(me, 0);
         size_t count = code ? 0 : sides[me].model->next_len();
         return {code ? code : count ? LCMUX_OK : LCMUX_EMPTY, count};
     }
 
-    /* The frame that is lent is the next one. */
+    /* The borrowed frame is the next one. */
     void next(size_t me) {
         lcmux_answer want = about_next(me);
         lcmux_next next = {{}, 10, {nullptr, 1}};
@@ -468,7 +470,7 @@ private:
             written(me, want.number);
     }
 
-    /* The first bytes of what comes, in short pieces where this play cuts it so. */
+    /* Delivers the next inbound bytes, in short chunks if this run cuts the stream so. */
     void deliver(size_t me, uint64_t count) {
         Bytes &wire = sides[me].wire;
         count = std::min(count, uint64_t(wire.size()));
@@ -521,7 +523,7 @@ private:
         at.taken++;
     }
 
-    /* What a frame of this kind may say at most that arrives. */
+    /* The largest number of an inbound frame of this kind. */
     uint64_t craft_limit(Kind kind, const model::Channel &at, uint8_t byte) const {
         lcmux_client client = at.client();
         lcmux_server server = at.server();
@@ -537,7 +539,7 @@ private:
         return 0;
     }
 
-    /* The next bytes of a stream are made up: a frame, which keeps the rules unless it is wild, or a byte. */
+    /* Generates the next bytes of a stream: a frame, which keeps the rules unless it is wild, or a byte. */
     void craft(size_t me, uint32_t channel, bool wild, uint8_t how, uint8_t byte) {
         constexpr Kind kinds[] = {
             model::Send, model::Send, model::Send, model::Send, model::Issue, model::Issue, model::Issue, model::Issue,
@@ -576,7 +578,7 @@ private:
         side.wire.insert(side.wire.end(), bytes.begin(), bytes.end());
     }
 
-    /* All that A and B have to say to each other. */
+    /* Delivers all pending bytes between A and B. */
     void carry() {
         for (size_t me : {0, 1})
             write(me, room_about(me, 8, 0));
@@ -598,7 +600,7 @@ private:
         buffer.must_be(reinterpret_cast<uint8_t *>(sentence), want.code == LCMUX_OK ? length + 1 : 0);
     }
 
-    /* Frames are put until no more may wait, and one more. What follows would take long where many wait. */
+    /* Fills the outbound queue, and tries one frame more. The run ends there, since many pending frames are slow. */
     void flood(size_t me, uint32_t channel) {
         if (barred(me, channel) != LCMUX_OK || sides[me].model->channels[channel].client().finished)
             return;
@@ -614,7 +616,7 @@ private:
         put({model::LimitSending, channel, bound, {}}, me, false);
     }
 
-    /* Once all has arrived, A and B know the same of each channel, and every message is taken. */
+    /* Once all bytes have arrived, A and B agree on each channel, and every message is taken. */
     void settle() {
         carry();
         for (size_t me : {0, 1}) {
@@ -628,13 +630,15 @@ private:
     }
 
     void agree(size_t me, uint32_t channel) {
-        lcmux_client client;
-        lcmux_server server;
+        lcmux_client client = LCMUX_CLIENT_INIT;
+        lcmux_server server = LCMUX_SERVER_INIT;
         note("agree", me, channel, 0);
         lcmux_peer_client(&sides[me].peer, channel, &client);
         lcmux_peer_server(&sides[1 - me].peer, channel, &server);
         same("what was received", client.received, server.issued);
         same("what is held", client.held, server.outstanding);
+        same("what was spent", client.spent, server.received);
+        same("what is absolved", client.absolved, server.absolved);
         same("what is waived", client.waived, server.waived);
         same("what is left to send", client.send_left, server.send_left);
         same("what is left to receive", client.receive_left, server.receive_left);
@@ -646,7 +650,7 @@ private:
 
 extern "C" size_t LLVMFuzzerMutate(uint8_t *data, size_t size, size_t most);
 
-/* One in four inputs is new from end to end, and long, so that it comes far. */
+/* One in four inputs is entirely new and long, so that it gets far. */
 extern "C" size_t LLVMFuzzerCustomMutator(uint8_t *data, size_t size, size_t most, unsigned seed) {
     if (seed % 4 != 0 && size > 1)
         return LLVMFuzzerMutate(data, size, most);

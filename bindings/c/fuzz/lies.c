@@ -1,5 +1,5 @@
-/* Stands between the program and the library where it is linked with --wrap, and lies in the one way that
- * LCMUX_LIE names: what the comparison with the rules has to see. */
+/* Wraps the library, where it is linked with --wrap, and falsifies the one result that LCMUX_LIE names: the
+ * comparison with the rules has to detect it. */
 #include "lcmux.h"
 
 #include <stdbool.h>
@@ -17,13 +17,13 @@ static bool lie(const char *name) {
     return !strcmp(chosen, name);
 }
 
-/* What is known of the last handles. */
+/* The state of the last handles. */
 static struct known {
-    lcmux_peer *peer;
+    const lcmux_peer *peer;
     uint32_t version, greeted;
 } seen[8];
 
-static struct known *known(lcmux_peer *peer) {
+static struct known *known(const lcmux_peer *peer) {
     static int next;
     for (int at = 0; at < 8; at++)
         if (seen[at].peer == peer)
@@ -33,7 +33,7 @@ static struct known *known(lcmux_peer *peer) {
     return new;
 }
 
-WRAPPED(lcmux_answer, lcmux_peer_client, lcmux_peer *peer, uint32_t channel, lcmux_client *balances) {
+WRAPPED(lcmux_answer, lcmux_peer_client, const lcmux_peer *peer, uint32_t channel, lcmux_client *balances) {
     lcmux_answer answer = __real_lcmux_peer_client(peer, channel, balances);
     if (answer.code != LCMUX_OK)
         return answer;
@@ -49,7 +49,7 @@ WRAPPED(lcmux_answer, lcmux_peer_client, lcmux_peer *peer, uint32_t channel, lcm
     return answer;
 }
 
-WRAPPED(lcmux_answer, lcmux_peer_server, lcmux_peer *peer, uint32_t channel, lcmux_server *balances) {
+WRAPPED(lcmux_answer, lcmux_peer_server, const lcmux_peer *peer, uint32_t channel, lcmux_server *balances) {
     lcmux_answer answer = __real_lcmux_peer_server(peer, channel, balances);
     if (answer.code == LCMUX_OK && lie("room counts what is waived twice"))
         balances->room -= balances->waived;
@@ -71,7 +71,7 @@ WRAPPED(lcmux_answer, lcmux_peer_new, const lcmux_config *config, lcmux_peer *pe
 }
 
 WRAPPED(lcmux_answer, lcmux_peer_send, lcmux_peer *peer, uint32_t channel, const uint8_t *body, size_t len) {
-    if (lie("the longest message is too long") && len == 65535 && known(peer)->version == 1 && peer->mark && channel < 7)
+    if (lie("the longest message is too long") && len == 65535 && known(peer)->version == 1 && peer->mark && channel < LCMUX_CHANNELS)
         return (lcmux_answer){LCMUX_BODY_TOO_LONG, 0};
     lcmux_answer answer = __real_lcmux_peer_send(peer, channel, body, len);
     if (lie("another refusal") && answer.code == LCMUX_PAST_SEND_LIMIT)
@@ -80,7 +80,7 @@ WRAPPED(lcmux_answer, lcmux_peer_send, lcmux_peer *peer, uint32_t channel, const
 }
 
 WRAPPED(lcmux_answer, lcmux_peer_issue, lcmux_peer *peer, uint32_t channel, uint32_t amount) {
-    lcmux_server server;
+    lcmux_server server = LCMUX_SERVER_INIT;
     bool is_last = __real_lcmux_peer_server(peer, channel, &server).code == LCMUX_OK && server.room == amount && amount > 0 && !server.finished;
     if (lie("the last byte of room is refused") && is_last && server.receive_left == LCMUX_NONE)
         return (lcmux_answer){LCMUX_NO_ROOM, amount};
@@ -88,7 +88,7 @@ WRAPPED(lcmux_answer, lcmux_peer_issue, lcmux_peer *peer, uint32_t channel, uint
 }
 
 WRAPPED(lcmux_answer, lcmux_peer_plead, lcmux_peer *peer, uint32_t channel, uint32_t target) {
-    lcmux_server server;
+    lcmux_server server = LCMUX_SERVER_INIT;
     bool is_done = __real_lcmux_peer_server(peer, channel, &server).code == LCMUX_OK && target < server.outstanding;
     if (lie("a plead is lost") && is_done && channel == 1)
         return (lcmux_answer){LCMUX_OK, 0};
@@ -109,7 +109,7 @@ WRAPPED(lcmux_answer, lcmux_peer_limit_receiving, lcmux_peer *peer, uint32_t cha
 }
 
 WRAPPED(lcmux_answer, lcmux_peer_finish, lcmux_peer *peer, uint32_t channel) {
-    lcmux_client client;
+    lcmux_client client = LCMUX_CLIENT_INIT;
     bool is_done = __real_lcmux_peer_client(peer, channel, &client).code == LCMUX_OK && !client.finished && known(peer)->version == 2;
     if (lie("a finish is not written") && is_done)
         return (lcmux_answer){LCMUX_OK, 0};
@@ -125,7 +125,7 @@ WRAPPED(lcmux_delivery, lcmux_peer_deliver, lcmux_peer *peer, const uint8_t *pie
     return delivery;
 }
 
-WRAPPED(lcmux_answer, lcmux_peer_end, lcmux_peer *peer) {
+WRAPPED(lcmux_answer, lcmux_peer_end, const lcmux_peer *peer) {
     lcmux_answer answer = __real_lcmux_peer_end(peer);
     if (lie("a stream may end anywhere") && answer.code == LCMUX_F4_TRUNCATED)
         answer.code = LCMUX_OK;
@@ -142,7 +142,7 @@ WRAPPED(lcmux_answer, lcmux_peer_write, lcmux_peer *peer, uint8_t *buffer, size_
     return answer;
 }
 
-WRAPPED(lcmux_answer, lcmux_peer_next, lcmux_peer *peer, lcmux_next *next) {
+WRAPPED(lcmux_answer, lcmux_peer_next, const lcmux_peer *peer, lcmux_next *next) {
     lcmux_answer answer = __real_lcmux_peer_next(peer, next);
     if (lie("a lent frame has the tag of another") && answer.code == LCMUX_OK)
         next->header[0] ^= 1;
@@ -175,7 +175,7 @@ WRAPPED(lcmux_answer, lcmux_peer_take, lcmux_peer *peer, uint32_t channel, uint8
     return answer;
 }
 
-WRAPPED(lcmux_answer, lcmux_peer_front, lcmux_peer *peer, uint32_t channel, lcmux_front *message) {
+WRAPPED(lcmux_answer, lcmux_peer_front, const lcmux_peer *peer, uint32_t channel, lcmux_front *message) {
     lcmux_answer answer = __real_lcmux_peer_front(peer, channel, message);
     if (lie("the pieces of a lent message are exchanged")) {
         lcmux_piece first = message->first;
@@ -193,7 +193,7 @@ WRAPPED(lcmux_answer, lcmux_peer_pop, lcmux_peer *peer, uint32_t channel) {
     return __real_lcmux_peer_pop(peer, channel);
 }
 
-WRAPPED(lcmux_answer, lcmux_peer_would_send, lcmux_peer *peer, uint32_t channel, size_t len) {
+WRAPPED(lcmux_answer, lcmux_peer_would_send, const lcmux_peer *peer, uint32_t channel, size_t len) {
     lcmux_answer answer = __real_lcmux_peer_would_send(peer, channel, len);
     if (lie("a limit is not asked") && answer.code == LCMUX_PAST_SEND_LIMIT)
         answer = (lcmux_answer){LCMUX_OK, 0};
@@ -202,21 +202,21 @@ WRAPPED(lcmux_answer, lcmux_peer_would_send, lcmux_peer *peer, uint32_t channel,
     return answer;
 }
 
-WRAPPED(lcmux_answer, lcmux_peer_needs, lcmux_peer *peer, uint32_t channel, size_t len) {
+WRAPPED(lcmux_answer, lcmux_peer_needs, const lcmux_peer *peer, uint32_t channel, size_t len) {
     lcmux_answer answer = __real_lcmux_peer_needs(peer, channel, len);
     if (lie("nothing is needed without a slot") && answer.code == LCMUX_QUEUE_FULL)
         answer.code = LCMUX_OK;
     return answer;
 }
 
-WRAPPED(lcmux_answer, lcmux_peer_wants_write, lcmux_peer *peer) {
+WRAPPED(lcmux_answer, lcmux_peer_wants_write, const lcmux_peer *peer) {
     lcmux_answer answer = __real_lcmux_peer_wants_write(peer);
     if (lie("a greeting waits for a frame") && known(peer)->version == 2 && lcmux_peer_pending(peer).number == 4)
         answer.number = 0;
     return answer;
 }
 
-WRAPPED(lcmux_answer, lcmux_peer_ready, lcmux_peer *peer, lcmux_ready *ready) {
+WRAPPED(lcmux_answer, lcmux_peer_ready, const lcmux_peer *peer, lcmux_ready *ready) {
     lcmux_answer answer = __real_lcmux_peer_ready(peer, ready);
     if (lie("a neighbour is ready") && answer.code == LCMUX_OK)
         ready->channels[2] = ready->channels[1];

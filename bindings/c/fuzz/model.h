@@ -1,5 +1,5 @@
-/* The rules of a peer, from docs/formats.md and lcmux.h, over whole lists and sums: every balance is
- * reckoned anew from all frames that were put and all that arrived. */
+/* The rules of a peer, from docs/reference/wire-format.md and lcmux.h, over complete lists and sums: every balance is
+ * computed again from all frames that were sent and all that arrived. */
 #ifndef LCMUX_MODEL_H
 #define LCMUX_MODEL_H
 
@@ -16,9 +16,11 @@ using Bytes = std::vector<uint8_t>;
 
 constexpr uint64_t most_held = 1 << 24, most_total = uint64_t(1) << 62;
 constexpr uint8_t greeting[] = {0x4c, 0x43, 0x4d, 0x02};
-constexpr uint32_t channels = 7;
+constexpr uint32_t channels = LCMUX_CHANNELS;
 
+/* codes: begin kinds */
 enum Kind { Send = 1, Issue, Absolve, Plead, LimitSending, LimitReceiving, Finish };
+/* codes: end */
 
 /* The number of a Send is the length of its body. */
 struct Frame {
@@ -52,8 +54,8 @@ inline Bytes encoding(const Frame &frame, uint32_t version) {
     return bytes;
 }
 
-/* What stands at the front of bytes: a code of F1 to F3 or 0, after how many bytes that is known, or
- * a length of 0 where more are needed; and the frame that is whole then. */
+/* The result of parsing the front of some bytes: a code of F1 to F3 or 0, and after how many bytes it is known; a
+ * length of 0 if more bytes are needed; and the frame, if it is whole. */
 struct Front {
     uint32_t fault;
     size_t length;
@@ -92,7 +94,7 @@ inline Front front(const uint8_t *at, size_t len, uint32_t version) {
     return {LCMUX_OK, head + body, frame};
 }
 
-/* The sums tell the fuzzer nothing of where it came, and without a trace they are quick. */
+/* The sums contribute no coverage, and without instrumentation they are fast. */
 #if defined(__clang__)
 #define LCMUX_UNTRACED __attribute__((no_sanitize("coverage")))
 #else
@@ -113,8 +115,8 @@ LCMUX_UNTRACED inline bool has_finish(const Frames &frames) {
     return false;
 }
 
-/* What the last limit of a kind leaves, or LCMUX_NONE, which is above every number: a limit counts what
- * comes behind it. */
+/* What the last limit of a kind allows, or LCMUX_NONE, which is above every number. A limit counts the frames after
+ * it. */
 LCMUX_UNTRACED inline uint64_t left_of(const Frames &frames, Kind limit, Kind counted) {
     uint64_t left = LCMUX_NONE;
     for (const Frame &frame : frames) {
@@ -126,8 +128,8 @@ LCMUX_UNTRACED inline uint64_t left_of(const Frames &frames, Kind limit, Kind co
     return left;
 }
 
-/* All frames of one channel that a peer put, and all that arrived at it; how many messages were taken, and
- * the target of the plead that is kept. */
+/* All frames of one channel that a peer sent, and all that arrived at it; how many messages were taken, and the
+ * target of the pending plead. */
 struct Channel {
     uint64_t capacity;
     Frames put, arrived;
@@ -135,7 +137,7 @@ struct Channel {
     uint64_t asked = LCMUX_NONE;
 
     lcmux_client client() const {
-        lcmux_client book = {};
+        lcmux_client book = LCMUX_CLIENT_INIT;
         book.received = sum(arrived, Issue);
         book.spent = sum(put, Send);
         book.absolved = sum(put, Absolve);
@@ -149,14 +151,17 @@ struct Channel {
     }
 
     lcmux_server server() const {
-        lcmux_server book = {};
+        lcmux_server book = LCMUX_SERVER_INIT;
         book.capacity = capacity;
         book.issued = sum(put, Issue);
         book.finished = has_finish(arrived);
-        uint64_t rest = book.issued - sum(arrived, Send) - sum(arrived, Absolve);
+        book.received = sum(arrived, Send);
+        book.absolved = sum(arrived, Absolve);
+        uint64_t rest = book.issued - book.received - book.absolved;
         (book.finished ? book.waived : book.outstanding) = rest;
         for (const Frame *message : waiting())
             book.buffered += message->number;
+        book.taken = book.received - book.buffered;
         book.room = capacity - book.outstanding - book.buffered;
         book.send_left = left_of(arrived, LimitSending, Send);
         book.receive_left = left_of(put, LimitReceiving, Issue);
@@ -222,7 +227,7 @@ inline lcmux_answer issue_refusal(const lcmux_server &book, uint64_t amount) {
     return refused_if(book.issued + amount > most_total, LCMUX_TOTAL_REACHED, 0);
 }
 
-/* Why the books of a channel refuse an own frame: the first that holds, in the order of the rows. */
+/* Why the ledgers of a channel refuse a local operation: the first reason that applies, in the order of the rows. */
 inline lcmux_answer refusal(const Channel &channel, const Frame &frame, uint32_t version) {
     lcmux_client client = channel.client();
     lcmux_server server = channel.server();
@@ -245,7 +250,7 @@ inline lcmux_answer refusal(const Channel &channel, const Frame &frame, uint32_t
     return {LCMUX_OK, 0};
 }
 
-/* What is wrong with a frame that arrives: the first that holds, in the order of the rows. */
+/* The rule that an inbound frame breaks: the first that applies, in the order of the rows. */
 inline uint32_t violation(const Channel &channel, const Frame &frame) {
     lcmux_client client = channel.client();
     lcmux_server server = channel.server();
@@ -274,14 +279,14 @@ struct Peer {
     uint32_t version;
     size_t slots;
     std::vector<Channel> channels;
-    /* All bytes of the own stream with the greeting, how many of them went out, and where each frame
-     * begins: it waits until its first byte went out. */
+    /* All bytes of the outbound stream with its preface, how many of them were written, and the offset of each
+     * frame's first byte: a frame is pending until that byte is written. */
     Bytes text;
     size_t written;
     std::vector<size_t> starts;
     std::vector<bool> are_sends;
-    /* The version of the stream that comes, 0 as long as none is known; the bytes behind its last whole
-     * frame; and why it was given up. */
+    /* The version of the inbound stream, 0 while it is unknown; the bytes after its last whole frame; and its
+     * protocol error. */
     uint32_t incoming;
     Bytes rest;
     uint32_t stop;
@@ -309,7 +314,7 @@ struct Peer {
         return text.size() - written;
     }
 
-    /* How many bytes the next frame has, 0 where none waits or the one before is cut. */
+    /* The size of the next frame, 0 if none is pending or the one before is written in part. */
     size_t next_len() const {
         auto next = std::lower_bound(starts.begin(), starts.end(), written);
         if (next == starts.end() || *next != written)
@@ -330,13 +335,13 @@ struct Peer {
         channel.put.push_back(frame);
     }
 
-    /* What an own call would answer, but for want of memory. */
+    /* The result of a local operation, apart from a failed allocation. */
     lcmux_answer would(const Frame &frame) const {
         lcmux_answer judged = refusal(channels[frame.channel], frame, version);
         return judged.code == LCMUX_OK && is_full() ? lcmux_answer{LCMUX_QUEUE_FULL, 0} : judged;
     }
 
-    /* What a message needs before it can be sent: what the other side may not issue never comes. */
+    /* What a message needs before it can be sent: guarantees that the receiver may not issue never arrive. */
     lcmux_answer needs(const Frame &message) const {
         lcmux_answer judged = would(message);
         uint64_t missing = message.number - judged.number;
@@ -351,7 +356,7 @@ struct Peer {
         return Peer(*this).honour(at);
     }
 
-    /* An own call. Only a send that its book allows asks for memory, before it looks for a place. */
+    /* A local operation. Only a send that its ledger allows allocates memory, before it needs a slot. */
     lcmux_answer own(const Frame &frame, bool has_memory) {
         lcmux_answer judged = refusal(channels[frame.channel], frame, version);
         if (judged.code != LCMUX_OK)
@@ -385,7 +390,7 @@ struct Peer {
             channel.asked = frame.number;
     }
 
-    /* Behind the start of the stream that comes: how many bytes its greeting has, or a fault in it. */
+    /* At the start of the inbound stream: the length of its preface, or its fault. */
     Front greet() {
         if (rest.empty() || incoming != 0)
             return {LCMUX_OK, 0, {}};
@@ -436,7 +441,7 @@ struct Peer {
     }
 };
 
-/* What the making of a peer answers where there is memory. */
+/* The result of lcmux_peer_new if no allocation fails. */
 inline lcmux_answer config_answer(const lcmux_config &config) {
     if (config.version != 1 && config.version != 2)
         return {LCMUX_BAD_VERSION, 0};

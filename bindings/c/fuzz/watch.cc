@@ -19,7 +19,7 @@ void differ(const char *what, uint64_t got, uint64_t want) {
 
 namespace {
 
-/* Long blocks that were given back, with their lengths, since a system is slow to give them anew. */
+/* Long blocks that were freed, with their lengths: the system is slow to allocate them again. */
 auto &kept = *new std::vector<std::pair<size_t, uint8_t *>>;
 constexpr size_t is_long = 1 << 16;
 
@@ -35,7 +35,7 @@ uint8_t *block_of(size_t len) {
 
 } // namespace
 
-/* Each block has an edge on either side, with its size in the first. It begins with no zeros. */
+/* Each block has a guard on either side, with its size in the first one. Its bytes are not zero at first. */
 lcmux_tried lcmux_alloc(size_t size, size_t) {
     static uint8_t nothing;
     if (++heap.requests == heap.refused)

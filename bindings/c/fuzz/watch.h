@@ -1,5 +1,5 @@
-/* What watches the library: where an answer differs the calls so far are shown, the heap knows each of
- * its blocks, and a buffer sees where it was written to. */
+/* Instrumentation of the library: a different result prints the calls so far, the heap tracks each of its blocks, and
+ * a buffer detects where it was written. */
 #ifndef LCMUX_WATCH_H
 #define LCMUX_WATCH_H
 
@@ -28,13 +28,13 @@ inline bool is_all(const uint8_t *at, size_t len, uint8_t byte) {
     return std::all_of(at, at + len, [byte](uint8_t it) { return it == byte; });
 }
 
-/* Blocks that were not given back; requests since the last call, and which of them is refused, from 1. */
+/* The blocks that were not freed; the requests since the last call, and the number of the refused one, from 1. */
 struct Heap {
     size_t live, requests, refused;
 };
 extern Heap heap;
 
-/* How many bytes are looked at on either side of a block and of a buffer. */
+/* The bytes that are checked on either side of a block and of a buffer. */
 constexpr size_t edge = 16;
 
 class Buffer {
@@ -45,7 +45,7 @@ public:
         return bytes.data() + edge;
     }
 
-    /* So many bytes at its front are these, and no other was written. */
+    /* Checks that the buffer begins with these bytes and that no other byte was written. */
     void must_be(const uint8_t *want, size_t count) {
         same("how much is written at most", std::max(count, len), len);
         same("whether the right bytes are written", count == 0 || !memcmp(data(), want, count), true);

@@ -1,6 +1,6 @@
-/* heap.c over a malloc that grants no more than C promises: blocks aligned no better than their size
- * asks for, none for a size of 0, each moved where it is resized, and none where a request is refused.
- * Linked with -Wl,--wrap=malloc,--wrap=realloc,--wrap=free. */
+/* heap.c over a malloc that guarantees no more than C does: its blocks are aligned only as their size requires, a
+ * size of 0 gets none, each resize moves the block, and a refused request gets none. Linked with
+ * -Wl,--wrap=malloc,--wrap=realloc,--wrap=free. */
 #include "lcmux_heap.h"
 
 #include <stdint.h>
@@ -8,7 +8,7 @@
 #include <stdlib.h>
 #include <string.h>
 
-/* The blocks that were got and not given back. */
+/* The blocks that were allocated and not freed. */
 static struct block {
     char *base, *at;
     size_t size;
@@ -26,7 +26,7 @@ static void must(bool holds, const char *what) {
     }
 }
 
-/* The entry of a block, or a free one for NULL. */
+/* Returns the entry of a block, or a free entry for NULL. */
 static struct block *entry(const char *at) {
     for (struct block *block = blocks; block < blocks + BLOCKS; block++)
         if (block->at == at)
@@ -48,7 +48,7 @@ void *__wrap_malloc(size_t size);
 void *__wrap_realloc(void *at, size_t size);
 void __wrap_free(void *at);
 
-/* Behind the base, which is aligned to 16, by the power of two below that which divides the size. */
+/* The offset from the base, which is aligned to 16: the power of two below that which divides the size. */
 void *__wrap_malloc(size_t size) {
     requests++;
     if (refused || !size)
@@ -81,7 +81,7 @@ void *__wrap_realloc(void *at, size_t size) {
     return moved;
 }
 
-/* Sizes, and what they are aligned to, which divides them. */
+/* Sizes, and their alignments, which divide them. */
 static const struct {
     size_t size, align;
 } wanted[] = {{0, 1}, {0, 8}, {0, 16}, {1, 1}, {2, 2}, {3, 1}, {12, 4}, {24, 8}, {48, 16}, {4096, 16}, {1048581, 1}};
@@ -95,7 +95,7 @@ static struct lcmux_tried none(struct lcmux_tried tried) {
     return tried;
 }
 
-/* A block of its own that is as long and as aligned as it should be, every byte of which is written. */
+/* Checks that a block has its size and its alignment and overlaps no other, and writes every byte of it. */
 static char *got(struct lcmux_tried tried, size_t size, size_t align) {
     must(tried.ok, "a request that is granted is told");
     must((uintptr_t)tried.at % align == 0, "the block is aligned");

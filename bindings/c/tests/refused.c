@@ -1,5 +1,5 @@
-/* A heap of the program's own, which refuses one request after another, and counts what is not given
- * back; and calls through an empty handle. */
+/* A heap of the program's own, which refuses one request after another and counts the blocks that are not freed; and
+ * calls through an empty handle. */
 #include "lcmux.h"
 #include "lcmux_heap.h"
 
@@ -36,11 +36,11 @@ static void must(bool holds, const char *what) {
     }
 }
 
-/* Where the request that is refused was made: 'n' in new, 's' in send, '-' nowhere. */
+/* The call whose request was refused: 'n' for new, 's' for send, '-' for none. */
 static char run(const lcmux_config *config) {
     static const uint8_t issue[] = {0x21, 0, 0, 0, 5};
     lcmux_peer peer = LCMUX_PEER_EMPTY;
-    lcmux_client client;
+    lcmux_client client = LCMUX_CLIENT_INIT;
     requests = live = 0;
     if (lcmux_peer_new(config, &peer).code != LCMUX_OK) {
         must(live == 0, "what was made is given back");
@@ -62,7 +62,7 @@ static char run(const lcmux_config *config) {
 
 static void empty_handle(lcmux_peer *peer) {
     uint8_t buffer[8] = "unused";
-    lcmux_client client = {.held = 1};
+    lcmux_client client = {.held = 1}; /* its size is not looked at */
     lcmux_server server = {.issued = 1};
     lcmux_ready ready = {.channels[6].plead = 7};
     lcmux_front front = {{buffer, 8}, {buffer, 8}};
@@ -127,11 +127,30 @@ static void empty_buffers(lcmux_peer *peer) {
     must(lcmux_text(LCMUX_OK, NULL, 0).code == LCMUX_BUFFER_TOO_SMALL, "tell nothing");
 }
 
-/* Each balance of a channel by its name, before both sides finish it and after; behind an empty handle. */
+/* A struct that is shorter than the library's is not filled, and one that is longer is filled in front. */
+static void sizes(lcmux_peer *peer) {
+    struct { lcmux_client balances; uint64_t later; } longer = {LCMUX_CLIENT_INIT, 5};
+    lcmux_client client = {.size = 79, .held = 1};
+    lcmux_server server = {.size = 103, .issued = 1};
+    lcmux_ready ready = {.size = 287, .channels[6].plead = 7};
+    must(sizeof client == 80 && sizeof server == 104 && sizeof ready == 288, "the sizes of this version");
+    lcmux_answer answer = lcmux_peer_client(peer, 1, &client);
+    must(answer.code == LCMUX_BAD_SIZE && answer.number == 80 && client.held == 1, "a client that is too short");
+    answer = lcmux_peer_server(peer, 1, &server);
+    must(answer.code == LCMUX_BAD_SIZE && answer.number == 104 && server.issued == 1, "a server that is too short");
+    answer = lcmux_peer_ready(peer, &ready);
+    must(answer.code == LCMUX_BAD_SIZE && answer.number == 288 && ready.channels[6].plead == 7, "a ready that is too short");
+    longer.balances.size = sizeof longer, longer.balances.held = 3;
+    must(lcmux_peer_client(peer, 1, &longer.balances).code == LCMUX_OK && longer.balances.held == 0, "a client that is longer");
+    must(longer.balances.size == sizeof longer && longer.later == 5, "keeps what this version doesn't know");
+    must(lcmux_peer_client(peer, 7, &client).code == LCMUX_NO_CHANNEL, "the channel comes first");
+}
+
+/* Each balance of a channel by its name, before and after both sides finish it; and behind an empty handle. */
 static void balances(lcmux_peer *peer) {
     static const uint8_t before[] = "LCM\2\x22\0\0\0\7\x42\0\0\0\3\x62\0\0\0\0\0\0\0\x1e\x12\0\0\0\2hi\x32\0\0\0\1\x52\0\0\0\0\0\0\0\x28";
-    lcmux_client client, sending = {.held = 4, .received = 7, .spent = 1, .absolved = 2, .send_left = 9, .receive_left = 30, .asked = 3};
-    lcmux_server server, receiving = {.capacity = 11, .issued = 5, .outstanding = 2, .buffered = 2, .room = 7, .send_left = 40, .receive_left = 20};
+    lcmux_client client = LCMUX_CLIENT_INIT, sending = {.size = 80, .held = 4, .received = 7, .spent = 1, .absolved = 2, .send_left = 9, .receive_left = 30, .asked = 3};
+    lcmux_server server = LCMUX_SERVER_INIT, receiving = {.size = 104, .capacity = 11, .issued = 5, .received = 2, .absolved = 1, .outstanding = 2, .buffered = 2, .room = 7, .send_left = 40, .receive_left = 20};
     must(lcmux_peer_new(&(lcmux_config){2, 8, {8, 8, 11, 8, 8, 8, 8}}, peer).code == LCMUX_OK, "new in version 2");
     must(lcmux_peer_issue(peer, 2, 5).code == LCMUX_OK, "issue");
     must(lcmux_peer_limit_receiving(peer, 2, 20).code == LCMUX_OK, "limit receiving");
@@ -156,6 +175,7 @@ static const struct {
     uint32_t code;
     const char *text;
 } sentences[] = {
+    /* codes: begin sentences */
     {LCMUX_OK, "done"},
     {LCMUX_EMPTY_BODY, "the message is empty"},
     {LCMUX_BODY_TOO_LONG, "the message is too long"},
@@ -181,6 +201,7 @@ static const struct {
     {LCMUX_BAD_CAPACITY, "a capacity is not 1 to 2^24"},
     {LCMUX_BAD_SLOTS, "the slots are not 1 to 65,536"},
     {LCMUX_NO_CODE, "there is no such code"},
+    {LCMUX_BAD_SIZE, "a struct is shorter than its size has to be"},
     {LCMUX_EMPTY, "no message waits"},
     {LCMUX_ENDED, "no message waits, and none will come"},
     {LCMUX_NEVER, "the message can never be sent"},
@@ -197,11 +218,12 @@ static const struct {
     {LCMUX_F2_ZERO_LENGTH, "a message has length 0"},
     {LCMUX_F3_BAD_NUMBER, "a number in a frame is out of its range"},
     {LCMUX_F4_TRUNCATED, "the stream ends within a frame or a greeting"},
+    /* codes: end */
 };
 
 #define SENTENCES (sizeof sentences / sizeof *sentences)
 
-/* A code has its sentence, and no other number has one. */
+/* Each code has its sentence, and no other number has one. */
 static void tell_all(void) {
     size_t told = 0;
     for (uint32_t code = 0; code < 1 << 17; code++) {
@@ -210,11 +232,13 @@ static void tell_all(void) {
         lcmux_answer answer = lcmux_text(code, text, sizeof text);
         if (told == SENTENCES || sentences[told].code != code) {
             must(answer.code == LCMUX_NO_CODE && answer.number == 0 && text[0] == '#', "no other code");
+            must(!strcmp(lcmux_strerror(code), "there is no such code"), "and no other string");
             continue;
         }
         size_t len = strlen(sentences[told].text);
         must(answer.code == LCMUX_OK && answer.number == len, "its length");
         must(!strcmp(text, sentences[told].text) && text[len + 1] == '#', "its sentence");
+        must(!strcmp(lcmux_strerror(code), text), "the same sentence as a string");
         text[0] = '#';
         answer = lcmux_text(code, text, len);
         must(answer.code == LCMUX_BUFFER_TOO_SMALL && answer.number == len + 1, "no room for the zero byte");
@@ -225,7 +249,7 @@ static void tell_all(void) {
     printf("%zu sentences\n", told);
 }
 
-/* What is lent of the first message may be sent on, on the same peer. */
+/* The borrowed first message may be sent on the same peer. */
 static void front_is_sent(const lcmux_config *config) {
     static const uint8_t arrives[] = {0x21, 0, 0, 0, 5, 0x11, 0, 5, 'h', 'e', 'l', 'l', 'o'};
     lcmux_peer peer = LCMUX_PEER_EMPTY;
@@ -238,6 +262,17 @@ static void front_is_sent(const lcmux_config *config) {
     must(lcmux_peer_send(&peer, 1, front.first.bytes, front.first.len).code == LCMUX_OK, "it is sent on");
     must(lcmux_peer_write(&peer, out, 16).number == 8 && !memcmp(out, arrives + 5, 8), "as it came");
     must(lcmux_peer_pop(&peer, 1).number == 5 && lcmux_peer_free(&peer).code == LCMUX_OK, "pop");
+}
+
+/* The defaults of a configuration, through calls that take a const handle. */
+static void defaults(const lcmux_config *config, lcmux_peer *peer) {
+    lcmux_server server = LCMUX_SERVER_INIT;
+    must(config->version == 1 && lcmux_peer_new(config, peer).code == LCMUX_OK, "a peer of the defaults");
+    const lcmux_peer *read = peer;
+    must(lcmux_peer_slots_left(read).number == 16 && lcmux_peer_wants_write(read).number == 0, "16 slots");
+    for (uint32_t channel = 0; channel < 7; channel++)
+        must(lcmux_peer_server(read, channel, &server).code == LCMUX_OK && server.room == 65536, "rings of 64 KiB");
+    must(lcmux_peer_free(peer).code == LCMUX_OK, "free of the defaults");
 }
 
 int main(void) {
@@ -258,6 +293,7 @@ int main(void) {
     must(lcmux_peer_new(&config, &peer).code == LCMUX_HAS_PEER, "a second new");
     must(lcmux_peer_pending(&peer).code == LCMUX_OK, "which leaves the peer");
     empty_buffers(&peer);
+    sizes(&peer);
     must(lcmux_peer_free(&peer).code == LCMUX_OK, "free");
     empty_handle(&peer);
     config.capacities[3] = 0;
@@ -274,6 +310,7 @@ int main(void) {
     must(requests == 18, "a configuration that is refused asks for no memory");
     must(lcmux_version() == LCMUX_VERSION_NUMBER, "version");
     puts("handles and configurations as the header says");
+    defaults(&(lcmux_config)LCMUX_CONFIG_INIT, &peer);
     balances(&peer);
     tell_all();
     return 0;

@@ -1,6 +1,5 @@
-/* Runs the cases of rows.txt through the library: `rows FILE` delivers the bytes of a line whole,
- * `rows FILE 1` a byte at a time, and takes and sends what is lent to it. Prints how many lines were answered as they
- * say. */
+/* Runs the cases of rows.txt through the library. `rows FILE` delivers the bytes of a line at once, `rows FILE 1` one
+ * byte at a time, and takes and sends borrowed messages. Prints how many lines had the expected answer. */
 #include "lcmux.h"
 
 #include <inttypes.h>
@@ -9,7 +8,7 @@
 #include <stdlib.h>
 #include <string.h>
 
-/* One side, and its bytes that did not arrive yet. */
+/* One side, and its bytes that have not arrived. */
 struct side {
     lcmux_peer peer;
     uint8_t out[1 << 21];
@@ -21,12 +20,17 @@ static size_t piece = SIZE_MAX;
 static char said[512];
 
 static void say_code(uint32_t code, uint64_t number) {
-    static const char *const named[18] = {[3] = "left", [4] = "held", [6] = "held", [8] = "left", [9] = "left", [10] = "room", [11] = "outstanding", [16] = "need"};
+    /* codes: begin carried numbers */
+    static const char *const named[18] = {
+        [3] = "left", [4] = "held", [6] = "held", [8] = "left", [9] = "left", [10] = "room", [11] = "outstanding",
+        [16] = "need",
+    };
+    /* codes: end */
     if (code == LCMUX_OK)
         strcpy(said, "ok");
-    else if (code < 18 && named[code])
+    else if (code < sizeof named / sizeof *named && named[code])
         snprintf(said, sizeof said, "refused %" PRIu32 " %s %" PRIu64, code, named[code], number);
-    else if (code < 18)
+    else if (code < sizeof named / sizeof *named)
         snprintf(said, sizeof said, "refused %" PRIu32, code);
     else if (code == LCMUX_NO_PEER || code == LCMUX_NO_CHANNEL)
         strcpy(said, code == LCMUX_NO_PEER ? "no peer" : "no channel");
@@ -57,7 +61,7 @@ static const char *or_none(uint64_t left, char *text) {
     return text;
 }
 
-/* The frames that wait, from where each of them lies. */
+/* Writes the pending frames from the memory of the library. */
 static void send_lent(struct side *me) {
     lcmux_next next = {{0}, 1, {NULL, 1}};
     for (;;) {
@@ -75,7 +79,7 @@ static void send_lent(struct side *me) {
     }
 }
 
-/* All that waits to go out. */
+/* Returns all pending bytes. */
 static void send_out(struct side *me) {
     if (piece == 1)
         send_lent(me);
@@ -84,7 +88,7 @@ static void send_out(struct side *me) {
         send_lent(me);
 }
 
-/* The next frame of the other side's bytes, byte by byte. */
+/* Delivers the next frame of the peer's bytes, byte by byte. */
 static void arrive(struct side *me, struct side *other) {
     send_out(other);
     while (other->from < other->to) {
@@ -106,14 +110,14 @@ static void deliver(struct side *me, const uint8_t *bytes, size_t len) {
     say_code(d.code, 0);
 }
 
-/* Behind what was said: what was waived, where the channel is finished. */
+/* Appends the waived guarantees, if the channel is finished. */
 static void say_waived(int at, uint64_t finished, uint64_t waived) {
     if (finished || waived)
         snprintf(said + at, sizeof said - (size_t)at, " finished %" PRIu64 " waived %" PRIu64, finished, waived);
 }
 
 static void say_client(lcmux_peer *peer, uint32_t channel) {
-    lcmux_client c;
+    lcmux_client c = LCMUX_CLIENT_INIT;
     char a[24], b[24], d[24];
     lcmux_answer got = lcmux_peer_client(peer, channel, &c);
     say_code(got.code, got.number);
@@ -124,7 +128,7 @@ static void say_client(lcmux_peer *peer, uint32_t channel) {
 }
 
 static void say_server(lcmux_peer *peer, uint32_t channel) {
-    lcmux_server s;
+    lcmux_server s = LCMUX_SERVER_INIT;
     lcmux_answer got = lcmux_peer_server(peer, channel, &s);
     say_code(got.code, got.number);
     if (got.code != LCMUX_OK)
@@ -153,16 +157,16 @@ static void say_needs(lcmux_answer answer) {
         strcpy(said, answer.code == LCMUX_NEVER ? "never" : "a slot");
 }
 
-/* The channels on which there is something to do, and what. */
+/* The channels that the program can act on, and how. */
 static void say_ready(lcmux_peer *peer) {
-    lcmux_ready ready;
+    lcmux_ready ready = LCMUX_READY_INIT;
     lcmux_answer got = lcmux_peer_ready(peer, &ready);
     size_t at = 0;
     say_code(got.code, got.number);
     if (got.code != LCMUX_OK)
         return;
     strcpy(said, "nothing");
-    for (int c = 0; c < 7; c++) {
+    for (int c = 0; c < LCMUX_CHANNELS; c++) {
         const lcmux_channel_ready *on = &ready.channels[c];
         const uint64_t is[] = {on->message, on->ended, on->plead, on->finished, on->finished_there};
         static const char *const words[] = {"message", "ended", "plead", "finished", "finished-there"};
@@ -172,7 +176,7 @@ static void say_ready(lcmux_peer *peer) {
     }
 }
 
-/* A question with a plain answer: the word behind "would-". */
+/* A query with a plain answer: the word after "would-". */
 static bool question(lcmux_peer *peer, const char *word, uint32_t channel, const char *arg, lcmux_answer *answer) {
     uint64_t number = strtoull(arg, NULL, 10);
     if (!strcmp(word, "send"))
@@ -194,7 +198,7 @@ static bool question(lcmux_peer *peer, const char *word, uint32_t channel, const
     return true;
 }
 
-/* One line without its answer. Answers whether it is an own call with a plain answer. */
+/* Runs one line without its answer. Returns whether it is a local operation with a plain answer. */
 static bool own_call(lcmux_peer *peer, const char *word, uint32_t channel, const char *arg, lcmux_answer *answer) {
     static uint8_t body[1 << 21];
     uint64_t number = strtoull(arg, NULL, 10);
@@ -221,7 +225,7 @@ static bool own_call(lcmux_peer *peer, const char *word, uint32_t channel, const
     return true;
 }
 
-/* The first message, which is lent, copied and dropped. */
+/* Borrows, copies and drops the first message. */
 static lcmux_answer take_lent(lcmux_peer *peer, uint32_t channel, uint8_t *bytes) {
     lcmux_front front = {{NULL, 1}, {NULL, 1}};
     lcmux_answer lent = lcmux_peer_front(peer, channel, &front);
@@ -281,7 +285,7 @@ static bool other_call(struct side *me, struct side *other, const char *word, co
 
 static bool begin(uint32_t capacity, uint32_t slots, uint32_t version) {
     lcmux_config config = {.version = version, .slots = slots};
-    for (int c = 0; c < 7; c++)
+    for (int c = 0; c < LCMUX_CHANNELS; c++)
         config.capacities[c] = capacity;
     for (int s = 0; s < 2; s++) {
         lcmux_peer_free(&sides[s].peer);

@@ -1,5 +1,5 @@
-/* Two libraries of the Rattle kit in one program: this one, over heap.c, and a copy of it under other names,
- * whose heap is the one below. Each asks its own heap for memory, and they work side by side. */
+/* Two libraries of the Rattle kit in one program: this one, over heap.c, and a copy of it under other names, over the
+ * heap below. Each allocates from its own heap, and they do not interfere. */
 #include "lcmux_heap.h"
 #include "lcmux.h"
 

@@ -1,5 +1,5 @@
-/* The library for C and a library of Rust over its crate in one program. Each has its own calls and its own heap,
- * so those of C take NULL for a buffer of length 0. */
+/* The library for C and a Rust library over the crate in one program. Each has its own calls and its own heap, so the
+ * calls of C accept NULL for a buffer of length 0. */
 #include "lcmux.h"
 #include "lcmux_heap.h"
 
@@ -7,7 +7,7 @@
 
 bool rust_passes_a_message(void);
 
-/* Their linker has them; that of a program over one of the two alone does not. */
+/* Both symbols are linked; a program with one of the two libraries has only one of them. */
 lcmux_answer lcmux_proved_send(lcmux_peer *peer, uint32_t channel, const uint8_t *body, size_t len);
 lcmux_answer lcmux_rs_peer_send(lcmux_peer *peer, uint32_t channel, const uint8_t *body, size_t len);
 struct lcmux_tried lcmux_rs_alloc(size_t size, size_t align);

@@ -1,9 +1,9 @@
-//! A static library over the crate for Rust, for a program that has the library for C too.
-use lcmux::{Channel, Config, Peer, Take};
+//! A static library over the crate for Rust, for a program that links the library for C, too.
+use lcmux::{Channel, Config, Peer, Take, CHANNELS};
 use std::error::Error;
 
 fn message() -> Result<Take<Vec<u8>>, Box<dyn Error>> {
-    let config = Config::new([8; 7], 4);
+    let config = Config::new([8; CHANNELS], 4);
     let (mut client, mut server) = (Peer::new(&config)?, Peer::new(&config)?);
     let mut wire = Vec::new();
     server.issue(Channel::Data, 2)?;
@@ -16,7 +16,7 @@ fn message() -> Result<Take<Vec<u8>>, Box<dyn Error>> {
     Ok(server.take(Channel::Data))
 }
 
-/// Whether a message passes from a peer of Rust to another one.
+/// Returns whether a message gets from one peer of Rust to another.
 #[no_mangle]
 pub extern "C" fn rust_passes_a_message() -> bool {
     message().is_ok_and(|it| it == Take::Took(b"hi".to_vec()))
