@@ -1,13 +1,13 @@
-//! Finds the archive of the peer: the file that LCMUX_ARCHIVE names, else the one that this package has for
-//! the target, else, in a clone of the repository, what `scripts/archive` has proved and built or kept. Proving
-//! takes minutes, so no build starts it: where there is none yet, only a build that links fails.
+//! Finds the archive of the peer: the file that LCMUX_ARCHIVE names, else the one that this package has for the
+//! target, else, in a clone of the repository, the one that `scripts/archive` has proved and built or kept. A proof
+//! takes minutes, so no build starts one: without an archive, only a build that links fails.
 use std::collections::BTreeSet;
 use std::ffi::OsString;
 use std::path::{Path, PathBuf};
 use std::process::{exit, Command, ExitStatus, Stdio};
 use std::{env, fmt, fs, io};
 
-/// A processor for which there are archives.
+/// A processor for which archives exist.
 #[derive(Clone, Copy)]
 enum Processor {
     X86_64,
@@ -33,12 +33,12 @@ impl Processor {
         }
     }
 
-    /// Whether the target's is of this kind.
+    /// Whether the target has this processor.
     fn is_of_target(self) -> bool {
         of_cargo("CARGO_CFG_TARGET_ARCH") == self.name()
     }
 
-    /// The processor of the target, where that is a Linux with addresses of 64 bits.
+    /// The processor of the target, if the target is a Linux with 64-bit addresses.
     fn of_target() -> Option<Processor> {
         let of_target = |name| of_cargo(&format!("CARGO_CFG_TARGET_{name}"));
         let fits = of_target("OS") == "linux" && of_target("POINTER_WIDTH") == "64";
@@ -48,21 +48,21 @@ impl Processor {
     }
 }
 
-/// Whose names an archive has for its calls, and for those by which it asks for memory.
+/// The naming scheme of an archive: of its calls, and of the functions by which it allocates memory.
 #[derive(Clone, Copy)]
 enum Names {
-    /// Those of the kit for memory, which each library of the kit has, and of `lcmux.h`.
+    /// The kit's names for memory, which each library of the kit has, and the names of `lcmux.h`.
     Kit,
-    /// Those of `liblcmux.a`, which a program may have beside this crate.
+    /// The names of `liblcmux.a`, which a program may link beside this crate.
     C,
-    /// Those of src/sys.rs.
+    /// The names of src/sys.rs.
     Own,
 }
 
 impl Names {
     const ALL: [Names; 3] = [Names::Own, Names::Kit, Names::C];
 
-    /// What its calls for memory begin with.
+    /// The prefix of its functions for memory.
     fn heap(self) -> &'static str {
         match self {
             Names::Kit => "rattle_",
@@ -72,13 +72,13 @@ impl Names {
     }
 }
 
-/// What the names of src/sys.rs begin with.
+/// The prefix of the names of src/sys.rs.
 const OWN: &str = "lcmux_rs_";
 
-/// The calls by which an archive asks for memory.
+/// The functions by which an archive allocates memory.
 const HEAP: [&str; 3] = ["alloc", "realloc", "dealloc"];
 
-/// Why there is no archive that can be linked.
+/// The reason why no archive can be linked.
 enum Wrong {
     NoneFits,
     Device(PathBuf, io::Error),
@@ -114,12 +114,12 @@ impl fmt::Display for Wrong {
     }
 }
 
-/// A variable that cargo sets.
+/// Reads a variable that cargo sets.
 fn of_cargo(name: &str) -> String {
     env::var(name).unwrap_or_else(|_| panic!("cargo sets {name}"))
 }
 
-/// A variable that the user may set.
+/// Reads a variable that the user may set.
 fn of_user(name: &str) -> Option<OsString> {
     println!("cargo:rerun-if-env-changed={name}");
     env::var_os(name)
@@ -140,14 +140,14 @@ struct Clone {
 }
 
 impl Clone {
-    /// The clone in which this package lies, if any.
+    /// The clone that contains this package, if any.
     fn around(package: &Path) -> Option<Clone> {
         let top = package.join("../..");
         let has_crate = top.join("crates/lc_c").exists();
         has_crate.then_some(Clone { top })
     }
 
-    /// What has been built there of the sources as they stand, or kept.
+    /// The archive that was built there from the current sources, or kept.
     fn kept(&self, processor: Processor) -> Option<PathBuf> {
         let asked = Command::new(self.top.join("scripts/archive"))
             .args(["--kept", processor.name()])
@@ -158,7 +158,7 @@ impl Clone {
         is_there.then(|| self.top.join(archive))
     }
 
-    /// Tells cargo what the archive is made from.
+    /// Makes cargo watch the sources of the archive.
     fn watch(&self) -> Result<(), Wrong> {
         let crates = self.top.join("crates.txt");
         is_watched(&crates);
@@ -176,12 +176,12 @@ impl Clone {
     }
 }
 
-/// Has cargo run this again where the file changes, or one in the folder.
+/// Makes cargo run this script again if the file or a file in the folder changes.
 fn is_watched(path: &Path) {
     println!("cargo:rerun-if-changed={}", path.display());
 }
 
-/// A crate, and those of the repository that it stands on, by the rows of crates.txt.
+/// A crate and its dependencies in the repository, from the rows of crates.txt.
 fn with_those_below<'a>(name: &'a str, rows: &'a str) -> BTreeSet<&'a str> {
     let words = |row: &'a str| row.split([':', ' ']).filter(|word| !word.is_empty());
     let (mut found, mut left) = (BTreeSet::new(), vec![name]);
@@ -194,7 +194,7 @@ fn with_those_below<'a>(name: &'a str, rows: &'a str) -> BTreeSet<&'a str> {
     found
 }
 
-/// An archive, or none, where one has yet to be built for this processor.
+/// An archive, or the processor for which one has yet to be built.
 enum Found {
     Archive(PathBuf),
     NoneYet(Processor),
@@ -216,8 +216,8 @@ fn find(processor: Option<Processor>) -> Result<Found, Wrong> {
     Ok(kept.map_or(Found::NoneYet(processor), Found::Archive))
 }
 
-/// The machine that the first object of an archive is for. Behind 8 bytes each member begins at an even
-/// place, with a header of 60 bytes, whose ten at 48 are the length of the rest in decimal.
+/// The machine of the first object of an archive. After 8 bytes, each member begins at an even offset, with a header
+/// of 60 bytes; its ten bytes at 48 are the length of the member in decimal.
 fn machine_of(archive: &[u8]) -> Option<u16> {
     let mut rest = archive.strip_prefix(b"!<arch>\n")?;
     loop {
@@ -238,7 +238,7 @@ fn names_of(archive: &[u8]) -> Option<Names> {
     })
 }
 
-/// Whose names an archive of the peer has, where it is for the target's processor.
+/// The naming scheme of an archive of the peer, if the archive is for the target's processor.
 fn judge(path: &Path, archive: &[u8]) -> Result<Names, Wrong> {
     let (Some(machine), Some(names)) = (machine_of(archive), names_of(archive)) else {
         return Err(Wrong::NoPeer(path.into()));
@@ -250,8 +250,8 @@ fn judge(path: &Path, archive: &[u8]) -> Result<Names, Wrong> {
     Ok(names)
 }
 
-/// What an archive defines, by its first member: how many names there are, in four bytes of which the first is the
-/// highest, as many places of four bytes, and the names, each ended by a 0.
+/// The names that an archive defines, from its first member: the number of names as four big-endian bytes, as many
+/// offsets of four bytes, and the names, each terminated by a 0.
 fn defined(archive: &[u8]) -> Option<Vec<String>> {
     let header = archive.get(8..68)?;
     let length: usize = std::str::from_utf8(&header[48..58])
@@ -266,7 +266,7 @@ fn defined(archive: &[u8]) -> Option<Vec<String>> {
     header.starts_with(b"/ ").then(|| names.collect())?
 }
 
-/// The names of this library in an archive, each before its own one: of what it defines, and of the heap.
+/// The names of this library in an archive, each with its new name: the names that it defines, and those of the heap.
 fn renamed(archive: &[u8], names: Names) -> Option<Vec<(String, String)>> {
     let heap = HEAP.map(|it| (format!("{}{it}", names.heap()), format!("{OWN}{it}")));
     let calls = defined(archive)?.into_iter().filter_map(|it| {
@@ -277,7 +277,8 @@ fn renamed(archive: &[u8], names: Names) -> Option<Vec<(String, String)>> {
     Some(all.into_iter().collect())
 }
 
-/// Copies an archive, with names of its own: a program may have the library for C too, or another one of the kit.
+/// Copies an archive with names of its own, since a program may link the library for C or another library of the kit,
+/// too.
 fn rename(path: &Path, archive: &[u8], names: Names, to: &Path) -> Result<(), Wrong> {
     let mut command = Command::new(of_user("OBJCOPY").unwrap_or_else(|| "objcopy".into()));
     for (old, own) in renamed(archive, names).ok_or_else(|| Wrong::NoPeer(path.into()))? {
@@ -303,7 +304,7 @@ fn link_to(path: &Path) -> Result<(), Wrong> {
 }
 
 fn warn_of_none(processor: Processor) {
-    // This is never there, so that cargo asks each time anew.
+    // This file never exists, so cargo runs the script at each build.
     is_watched(&PathBuf::from(of_cargo("OUT_DIR")).join("none-yet"));
     println!(
         "cargo:warning=nothing can be linked before `scripts/archive {}` has proved and built the archive of the peer, which takes some ten minutes, or LCMUX_ARCHIVE names one of a package",

@@ -1,8 +1,15 @@
-//! What a peer and a session hold of memory, by the size of their seven rings: `cargo bench --bench memory` prints a
-//! line for each with what is resident of one and the addresses that it takes: when nothing has happened (`idle`), when
-//! all its rings are full (`full`), and when the other side has sent a frame of a mebibyte that is not allowed, but for
-//! its last byte (`hostile`). Each is the mean over some, in a process of its own.
-use lcmux::{Channel, Config, Driver, Mux, Peer, PollRead};
+//! The memory of a peer and of a session, by the size of their seven rings. `cargo bench --bench memory` prints a
+//! line for each with its resident memory and its address space, in these states:
+//!
+//! - `idle`: nothing has happened;
+//! - `full` and `short`: all rings are full, of messages of 1,024 bytes and of one byte;
+//! - `hostile`: the peer has sent a forbidden frame of one mebibyte but for its last byte;
+//! - `passed`, of a peer: as many messages of 16 bytes have passed through each ring as it has bytes, and none waits;
+//! - `wrapped`, of a peer: a message as long as the ring has wrapped around in each, and then all were filled with
+//!   messages of one byte.
+//!
+//! Each value is the mean over several, in a process of its own.
+use lcmux::{Channel, Config, Driver, Mux, Peer, PollRead, Take, Version, CHANNELS};
 use std::env;
 use std::error::Error;
 use std::fs;
@@ -11,13 +18,10 @@ use std::process::Command;
 use std::sync::Arc;
 use std::task::{Context, Poll, Wake, Waker};
 
-/// How many are held at once.
+/// How many are alive at once.
 const HELD: u64 = 20;
 
 const SLOTS: u32 = 64;
-
-/// The bytes of a message that fills a ring.
-const MESSAGE: usize = 1_024;
 
 const SIDES: [&str; 2] = ["peer", "mux"];
 const RINGS: [(&str, u32); 4] = [
@@ -26,20 +30,26 @@ const RINGS: [(&str, u32); 4] = [
     ("256k", 262_144),
     ("16m", 1 << 24),
 ];
-const STATES: [&str; 3] = ["idle", "full", "hostile"];
+const STATES: [&str; 4] = ["idle", "full", "short", "hostile"];
+/// The states in which a peer has taken messages.
+const TAKEN: [&str; 2] = ["passed", "wrapped"];
+/// The largest rings that are filled with messages of one byte.
+const MOST_SHORT: u32 = 1 << 18;
 
-/// A frame of 1,048,576 bytes that begins after a greeting, and does not end.
+/// A frame of 1,048,576 bytes after a preface, without its end.
 fn hostile() -> Vec<u8> {
     let mut bytes = b"\x4c\x43\x4d\x02\x13\x00\x10\x00\x00".to_vec();
     bytes.resize(bytes.len() + 1_048_575, 0x5a);
     bytes
 }
 
-/// What takes bytes from the other side, and has bytes for it.
+/// A side of a session: it reads bytes of the peer and has bytes for it.
 trait Side: Sized {
     fn new(config: &Config) -> Result<Self, Box<dyn Error>>;
     fn written(&mut self) -> Vec<u8>;
     fn deliver(&mut self, bytes: &[u8]);
+    /// Takes so many messages of each channel.
+    fn take(&mut self, count: usize) -> Result<(), Box<dyn Error>>;
 }
 
 impl Side for Peer {
@@ -59,6 +69,10 @@ impl Side for Peer {
 
     fn deliver(&mut self, mut bytes: &[u8]) {
         while let Ok(1..) = self.read_from(&mut bytes) {}
+    }
+
+    fn take(&mut self, count: usize) -> Result<(), Box<dyn Error>> {
+        take(self, count)
     }
 }
 
@@ -83,9 +97,16 @@ impl Side for (Mux, Driver) {
                 .poll_read(&mut Context::from_waker(&noop()), &mut source);
         }
     }
+
+    fn take(&mut self, count: usize) -> Result<(), Box<dyn Error>> {
+        match count {
+            0 => Ok(()),
+            _ => Err("the receivers of a session are not held here".into()),
+        }
+    }
 }
 
-/// Bytes of a stream that does not end behind them.
+/// The bytes of a stream that does not end.
 struct Source<'a>(&'a [u8]);
 
 impl PollRead for Source<'_> {
@@ -105,20 +126,114 @@ fn noop() -> Waker {
     Waker::from(Arc::new(Noop))
 }
 
-/// What fills all rings of a side.
-fn filling(config: &Config) -> Result<Vec<u8>, Box<dyn Error>> {
-    let (mut server, mut client) = (<Peer as Side>::new(config)?, Peer::new(config)?);
-    client.read_from(&mut &server.written()[..])?;
-    let mut bytes = Vec::new();
-    for channel in Channel::ALL {
-        while client.send(channel, &[channel.number(); MESSAGE]).is_ok() {
-            client.write_to(&mut bytes)?;
-        }
-    }
-    Ok(bytes)
+/// Bytes that arrive so many times, and how many messages of each channel are taken each time.
+struct Step {
+    bytes: Vec<u8>,
+    times: u32,
+    taken: usize,
 }
 
-/// A number of kibibytes behind a name in a file of `/proc`.
+/// Takes messages of each channel and issues their bytes again.
+fn take(peer: &mut Peer, count: usize) -> Result<(), Box<dyn Error>> {
+    for channel in Channel::ALL {
+        for _ in 0..count {
+            if let Take::Took(message) = peer.take(channel) {
+                peer.issue(channel, message.len() as u32)?;
+            }
+        }
+    }
+    Ok(())
+}
+
+/// A client and a server that find out which bytes fill the rings of a side.
+struct Pair {
+    client: Peer,
+    server: Peer,
+}
+
+impl Pair {
+    fn new(config: &Config, version: Version) -> Result<Pair, Box<dyn Error>> {
+        let mut server = <Peer as Side>::new(config)?;
+        let mut config = *config;
+        config.version = version;
+        let mut client = Peer::new(&config)?;
+        client.read_from(&mut &server.written()[..])?;
+        Ok(Pair { client, server })
+    }
+
+    /// Messages of these lengths on each channel, of which some are taken.
+    fn step(&mut self, lengths: &[usize], taken: usize) -> Result<Step, Box<dyn Error>> {
+        let mut bytes = Vec::new();
+        for channel in Channel::ALL {
+            for len in lengths {
+                self.client.send(channel, &vec![channel.number(); *len])?;
+                self.client.write_to(&mut bytes)?;
+            }
+        }
+        Side::deliver(&mut self.server, &bytes);
+        take(&mut self.server, taken)?;
+        self.client.read_from(&mut &self.server.written()[..])?;
+        Ok(Step {
+            bytes,
+            times: 1,
+            taken,
+        })
+    }
+
+    /// Messages of this length until no more fit.
+    fn fill(&mut self, len: usize) -> Result<Step, Box<dyn Error>> {
+        let mut bytes = Vec::new();
+        for channel in Channel::ALL {
+            let message = vec![channel.number(); len];
+            while self.client.send(channel, &message).is_ok() {
+                self.client.write_to(&mut bytes)?;
+            }
+        }
+        Ok(Step {
+            bytes,
+            times: 1,
+            taken: 0,
+        })
+    }
+}
+
+/// What arrives at a side in a state.
+fn steps(config: &Config, state: &str) -> Result<Vec<Step>, Box<dyn Error>> {
+    // Only version Two has messages as long as the larger rings.
+    let version = match state {
+        "wrapped" => Version::Two,
+        _ => config.version,
+    };
+    let mut pair = Pair::new(config, version)?;
+    let ring = config.capacities[0];
+    let long = (ring as usize).min(1 << 20);
+    Ok(match state {
+        "full" => vec![pair.fill(1_024)?],
+        "short" => vec![pair.fill(1)?],
+        "hostile" => vec![Step {
+            bytes: hostile(),
+            times: 1,
+            taken: 0,
+        }],
+        // The preface arrives with the first message alone.
+        "passed" => vec![
+            pair.step(&[16], 1)?,
+            Step {
+                times: ring - 1,
+                ..pair.step(&[16], 1)?
+            },
+        ],
+        // The last of the long messages begins one byte before the wrap point.
+        "wrapped" => vec![
+            pair.step(&[long - 2, 1], 1)?,
+            pair.step(&[long - 1], 2)?,
+            pair.fill(1)?,
+        ],
+        _ => Vec::new(),
+    })
+}
+
+/// A number of kibibytes after a name in a file of `/proc`.
 fn kibibytes(file: &str, name: &str) -> Result<u64, Box<dyn Error>> {
     let text = fs::read_to_string(file)?;
     let line = text.lines().find_map(|line| line.strip_prefix(name));
@@ -134,15 +249,18 @@ fn addresses() -> Result<u64, Box<dyn Error>> {
     kibibytes("/proc/self/status", "VmSize:")
 }
 
-/// What one holds to which these bytes came, where any did.
-fn measure<S: Side>(config: &Config, bytes: &[u8]) -> Result<(u64, u64), Box<dyn Error>> {
+/// The memory of one at which this arrived.
+fn measure<S: Side>(config: &Config, steps: &[Step]) -> Result<(u64, u64), Box<dyn Error>> {
     let mut held = Vec::with_capacity(HELD as usize);
     let (before, without) = (resident()?, addresses()?);
     for _ in 0..HELD {
         let mut side = S::new(config)?;
-        if !bytes.is_empty() {
-            side.written();
-            side.deliver(bytes);
+        for step in steps {
+            for _ in 0..step.times {
+                side.written();
+                side.deliver(&step.bytes);
+                side.take(step.taken)?;
+            }
         }
         held.push(side);
     }
@@ -153,26 +271,30 @@ fn measure<S: Side>(config: &Config, bytes: &[u8]) -> Result<(u64, u64), Box<dyn
 fn print_line(side: &str, ring: &str, state: &str) -> Result<(), Box<dyn Error>> {
     let known = RINGS.iter().find(|(name, _)| *name == ring);
     let (_, capacity) = known.ok_or("no such ring")?;
-    let config = Config::new([*capacity; 7], SLOTS);
-    let bytes = match state {
-        "full" => filling(&config)?,
-        "hostile" => hostile(),
-        _ => Vec::new(),
-    };
+    let config = Config::new([*capacity; CHANNELS], SLOTS);
+    let steps = steps(&config, state)?;
     let (resident, addresses) = match side {
-        "peer" => measure::<Peer>(&config, &bytes)?,
-        _ => measure::<(Mux, Driver)>(&config, &bytes)?,
+        "peer" => measure::<Peer>(&config, &steps)?,
+        _ => measure::<(Mux, Driver)>(&config, &steps)?,
     };
     println!("memory.{side}.{ring}.{state} {resident} KiB resident, {addresses} KiB of addresses");
     Ok(())
 }
 
+/// Whether a state is measured of a side with rings of this size.
+fn is_measured(side: &str, capacity: u32, state: &str) -> bool {
+    (capacity <= MOST_SHORT || matches!(state, "idle" | "full" | "hostile"))
+        && (side == "peer" || STATES.contains(&state))
+}
+
 fn print_all() -> Result<(), Box<dyn Error>> {
     for side in SIDES {
-        for (ring, _) in RINGS {
-            for state in STATES {
-                let mut alone = Command::new(env::current_exe()?);
-                alone.args([side, ring, state]).status()?;
+        for (ring, capacity) in RINGS {
+            for state in STATES.into_iter().chain(TAKEN) {
+                if is_measured(side, capacity, state) {
+                    let mut alone = Command::new(env::current_exe()?);
+                    alone.args([side, ring, state]).status()?;
+                }
             }
         }
     }

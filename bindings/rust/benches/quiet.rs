@@ -1,10 +1,10 @@
-//! How long a message of one channel is on its way over TCP on the loopback, one each millisecond, while the other
-//! six carry messages of 60 KiB, all one way through rings of 256 KiB, with a thread for each end and two for each
-//! driver: `cargo bench --bench quiet`.
+//! The latency of a message of one channel over TCP on the loopback, one each millisecond, while the other six
+//! channels carry messages of 60 KiB, all in one direction through rings of 256 KiB, with a thread for each handle
+//! and two for each driver: `cargo bench --bench quiet`.
 #[path = "common/quiet.rs"]
 mod quiet;
 
-use lcmux::{Channel, Config, Mux, Receiver, Sender};
+use lcmux::{Channel, Config, Mux, Receiver, Sender, CHANNELS};
 use quiet::{lasted, print_times, stamp, BEFORE, BULK, COUNT, PACE, QUIET};
 use std::error::Error;
 use std::net::{TcpListener, TcpStream};
@@ -15,7 +15,7 @@ use std::time::{Duration, Instant};
 fn session(stream: TcpStream) -> Result<Mux, Box<dyn Error>> {
     stream.set_nodelay(true)?;
     let reader = stream.try_clone()?;
-    let (mux, driver) = Mux::new(Config::new([262_144; 7], 64))?;
+    let (mux, driver) = Mux::new(Config::new([262_144; CHANNELS], 64))?;
     thread::spawn(|| driver.run_blocking(reader, stream));
     Ok(mux)
 }

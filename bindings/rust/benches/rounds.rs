@@ -1,11 +1,10 @@
-//! What a round of two peers on one thread costs through this crate: a message of 16, 1,024 or 61,440
-//! bytes there, and its guarantees back, as `peer` through `write_to` and `read_from`, as `pieces` through
-//! `write` and `deliver`; and what each question costs, as `ask`. `cargo bench --bench rounds` prints a line
-//! `name value unit` for each, and as a ratio which part of the rate of `pieces` that of `peer` is. With
-//! BENCH_FIXED=TURNS nothing is timed, and each figure has that many turns; an argument is what the names
-//! of the figures begin with that are taken.
+//! The cost of a round of two peers on one thread through this crate: a message of 16, 1,024 or 61,440 bytes, and its
+//! guarantees back, as `peer` through `write_to` and `read_from`, as `pieces` through `write` and `deliver`; and the
+//! cost of each query, as `ask`. `cargo bench --bench rounds` prints a line `name value unit` for each, and the ratio
+//! of the rates of `peer` and `pieces`. With BENCH_FIXED=TURNS nothing is timed, and each measurement has that many
+//! turns. An argument selects the measurements whose names begin with it.
 
-use lcmux::{Channel, Config, Peer, Take};
+use lcmux::{Channel, Config, Peer, Take, CHANNELS};
 use std::env;
 use std::error::Error;
 use std::hint::black_box;
@@ -13,20 +12,20 @@ use std::time::{Duration, Instant};
 
 const CHANNEL: Channel = Channel::Data;
 
-/// The bytes that the wire holds.
+/// The size of the wire.
 const WIRE: usize = 70_000;
 
-/// How long a repetition lasts about, and how many there are, of which the middle one counts.
+/// The approximate time of a repetition, and the number of repetitions, of which the median counts.
 const TARGET: Duration = Duration::from_millis(20);
 const REPETITIONS: usize = 3;
 
-/// Moves all that waits at one peer to the other.
+/// Moves all pending bytes of one peer to the other.
 type Carry = fn(&mut Peer, &mut Peer, &mut Vec<u8>) -> Result<(), Box<dyn Error>>;
 
-/// What a figure counts.
+/// The unit of a measurement.
 type Turn = fn(&mut Exchange) -> Result<(), Box<dyn Error>>;
 
-/// A message goes from the client to the server, over a wire in memory.
+/// Sends a message from the sender to the receiver, over a wire in memory.
 struct Exchange {
     client: Peer,
     server: Peer,
@@ -36,7 +35,7 @@ struct Exchange {
     buffer: Vec<u8>,
 }
 
-// Writes all that waits at one peer, and reads it in at the other.
+// Writes all pending bytes of one peer, and reads them at the other.
 fn streams(from: &mut Peer, to: &mut Peer, wire: &mut Vec<u8>) -> Result<(), Box<dyn Error>> {
     wire.clear();
     from.write_to(wire)?;
@@ -47,7 +46,7 @@ fn streams(from: &mut Peer, to: &mut Peer, wire: &mut Vec<u8>) -> Result<(), Box
     Ok(())
 }
 
-// The same without a reader and a writer, by one piece.
+// The same without a reader and a writer, in one chunk.
 fn pieces(from: &mut Peer, to: &mut Peer, wire: &mut Vec<u8>) -> Result<(), Box<dyn Error>> {
     wire.resize(WIRE, 0);
     let count = from.write(wire);
@@ -56,9 +55,9 @@ fn pieces(from: &mut Peer, to: &mut Peer, wire: &mut Vec<u8>) -> Result<(), Box<
 }
 
 impl Exchange {
-    // The first guarantees are there.
+    // The first guarantees have arrived.
     fn new(carry: Carry, len: usize) -> Result<Exchange, Box<dyn Error>> {
-        let config = Config::new([65_536; 7], 4);
+        let config = Config::new([65_536; CHANNELS], 4);
         let mut exchange = Exchange {
             client: Peer::new(&config)?,
             server: Peer::new(&config)?,
@@ -71,13 +70,13 @@ impl Exchange {
         Ok(exchange)
     }
 
-    // The server promises the room of one message.
+    // The receiver issues the bytes of one message.
     fn promise(&mut self) -> Result<(), Box<dyn Error>> {
         self.server.issue(CHANNEL, self.body.len() as u32)?;
         (self.carry)(&mut self.server, &mut self.client, &mut self.wire)
     }
 
-    // One message there, and its guarantees back.
+    // One message, and its guarantees back.
     fn round(&mut self) -> Result<(), Box<dyn Error>> {
         self.client.send(CHANNEL, black_box(&self.body))?;
         (self.carry)(&mut self.client, &mut self.server, &mut self.wire)?;
@@ -95,7 +94,7 @@ impl Exchange {
         Ok(start.elapsed())
     }
 
-    // Turns a second, by the middle repetition.
+    // Turns a second, by the median repetition.
     fn rate(&mut self, turn: Turn) -> Result<f64, Box<dyn Error>> {
         let mut count = 1;
         while self.turns(turn, count)? < TARGET / 4 {
@@ -110,14 +109,14 @@ impl Exchange {
         Ok(count as f64 / taken[REPETITIONS / 2].as_secs_f64())
     }
 
-    // The client answers a question; the server has sent it the guarantees of one message.
+    // The sender answers a query; the receiver has issued the guarantees of one message.
     fn ask<T>(&self, question: impl FnOnce(&Peer) -> T) -> Result<(), Box<dyn Error>> {
         black_box(question(black_box(&self.client)));
         Ok(())
     }
 }
 
-/// The length of the messages that a question is about, for which the guarantees are held.
+/// The length of the messages in a query, for which the guarantees are held.
 const ASKED: usize = 16;
 
 const FIGURES: [(&str, Carry, usize, Turn); 11] = [

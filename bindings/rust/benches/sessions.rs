@@ -1,11 +1,11 @@
-//! What two sessions pass over one TCP connection on the loopback, both ways on all seven channels, through rings
-//! of 256 KiB, with a thread for each of the 28 ends and two for each driver; each message is compared with the
-//! one that is due. `cargo bench --bench sessions` prints a line for messages of 4 to 16 bytes, of 1 KiB and of
-//! 60 KiB.
+//! The throughput of two sessions over one TCP connection on the loopback, in both directions on all seven channels,
+//! through rings of 256 KiB, with a thread for each of the 28 handles and two for each driver; each message is
+//! compared with the expected one. `cargo bench --bench sessions` prints a line for messages of 4 to 16 bytes, of 1
+//! KiB and of 60 KiB.
 #[path = "common/load.rs"]
 mod load;
 
-use lcmux::{Channel, Closed, Config, Mux, Receiver, Sender};
+use lcmux::{Channel, Closed, Config, Mux, Receiver, Sender, CHANNELS};
 use load::{print_figures, Load};
 use std::error::Error;
 use std::net::{TcpListener, TcpStream};
@@ -25,7 +25,7 @@ type Session = (Mux, JoinHandle<Result<(), Closed>>);
 fn session(stream: TcpStream) -> Result<Session, Box<dyn Error>> {
     stream.set_nodelay(true)?;
     let reader = stream.try_clone()?;
-    let (mux, driver) = Mux::new(Config::new([RING; 7], SLOTS))?;
+    let (mux, driver) = Mux::new(Config::new([RING; CHANNELS], SLOTS))?;
     Ok((mux, thread::spawn(|| driver.run_blocking(reader, stream))))
 }
 

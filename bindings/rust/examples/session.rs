@@ -1,6 +1,6 @@
-//! A session of two processes over one TCP connection: `cargo run --example session`. The program starts
-//! itself a second time as the other side.
-use lcmux::{Channel::Data, Config, Mux, MuxFault};
+//! A session of two processes over one TCP connection: `cargo run --example session`. The program starts itself a
+//! second time as its peer.
+use lcmux::{Channel::Data, Config, Mux, MuxFault, CHANNELS};
 use std::error::Error;
 use std::net::{TcpListener, TcpStream};
 use std::{env, process::Command, thread};
@@ -9,7 +9,7 @@ const MESSAGES: usize = 1000;
 
 // The driver moves the bytes on two threads of its own.
 fn open(stream: TcpStream) -> Result<Mux, MuxFault> {
-    let (mux, driver) = Mux::new(Config::new([4096; 7], 64))?;
+    let (mux, driver) = Mux::new(Config::new([4096; CHANNELS], 64))?;
     thread::spawn(move || {
         stream.set_nodelay(true)?;
         driver.run_blocking(stream.try_clone()?, stream)
@@ -22,7 +22,7 @@ fn send_all(mut mux: Mux) -> Result<(), Box<dyn Error>> {
     for number in 0..MESSAGES {
         sender.send_blocking(format!("message {number}").as_bytes())?;
     }
-    drop(sender); // which ends the channel
+    drop(sender); // finishes the channel
     mux.close();
     Ok(mux.closed_blocking()?)
 }

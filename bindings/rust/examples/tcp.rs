@@ -1,6 +1,6 @@
-//! Two peers in two processes, over one TCP connection: `cargo run --example tcp`. The program starts
-//! itself a second time as the other side.
-use lcmux::{Channel::Data, Config, Peer, Take};
+//! Two peers in two processes, over one TCP connection: `cargo run --example tcp`. The program starts itself a second
+//! time as its peer.
+use lcmux::{Channel::Data, Config, Peer, Take, CHANNELS};
 use std::error::Error;
 use std::net::{TcpListener, TcpStream};
 use std::{env, process::Command};
@@ -9,17 +9,17 @@ const MESSAGES: u32 = 1000;
 
 fn new_peer(stream: &TcpStream) -> Result<Peer, Box<dyn Error>> {
     stream.set_nodelay(true)?;
-    Ok(Peer::new(&Config::new([64; 7], 16))?)
+    Ok(Peer::new(&Config::new([64; CHANNELS], 16))?)
 }
 
-// Sends as its guarantees allow, ends the channel, and reads until the other side closes.
+// Sends as its guarantees allow, ends the channel, and reads until the peer closes.
 fn send_all(mut stream: TcpStream) -> Result<(), Box<dyn Error>> {
     let mut peer = new_peer(&stream)?;
     for k in 0..MESSAGES {
         let body = k.to_be_bytes();
         while peer.client(Data).held < body.len() as u64 {
             if peer.read_from(&mut stream)? == 0 {
-                return Err("the other side is gone".into());
+                return Err("the peer closed its stream".into());
             }
         }
         peer.send(Data, &body)?;
@@ -31,7 +31,7 @@ fn send_all(mut stream: TcpStream) -> Result<(), Box<dyn Error>> {
     Ok(())
 }
 
-// Promises the whole ring, and each message's bytes anew once it was taken.
+// Issues the whole ring, and the bytes of each message again once it was taken.
 fn take_all(mut stream: TcpStream) -> Result<u32, Box<dyn Error>> {
     let mut peer = new_peer(&stream)?;
     peer.issue(Data, 64)?;
@@ -49,7 +49,7 @@ fn take_all(mut stream: TcpStream) -> Result<u32, Box<dyn Error>> {
             Take::Ended => return Ok(next),
             Take::Empty => {
                 if peer.read_from(&mut stream)? == 0 {
-                    return Err("the other side is gone".into());
+                    return Err("the peer closed its stream".into());
                 }
             }
         }

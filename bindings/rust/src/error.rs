@@ -1,13 +1,18 @@
-use crate::Channel;
+use crate::{Channel, Config};
 use std::error::Error;
 use std::fmt::{self, Display, Formatter};
 use std::io::{self, ErrorKind};
 
-/// Why a call was refused; it then changed nothing. Numbers are bytes of messages.
+/// The reason why the library refused a local operation. A refused call changes nothing. All numbers count bytes of
+/// messages.
+///
+/// [`Refusal::QueueFull`] and [`Refusal::NoGuarantee`] are backpressure: the same call can succeed after the peer
+/// writes frames, or after more guarantees arrive. [`Refusal::OutOfMemory`] can pass, too. The other refusals stay
+/// until the arguments or the state of the channel change.
 ///
 /// ```
-/// # use lcmux::{Channel::Data, Config, Peer, Refusal};
-/// # let mut peer = Peer::new(&Config::new([8; 7], 4))?;
+/// # use lcmux::{Channel::Data, Config, Peer, Refusal, CHANNELS};
+/// # let mut peer = Peer::new(&Config::new([8; CHANNELS], 4))?;
 /// let refusal = peer.send(Data, b"hello").unwrap_err();
 /// assert_eq!(refusal, Refusal::NoGuarantee { held: 0 });
 /// assert_eq!((refusal.number(), refusal.detail()), (4, Some(("held", 0))));
@@ -16,69 +21,72 @@ use std::io::{self, ErrorKind};
 #[derive(Clone, Copy, Debug, PartialEq, Eq)]
 #[non_exhaustive]
 pub enum Refusal {
-    /// 1. A message has at least 1 byte.
+    // codes: begin refusals
+    /// The message is empty: a message has at least 1 byte. Number 1.
     EmptyBody,
-    /// 2. A message has at most 65,535 bytes in version One, 1,048,576 in version Two.
+    /// The message is too long: a message has at most 65,535 bytes in version 1 and 1,048,576 in version 2. Number 2.
     BodyTooLong,
-    /// 3. The message is longer than what the own limit on sending leaves.
+    /// The message is longer than this side's limit on sending allows. Number 3.
     PastSendLimit {
-        /// What it leaves.
+        /// What the limit still allows.
         left: u64,
     },
-    /// 4. The message is longer than the guarantees that are held.
+    /// The message is longer than the guarantees that this side holds. Number 4.
     NoGuarantee {
-        /// How many are held.
+        /// The held guarantees.
         held: u64,
     },
-    /// 5. At least 1 guarantee is issued or absolved.
+    /// The amount is zero: at least 1 guarantee is issued or absolved. Number 5.
     ZeroAmount,
-    /// 6. More would be absolved than is held.
+    /// The call would absolve more guarantees than this side holds. Number 6.
     NotHeld {
-        /// How many are held.
+        /// The held guarantees.
         held: u64,
     },
-    /// 7. A limit is at most 2^62.
+    /// The bound of a limit is above 2^62. Number 7.
     BoundTooLarge,
-    /// 8. A limit is at most what the one before it leaves.
+    /// The bound is above what an earlier limit allows: a limit is only ever lowered. Number 8.
     LimitRaised {
-        /// What it leaves.
+        /// What the earlier limit still allows.
         left: u64,
     },
-    /// 9. More would be issued than what the own limit on receiving leaves.
+    /// The call would issue more than this side's limit on receiving allows. Number 9.
     PastReceiveLimit {
-        /// What it leaves.
+        /// What the limit still allows.
         left: u64,
     },
-    /// 10. More would be issued than is neither buffered nor promised.
+    /// The call would issue more guarantees than the ring buffer has free bytes that are not yet issued. Number 10.
     NoRoom {
-        /// The room that there is.
+        /// What may be issued now.
         room: u64,
     },
-    /// 11. A plead names less than what is outstanding.
+    /// The target of the plead is not below the outstanding guarantees. Number 11.
     NothingToAsk {
-        /// What is outstanding.
+        /// The outstanding guarantees.
         outstanding: u64,
     },
-    /// 12. At most 2^62 guarantees are issued on a channel.
+    /// The guarantees of the channel would exceed 2^62 in total. Number 12.
     TotalReached,
-    /// 13. As many frames wait to go out as may: write some first.
+    /// The outbound queue is full: write some of its frames first. Number 13.
     QueueFull,
-    /// 14. Memory was refused.
+    /// An allocation failed. The same call may be made again. Number 14.
     OutOfMemory,
-    /// 15. The channel's client finished it.
+    /// The sender has finished the channel. Number 15.
     ChannelFinished,
-    /// 16. The buffer is shorter than the message.
+    /// The buffer is too short. Number 16.
     BufferTooSmall {
-        /// The message's length.
+        /// The length that is needed.
         need: usize,
     },
-    /// 17. In version One no channel is finished.
+    /// Version 1 of the wire format has no frame that finishes a channel. Number 17.
     WrongVersion,
+    // codes: end
 }
 
 impl Refusal {
     pub(crate) fn of(code: u32, number: u64) -> Refusal {
         match code {
+            // codes: begin refusals of codes
             1 => Refusal::EmptyBody,
             2 => Refusal::BodyTooLong,
             3 => Refusal::PastSendLimit { left: number },
@@ -100,13 +108,15 @@ impl Refusal {
                 need: number as usize,
             },
             17 => Refusal::WrongVersion,
+            // codes: end
             _ => unreachable!("code {code}"),
         }
     }
 
-    /// The number by which documents and programs name the refusal.
+    /// Returns the number of the refusal, as the reference and the command line print it.
     pub fn number(self) -> u8 {
         match self {
+            // codes: begin numbers of refusals
             Refusal::EmptyBody => 1,
             Refusal::BodyTooLong => 2,
             Refusal::PastSendLimit { .. } => 3,
@@ -124,12 +134,14 @@ impl Refusal {
             Refusal::ChannelFinished => 15,
             Refusal::BufferTooSmall { .. } => 16,
             Refusal::WrongVersion => 17,
+            // codes: end
         }
     }
 
-    /// What the refusal says, without the number that it carries.
+    /// Returns the sentence of the refusal, without the value that it carries.
     pub fn sentence(self) -> &'static str {
         match self {
+            // codes: begin sentences of refusals
             Refusal::EmptyBody => "the message is empty",
             Refusal::BodyTooLong => "the message is too long",
             Refusal::PastSendLimit { .. } => {
@@ -153,12 +165,14 @@ impl Refusal {
             Refusal::ChannelFinished => "the channel is finished",
             Refusal::BufferTooSmall { .. } => "the buffer is too small",
             Refusal::WrongVersion => "version 1 of the format cannot finish a channel",
+            // codes: end
         }
     }
 
-    /// The number that the refusal carries, behind its name.
+    /// Returns the name and the value of the number that the refusal carries, if it carries one.
     pub fn detail(self) -> Option<(&'static str, u64)> {
         match self {
+            // codes: begin details of refusals
             Refusal::PastSendLimit { left }
             | Refusal::LimitRaised { left }
             | Refusal::PastReceiveLimit { left } => Some(("left", left)),
@@ -175,6 +189,7 @@ impl Refusal {
             | Refusal::OutOfMemory
             | Refusal::ChannelFinished
             | Refusal::WrongVersion => None,
+            // codes: end
         }
     }
 }
@@ -191,12 +206,12 @@ impl Display for Refusal {
 
 impl Error for Refusal {}
 
-/// What is wrong with a frame that arrived from a peer that breaks the rules.
+/// The rule of the protocol that an inbound frame broke. The session is over: the peer has a bug or is malicious.
 ///
 /// ```
-/// # use lcmux::{Config, Peer, Stop, Violation};
-/// # let mut peer = Peer::new(&Config::new([8; 7], 4))?;
-/// let delivery = peer.deliver(b"\x31\0\0\0\x01"); // which absolves of what was not issued
+/// # use lcmux::{Config, Peer, Stop, Violation, CHANNELS};
+/// # let mut peer = Peer::new(&Config::new([8; CHANNELS], 4))?;
+/// let delivery = peer.deliver(b"\x31\0\0\0\x01"); // absolves a guarantee that was never issued
 /// assert_eq!(delivery.stop, Some(Stop::Violated(Violation::AbsolvedTooMuch)));
 /// assert_eq!(Violation::AbsolvedTooMuch.number(), 3);
 /// # Ok::<(), lcmux::PeerFault>(())
@@ -204,28 +219,31 @@ impl Error for Refusal {}
 #[derive(Clone, Copy, Debug, PartialEq, Eq)]
 #[non_exhaustive]
 pub enum Violation {
-    /// V1. The message is longer than what is outstanding.
+    // codes: begin violations
+    /// V1. The message is longer than the outstanding guarantees.
     NotGuaranteed,
-    /// V2. The message is longer than what the client's limit leaves.
+    /// V2. The message is longer than the sender's limit allows.
     SentPastLimit,
-    /// V3. More is absolved than is outstanding.
+    /// V3. The frame absolves more guarantees than are outstanding.
     AbsolvedTooMuch,
-    /// V4. The client's limit is above what the one before it leaves.
+    /// V4. The sender's limit is above what an earlier limit allows.
     SendLimitRaised,
-    /// V5. More is issued than what the server's limit leaves.
+    /// V5. The frame issues more guarantees than the receiver's limit allows.
     IssuedPastLimit,
-    /// V6. More than 2^24 guarantees would be held.
+    /// V6. The sender would hold more than 2^24 guarantees.
     TooManyGuarantees,
-    /// V7. The server's limit is above what the one before it leaves.
+    /// V7. The receiver's limit is above what an earlier limit allows.
     ReceiveLimitRaised,
-    /// V8. More than 2^62 guarantees would be received.
+    /// V8. The sender would receive more than 2^62 guarantees in total.
     TotalPassed,
-    /// V9. A frame of the client comes behind its Finish.
+    /// V9. A frame of the sender follows its Finish.
     AfterFinish,
+    // codes: end
 }
 
 impl Violation {
-    /// The violations, in the order of their numbers.
+    // codes: begin violations in order
+    /// All violations, in the order of their numbers.
     pub const ALL: [Violation; 9] = [
         Violation::NotGuaranteed,
         Violation::SentPastLimit,
@@ -237,8 +255,9 @@ impl Violation {
         Violation::TotalPassed,
         Violation::AfterFinish,
     ];
+    // codes: end
 
-    /// The violation's number, 1 to 9: it is printed as V1 to V9.
+    /// Returns the violation's number: that of [`Violation::AbsolvedTooMuch`], printed as V3, is 3.
     pub fn number(self) -> u8 {
         self as u8 + 1
     }
@@ -247,6 +266,7 @@ impl Violation {
 impl Display for Violation {
     fn fmt(&self, f: &mut Formatter<'_>) -> fmt::Result {
         f.write_str(match self {
+            // codes: begin sentences of violations
             Violation::NotGuaranteed => "a message longer than the guarantees outstanding",
             Violation::SentPastLimit => "a message beyond the limit on sending",
             Violation::AbsolvedTooMuch => "more guarantees absolved than are outstanding",
@@ -256,17 +276,18 @@ impl Display for Violation {
             Violation::ReceiveLimitRaised => "a limit on receiving that raises an earlier one",
             Violation::TotalPassed => "more than 2^62 guarantees on one channel",
             Violation::AfterFinish => "a frame of the client behind its Finish",
+            // codes: end
         })
     }
 }
 
 impl Error for Violation {}
 
-/// Why the bytes of a stream are no frame.
+/// The way in which the bytes of the peer's stream broke the framing. The session is over.
 ///
 /// ```
-/// # use lcmux::{Config, Fault, Peer, Stop};
-/// # let mut peer = Peer::new(&Config::new([8; 7], 4))?;
+/// # use lcmux::{Config, Fault, Peer, Stop, CHANNELS};
+/// # let mut peer = Peer::new(&Config::new([8; CHANNELS], 4))?;
 /// assert_eq!(peer.deliver(b"\xff").stop, Some(Stop::Fault(Fault::BadTag)));
 /// assert_eq!(Fault::BadTag.number(), 1);
 /// # Ok::<(), lcmux::PeerFault>(())
@@ -274,26 +295,30 @@ impl Error for Violation {}
 #[derive(Clone, Copy, Debug, PartialEq, Eq)]
 #[non_exhaustive]
 pub enum Fault {
-    /// F1. The first byte names no kind of frame or no channel, or a byte differs from the greeting.
+    // codes: begin faults
+    /// F1. The first byte names no kind of frame or no channel, or a byte differs from the preface of version 2.
     BadTag,
     /// F2. The length of a message is 0.
     ZeroLength,
     /// F3. A number is out of its range.
     BadNumber,
-    /// F4. The stream ends within a frame or a greeting.
+    /// F4. The stream ends within a frame or within the preface of version 2. Only the end of the stream shows it.
     Truncated,
+    // codes: end
 }
 
 impl Fault {
-    /// The faults, in the order of their numbers.
+    // codes: begin faults in order
+    /// All faults, in the order of their numbers.
     pub const ALL: [Fault; 4] = [
         Fault::BadTag,
         Fault::ZeroLength,
         Fault::BadNumber,
         Fault::Truncated,
     ];
+    // codes: end
 
-    /// The fault's number, 1 to 4: it is printed as F1 to F4.
+    /// Returns the fault's number: that of [`Fault::ZeroLength`], printed as F2, is 2.
     pub fn number(self) -> u8 {
         self as u8 + 1
     }
@@ -302,17 +327,19 @@ impl Fault {
 impl Display for Fault {
     fn fmt(&self, f: &mut Formatter<'_>) -> fmt::Result {
         f.write_str(match self {
+            // codes: begin sentences of faults
             Fault::BadTag => "a byte names no kind or channel, or is not the greeting's",
             Fault::ZeroLength => "a message has length 0",
             Fault::BadNumber => "a number in a frame is out of its range",
             Fault::Truncated => "the stream ends within a frame or a greeting",
+            // codes: end
         })
     }
 }
 
 impl Error for Fault {}
 
-/// Why a stream was given up. The session is over then.
+/// The protocol error for which this side discarded the rest of the peer's stream. The session is over.
 ///
 /// ```
 /// use lcmux::Stop;
@@ -326,9 +353,9 @@ impl Error for Fault {}
 /// ```
 #[derive(Clone, Copy, Debug, PartialEq, Eq)]
 pub enum Stop {
-    /// A frame breaks the rules.
+    /// An inbound frame broke a rule.
     Violated(Violation),
-    /// What came is no frame.
+    /// The inbound bytes broke the framing.
     Fault(Fault),
 }
 
@@ -336,8 +363,8 @@ impl Stop {
     pub(crate) fn of(code: u32) -> Option<Stop> {
         match code {
             0 => None,
-            101..=109 => Some(Stop::Violated(Violation::ALL[code as usize - 101])),
-            201..=204 => Some(Stop::Fault(Fault::ALL[code as usize - 201])),
+            101..=199 => Some(Stop::Violated(Violation::ALL[code as usize - 101])),
+            201..=299 => Some(Stop::Fault(Fault::ALL[code as usize - 201])),
             _ => unreachable!("code {code}"),
         }
     }
@@ -354,40 +381,48 @@ impl Display for Stop {
 
 impl Error for Stop {}
 
-/// Why there is no peer.
+/// The reason why [`Peer::new`](crate::Peer::new) made no peer.
 ///
 /// ```
-/// use lcmux::{Config, Peer, PeerFault};
-/// let fault = Peer::new(&Config::new([8; 7], 0)).unwrap_err();
-/// assert_eq!(fault, PeerFault::BadSlots);
-/// assert_eq!(fault.to_string(), "the slots are not 1 to 65,536");
+/// use lcmux::{Config, Peer, PeerFault, CHANNELS};
+/// let fault = Peer::new(&Config::new([8; CHANNELS], 0)).unwrap_err();
+/// assert_eq!(fault, PeerFault::BadSlots { slots: 0 });
+/// assert_eq!(fault.to_string(), "slots must be in 1..=65536, got 0");
 /// ```
 #[derive(Clone, Copy, Debug, PartialEq, Eq)]
 #[non_exhaustive]
 pub enum PeerFault {
-    /// The ring of this channel, and of none of a lower number, would not have 1 to 2^24 bytes.
+    /// A ring buffer would not have 1 to 2^24 bytes. The channel is the first such one.
     BadCapacity {
         /// The channel.
         channel: Channel,
+        /// The size that the configuration names.
+        capacity: u32,
     },
-    /// Not 1 to 65,536 frames might wait.
-    BadSlots,
-    /// Memory was refused.
+    /// The outbound queue would not have 1 to 65,536 slots.
+    BadSlots {
+        /// The number of slots that the configuration names.
+        slots: u32,
+    },
+    /// An allocation failed.
     OutOfMemory,
-    /// The library that is linked is not of this crate's version.
+    /// The linked library is of another version than this crate.
     WrongLibrary {
-        /// The version of the library, as [`library_version`](crate::library_version) has it.
+        /// The version of the library, as [`library_version`](crate::library_version) returns it.
         found: u32,
     },
 }
 
 impl PeerFault {
-    pub(crate) fn of(code: u32, number: u64) -> PeerFault {
+    pub(crate) fn of(code: u32, number: u64, config: &Config) -> PeerFault {
         match code {
             36 => PeerFault::BadCapacity {
                 channel: Channel::ALL[number as usize],
+                capacity: config.capacities[number as usize],
             },
-            37 => PeerFault::BadSlots,
+            37 => PeerFault::BadSlots {
+                slots: config.slots,
+            },
             14 => PeerFault::OutOfMemory,
             _ => unreachable!("code {code}"),
         }
@@ -397,17 +432,20 @@ impl PeerFault {
 impl Display for PeerFault {
     fn fmt(&self, f: &mut Formatter<'_>) -> fmt::Result {
         match self {
-            PeerFault::BadCapacity { channel } => {
-                write!(f, "the capacity of {channel:?} is not 1 to 2^24")
+            PeerFault::BadCapacity { channel, capacity } => write!(
+                f,
+                "the capacity of {channel:?} must be in 1..=16777216, got {capacity}"
+            ),
+            PeerFault::BadSlots { slots } => {
+                write!(f, "slots must be in 1..=65536, got {slots}")
             }
-            PeerFault::BadSlots => write!(f, "the slots are not 1 to 65,536"),
             PeerFault::OutOfMemory => write!(f, "out of memory"),
             PeerFault::WrongLibrary { found } => {
                 let [_, major, minor, patch] = found.to_be_bytes();
                 let crate_version = env!("CARGO_PKG_VERSION");
                 write!(
                     f,
-                    "the library has version {major}.{minor}.{patch} and not {crate_version}"
+                    "the linked library must have version {crate_version}, got {major}.{minor}.{patch}"
                 )
             }
         }
@@ -416,11 +454,12 @@ impl Display for PeerFault {
 
 impl Error for PeerFault {}
 
-/// Why [`Peer::read_from`](crate::Peer::read_from) stopped. The frames before a stop have arrived.
+/// The reason why [`Peer::read_from`](crate::Peer::read_from) failed. Frames that precede a protocol error have
+/// arrived.
 ///
 /// ```
-/// # use lcmux::{Config, Fault, Peer, ReadError, Stop};
-/// # let mut peer = Peer::new(&Config::new([8; 7], 4))?;
+/// # use lcmux::{Config, Fault, Peer, ReadError, Stop, CHANNELS};
+/// # let mut peer = Peer::new(&Config::new([8; CHANNELS], 4))?;
 /// let error = peer.read_from(&mut &b"\x21\0\0\0\x05\xff"[..]).unwrap_err();
 /// assert_eq!(error.frames(), 1);
 /// assert!(matches!(error, ReadError::Stopped { stop: Stop::Fault(Fault::BadTag), .. }));
@@ -429,20 +468,20 @@ impl Error for PeerFault {}
 #[derive(Debug)]
 #[non_exhaustive]
 pub enum ReadError {
-    /// The read failed, and nothing arrived. A further call goes on with the next byte.
+    /// The read failed, and nothing arrived. A further call continues with the next byte.
     Io(io::Error),
-    /// The stream was given up, or ended inside a frame.
+    /// The stream broke the framing or a rule, or it ended inside a frame.
     #[non_exhaustive]
     Stopped {
-        /// Why.
+        /// The protocol error.
         stop: Stop,
-        /// How many frames arrived in this call, before the one that stopped it.
+        /// How many frames arrived in this call before the frame that failed.
         frames: u64,
     },
 }
 
 impl ReadError {
-    /// How many frames arrived in this call, before it stopped.
+    /// Returns how many frames arrived in this call before it failed.
     pub fn frames(&self) -> u64 {
         match self {
             ReadError::Io(_) => 0,
@@ -475,8 +514,8 @@ impl From<io::Error> for ReadError {
     }
 }
 
-/// A read that failed is its own error. A stop is the source of one: of kind `UnexpectedEof` where the
-/// stream ended inside a frame, else `InvalidData`.
+/// A failed read is its own error. A protocol error becomes the inner error: of kind `UnexpectedEof` if the stream
+/// ended inside a frame, else of kind `InvalidData`.
 impl From<ReadError> for io::Error {
     fn from(error: ReadError) -> io::Error {
         match error {
@@ -490,35 +529,35 @@ impl From<ReadError> for io::Error {
     }
 }
 
-/// A count of bytes that is above what there was: that of a call of [`Peer::advance`](crate::Peer::advance),
-/// or of a reader or a writer that breaks the rules of its trait.
+/// A count of bytes above the number of bytes that were offered. A call of [`Peer::advance`](crate::Peer::advance)
+/// names such a count, or a reader or writer that breaks the contract of its trait returns it.
 ///
 /// ```
-/// # use lcmux::{Config, Peer};
-/// # let mut peer = Peer::new(&Config::new([8; 7], 4))?;
-/// let overrun = peer.advance(1).unwrap_err(); // since no chunk waits
+/// # use lcmux::{Config, Peer, CHANNELS};
+/// # let mut peer = Peer::new(&Config::new([8; CHANNELS], 4))?;
+/// let overrun = peer.advance(1).unwrap_err(); // no chunk is pending
 /// assert_eq!((overrun.claimed, overrun.offered), (1, 0));
 /// # Ok::<(), lcmux::PeerFault>(())
 /// ```
 #[derive(Clone, Copy, Debug, PartialEq, Eq)]
 #[non_exhaustive]
 pub struct Overrun {
-    /// The count.
+    /// The count of bytes that the call or the transport claims.
     pub claimed: usize,
-    /// What there was.
+    /// The count of bytes that were offered.
     pub offered: usize,
 }
 
 impl Display for Overrun {
     fn fmt(&self, f: &mut Formatter<'_>) -> fmt::Result {
         let Overrun { claimed, offered } = self;
-        write!(f, "{claimed} bytes are claimed, where there were {offered}")
+        write!(f, "{claimed} bytes claimed, but only {offered} offered")
     }
 }
 
 impl Error for Overrun {}
 
-/// An error of kind `InvalidData`.
+/// Makes an error of kind `InvalidData`.
 impl From<Overrun> for io::Error {
     fn from(overrun: Overrun) -> io::Error {
         io::Error::new(ErrorKind::InvalidData, overrun)

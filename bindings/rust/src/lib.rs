@@ -1,25 +1,26 @@
-//! Seven logical channels each way between two peers, over one ordered byte stream each way, such as a
-//! TCP connection.
+//! Seven logical channels each way between two peers, over one ordered byte stream each way, such as a TCP
+//! connection, with credit-based flow control for each channel.
 //!
-//! On each channel the receiver issues *guarantees*, each the promise of room for one byte in a ring of
-//! fixed size, and the sender sends no more than it holds. So no message is dropped for want of room, no
-//! receiving buffer grows, and a channel from which nobody takes holds up no other.
+//! On each channel the receiver issues *guarantees*. A guarantee is one byte of send credit: the promise of one free
+//! byte in the receiver's ring buffer. The sender sends no more bytes than it holds guarantees for. So no message is
+//! dropped for lack of space, receive memory is bounded, and a slow consumer puts backpressure on its own channel
+//! alone: there is no head-of-line blocking between channels above the transport.
 //!
-//! The peer below is written in Rattle, Rust with contracts, and proved; this crate calls it over the C
-//! interface of `lcmux.h`, by one small module with `unsafe` in it. What is proved and what is trusted
-//! at that edge stands in the repository's `docs/promises.md`.
+//! The peer below is written in Rattle, Rust with contracts, and proved. This crate calls it over the C interface of
+//! `lcmux.h`, in one small module with `unsafe` code. The session, [`Mux`], and its drivers are tested and not
+//! proved. The repository's `docs/verification/promises.md` lists what is proved and what is trusted.
 //!
-//! A [`Mux`] is a session: a [`Sender`] and a [`Receiver`] for each channel, each for a thread or a task of
-//! its own, and a [`Driver`], which moves their bytes over any transport. Below is one for threads;
-//! `examples/session.rs` runs two in two processes.
+//! A [`Mux`] is a session: a [`Sender`] and a [`Receiver`] for each channel, each for a thread or a task of its own,
+//! and a [`Driver`], which moves their bytes over any transport. The example runs a session on threads;
+//! `examples/session.rs` runs two sessions in two processes.
 //!
 //! ```no_run
-//! use lcmux::{Channel::Data, Config, Mux};
+//! use lcmux::{Channel::Data, Config, Mux, CHANNELS};
 //! use std::{error::Error, net::TcpStream, thread};
 //!
 //! fn echo(stream: TcpStream) -> Result<(), Box<dyn Error>> {
 //!     stream.set_nodelay(true)?;
-//!     let (mut mux, driver) = Mux::new(Config::new([65_536; 7], 64))?;
+//!     let (mut mux, driver) = Mux::new(Config::new([65_536; CHANNELS], 64))?;
 //!     let run = thread::spawn(move || driver.run_blocking(stream.try_clone()?, stream));
 //!
 //!     let (sender, mut receiver) = (mux.sender(Data).unwrap(), mux.receiver(Data).unwrap());
@@ -33,36 +34,37 @@
 //! }
 //! ```
 //!
-//! The same in async is `receiver.recv().await?`, `sender.send(&message).await?` and a task for
-//! `driver.run(reader, writer)`, on any runtime.
+//! In async code the same calls are `receiver.recv().await?` and `sender.send(&message).await?`, with a task for
+//! `driver.run(reader, writer)`, on any runtime. [`PollSender`] and [`Receiver::poll_recv`] serve futures that are written
+//! by hand. A `Stream` and a `Sink` are in the crate `lcmux-futures`, so that this one has no dependencies.
 //!
-//! [`Peer`] is what lies below, and is pure: bytes in by [`Peer::deliver`], bytes out by [`Peer::write`].
-//! [`Peer::read_from`] and [`Peer::write_to`] do the same over any reader and writer. Over sockets that
-//! block, `write_to` alone on both sides dead-locks once both have more to write than the sockets hold;
-//! [`Peer::drive`] moves both directions of one stream, and where that does not block or has timeouts
-//! neither waits for the other. `examples/tcp.rs` runs two peers in two processes over TCP.
+//! [`Peer`] is the layer below, a pure state machine: bytes in by [`Peer::deliver`], bytes out by [`Peer::write`].
+//! [`Peer::read_from`] and [`Peer::write_to`] do the same over any reader and writer. Over blocking sockets, two
+//! sides that only call `write_to` deadlock once both have more to write than the sockets buffer. [`Peer::drive`]
+//! moves both directions of one stream; if the stream does not block or has timeouts, neither direction blocks the
+//! other. `examples/tcp.rs` runs two peers in two processes over TCP.
 //!
 //! ```rust,no_run
-//! use lcmux::{Channel::Data, Config, Incoming, Peer, Refusal, Take};
+//! use lcmux::{Channel::Data, Config, Incoming, Peer, Refusal, Take, CHANNELS};
 //! use std::{error::Error, net::TcpStream, time::Duration};
 //!
 //! fn serve(mut stream: TcpStream) -> Result<(), Box<dyn Error>> {
-//!     // By the timeouts neither direction holds up the other: `drive` goes on with what it can do.
+//!     // With timeouts neither direction blocks the other for long.
 //!     stream.set_read_timeout(Some(Duration::from_millis(10)))?;
 //!     stream.set_write_timeout(Some(Duration::from_millis(10)))?;
-//!     let mut peer = Peer::new(&Config::new([1024; 7], 16))?;
-//!     let mut owed = 1024; // the room that is to be promised
+//!     let mut peer = Peer::new(&Config::new([1024; CHANNELS], 16))?;
+//!     let mut free = 1024; // the bytes of the ring buffer that are to be issued
 //!     loop {
-//!         match peer.issue(Data, owed) {
-//!             Ok(()) => owed = 0,
-//!             Err(Refusal::QueueFull) => {} // later, when frames went out
-//!             Err(Refusal::ZeroAmount | Refusal::ChannelFinished) => {} // nothing to be done
+//!         match peer.issue(Data, free) {
+//!             Ok(()) => free = 0,
+//!             Err(Refusal::QueueFull) => {} // try again after a write
+//!             Err(Refusal::ZeroAmount | Refusal::ChannelFinished) => {} // nothing to issue
 //!             Err(refusal) => return Err(refusal.into()),
 //!         }
 //!         match peer.take(Data) {
 //!             Take::Took(message) => {
 //!                 println!("{}", String::from_utf8_lossy(&message));
-//!                 owed += message.len() as u32; // and anew once it was taken
+//!                 free += message.len() as u32; // the bytes of a taken message are free again
 //!             }
 //!             Take::Ended => return Ok(()),
 //!             Take::Empty => match peer.drive(&mut stream)?.incoming {
@@ -84,19 +86,19 @@ mod peer;
 mod questions;
 mod sys;
 
-pub use channel::Channel;
+pub use channel::{Channel, CHANNELS};
 pub use error::{Fault, Overrun, PeerFault, ReadError, Refusal, Stop, Violation};
 pub use mux::{
     Breaker, CallError, Closed, Direction, Driver, Frame, FrameKind, IssuePolicy, Message, Mux,
-    MuxConfig, MuxFault, Permit, Pipe, PleadPolicy, PollRead, PollWrite, Receiver,
-    RecvTimeoutError, SendError, SendTimeoutError, Sender, Stats, Timeouts, TryRecvError,
-    TrySendError, WriteHalf,
+    MuxConfig, MuxFault, OwnedPermit, Permit, Pipe, PleadPolicy, PollRead, PollSender, PollWrite,
+    Reader, Receiver, RecvTimeoutError, SendError, SendTimeoutError, Sender, Stats, Timeouts,
+    TryRecvError, TrySendError, WriteHalf, Writer,
 };
 pub use peer::{ClientBook, Config, Delivery, Incoming, Peer, Progress, ServerBook, Take, Version};
 pub use questions::{Needs, Ready};
 
-/// The version of the library that is linked: 65,536 times its first number, 256 times its second, and
-/// its third. [`Peer::new`] refuses a library of another version than this crate's.
+/// Returns the version of the linked library: 65,536 times its first number, plus 256 times its second, plus its
+/// third. [`Peer::new`] refuses a library of another version than this crate's.
 ///
 /// ```
 /// assert_eq!(lcmux::library_version(), 0x000100);

@@ -1,4 +1,4 @@
-//! A session for threads and for async: the handles of channels, and the driver that moves their bytes.
+//! Sessions for threads and for async code: the handles of the channels, and the driver that moves their bytes.
 mod block;
 mod blocking;
 mod closed;
@@ -7,11 +7,14 @@ mod coop;
 mod driver;
 mod frames;
 mod io;
+mod owned_permit;
+mod poll_sender;
 mod receiver;
 mod sender;
 mod shared;
 mod state;
 mod stats;
+mod stream;
 mod timeouts;
 
 pub use closed::{
@@ -22,12 +25,15 @@ pub use config::{IssuePolicy, MuxConfig, PleadPolicy};
 pub use driver::Driver;
 pub use frames::{Direction, Frame, FrameKind};
 pub use io::{Breaker, Pipe, PollRead, PollWrite, WriteHalf};
+pub use owned_permit::OwnedPermit;
+pub use poll_sender::PollSender;
 pub use receiver::{Message, Receiver};
 pub use sender::{Permit, Sender};
 pub use stats::Stats;
+pub use stream::{Reader, Writer};
 pub use timeouts::Timeouts;
 
-use crate::Channel;
+use crate::{Channel, CHANNELS};
 use block::{block_on, block_until};
 use shared::Shared;
 use state::{State, CONTROL, OWN};
@@ -39,56 +45,59 @@ use std::task::{Context, Poll};
 use std::thread;
 use std::time::{Duration, Instant};
 
-/// A session: it hands out a [`Sender`] and a [`Receiver`] for each channel, each once, and closes or aborts the whole.
+/// A session: hands out a [`Sender`] and a [`Receiver`] for each channel, each once, and closes or aborts the whole.
 ///
-/// Each handle may go to a thread or a task of its own, and calls of all of them may wait at the same time. No runtime is
-/// named: a future wakes what polls it, and a blocked thread sleeps until it is woken.
+/// Each handle may move to a thread or a task of its own, and calls of all of them may wait at the same time. No
+/// runtime is needed: a future wakes the task that polls it, and a blocking call blocks its thread until it wakes up.
 ///
 /// # Scheduling
 ///
-/// Frames wait in one outbound queue, first in, first out, until the driver takes them to write. The rules say which
-/// frame enters next; the repository's `docs/sessions.md` has them with an example.
+/// All frames pass through one outbound queue, first in, first out, from which the driver takes them. Rules decide
+/// which frame enters the queue next; the repository's `docs/reference/sessions.md` has them with an example.
 ///
-/// - **Slots.** Of a session's slots 7 are reserved for control frames (issues, absolves, limits, pleads and finishes),
-///   one is each channel's own, for its first message or permit that is under way, and the rest is shared. So a session
-///   has at least [`Mux::LEAST_SLOTS`].
-/// - **Bytes.** The messages in the queue have at most 65,536 bytes together, but for one that is longer, which enters
-///   where no other is queued, and for messages that are sent by permits.
-/// - **Order.** Calls of one channel keep their order, and a finish or a limit goes behind the calls that wait by then.
-///   Among channels whose first call can proceed, the one that sent least recently is first.
-/// - **No head-of-line blocking between channels.** A message whose guarantees are there finds its channel's own slot,
-///   unless an earlier message of the same channel is under way, whatever calls of other channels do: also where they
-///   are woken and never polled, hold permits or are forgotten. It waits for bytes at most until the driver has written
-///   what is queued.
-/// - **Fairness.** Between two messages of a channel that always has a call waiting, fewer messages of others are
-///   written than the session has slots, where tasks are polled before the driver writes again. For blocked threads
-///   that always holds, since the session completes their calls itself.
+/// - **Slots.** Of a session's slots 7 are reserved for control frames (issues, absolves, limits, pleads and
+///   finishes), one belongs to each channel, for its first message or permit that is under way, and the rest is
+///   shared. So a session has at least [`Mux::LEAST_SLOTS`].
+/// - **Bytes.** The messages in the queue have at most 65,536 bytes together. A longer message enters if no other
+///   message is queued. Messages that are sent with permits do not count.
+/// - **Order.** The calls of one channel keep their order, and a finish or a limit follows the calls that wait at
+///   that time. Among the channels whose first call can proceed, the one that sent least recently is first.
+/// - **No head-of-line blocking between channels.** A message that has its guarantees finds its channel's own slot,
+///   unless an earlier message of the same channel is under way. Calls of other channels cannot take that slot: not
+///   if they are woken and never polled, not if they hold permits, and not if they are forgotten. The message waits
+///   for bytes of the queue at most until the driver has written what is queued.
+/// - **Fairness.** Between two messages of a channel that always has a waiting call, other channels write fewer
+///   messages than the session has slots, provided that tasks are polled before the driver writes again. For blocked
+///   threads this always holds, since the session completes their calls itself.
 ///
 /// # How it ends
 ///
-/// - [`Mux::close`] writes what was accepted, finishes every channel, ends this side's stream, and reads on until the
-///   peer has done the same. So does dropping the last of the `Mux` and its handles. Then the session is over in order.
-/// - [`Mux::abort`] ends it at once, as does dropping the [`Driver`], and a handle or a `Mux` that a panic drops.
-/// - A transport that fails, a timeout that expires, a peer whose stream ends while channels of it are unfinished
-///   ([`Closed::Cut`]), and one that breaks the framing or the rules, end it too.
+/// - [`Mux::close`] writes all accepted messages, finishes every channel, ends this side's stream, and reads until
+///   the peer has done the same. Dropping the last of the `Mux` and its handles does so, too. Then the session has
+///   ended in order.
+/// - [`Mux::abort`] ends the session at once. So does dropping the [`Driver`], and so does a panic that drops a
+///   handle or the `Mux`.
+/// - These failures end the session, too: a transport that fails, a timeout that expires, a peer whose stream ends
+///   while channels of it are unfinished ([`Closed::Cut`]), and a peer that breaks the framing or a rule.
 ///
-/// Then all waiting calls answer the reason, a [`Closed`], and so do later ones; what arrived may still be received,
-/// unless this side aborted. A `Mux` that is dropped drops the handles that it still has, and leaves the others alone.
+/// Then all waiting calls and all later calls return the reason, a [`Closed`]. Messages that arrived before may still
+/// be received, unless this side aborted. A dropped `Mux` drops the handles that it still has and leaves the others
+/// alone.
 ///
 /// # Wakers
 ///
-/// A task's waker is cloned while the session's lock is held, so its `clone` must not call the session. It is woken and
-/// dropped outside of the lock, by whichever call lets the task proceed, and must not panic: that call unwinds then,
-/// and its answer, such as a received message, is lost.
+/// A task's waker is cloned while the session's lock is held, so its `clone` must not call the session. The waker is
+/// woken and dropped outside of the lock, by whichever call lets the task proceed. It must not panic: that call would
+/// unwind and lose its result, such as a received message.
 ///
 /// # Early returns and aborted tasks
 ///
-/// A task that returns early, as by `?`, or is aborted, drops its sender as one that is done does: the peer takes that
-/// for the channel's end in order. Where it must not, whoever judges the task's result keeps a clone of the sender, and
-/// drops it, or aborts the session before.
+/// A task that returns early, as by `?`, or that is aborted, drops its sender just as a task that is done does: the
+/// peer observes the end of the channel in order. If the peer must not, the code that checks the task's result keeps
+/// a clone of the sender, and drops it or aborts the session once it knows the result.
 ///
 /// ```
-/// use lcmux::{Channel::Data, Closed, Config, Mux, Sender};
+/// use lcmux::{Channel::Data, Closed, Config, Mux, Sender, CHANNELS};
 /// use std::{error::Error, fs::File, io::Read, thread};
 ///
 /// fn send_file(path: &str, sender: &Sender) -> Result<(), Box<dyn Error>> {
@@ -101,9 +110,9 @@ use std::time::{Duration, Instant};
 ///     }
 /// }
 ///
-/// let (mut mux, _driver) = Mux::new(Config::new([65_536; 7], 16))?;
+/// let (mut mux, _driver) = Mux::new(Config::new([65_536; CHANNELS], 16))?;
 /// let sender = mux.sender(Data).unwrap();
-/// let kept = sender.clone(); // so that the channel is not finished with the task
+/// let kept = sender.clone(); // keeps the channel open when the task ends
 /// let task = thread::spawn(move || send_file("/no/such/file", &sender).map_err(|error| error.to_string()));
 /// if let Err(error) = task.join().unwrap() {
 ///     eprintln!("{error}");
@@ -114,20 +123,20 @@ use std::time::{Duration, Instant};
 /// # Ok::<(), lcmux::MuxFault>(())
 /// ```
 ///
-/// # Example
+/// # Examples
 ///
 /// ```
-/// use lcmux::{Channel::Data, Config, Mux};
+/// use lcmux::{Channel::Data, Config, Mux, CHANNELS};
 /// use std::{os::unix::net::UnixStream, thread};
 ///
 /// # let (stream, there) = UnixStream::pair()?;
-/// # let (other, driver) = Mux::new(Config::new([64; 7], 16))?;
+/// # let (other, driver) = Mux::new(Config::new([64; CHANNELS], 16))?;
 /// # thread::spawn(move || driver.run_blocking(there.try_clone()?, there));
 /// # other.close();
-/// let (mut mux, driver) = Mux::new(Config::new([64; 7], 16))?;
+/// let (mut mux, driver) = Mux::new(Config::new([64; CHANNELS], 16))?;
 /// let run = thread::spawn(move || driver.run_blocking(stream.try_clone()?, stream));
 /// let sender = mux.sender(Data).unwrap();
-/// assert!(mux.sender(Data).is_none()); // it was given out
+/// assert!(mux.sender(Data).is_none()); // each handle is handed out once
 /// sender.finish()?;
 /// mux.close();
 /// mux.closed_blocking()?;
@@ -136,17 +145,24 @@ use std::time::{Duration, Instant};
 /// ```
 pub struct Mux {
     shared: Arc<Shared>,
-    senders: [Option<Sender>; 7],
-    receivers: [Option<Receiver>; 7],
+    senders: [Option<Sender>; CHANNELS],
+    receivers: [Option<Receiver>; CHANNELS],
 }
 
 impl Mux {
-    /// The least number of slots of a session: 7 for control frames, and one of its own for each channel.
+    /// The least number of slots of a session: 7 for control frames, and one for each channel.
     pub const LEAST_SLOTS: u32 = (CONTROL + OWN) as u32;
 
-    /// A session on which nothing has happened but that, by policy, whole rings wait to be issued; and the
-    /// driver that is to run it. Faults come in this order: those of [`Peer::new`](crate::Peer::new), slots
-    /// below [`Mux::LEAST_SLOTS`], the first channel with a low-water mark outside of its ring.
+    /// Makes a session and the driver that runs it. By the default policy, the guarantees of the whole rings are
+    /// pending.
+    ///
+    /// # Errors
+    ///
+    /// The first of these that applies:
+    ///
+    /// - [`MuxFault::Peer`] with the error of [`Peer::new`](crate::Peer::new);
+    /// - [`MuxFault::TooFewSlots`] if the slots are below [`Mux::LEAST_SLOTS`];
+    /// - [`MuxFault::BadMark`] for the first channel whose low-water mark is 0 or above the size of its ring buffer.
     pub fn new(config: impl Into<MuxConfig>) -> Result<(Mux, Driver), MuxFault> {
         let state = State::new(&config.into())?;
         let shared = Arc::new(Shared::new(state));
@@ -159,67 +175,76 @@ impl Mux {
         Ok((mux, driver))
     }
 
-    /// The sending end of a channel, the first time.
+    /// Returns the sending handle of a channel, the first time it is called for the channel.
     pub fn sender(&mut self, channel: Channel) -> Option<Sender> {
-        self.senders[usize::from(channel.number())].take()
+        self.senders[channel].take()
     }
 
-    /// The receiving end of a channel, the first time.
+    /// Returns the receiving handle of a channel, the first time it is called for the channel.
     pub fn receiver(&mut self, channel: Channel) -> Option<Receiver> {
-        self.receivers[usize::from(channel.number())].take()
+        self.receivers[channel].take()
     }
 
-    /// Closes the session in order, and does not wait for that: what was accepted is written, every channel of this side
-    /// that is open is finished (in version One by a limit of 0), this side's stream ends, and the peer's is read on
-    /// until it ends too, which [`Mux::closed`] waits for.
+    /// Closes the session in order, and does not block. The driver writes all accepted messages, finishes every open
+    /// channel of this side (in version One by a limit of 0), ends this side's stream, and reads the peer's stream
+    /// until it ends, too. [`Mux::closed`] waits for that.
     ///
-    /// Its calls that wait to send are answered [`Closed::Local`], and so are later ones; it issues no more room, so the
-    /// peer may send no more than it holds guarantees for, and that may still be received. A second close, and one of
-    /// a session that is over, does nothing.
+    /// Calls of this side that wait to send return [`Closed::Local`], and so do later ones. The session issues no
+    /// more guarantees: the peer may still send what it holds guarantees for, and that may still be received. A
+    /// second close does nothing, and so does a close of a session that is over.
     ///
-    /// The peer may take its time: [`Timeouts::grace`] bounds it, or wait by [`Mux::closed_timeout`] and then
-    /// [abort](Mux::abort).
+    /// The peer may take any time to end its stream. [`Timeouts::grace`] bounds that time; or wait with
+    /// [`Mux::closed_timeout`] and then [abort](Mux::abort).
     pub fn close(&self) {
         self.shared.with(State::close);
     }
 
-    /// Ends the session at once: every call that waits answers [`Closed::Aborted`], and so do later ones,
-    /// whatever waits to be written or taken. How that ends a read or a write in which the driver's threads
-    /// are:
+    /// Ends the session at once: every waiting call returns [`Closed::Aborted`], and so do later ones, even if
+    /// messages are left to write or to receive. How that ends a read or a write in which a thread of the driver
+    /// blocks depends on the transport:
     ///
-    /// | transport | how |
+    /// | transport | how the call ends |
     /// |---|---|
-    /// | a `TcpStream` or a `UnixStream` | both its directions are shut down, of all its clones |
-    /// | a [`Pipe::with_breaker`] | its breaker is called |
-    /// | a [`Pipe::new`] | not: [`Driver::run_blocking`] returns once the read and the write do |
-    /// | a [`WriteHalf`] of your own | what its [`breaker`](WriteHalf::breaker) answers is called |
-    /// | one that is polled | the driver's task is woken, is ready and drops the transport |
+    /// | a `TcpStream` or a `UnixStream` | both directions are shut down, for all its clones |
+    /// | a [`Pipe::with_breaker`] | its shutdown handle is called |
+    /// | a [`Pipe::new`] | not at all: [`Driver::run_blocking`] returns once the read and the write do |
+    /// | a [`WriteHalf`] of your own | the shutdown handle from [`breaker`](WriteHalf::breaker) is called |
+    /// | a polled transport | the driver's task wakes up, completes and drops the transport |
     pub fn abort(&self) {
         self.shared.with(|state| state.fail(Closed::Aborted));
     }
 
-    /// Waits until the session is over: `Ok` where it ended in order, and else why. It closes nothing: each side ends its
-    /// own direction, by [`Mux::close`] or by dropping all its handles.
+    /// Waits until the session is over. It closes nothing: each side ends its own direction, by [`Mux::close`] or by
+    /// dropping all its handles.
+    ///
+    /// # Errors
+    ///
+    /// The reason, if the session ended by anything but a close of both sides.
     ///
     /// # Cancel safety
     ///
-    /// It changes nothing, so its future may be dropped.
+    /// This method is cancel safe: it changes nothing.
     pub async fn closed(&self) -> Result<(), Closed> {
         Over::new(&self.shared).await
     }
 
-    /// [`Mux::closed`] for a thread, which sleeps meanwhile.
+    /// Waits until the session is over, as [`Mux::closed`] does, and blocks the thread.
+    ///
+    /// # Errors
+    ///
+    /// Those of [`Mux::closed`].
     pub fn closed_blocking(&self) -> Result<(), Closed> {
         block_on(self.closed())
     }
 
-    /// [`Mux::closed_blocking`] that waits so long at most; `None` where the session goes on.
+    /// Waits as [`Mux::closed_blocking`] does, for at most `timeout`. Returns `None` if the session is not over by
+    /// then.
     ///
     /// ```
-    /// use lcmux::{Closed, Config, Mux};
+    /// use lcmux::{Closed, Config, Mux, CHANNELS};
     /// use std::time::Duration;
     ///
-    /// let (mux, _driver) = Mux::new(Config::new([64; 7], 16))?;
+    /// let (mux, _driver) = Mux::new(Config::new([64; CHANNELS], 16))?;
     /// mux.close();
     /// if mux.closed_timeout(Duration::from_millis(1)).is_none() {
     ///     mux.abort();
@@ -231,7 +256,7 @@ impl Mux {
         block_until(self.closed(), Instant::now().checked_add(timeout))
     }
 
-    /// What a channel did so far.
+    /// Returns the statistics of a channel.
     pub fn stats(&self, channel: Channel) -> Stats {
         self.shared.with(|state| state.stats(channel))
     }
@@ -252,7 +277,7 @@ impl fmt::Debug for Mux {
     }
 }
 
-/// A call that waits for the end.
+/// A call that waits until the session is over.
 struct Over<'a> {
     shared: &'a Shared,
     ticket: Option<u64>,

@@ -1,34 +1,34 @@
 use crate::sys::{self, Answer, Handle, Lent, Next};
-use crate::{Channel, Overrun, PeerFault, ReadError, Refusal, Stop};
+use crate::{Channel, Overrun, PeerFault, ReadError, Refusal, Stop, CHANNELS};
 use std::fmt::{self, Formatter};
 use std::io::{self, ErrorKind, Read, Write};
 
-/// The bytes asked for per read, and written at most per write. A peer keeps two buffers this long.
+/// The size of one read and of one write. A peer keeps two buffers of this size.
 const PIECE: usize = 16_384;
 
-/// How many pieces a drive reads at most where it could not write all.
+/// The most chunks that one call of [`Peer::drive`] reads if it could not write everything.
 const PIECES: usize = 16;
 
-/// A version of the format.
+/// A version of the wire format.
 ///
 /// ```
-/// use lcmux::{Config, Version};
-/// let mut config = Config::new([1 << 20; 7], 64);
+/// use lcmux::{Config, Version, CHANNELS};
+/// let mut config = Config::new([1 << 20; CHANNELS], 64);
 /// config.version = Version::Two; // for messages of more than 65,535 bytes
 /// ```
 #[derive(Clone, Copy, Debug, Default, PartialEq, Eq)]
 #[non_exhaustive]
 pub enum Version {
-    /// The first: messages of 1 to 65,535 bytes.
+    /// Version One: messages of 1 to 65,535 bytes.
     #[default]
     One,
-    /// The second: messages of 1 to 1,048,576 bytes. The stream begins with a greeting of four bytes,
-    /// which waits to go out from the first.
+    /// Version Two: messages of 1 to 1,048,576 bytes, and channels that can be finished. The stream begins with a
+    /// preface of four bytes, which is pending from the start.
     Two,
 }
 
 impl Version {
-    /// The version's number, 1 or 2.
+    /// Returns the version's number, 1 or 2.
     pub fn number(self) -> u8 {
         match self {
             Version::One => 1,
@@ -36,7 +36,7 @@ impl Version {
         }
     }
 
-    /// The version of a number, `None` where it is neither 1 nor 2.
+    /// Returns the version with this number, or `None` if the number is neither 1 nor 2.
     ///
     /// ```
     /// use lcmux::Version;
@@ -52,37 +52,38 @@ impl Version {
     }
 }
 
-/// The bounds of a peer.
+/// The configuration of a peer: its version, the sizes of its ring buffers, and the slots of its outbound queue.
 ///
 /// ```
-/// use lcmux::{Channel::Data, Config};
-/// let mut config = Config::new([4096; 7], 64);
-/// config.capacities[usize::from(Data.number())] = 1 << 20;
+/// use lcmux::{Channel::Data, Config, CHANNELS};
+/// let mut config = Config::new([4096; CHANNELS], 64);
+/// config.capacities[Data] = 1 << 20;
 /// ```
 #[derive(Clone, Copy, Debug, PartialEq, Eq)]
 #[non_exhaustive]
 pub struct Config {
-    /// The version of the format that goes out. Either may come.
+    /// The version of the outbound stream. The inbound stream may have either version.
     pub version: Version,
-    /// The bytes of each channel's receiving ring, 1 to 2^24, by the channel's number.
-    pub capacities: [u32; 7],
-    /// How many frames may wait to go out, 1 to 65,536.
+    /// The size of each channel's receive ring buffer in bytes, 1 to 2^24, indexed by the [`Channel`].
+    pub capacities: [u32; CHANNELS],
+    /// The slots of the outbound queue, 1 to 65,536: the most frames that it holds.
     pub slots: u32,
 }
 
 impl Config {
-    /// Version One, with rings of these sizes and so many slots. [`Peer::new`] judges them.
+    /// Makes a configuration of version One with rings of these sizes and this many slots. [`Peer::new`] validates
+    /// it.
     ///
     /// ```
-    /// use lcmux::{Config, Peer, Version};
-    /// let mut config = Config::new([8; 7], 4);
+    /// use lcmux::{Config, Peer, Version, CHANNELS};
+    /// let mut config = Config::new([8; CHANNELS], 4);
     /// config.version = Version::Two;
     /// let mut wire = Vec::new();
     /// Peer::new(&config)?.write_to(&mut wire)?;
     /// assert_eq!(wire, [0x4c, 0x43, 0x4d, 0x02]);
     /// # Ok::<(), Box<dyn std::error::Error>>(())
     /// ```
-    pub fn new(capacities: [u32; 7], slots: u32) -> Config {
+    pub fn new(capacities: [u32; CHANNELS], slots: u32) -> Config {
         Config {
             version: Version::One,
             capacities,
@@ -91,11 +92,11 @@ impl Config {
     }
 }
 
-/// What a delivery did.
+/// The result of [`Peer::deliver`].
 ///
 /// ```
-/// # use lcmux::{Config, Peer};
-/// # let mut peer = Peer::new(&Config::new([8; 7], 4))?;
+/// # use lcmux::{Config, Peer, CHANNELS};
+/// # let mut peer = Peer::new(&Config::new([8; CHANNELS], 4))?;
 /// let delivery = peer.deliver(b"\x21\0\0\0\x05\x21");
 /// assert_eq!((delivery.taken, delivery.frames, delivery.stop), (6, 1, None));
 /// # Ok::<(), lcmux::PeerFault>(())
@@ -103,19 +104,20 @@ impl Config {
 #[derive(Clone, Copy, Debug, PartialEq, Eq)]
 #[must_use]
 pub struct Delivery {
-    /// How many bytes of the piece were taken: all of them unless it stopped.
+    /// How many bytes of the chunk were consumed: all of them, unless a protocol error stopped the delivery.
     pub taken: usize,
-    /// How many frames arrived.
+    /// How many whole frames arrived.
     pub frames: u64,
-    /// Why it stopped, `None` where it went on to the end of the piece.
+    /// The protocol error that stopped the delivery, or `None` if the whole chunk was consumed.
     pub stop: Option<Stop>,
 }
 
-/// What a take answers: of [`Peer::take_into`] how long the message is, of [`Peer::take`] the message.
+/// The result of taking a message: the length of the message from [`Peer::take_into`] and [`Peer::pop`], the message
+/// itself from [`Peer::take`].
 ///
 /// ```
-/// # use lcmux::{Channel::Data, Config, Peer, Take};
-/// # let mut peer = Peer::new(&Config::new([8; 7], 4))?;
+/// # use lcmux::{Channel::Data, Config, Peer, Take, CHANNELS};
+/// # let mut peer = Peer::new(&Config::new([8; CHANNELS], 4))?;
 /// match peer.take(Data) {
 ///     Take::Took(message) => println!("{} bytes", message.len()),
 ///     Take::Empty => println!("read on"),
@@ -127,14 +129,15 @@ pub struct Delivery {
 pub enum Take<T = usize> {
     /// The first message was taken.
     Took(T),
-    /// No message waits.
+    /// No message is available now.
     Empty,
-    /// No message waits, and none will come: the other side's limit on sending is used up, or it finished.
+    /// No message is available, and none will arrive: the sender finished the channel or used up its limit on
+    /// sending.
     Ended,
 }
 
 impl<T> Take<T> {
-    /// What was taken, where no difference is made between `Empty` and `Ended`.
+    /// Returns what was taken, and `None` for both `Empty` and `Ended`.
     pub fn took(self) -> Option<T> {
         match self {
             Take::Took(message) => Some(message),
@@ -143,7 +146,7 @@ impl<T> Take<T> {
     }
 }
 
-/// What a [`Peer::drive`] did.
+/// The result of [`Peer::drive`].
 ///
 /// ```
 /// use lcmux::{Incoming, Progress};
@@ -157,17 +160,18 @@ impl<T> Take<T> {
 #[non_exhaustive]
 #[must_use]
 pub struct Progress {
-    /// How many bytes went out.
+    /// How many bytes were written.
     pub written: u64,
-    /// How many bytes came before the stream stopped, where it did.
+    /// How many bytes were read, up to the read that stopped the stream if one did.
     pub read: usize,
-    /// Whether bytes are left that the stream does not take now: drive on once it may be written.
+    /// Whether bytes are pending that the stream does not accept now. Call [`Peer::drive`] again once the stream is
+    /// writable.
     pub blocked: bool,
-    /// How the read went.
+    /// The state of the inbound stream.
     pub incoming: Incoming,
 }
 
-/// How the read of a [`Peer::drive`] went.
+/// The state of the inbound stream after a [`Peer::drive`].
 ///
 /// ```
 /// use lcmux::{Incoming, Stop};
@@ -183,26 +187,27 @@ pub struct Progress {
 #[derive(Clone, Copy, Debug, PartialEq, Eq)]
 #[non_exhaustive]
 pub enum Incoming {
-    /// Bytes came, and more may.
+    /// Bytes arrived, and more may follow.
     Open,
-    /// None is there now: the read would block, or its timeout is over.
+    /// No bytes are available now: the read would block, or its timeout expired.
     WouldBlock,
-    /// The stream ended, after a whole frame or before the first.
+    /// The stream ended after a whole frame or before the first one.
     Ended,
-    /// The stream was given up, or ended inside a frame.
+    /// The stream broke the framing or a rule, or it ended inside a frame.
     Stopped {
-        /// Why.
+        /// The protocol error.
         stop: Stop,
-        /// How many frames arrived by the read that stopped it.
+        /// How many frames arrived in the read that stopped the stream.
         frames: u64,
     },
 }
 
-/// The balances of a channel as client, the side that sends. All count bytes of messages.
+/// The sender's ledger of a channel: the credit of this side as the one that sends. All fields count bytes of
+/// messages.
 ///
 /// ```
-/// # use lcmux::{Channel::Data, Config, Peer};
-/// # let mut peer = Peer::new(&Config::new([8; 7], 4))?;
+/// # use lcmux::{Channel::Data, Config, Peer, CHANNELS};
+/// # let mut peer = Peer::new(&Config::new([8; CHANNELS], 4))?;
 /// let _ = peer.deliver(b"\x21\0\0\0\x05");
 /// peer.send(Data, b"hi")?;
 /// let book = peer.client(Data);
@@ -211,31 +216,32 @@ pub enum Incoming {
 /// ```
 #[derive(Clone, Copy, Debug, PartialEq, Eq)]
 pub struct ClientBook {
-    /// Guarantees that may be used up now, 0 to 2^24.
+    /// The guarantees that messages may use now, 0 to 2^24: the send credit.
     pub held: u64,
-    /// All guarantees that arrived: held, spent, absolved and waived together.
+    /// All guarantees that arrived: the sum of `held`, `spent`, `absolved` and `waived`.
     pub received: u64,
-    /// The guarantees that messages used up.
+    /// The guarantees that messages used.
     pub spent: u64,
-    /// The guarantees that were given up.
+    /// The guarantees that this side gave back to the receiver.
     pub absolved: u64,
-    /// The guarantees that finishing gave up, then and since.
+    /// The guarantees that this side waived by finishing the channel, then and since.
     pub waived: u64,
-    /// What may still be sent; `None` without a limit.
+    /// The bytes that this side's limit still allows, or `None` without a limit.
     pub send_left: Option<u64>,
-    /// What the other side may still issue; `None` without a limit.
+    /// The guarantees that the receiver may still issue, or `None` without a limit.
     pub receive_left: Option<u64>,
-    /// The target of the plead that is kept.
+    /// The target of the pending plead, or `None` if no plead is pending.
     pub asked: Option<u32>,
     /// Whether this side finished the channel.
     pub finished: bool,
 }
 
-/// The balances of a channel as server, the side that receives. All count bytes of messages.
+/// The receiver's ledger of a channel: the credit that this side issued as the one that receives. All fields count
+/// bytes of messages.
 ///
 /// ```
-/// # use lcmux::{Channel::Data, Config, Peer};
-/// # let mut peer = Peer::new(&Config::new([8; 7], 4))?;
+/// # use lcmux::{Channel::Data, Config, Peer, CHANNELS};
+/// # let mut peer = Peer::new(&Config::new([8; CHANNELS], 4))?;
 /// peer.issue(Data, 5)?;
 /// let _ = peer.deliver(b"\x11\0\x02hi");
 /// let book = peer.server(Data);
@@ -244,23 +250,30 @@ pub struct ClientBook {
 /// ```
 #[derive(Clone, Copy, Debug, PartialEq, Eq)]
 pub struct ServerBook {
-    /// The bytes of the ring: outstanding, buffered and room together.
+    /// The size of the ring buffer: the sum of `outstanding`, `buffered` and `room`.
     pub capacity: u64,
-    /// All guarantees that were issued.
+    /// All guarantees that this side issued: the sum of `outstanding`, `received`, `absolved` and `waived`.
     pub issued: u64,
-    /// Issued, and neither used up, absolved nor waived as far as is known.
+    /// All bytes of messages that arrived: the sum of `taken` and `buffered`.
+    pub received: u64,
+    /// The bytes of messages that were taken.
+    pub taken: u64,
+    /// The guarantees that the sender gave back.
+    pub absolved: u64,
+    /// The guarantees that the sender may still use: issued, and not used, absolved or waived as far as this side
+    /// knows.
     pub outstanding: u64,
-    /// Arrived, and not taken.
+    /// The bytes of messages that arrived and were not taken.
     pub buffered: u64,
-    /// The most that may be issued now.
+    /// The most guarantees that may be issued now.
     pub room: u64,
-    /// The guarantees that the other side's Finish gave up.
+    /// The guarantees that the sender's Finish waived.
     pub waived: u64,
-    /// What the other side may still send; `None` without a limit.
+    /// The bytes that the sender may still send, or `None` without a limit.
     pub send_left: Option<u64>,
-    /// What may still be issued; `None` without a limit.
+    /// The guarantees that this side's limit still allows, or `None` without a limit.
     pub receive_left: Option<u64>,
-    /// Whether the other side's Finish arrived.
+    /// Whether the sender's Finish arrived.
     pub finished: bool,
 }
 
@@ -268,17 +281,17 @@ fn some_unless_none(number: u64) -> Option<u64> {
     (number != u64::MAX).then_some(number)
 }
 
-/// One side of a session. It is fed the bytes that come and asked for the bytes that go out; the
-/// transport is the caller's. It may go to another thread, and two threads do not share it.
+/// One side of a session as a pure state machine: the application passes inbound bytes to it and fetches outbound
+/// bytes from it. The transport belongs to the application. A peer is `Send`, and not `Sync`.
 ///
 /// ```
-/// use lcmux::{Channel::Data, Config, Peer, Refusal, Take};
+/// use lcmux::{Channel::Data, Config, Peer, Refusal, Take, CHANNELS};
 ///
-/// let config = Config::new([1024; 7], 16);
+/// let config = Config::new([1024; CHANNELS], 16);
 /// let (mut alice, mut bob) = (Peer::new(&config)?, Peer::new(&config)?);
 /// assert_eq!(alice.send(Data, b"hello"), Err(Refusal::NoGuarantee { held: 0 }));
 ///
-/// // Bob promises room for 8 bytes; 65,538 bytes hold any frame of version One.
+/// // Bob issues 8 bytes of credit; a buffer of 65,538 bytes holds any frame of version One.
 /// let mut wire = vec![0; 65_538];
 /// bob.issue(Data, 8)?;
 /// let count = bob.write(&mut wire);
@@ -294,25 +307,32 @@ fn some_unless_none(number: u64) -> Option<u64> {
 /// ```
 pub struct Peer {
     pub(crate) handle: Handle,
-    // Why the stream that comes was given up: kept on this side, so that no call asks for it.
+    // The protocol error of the inbound stream, cached so that no call crosses the C interface for it.
     stop: Option<Stop>,
-    // What was written out and no writer took yet: the bytes from start to end.
+    // The bytes that the library counts as sent and no writer accepted yet: those from start to end.
     unsent: Vec<u8>,
     pub(crate) start: usize,
     pub(crate) end: usize,
-    // What reads go into.
+    // The buffer of reads.
     piece: Vec<u8>,
 }
 
 impl Peer {
-    /// A peer on which nothing has happened. Faults come in this order: a library of another version
-    /// than this crate's, the first channel whose ring would not have 1 to 2^24 bytes, slots outside 1 to
-    /// 65,536, want of memory.
+    /// Makes a peer on which nothing has happened.
+    ///
+    /// # Errors
+    ///
+    /// The first of these that applies:
+    ///
+    /// - [`PeerFault::WrongLibrary`] if the linked library is of another version than this crate;
+    /// - [`PeerFault::BadCapacity`] for the first channel whose ring would not have 1 to 2^24 bytes;
+    /// - [`PeerFault::BadSlots`] if the slots are not in 1 to 65,536;
+    /// - [`PeerFault::OutOfMemory`] if an allocation fails.
     ///
     /// ```
     /// use lcmux::{Channel, Config, Peer, PeerFault};
     /// let fault = Peer::new(&Config::new([8, 8, 0, 8, 8, 8, 8], 16)).unwrap_err();
-    /// assert_eq!(fault, PeerFault::BadCapacity { channel: Channel::Overlap });
+    /// assert_eq!(fault, PeerFault::BadCapacity { channel: Channel::Overlap, capacity: 0 });
     /// ```
     pub fn new(config: &Config) -> Result<Peer, PeerFault> {
         match sys::version() {
@@ -333,63 +353,103 @@ impl Peer {
                 end: 0,
                 piece: Vec::new(),
             }),
-            Err(Answer { code, number }) => Err(PeerFault::of(code, number)),
+            Err(Answer { code, number }) => Err(PeerFault::of(code, number, config)),
         }
     }
 
-    /// A copy of 1 to 65,535 bytes is sent as one message, in version Two of 1 to 1,048,576. Refused by
-    /// 15, 1, 2, 3, 4, 14 and 13, in this order.
+    /// Enqueues a copy of the body as one message: 1 to 65,535 bytes, in version Two 1 to 1,048,576.
+    ///
+    /// # Errors
+    ///
+    /// The first of these that applies: [`Refusal::ChannelFinished`], [`Refusal::EmptyBody`],
+    /// [`Refusal::BodyTooLong`], [`Refusal::PastSendLimit`], [`Refusal::NoGuarantee`], [`Refusal::OutOfMemory`],
+    /// [`Refusal::QueueFull`].
     #[inline]
     pub fn send(&mut self, channel: Channel, body: &[u8]) -> Result<(), Refusal> {
         done(self.handle.send(channel.number().into(), body))
     }
 
-    /// `amount` guarantees are issued. Refused by 15, 5, 9, 10, 12 and 13, in this order.
+    /// Issues `amount` guarantees: the sender may send that many bytes more.
+    ///
+    /// # Errors
+    ///
+    /// The first of these that applies: [`Refusal::ChannelFinished`], [`Refusal::ZeroAmount`],
+    /// [`Refusal::PastReceiveLimit`], [`Refusal::NoRoom`], [`Refusal::TotalReached`], [`Refusal::QueueFull`].
     #[inline]
     pub fn issue(&mut self, channel: Channel, amount: u32) -> Result<(), Refusal> {
         done(self.handle.issue(channel.number().into(), amount))
     }
 
-    /// `amount` guarantees are given up. Refused by 15, 5, 6 and 13, in this order.
+    /// Gives `amount` guarantees back to the receiver.
+    ///
+    /// # Errors
+    ///
+    /// The first of these that applies: [`Refusal::ChannelFinished`], [`Refusal::ZeroAmount`], [`Refusal::NotHeld`],
+    /// [`Refusal::QueueFull`].
     #[inline]
     pub fn absolve(&mut self, channel: Channel, amount: u32) -> Result<(), Refusal> {
         done(self.handle.absolve(channel.number().into(), amount))
     }
 
-    /// The other side is asked to absolve until it holds at most `target`. Refused by 15, 11 and 13, in
-    /// this order.
+    /// Asks the sender to absolve guarantees until it holds at most `target`.
+    ///
+    /// # Errors
+    ///
+    /// The first of these that applies: [`Refusal::ChannelFinished`], [`Refusal::NothingToAsk`],
+    /// [`Refusal::QueueFull`].
     #[inline]
     pub fn plead(&mut self, channel: Channel, target: u32) -> Result<(), Refusal> {
         done(self.handle.plead(channel.number().into(), target))
     }
 
-    /// The plead that is kept is honoured and forgotten: what is held above its target is absolved,
-    /// which is the answer, `None` where there is nothing. Refused by 15, and by 13, which keeps the
-    /// plead.
+    /// Honours the pending plead: absolves the guarantees that this side holds above its target. Returns how many
+    /// these are, or `None` if there are none. The plead is no longer pending.
+    ///
+    /// # Errors
+    ///
+    /// The first of these that applies: [`Refusal::ChannelFinished`], [`Refusal::QueueFull`]. The latter leaves the
+    /// plead pending.
     #[inline]
     pub fn honour(&mut self, channel: Channel) -> Result<Option<u32>, Refusal> {
         honoured(self.handle.honour(channel.number().into()))
     }
 
-    /// At most `bound` bytes are sent from here on; 0 ends the channel. Refused by 15, 7, 8 and 13, in
-    /// this order.
+    /// Limits sending to at most `bound` bytes from here on; 0 ends the channel.
+    ///
+    /// # Errors
+    ///
+    /// The first of these that applies: [`Refusal::ChannelFinished`], [`Refusal::BoundTooLarge`],
+    /// [`Refusal::LimitRaised`], [`Refusal::QueueFull`].
     #[inline]
     pub fn limit_sending(&mut self, channel: Channel, bound: u64) -> Result<(), Refusal> {
         done(self.handle.limit_sending(channel.number().into(), bound))
     }
 
-    /// At most `bound` guarantees are issued from here on. Refused by 15, 7, 8 and 13, in this order.
+    /// Limits issuing to at most `bound` guarantees from here on.
+    ///
+    /// # Errors
+    ///
+    /// The first of these that applies: [`Refusal::ChannelFinished`], [`Refusal::BoundTooLarge`],
+    /// [`Refusal::LimitRaised`], [`Refusal::QueueFull`].
     #[inline]
     pub fn limit_receiving(&mut self, channel: Channel, bound: u64) -> Result<(), Refusal> {
         done(self.handle.limit_receiving(channel.number().into(), bound))
     }
 
-    /// Nothing more is sent, and all guarantees that are held or still come are given up; the other
-    /// side learns that the channel has ended. For version Two. Refused by 17, 15 and 13, in this order.
+    /// Finishes the channel: this side sends nothing more on it and waives all guarantees that it holds or that still
+    /// arrive. The receiver observes the end of the channel. Version One has no such frame; there,
+    /// `limit_sending(channel, 0)` ends a channel.
+    ///
+    /// # Errors
+    ///
+    /// The first of these that applies: [`Refusal::WrongVersion`], [`Refusal::ChannelFinished`],
+    /// [`Refusal::QueueFull`].
+    ///
+    /// # Examples
     ///
     /// ```
-    /// # use lcmux::{Channel::Data, Config, Peer, Refusal, Take, Version};
-    /// # let mut config = Config::new([8; 7], 4);
+    /// # use lcmux::{Channel::Data, Config, Peer, Refusal, Take, Version, CHANNELS};
+    /// # let mut config = Config::new([8; CHANNELS], 4);
     /// # config.version = Version::Two;
     /// # let (mut alice, mut bob) = (Peer::new(&config)?, Peer::new(&config)?);
     /// # let mut wire = Vec::new();
@@ -405,9 +465,9 @@ impl Peer {
         done(self.handle.finish(channel.number().into()))
     }
 
-    /// The next bytes of the stream that comes, cut anywhere. Whole frames arrive, and part of one is
-    /// kept. After a stop the stream is given up: the frames before it have arrived, each further call
-    /// takes nothing and answers the same, and all other calls still work.
+    /// Processes the next chunk of the inbound stream, which may be cut anywhere. Whole frames arrive, and the
+    /// beginning of an incomplete frame is kept. After a protocol error the frames before it have arrived, each
+    /// further call consumes nothing and returns the same error, and all other calls still work.
     #[inline]
     pub fn deliver(&mut self, piece: &[u8]) -> Delivery {
         if self.stop.is_some() {
@@ -420,15 +480,19 @@ impl Peer {
         delivered(&mut self.handle, &mut self.stop, piece)
     }
 
-    /// What it means that the stream ends here: nothing between two frames, `Fault::Truncated` inside
-    /// one or inside a greeting, and the stop of the delivery that stopped, where one did.
+    /// Reports whether the inbound stream may end here. It changes nothing.
+    ///
+    /// # Errors
+    ///
+    /// [`Fault::Truncated`](crate::Fault::Truncated) if the stream ends inside a frame or inside the preface; the
+    /// protocol error of an earlier [`Peer::deliver`] if there was one.
     #[inline]
     pub fn end(&self) -> Result<(), Stop> {
         Stop::of(self.handle.end().code).map_or(Ok(()), Err)
     }
 
-    /// The next bytes that go out, to the front of `buffer`: as many as there are and have room, which
-    /// is the answer. A frame that does not fit goes on in the next call.
+    /// Copies the next outbound bytes to the front of `buffer` and returns how many they are. A frame that does not
+    /// fit continues in the next call. The bytes count as sent.
     #[inline]
     pub fn write(&mut self, buffer: &mut [u8]) -> usize {
         let count = buffer.len().min(self.end - self.start);
@@ -442,13 +506,13 @@ impl Peer {
         }
     }
 
-    /// The next bytes that go out, at most 16,384; none where nothing waits. They stay the next until
-    /// [`Peer::advance`] says how many of them went out: so a write that is given up, or that would
-    /// block, loses nothing.
+    /// Returns the next outbound bytes, at most 16,384; an empty slice if none are pending. The bytes stay pending
+    /// until [`Peer::advance`] reports how many of them were written. So an abandoned write, or one that would block,
+    /// loses nothing.
     ///
     /// ```
-    /// # use lcmux::{Channel::Data, Config, Peer};
-    /// # let mut peer = Peer::new(&Config::new([8; 7], 4))?;
+    /// # use lcmux::{Channel::Data, Config, Peer, CHANNELS};
+    /// # let mut peer = Peer::new(&Config::new([8; CHANNELS], 4))?;
     /// peer.issue(Data, 5)?;
     /// assert_eq!(peer.chunk(), [0x21, 0, 0, 0, 5]);
     /// peer.advance(3)?;
@@ -458,7 +522,7 @@ impl Peer {
     /// # Ok::<(), Box<dyn std::error::Error>>(())
     /// ```
     #[inline]
-    #[must_use = "bytes that are not written go out later"]
+    #[must_use = "bytes that are not written stay pending"]
     pub fn chunk(&mut self) -> &[u8] {
         if self.start == self.end {
             self.fill();
@@ -466,7 +530,11 @@ impl Peer {
         &self.unsent[self.start..self.end]
     }
 
-    /// So many bytes of the [`Peer::chunk`] went out. More than it has are an error that changes nothing.
+    /// Marks the first `count` bytes of [`Peer::chunk`] as written.
+    ///
+    /// # Errors
+    ///
+    /// [`Overrun`] if `count` is above the length of the chunk; nothing changes then.
     #[inline]
     pub fn advance(&mut self, count: usize) -> Result<(), Overrun> {
         let offered = self.end - self.start;
@@ -478,25 +546,30 @@ impl Peer {
         Ok(())
     }
 
-    /// How many bytes are to go out. It looks at each frame that waits.
+    /// Returns how many outbound bytes are pending. It visits each frame of the outbound queue.
     pub fn pending(&self) -> usize {
         self.end - self.start + self.handle.pending().number as usize
     }
 
-    /// Writes all that is to go out, and answers how many bytes that were. It doesn't flush. A write
-    /// that was interrupted is made again. After any other error nothing is lost: a further call goes
-    /// on with the next byte, also where the writer was one that would block.
+    /// Writes all pending outbound bytes and returns how many they were. It does not flush.
     ///
-    /// It reads nothing meanwhile. Where both sides do so over streams that block, each waits for the
-    /// other for ever once both have more to write than the sockets hold. [`Peer::drive`] reads, too, over
-    /// a stream that does not block or has timeouts.
+    /// It reads nothing. Over blocking streams, two sides that both call it deadlock once both have more to write
+    /// than the sockets buffer. [`Peer::drive`] also reads, over a stream that does not block or has timeouts.
     ///
-    /// A writer that says that it took more than it was offered is an error of kind `InvalidData`, with
-    /// an [`Overrun`] in it. All that it was offered then counts as written, and no byte goes out twice.
+    /// # Errors
+    ///
+    /// An interrupted write is repeated. After any other error nothing is lost: a further call continues with the
+    /// next byte, also after [`WouldBlock`](ErrorKind::WouldBlock). A writer that claims more bytes than were offered
+    /// is an error of kind `InvalidData` that carries an [`Overrun`]; all offered bytes then count as written, and no
+    /// byte is written twice.
+    ///
+    /// # Examples
+    ///
+    ///
     ///
     /// ```
-    /// # use lcmux::{Channel::Data, Config, Peer};
-    /// # let mut peer = Peer::new(&Config::new([8; 7], 4))?;
+    /// # use lcmux::{Channel::Data, Config, Peer, CHANNELS};
+    /// # let mut peer = Peer::new(&Config::new([8; CHANNELS], 4))?;
     /// peer.issue(Data, 5)?;
     /// let mut wire = Vec::new();
     /// assert_eq!(peer.write_to(&mut wire)?, 5);
@@ -510,7 +583,7 @@ impl Peer {
         Ok(written)
     }
 
-    // `write_to`, that says how many bytes it wrote also where it failed.
+    // Writes as `write_to` does, and counts the written bytes also if it fails.
     #[inline]
     fn write_counted(&mut self, writer: &mut impl Write, written: &mut u64) -> io::Result<()> {
         let mut last = false;
@@ -535,7 +608,7 @@ impl Peer {
         }
     }
 
-    // The next bytes that go out come to this side, where none are here. Whether no more wait behind them.
+    // Fetches the next outbound bytes from the library. Returns whether no more bytes are pending behind them.
     #[inline]
     fn fill(&mut self) -> bool {
         if self.unsent.is_empty() {
@@ -545,7 +618,7 @@ impl Peer {
         self.end < PIECE
     }
 
-    // What a writer took of the bytes on this side. All of them, where it claims more.
+    // Marks bytes as written: all of them if the writer claims too many.
     #[inline]
     fn took(&mut self, claimed: usize) -> io::Result<()> {
         let took = self.advance(claimed);
@@ -555,16 +628,21 @@ impl Peer {
         took.map_err(io::Error::from)
     }
 
-    /// Reads once, at most 16,384 bytes, and delivers them. The answer is how many they were, 0 where
-    /// the stream ended after a whole frame or before the first. A read that was interrupted is made
-    /// again. Of a stream that was given up nothing is read.
+    /// Reads once, at most 16,384 bytes, and delivers them. Returns how many bytes it read, 0 if the stream ended
+    /// after a whole frame or before the first one. An interrupted read is repeated.
     ///
-    /// A reader that says that it read more than it was asked for is an error of kind `InvalidData`, with
-    /// an [`Overrun`] in it, and nothing of it arrives.
+    /// # Errors
+    ///
+    /// [`ReadError::Stopped`] after a protocol error, and then nothing is read any more. [`ReadError::Io`] if the
+    /// read fails; a reader that claims more bytes than were asked for is such an error, of kind `InvalidData` with
+    /// an [`Overrun`], and none of its bytes arrive.
+    ///
+    /// # Examples
+    ///
     ///
     /// ```
-    /// # use lcmux::{Channel::Data, Config, Fault, Peer, ReadError, Stop};
-    /// # let mut peer = Peer::new(&Config::new([8; 7], 4))?;
+    /// # use lcmux::{Channel::Data, Config, Fault, Peer, ReadError, Stop, CHANNELS};
+    /// # let mut peer = Peer::new(&Config::new([8; CHANNELS], 4))?;
     /// let mut wire: &[u8] = &[0x21, 0, 0, 0, 5, 0x21];
     /// assert_eq!(peer.read_from(&mut wire)?, 6);
     /// assert_eq!(peer.client(Data).held, 5);
@@ -605,22 +683,28 @@ impl Peer {
         end.map_err(|stop| ReadError::Stopped { stop, frames: 0 })
     }
 
-    /// Moves both directions once: writes until all is written or the stream takes no more now, then
-    /// reads a piece of at most 16,384 bytes and delivers it; where not all was written and the piece is
-    /// full it reads on, 16 pieces at most. A call that would block, or whose timeout is over, is no error,
-    /// and nothing is lost by it.
+    /// Moves both directions once. It writes until all bytes are written or the stream accepts no more; then it reads
+    /// and delivers a chunk of at most 16,384 bytes. If bytes are left to write and the chunk is full, it reads on,
+    /// up to 16 chunks.
     ///
-    /// Over a stream that does not block, or that has a timeout for reads and one for writes, neither
-    /// side holds up the other, whatever both have to write. Over one that blocks without timeouts the
-    /// write waits until the other side reads, and the one read until it writes: there both sides wait for
-    /// each other as by [`Peer::write_to`].
+    /// Over a stream that does not block, or that has a read and a write timeout, neither side delays the other,
+    /// whatever both have to write. Over a blocking stream without timeouts the write blocks until the peer reads and
+    /// the read blocks until the peer writes, so two sides can deadlock as with [`Peer::write_to`].
     ///
-    /// After a stop it goes on to write, and reads nothing. An error of the write comes before the read: what came
-    /// is still to be had by [`Peer::read_from`].
+    /// After a protocol error it keeps writing and reads nothing.
+    ///
+    /// # Errors
+    ///
+    /// A call of the transport that would block, or whose timeout expires, is no error. After an error of the write
+    /// nothing was read: [`Peer::read_from`] still reads what arrived.
+    ///
+    /// # Examples
+    ///
+    ///
     ///
     /// ```
-    /// # use lcmux::{Channel::Data, Config, Incoming, Peer};
-    /// # let mut peer = Peer::new(&Config::new([8; 7], 4))?;
+    /// # use lcmux::{Channel::Data, Config, Incoming, Peer, CHANNELS};
+    /// # let mut peer = Peer::new(&Config::new([8; CHANNELS], 4))?;
     /// let (mut stream, _other) = std::os::unix::net::UnixStream::pair()?;
     /// stream.set_nonblocking(true)?;
     /// peer.issue(Data, 5)?;
@@ -636,7 +720,7 @@ impl Peer {
             Err(error) if is_for_later(&error) => true,
             Err(error) => return Err(error),
         };
-        // Where all was written the stream may be one that blocks, and a second read wait for good.
+        // If all was written, the stream may be a blocking one, and a second read could block forever.
         let pieces = if blocked { PIECES } else { 1 };
         let (mut read, mut incoming) = (0, Incoming::WouldBlock);
         for _ in 0..pieces {
@@ -664,7 +748,7 @@ impl Peer {
         })
     }
 
-    /// The length of the first message, which stays; `None` where none waits.
+    /// Returns the length of the first message, or `None` if there is none. The message stays.
     #[inline]
     pub fn front_len(&self, channel: Channel) -> Option<usize> {
         match self.handle.front_len(channel.number().into()) {
@@ -673,13 +757,13 @@ impl Peer {
         }
     }
 
-    /// The first message where it lies, without a copy; it stays. It is the bytes of the one slice and then
-    /// those of the other, which is empty unless the message goes round the end of its ring. `None` where none
-    /// waits.
+    /// Borrows the first message without copying it; the message stays. The message is the bytes of the first slice
+    /// followed by those of the second one, which is empty unless the message crosses the wrap point of its ring
+    /// buffer. `None` if there is no message.
     ///
     /// ```
-    /// # use lcmux::{Channel::Data, Config, Peer, Take};
-    /// # let mut peer = Peer::new(&Config::new([8; 7], 4))?;
+    /// # use lcmux::{Channel::Data, Config, Peer, Take, CHANNELS};
+    /// # let mut peer = Peer::new(&Config::new([8; CHANNELS], 4))?;
     /// peer.issue(Data, 8)?;
     /// let _ = peer.deliver(b"\x11\0\x02hi");
     /// assert_eq!(peer.front(Data), Some((&b"hi"[..], &b""[..])));
@@ -692,26 +776,26 @@ impl Peer {
         self.handle.front(channel.number().into())
     }
 
-    /// The frame that goes out next, for who counts it as sent and writes nothing out before it was read. `None`
-    /// also where something is left of what was begun before it.
+    /// Borrows the next outbound frame. The caller counts it as sent, and writes nothing before it has read the
+    /// frame. `None` also if the rest of an earlier write precedes it.
     #[inline]
     pub(crate) fn next(&self) -> Option<Next> {
         self.handle.next()
     }
 
-    /// The frame of [`Peer::next`] went out.
+    /// Counts the frame of [`Peer::next`] as sent.
     #[inline]
     pub(crate) fn sent(&mut self) {
         self.handle.sent();
     }
 
-    /// The first message, for who takes none of the channel before it was read.
+    /// Borrows the first message. The caller takes no message of the channel before it has read this one.
     #[inline]
     pub(crate) fn lend(&self, channel: Channel) -> Option<Lent> {
         self.handle.lend(channel.number().into())
     }
 
-    /// Drops the first message, and answers its length; its bytes are room of the ring again.
+    /// Drops the first message and returns its length. Its bytes become free in the ring buffer.
     #[inline]
     pub fn pop(&mut self, channel: Channel) -> Take {
         match self.handle.pop(channel.number().into()) {
@@ -721,18 +805,21 @@ impl Peer {
         }
     }
 
-    /// Takes the first message, to the front of `buffer`; its bytes are room of the ring again. Refused
-    /// by 16 alone, where the buffer is shorter than the message, and then takes nothing.
+    /// Copies the first message to the front of `buffer` and drops it. Its bytes become free in the ring buffer.
+    ///
+    /// # Errors
+    ///
+    /// [`Refusal::BufferTooSmall`] if the buffer is shorter than the message; the message stays then.
     #[inline]
     pub fn take_into(&mut self, channel: Channel, buffer: &mut [u8]) -> Result<Take, Refusal> {
         take(self.handle.take(channel.number().into(), buffer))
     }
 
-    /// Takes the first message, into a vector of its own.
+    /// Takes the first message as a new vector. Its bytes become free in the ring buffer.
     ///
     /// ```
-    /// # use lcmux::{Channel::Data, Config, Peer, Take};
-    /// # let mut peer = Peer::new(&Config::new([8; 7], 4))?;
+    /// # use lcmux::{Channel::Data, Config, Peer, Take, CHANNELS};
+    /// # let mut peer = Peer::new(&Config::new([8; CHANNELS], 4))?;
     /// peer.issue(Data, 8)?;
     /// let _ = peer.deliver(b"\x11\0\x02hi\x51\0\0\0\0\0\0\0\0");
     /// assert_eq!(peer.take(Data), Take::Took(b"hi".to_vec()));
@@ -750,7 +837,7 @@ impl Peer {
         }
     }
 
-    /// The balances of a channel as client.
+    /// Returns the sender's ledger of a channel.
     pub fn client(&self, channel: Channel) -> ClientBook {
         let book = self.handle.client(channel.number().into());
         ClientBook {
@@ -766,12 +853,15 @@ impl Peer {
         }
     }
 
-    /// The balances of a channel as server.
+    /// Returns the receiver's ledger of a channel.
     pub fn server(&self, channel: Channel) -> ServerBook {
         let book = self.handle.server(channel.number().into());
         ServerBook {
             capacity: book.capacity,
             issued: book.issued,
+            received: book.received,
+            taken: book.taken,
+            absolved: book.absolved,
             outstanding: book.outstanding,
             buffered: book.buffered,
             room: book.room,
@@ -791,13 +881,13 @@ impl fmt::Debug for Peer {
     }
 }
 
-// A buffer whose pages are the system's until they are used.
+// Makes a zeroed buffer, whose pages the system allocates on first use.
 #[cold]
 fn new_piece() -> Vec<u8> {
     vec![0; PIECE]
 }
 
-// A call that was interrupted is made again.
+// Passes on every error but an interruption, after which the call is repeated.
 #[cold]
 fn uninterrupted(error: io::Error) -> io::Result<()> {
     match error.kind() {
@@ -815,7 +905,7 @@ fn overrun(claimed: usize, offered: usize) -> io::Error {
     Overrun { claimed, offered }.into()
 }
 
-// A piece goes over the edge, and a stop is kept.
+// Delivers a chunk across the C interface and keeps its protocol error.
 #[inline]
 fn delivered(handle: &mut Handle, kept: &mut Option<Stop>, piece: &[u8]) -> Delivery {
     let sys::Delivery {

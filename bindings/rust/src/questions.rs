@@ -1,49 +1,49 @@
 use crate::peer::{done, honoured};
 use crate::sys::{self, Answer};
-use crate::{Channel, Peer, Refusal};
+use crate::{Channel, Peer, Refusal, CHANNELS};
 
-/// What a message needs before it can be sent.
+/// The condition that a message needs before it can be sent.
 ///
 /// ```
-/// use lcmux::{Config, Channel::Data, Needs, Peer};
-/// let peer = Peer::new(&Config::new([8; 7], 4))?;
+/// use lcmux::{Config, Channel::Data, Needs, Peer, CHANNELS};
+/// let peer = Peer::new(&Config::new([8; CHANNELS], 4))?;
 /// assert_eq!(peer.needs(Data, 5), Needs::Guarantees(5));
 /// # Ok::<(), lcmux::PeerFault>(())
 /// ```
 #[derive(Clone, Copy, Debug, PartialEq, Eq)]
 pub enum Needs {
-    /// Nothing more: a send of it may want memory, and is not refused else.
+    /// Nothing: a send can fail only if an allocation does.
     Nothing,
-    /// So many guarantees more: read on.
+    /// This many more guarantees: read the inbound stream.
     Guarantees(u64),
-    /// A place among the frames that wait to go out: write.
+    /// A slot in the outbound queue: write pending frames.
     Slot,
-    /// What never comes: it is empty, longer than the version or what is left of a limit of either side
-    /// allows, or the channel is finished.
+    /// The message can never be sent: it is empty, it is longer than the version or a limit of either side allows, or
+    /// the channel is finished.
     Never,
 }
 
-/// What there is to do on a channel.
+/// The state of a channel that the application can act on.
 ///
 /// ```
-/// # use lcmux::{Channel::Data, Config, Peer};
-/// # let mut peer = Peer::new(&Config::new([8; 7], 4))?;
+/// # use lcmux::{Channel::Data, Config, Peer, CHANNELS};
+/// # let mut peer = Peer::new(&Config::new([8; CHANNELS], 4))?;
 /// let _ = peer.deliver(b"\x41\0\0\0\x02"); // a plead
-/// assert!(peer.ready()[usize::from(Data.number())].plead);
+/// assert!(peer.ready()[Data].plead);
 /// # Ok::<(), lcmux::PeerFault>(())
 /// ```
 #[derive(Clone, Copy, Debug, Default, PartialEq, Eq)]
 #[non_exhaustive]
 pub struct Ready {
-    /// A message waits to be taken.
+    /// A message is available.
     pub message: bool,
-    /// No message waits, and none will come.
+    /// No message is available, and none will arrive.
     pub ended: bool,
-    /// A plead is kept, to be honoured or not.
+    /// A plead of the receiver is pending.
     pub plead: bool,
-    /// This side finished the channel.
+    /// This side finished its direction of the channel.
     pub finished: bool,
-    /// The other side finished the channel.
+    /// The peer finished its direction of the channel.
     pub finished_there: bool,
 }
 
@@ -59,14 +59,20 @@ impl From<sys::ChannelReady> for Ready {
     }
 }
 
-/// Questions. They change nothing, and are judged as the calls are.
+/// Queries. They change nothing and apply the same rules as the calls that they are named after.
 impl Peer {
-    /// The refusal that a [`Peer::send`] of so many bytes would answer, but for want of memory: so a body
-    /// need not be made before it may go.
+    /// Checks whether a [`Peer::send`] of `len` bytes would be refused, apart from a failed allocation. So the
+    /// application need not build a body before it can be sent.
+    ///
+    /// # Errors
+    ///
+    /// The refusal that the call would return.
+    ///
+    /// # Examples
     ///
     /// ```
-    /// # use lcmux::{Channel::Data, Config, Peer, Refusal};
-    /// # let peer = Peer::new(&Config::new([8; 7], 4))?;
+    /// # use lcmux::{Channel::Data, Config, Peer, Refusal, CHANNELS};
+    /// # let peer = Peer::new(&Config::new([8; CHANNELS], 4))?;
     /// assert_eq!(peer.would_send(Data, 5), Err(Refusal::NoGuarantee { held: 0 }));
     /// # Ok::<(), lcmux::PeerFault>(())
     /// ```
@@ -74,27 +80,47 @@ impl Peer {
         done(self.handle.would_send(channel.number().into(), len))
     }
 
-    /// The refusal that [`Peer::issue`] would answer.
+    /// Checks whether [`Peer::issue`] would be refused.
+    ///
+    /// # Errors
+    ///
+    /// The refusal that the call would return.
     pub fn would_issue(&self, channel: Channel, amount: u32) -> Result<(), Refusal> {
         done(self.handle.would_issue(channel.number().into(), amount))
     }
 
-    /// The refusal that [`Peer::absolve`] would answer.
+    /// Checks whether [`Peer::absolve`] would be refused.
+    ///
+    /// # Errors
+    ///
+    /// The refusal that the call would return.
     pub fn would_absolve(&self, channel: Channel, amount: u32) -> Result<(), Refusal> {
         done(self.handle.would_absolve(channel.number().into(), amount))
     }
 
-    /// The refusal that [`Peer::plead`] would answer.
+    /// Checks whether [`Peer::plead`] would be refused.
+    ///
+    /// # Errors
+    ///
+    /// The refusal that the call would return.
     pub fn would_plead(&self, channel: Channel, target: u32) -> Result<(), Refusal> {
         done(self.handle.would_plead(channel.number().into(), target))
     }
 
-    /// What [`Peer::honour`] would answer.
+    /// Returns what [`Peer::honour`] would return.
+    ///
+    /// # Errors
+    ///
+    /// The refusal that the call would return.
     pub fn would_honour(&self, channel: Channel) -> Result<Option<u32>, Refusal> {
         honoured(self.handle.would_honour(channel.number().into()))
     }
 
-    /// The refusal that [`Peer::limit_sending`] would answer.
+    /// Checks whether [`Peer::limit_sending`] would be refused.
+    ///
+    /// # Errors
+    ///
+    /// The refusal that the call would return.
     pub fn would_limit_sending(&self, channel: Channel, bound: u64) -> Result<(), Refusal> {
         done(
             self.handle
@@ -102,7 +128,11 @@ impl Peer {
         )
     }
 
-    /// The refusal that [`Peer::limit_receiving`] would answer.
+    /// Checks whether [`Peer::limit_receiving`] would be refused.
+    ///
+    /// # Errors
+    ///
+    /// The refusal that the call would return.
     pub fn would_limit_receiving(&self, channel: Channel, bound: u64) -> Result<(), Refusal> {
         done(
             self.handle
@@ -110,17 +140,21 @@ impl Peer {
         )
     }
 
-    /// The refusal that [`Peer::finish`] would answer.
+    /// Checks whether [`Peer::finish`] would be refused.
+    ///
+    /// # Errors
+    ///
+    /// The refusal that the call would return.
     pub fn would_finish(&self, channel: Channel) -> Result<(), Refusal> {
         done(self.handle.would_finish(channel.number().into()))
     }
 
-    /// What a message of so many bytes needs before it can be sent. A client knows nothing of the other
-    /// side's ring: a message longer than that is told to need guarantees for good.
+    /// Returns the condition that a message of `len` bytes needs before it can be sent. A sender does not know the
+    /// size of the receiver's ring buffer: a message longer than the ring needs guarantees that never arrive.
     ///
     /// ```
-    /// # use lcmux::{Channel::Data, Config, Needs, Peer};
-    /// # let mut peer = Peer::new(&Config::new([8; 7], 4))?;
+    /// # use lcmux::{Channel::Data, Config, Needs, Peer, CHANNELS};
+    /// # let mut peer = Peer::new(&Config::new([8; CHANNELS], 4))?;
     /// assert_eq!(peer.needs(Data, 5), Needs::Guarantees(5));
     /// let _ = peer.deliver(b"\x21\0\0\0\x03");
     /// assert_eq!(peer.needs(Data, 5), Needs::Guarantees(2));
@@ -138,22 +172,21 @@ impl Peer {
         }
     }
 
-    /// How many frames more may wait to go out.
+    /// Returns how many slots of the outbound queue are free.
     pub fn slots_left(&self) -> usize {
         self.handle.slots_left().number as usize
     }
 
-    /// Whether there is anything to write: the greeting, the rest of a frame that was begun, or a frame
-    /// that waits.
+    /// Returns whether any outbound bytes are pending: the preface, the rest of a frame, or a whole frame.
     pub fn wants_write(&self) -> bool {
         self.start < self.end || self.handle.wants_write().number != 0
     }
 
-    /// What there is to do on each channel, by their numbers.
+    /// Returns the state of each channel, indexed by the [`Channel`].
     ///
     /// ```
-    /// # use lcmux::{Channel::Data, Config, Peer};
-    /// # let mut peer = Peer::new(&Config::new([8; 7], 4))?;
+    /// # use lcmux::{Channel::Data, Config, Peer, CHANNELS};
+    /// # let mut peer = Peer::new(&Config::new([8; CHANNELS], 4))?;
     /// # peer.issue(Data, 8)?;
     /// let _ = peer.deliver(b"\x11\0\x02hi");
     /// for (channel, ready) in lcmux::Channel::ALL.into_iter().zip(peer.ready()) {
@@ -161,7 +194,7 @@ impl Peer {
     /// }
     /// # Ok::<(), Box<dyn std::error::Error>>(())
     /// ```
-    pub fn ready(&self) -> [Ready; 7] {
+    pub fn ready(&self) -> [Ready; CHANNELS] {
         self.handle.ready().channels.map(Ready::from)
     }
 }

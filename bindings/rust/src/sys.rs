@@ -1,19 +1,22 @@
-//! The edge to the archive: the one unsafe module.
+//! The interface to the archive: the one unsafe module.
 //!
-//! Why it is sound, given what `lcmux.h` takes as written:
+//! It is sound, given the preconditions that `lcmux.h` names:
 //! - a [`Handle`] begins empty, only the archive changes it, it is never copied, and dropping it frees it;
 //! - every slice is passed with its own pointer, which is never null, and its own length;
-//! - a handle is behind an `UnsafeCell`, since readers too take it out of its place while they run. So
-//!   `Handle` is not `Sync`, and no call calls back, so of the calls on one handle one runs at a time;
-//! - what `lcmux_peer_front` lends lies in a ring, whose memory stays in its place. Of the first message no byte
-//!   changes until it is taken: so a [`Lent`] is read meanwhile by whoever keeps its channel from being taken
-//!   from;
-//! - what `lcmux_peer_next` lends has memory of its own, which stays until the frame is written or counted as sent;
-//! - what stands behind a handle is plain data from `malloc`, which no thread owns: hence `Send`.
+//! - a handle is behind an `UnsafeCell`, since calls that only read take it out of its place while they run, too. So
+//!   `Handle` is not `Sync`, and no call calls back, so the calls on one handle run one at a time;
+//! - a message that `lcmux_peer_front` borrows is in a ring buffer, whose memory is not moved. No byte of the first
+//!   message changes until it is taken: so a [`Lent`] may be read as long as its owner prevents takes of that
+//!   channel;
+//! - a message that `lcmux_peer_next` borrows has memory of its own, which stays until the frame is written or
+//!   counted as sent;
+//! - the memory behind a handle is plain data from `malloc`, which no thread owns: hence `Send`.
 #![allow(unsafe_code)]
 
+use crate::CHANNELS;
 use std::cell::UnsafeCell;
 use std::ffi::c_void;
+use std::mem::size_of;
 use std::ops::Deref;
 use std::ptr::{self, NonNull};
 use std::slice;
@@ -35,7 +38,7 @@ pub(crate) struct Answer {
 pub(crate) struct Config {
     pub version: u32,
     pub slots: u32,
-    pub capacities: [u32; 7],
+    pub capacities: [u32; CHANNELS],
 }
 
 #[repr(C)]
@@ -48,6 +51,7 @@ pub(crate) struct Delivery {
 #[repr(C)]
 #[derive(Default)]
 pub(crate) struct Client {
+    size: u64,
     pub held: u64,
     pub received: u64,
     pub spent: u64,
@@ -62,8 +66,12 @@ pub(crate) struct Client {
 #[repr(C)]
 #[derive(Default)]
 pub(crate) struct Server {
+    size: u64,
     pub capacity: u64,
     pub issued: u64,
+    pub received: u64,
+    pub taken: u64,
+    pub absolved: u64,
     pub outstanding: u64,
     pub buffered: u64,
     pub room: u64,
@@ -86,7 +94,8 @@ pub(crate) struct ChannelReady {
 #[repr(C)]
 #[derive(Default)]
 pub(crate) struct Ready {
-    pub channels: [ChannelReady; 7],
+    size: u64,
+    pub channels: [ChannelReady; CHANNELS],
 }
 
 #[repr(C)]
@@ -108,16 +117,16 @@ struct Pieces {
     rest: Piece,
 }
 
-/// A message where it lies, in one piece: the first one of a channel, until it is taken, or that of the frame
-/// that goes out next, until that is written or counted as sent. Who keeps one longer than a call sees to it that
-/// this does not happen before, and that the handle is not dropped. Or a slice of a caller's, who waits until it was read.
+/// A borrowed message in one slice: the first message of a channel, until it is taken; or the message of the next
+/// outbound frame, until that is written or counted as sent; or a slice of a caller that waits until it was read. The
+/// owner of a `Lent` that outlives a call ensures that the message stays, and that the handle is not dropped.
 #[derive(Clone, Copy, Debug, PartialEq, Eq)]
 pub(crate) struct Lent {
     bytes: NonNull<u8>,
     len: usize,
 }
 
-// It is only read.
+// The bytes are only read.
 unsafe impl Send for Lent {}
 unsafe impl Sync for Lent {}
 
@@ -128,7 +137,7 @@ impl Lent {
     }
 }
 
-/// The caller keeps the slice as it is as long as the copy of it is used.
+/// The caller keeps the slice unchanged and alive while the copy is in use.
 impl From<&[u8]> for Lent {
     fn from(bytes: &[u8]) -> Lent {
         Lent {
@@ -154,7 +163,7 @@ struct RawNext {
     message: Piece,
 }
 
-/// The frame that goes out next: the bytes before its message, and that, which is empty where it has none.
+/// The next outbound frame: its header, and its message, which is empty if the frame carries none.
 pub(crate) struct Next {
     header: [u8; 9],
     header_len: usize,
@@ -206,7 +215,7 @@ extern "C" {
     fn lcmux_rs_version() -> u32;
 }
 
-/// This crate's version, as the archive tells its own.
+/// This crate's version, in the form in which the archive returns its own.
 pub(crate) const VERSION: u32 = decimal(env!("CARGO_PKG_VERSION_MAJOR")) << 16
     | decimal(env!("CARGO_PKG_VERSION_MINOR")) << 8
     | decimal(env!("CARGO_PKG_VERSION_PATCH"));
@@ -220,7 +229,7 @@ const fn decimal(text: &str) -> u32 {
     number
 }
 
-/// A peer behind its handle.
+/// The handle of a peer.
 pub(crate) struct Handle(UnsafeCell<Raw>);
 
 unsafe impl Send for Handle {}
@@ -340,7 +349,10 @@ impl Handle {
 
     #[inline]
     pub fn ready(&self) -> Ready {
-        let mut ready = Ready::default();
+        let mut ready = Ready {
+            size: size_of::<Ready>() as u64,
+            ..Ready::default()
+        };
         unsafe { lcmux_rs_peer_ready(self.0.get(), &mut ready) };
         ready
     }
@@ -399,7 +411,7 @@ impl Handle {
         Some((lent(first), lent(rest)))
     }
 
-    /// The first message in one piece: its second one lies right behind the first.
+    /// The first message as one slice: its second piece directly follows the first one in memory.
     #[inline]
     pub fn lend(&self, channel: u32) -> Option<Lent> {
         let Pieces { first, rest } = self.pieces(channel)?;
@@ -430,14 +442,20 @@ impl Handle {
 
     #[inline]
     pub fn client(&self, channel: u32) -> Client {
-        let mut client = Client::default();
+        let mut client = Client {
+            size: size_of::<Client>() as u64,
+            ..Client::default()
+        };
         unsafe { lcmux_rs_peer_client(self.0.get(), channel, &mut client) };
         client
     }
 
     #[inline]
     pub fn server(&self, channel: u32) -> Server {
-        let mut server = Server::default();
+        let mut server = Server {
+            size: size_of::<Server>() as u64,
+            ..Server::default()
+        };
         unsafe { lcmux_rs_peer_server(self.0.get(), channel, &mut server) };
         server
     }
@@ -447,7 +465,7 @@ pub(crate) fn version() -> u32 {
     unsafe { lcmux_rs_version() }
 }
 
-/// What the archive asks for memory by: the heap of the C library.
+/// The allocation functions that the archive calls, over the heap of the C library.
 mod heap {
     use std::ffi::c_void;
     use std::ptr;

@@ -1,5 +1,5 @@
 //! Random calls at two peers whose bytes are cut anywhere, beside a model of the rules.
-use lcmux::{Channel, Config, Needs, Peer, Refusal, Take, Version};
+use lcmux::{Channel, Config, Needs, Peer, Refusal, Take, Version, CHANNELS};
 use std::collections::VecDeque;
 
 const CAPACITY: u64 = 24;
@@ -35,7 +35,7 @@ impl Frame {
     }
 }
 
-// A channel in one direction, as its client and as its server see it.
+// A channel in one direction, as its sender and as its receiver know it.
 #[derive(Clone, Default)]
 struct Direction {
     held: u64,
@@ -65,7 +65,7 @@ impl Direction {
     }
 }
 
-// The rules: what an own call leaves of its direction, or why it is refused.
+// The rules: the effect of a local operation on its direction, or its refusal.
 impl Direction {
     fn sent(&self, len: u64) -> Result<Direction, Refusal> {
         match self.send_left {
@@ -125,7 +125,7 @@ impl Direction {
         }
     }
 
-    // What comes first, whatever the call is, then the rules of the call.
+    // The checks of every call, then the rules of this call.
     fn after(&self, frame: &Frame, version: Version) -> Result<Direction, Refusal> {
         let finished = match frame.is_of_client() {
             true => self.finished,
@@ -158,7 +158,7 @@ fn limited(left: Option<u64>, bound: u64) -> Result<u64, Refusal> {
     }
 }
 
-// What the call that puts a frame would answer.
+// The result of the would-call of a frame.
 fn asked(peer: &Peer, channel: Channel, frame: &Frame) -> Result<(), Refusal> {
     match frame {
         Frame::Send(body) => peer.would_send(channel, body.len()),
@@ -171,8 +171,8 @@ fn asked(peer: &Peer, channel: Channel, frame: &Frame) -> Result<(), Refusal> {
     }
 }
 
-// One side: the peer, and in the model what waits, what was begun, and its bytes on the wire. A
-// greeting is begun at the start.
+// One side: the peer, and in the model the pending frames, the frame that is written in part, and the bytes on the
+// wire. A preface is pending at the start.
 struct Side {
     peer: Peer,
     version: Version,
@@ -186,8 +186,8 @@ struct Side {
 
 struct Pair {
     sides: [Side; 2],
-    // By the client's side and the channel.
-    ways: [[Direction; 7]; 2],
+    // By the sender's side and the channel.
+    ways: [[Direction; CHANNELS]; 2],
 }
 
 struct Random(u64);
@@ -203,7 +203,7 @@ impl Random {
 }
 
 fn new_side(version: Version) -> Side {
-    let mut config = Config::new([CAPACITY as u32; 7], SLOTS as u32);
+    let mut config = Config::new([CAPACITY as u32; CHANNELS], SLOTS as u32);
     config.version = version;
     let greeting = if version == Version::One { 0 } else { 4 };
     Side {
@@ -235,7 +235,7 @@ fn new_frame(random: &mut Random) -> Frame {
 }
 
 impl Pair {
-    // The refusal of the books, by the table, then of the queue; else the frame is put.
+    // The refusal of the ledgers, by the table, then of the queue; else the frame is enqueued.
     fn expect(&mut self, me: usize, at: usize, frame: Frame) -> Result<(), Refusal> {
         let side = &mut self.sides[me];
         let way = match frame.is_of_client() {
@@ -270,7 +270,7 @@ impl Pair {
         assert_eq!(answer, self.expect(me, at, frame), "{shown}");
     }
 
-    // What a message needs, by what a send of it answers.
+    // What a message needs, by the result of a send.
     fn compare_needs(&self, me: usize, at: usize, frame: &Frame) {
         let Frame::Send(body) = frame else { return };
         let (side, way) = (&self.sides[me], &self.ways[me][at]);
@@ -331,7 +331,7 @@ impl Pair {
         assert_eq!(count, room - left);
     }
 
-    // Bytes arrive at a side from the other.
+    // Delivers bytes of one side to the other.
     fn deliver(&mut self, me: usize, most: usize) {
         let other = &mut self.sides[1 - me];
         let count = most.min(other.wire.len());
@@ -476,7 +476,7 @@ impl Pair {
         }
     }
 
-    // Once all has arrived, both sides of a direction know the same of it.
+    // Once all bytes have arrived, both sides of a direction agree.
     fn settle(&mut self) {
         (0..2).for_each(|me| self.write(me, 1_000));
         (0..2).for_each(|me| self.deliver(me, usize::MAX));

@@ -1,19 +1,23 @@
-//! What peers ask memory for and give back: the `malloc`, `calloc`, `realloc` and `free` of this program
-//! count what a thread asks for, and refuse it a request.
-use lcmux::{Channel::Data, Config, Peer, PeerFault, Refusal};
+//! The allocations of peers: the `malloc`, `calloc`, `realloc` and `free` of this program count the requests of a
+//! thread and refuse one of them.
+use lcmux::{Channel::Data, Config, Mux, Peer, PeerFault, PollRead, Refusal, CHANNELS};
 use std::cell::Cell;
 use std::ffi::c_void;
+use std::io::{self, Read};
+use std::sync::Arc;
+use std::task::{Context, Poll, Wake, Waker};
+use std::time::Duration;
 use std::{ptr, slice};
 
-/// What a thread asked for since it is watched.
+/// The requests of a thread since it is watched.
 #[derive(Clone, Copy, Debug, PartialEq)]
 struct Heap {
     requests: usize,
-    /// The request that is refused, from 1; 0 where none is.
+    /// The request that is refused, from 1; 0 for none.
     refused: usize,
     /// The bytes of the last request.
     size: usize,
-    /// Blocks that were got, less those that were given back.
+    /// Blocks that were allocated and not freed.
     live: isize,
 }
 
@@ -28,7 +32,7 @@ extern "C" {
     fn __libc_free(at: *mut c_void);
 }
 
-/// Whether a request is granted. `blocks` is how many more there are then.
+/// Returns whether a request is granted. `blocks` is how many blocks it adds.
 fn is_granted(size: usize, blocks: isize) -> bool {
     let mut heap = HEAP.get();
     heap.requests += 1;
@@ -71,7 +75,7 @@ unsafe extern "C" fn free(at: *mut c_void) {
     __libc_free(at)
 }
 
-/// What a call answers, and what it asks for, where the request of this number is refused.
+/// The result of a call and its requests, if the request of this number is refused.
 fn watched<T>(refused: usize, call: impl FnOnce() -> T) -> (T, Heap) {
     HEAP.set(Heap {
         requests: 0,
@@ -81,14 +85,14 @@ fn watched<T>(refused: usize, call: impl FnOnce() -> T) -> (T, Heap) {
     });
     let answer = call();
     let heap = HEAP.get();
-    // What comes behind the call is refused nothing.
+    // Later requests are granted.
     HEAP.set(Heap { refused: 0, ..heap });
     (answer, heap)
 }
 
 #[test]
 fn each_request_of_a_new_peer_is_refused_in_turn() {
-    let config = Config::new([8; 7], 4);
+    let config = Config::new([8; CHANNELS], 4);
     for refused in 1..=18 {
         let (made, heap) = watched(refused, || Peer::new(&config).err());
         assert_eq!(made, Some(PeerFault::OutOfMemory));
@@ -98,13 +102,13 @@ fn each_request_of_a_new_peer_is_refused_in_turn() {
     assert_eq!((made.requests, made.live), (18, 18));
     let ((), dropped) = watched(0, || drop(peer));
     assert_eq!((dropped.requests, dropped.live), (0, -18));
-    let (_, bad) = watched(0, || Peer::new(&Config::new([0; 7], 4)).is_err());
+    let (_, bad) = watched(0, || Peer::new(&Config::new([0; CHANNELS], 4)).is_err());
     assert_eq!((bad.requests, bad.live), (0, 0));
 }
 
 #[test]
 fn a_send_that_is_refused_memory_changes_nothing() {
-    let mut peer = Peer::new(&Config::new([8; 7], 4)).unwrap();
+    let mut peer = Peer::new(&Config::new([8; CHANNELS], 4)).unwrap();
     assert_eq!(peer.deliver(&[0x21, 0, 0, 0, 5]).frames, 1);
     let (sent, heap) = watched(1, || peer.send(Data, b"hello"));
     assert_eq!(sent, Err(Refusal::OutOfMemory));
@@ -118,10 +122,10 @@ fn a_send_that_is_refused_memory_changes_nothing() {
     assert_eq!((count, heap.requests, heap.live), (8, 0, -1));
 }
 
-/// A message in the ring, a frame that waits and one of which the first byte went out.
+/// A message in the ring, a pending frame, and a frame that is written in part.
 #[test]
 fn a_peer_gives_back_what_waits_in_it() {
-    let config = Config::new([8; 7], 4);
+    let config = Config::new([8; CHANNELS], 4);
     let ((), heap) = watched(0, || {
         let mut peer = Peer::new(&config).unwrap();
         peer.issue(Data, 5).unwrap();
@@ -136,7 +140,7 @@ fn a_peer_gives_back_what_waits_in_it() {
 
 #[test]
 fn the_first_write_and_the_first_read_ask_for_16_kib_and_no_later_one_for_any() {
-    let mut peer = Peer::new(&Config::new([8; 7], 4)).unwrap();
+    let mut peer = Peer::new(&Config::new([8; CHANNELS], 4)).unwrap();
     let mut wire = Vec::with_capacity(64);
     for requests in [1, 0] {
         peer.issue(Data, 4).unwrap();
@@ -149,7 +153,7 @@ fn the_first_write_and_the_first_read_ask_for_16_kib_and_no_later_one_for_any() 
     assert_eq!(heap.live, -20);
 }
 
-/// What the archive calls in place of `malloc`, `realloc` and `free`.
+/// The functions that the archive calls in place of `malloc`, `realloc` and `free`.
 mod edge {
     use super::c_void;
 
@@ -166,7 +170,7 @@ mod edge {
     }
 }
 
-/// Sizes and alignments, with how many bytes have to be asked for: some, where nothing is wanted.
+/// Sizes and alignments, with the bytes that have to be requested: some, even for a size of 0.
 const REQUESTS: [(usize, usize, usize); 6] = [
     (0, 1, 1),
     (0, 16, 16),
@@ -219,5 +223,49 @@ fn a_block_keeps_its_bytes_when_it_moves_and_when_that_is_refused() {
         assert_eq!(bytes_at(tried.at, kept), &b"what was in here"[..kept]);
         bytes_at(tried.at, size).fill(7);
         unsafe { edge::lcmux_rs_dealloc(tried.at) };
+    }
+}
+
+/// A reader borrows each message in the ring, also on a thread that blocks.
+#[test]
+fn a_reader_allocates_nothing_for_a_message() {
+    let (mut mux, mut driver) = Mux::new(Config::new([64; CHANNELS], 16)).unwrap();
+    let mut reader = mux.receiver(Data).unwrap().into_reader();
+    reader.set_timeout(Some(Duration::from_secs(60))); // no thread moves the bytes: it would wait for good
+    let waker = Waker::from(Arc::new(Ignored));
+    let mut cx = Context::from_waker(&waker);
+    let mut requests = Vec::new();
+    for round in 0..20 {
+        let mut message = Inbound(&[[0x11, 0, 40].as_slice(), &[round; 40]].concat());
+        assert!(driver.poll_read(&mut cx, &mut message).is_pending());
+        let (read, heap) = watched(0, || {
+            let mut bytes = [0; 40];
+            let mut polled = [0; 4];
+            assert!(reader.poll_read(&mut cx, &mut polled).is_ready());
+            reader.read_exact(&mut bytes[4..]).map(|()| (bytes, polled))
+        });
+        let (bytes, polled) = read.unwrap();
+        assert_eq!((&bytes[4..], polled), (&[round; 36][..], [round; 4]));
+        requests.push(heap.requests);
+        assert!(driver.poll_write(&mut cx, &mut Vec::new()).is_pending());
+    }
+    assert_eq!(requests[1..], [0; 19]);
+}
+
+struct Ignored;
+
+impl Wake for Ignored {
+    fn wake(self: Arc<Ignored>) {}
+}
+
+/// Inbound bytes, after which the transport is pending.
+struct Inbound<'a>(&'a [u8]);
+
+impl PollRead for Inbound<'_> {
+    fn poll_read(&mut self, cx: &mut Context<'_>, buffer: &mut [u8]) -> Poll<io::Result<usize>> {
+        match self.0.is_empty() {
+            true => Poll::Pending,
+            false => self.0.poll_read(cx, buffer),
+        }
     }
 }

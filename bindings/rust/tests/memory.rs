@@ -1,11 +1,11 @@
-//! How much of the machine's memory a peer takes up that has written and read.
-use lcmux::{Channel::Data, Config, Peer, Stop, Take, Version, Violation};
+//! The resident memory of a peer that has written and read.
+use lcmux::{Channel, Channel::Data, Config, Peer, Stop, Take, Version, Violation, CHANNELS};
 use std::fs;
 
-/// Bytes of a hostile message. They are not on the heap, where what they leave would be a later peer's.
+/// The bytes of a hostile message. They are not on the heap, since a later peer could reuse their pages.
 const PIECE: [u8; 1_024] = [7; 1_024];
 
-/// The bytes of this process that are in memory, by all lines `Rss:  4 kB`.
+/// The resident bytes of this process, by all lines `Rss:  4 kB`.
 fn resident() -> usize {
     let maps = fs::read_to_string("/proc/self/smaps").unwrap();
     let kib = maps.lines().filter_map(|line| {
@@ -18,7 +18,7 @@ fn resident() -> usize {
 
 /// Two peers with rings of this size, after a message of that length each way.
 fn used(len: usize) -> [Peer; 2] {
-    let mut config = Config::new([len as u32; 7], 4);
+    let mut config = Config::new([len as u32; CHANNELS], 4);
     config.version = Version::Two;
     let mut peers = [Peer::new(&config).unwrap(), Peer::new(&config).unwrap()];
     peers
@@ -51,9 +51,9 @@ fn carry(peers: &mut [Peer; 2]) {
     }
 }
 
-/// A peer to which all came of a message of 1 MiB, which its rings of this size can't hold, but for its last byte.
+/// A peer that received a message of 1 MiB, which its rings of this size cannot hold, apart from its last byte.
 fn besieged(ring: u32) -> Peer {
-    let mut peer = Peer::new(&Config::new([ring; 7], 4)).unwrap();
+    let mut peer = Peer::new(&Config::new([ring; CHANNELS], 4)).unwrap();
     let header = peer.deliver(b"LCM\x02\x11\x00\x10\x00\x00");
     assert_eq!((header.taken, header.stop), (9, None));
     for _ in 1..(1 << 20) / PIECE.len() {
@@ -63,7 +63,43 @@ fn besieged(ring: u32) -> Peer {
     peer
 }
 
-/// One test, since what runs beside it would be counted too.
+/// A peer that has issued all of its rings of this size.
+fn open(ring: u32) -> Peer {
+    let mut peer = Peer::new(&Config::new([ring; CHANNELS], 64)).unwrap();
+    for channel in Channel::ALL {
+        peer.issue(channel, ring).unwrap();
+    }
+    peer
+}
+
+/// A stream of messages of one byte that fill all rings of this size.
+fn short_messages(ring: u32) -> Vec<u8> {
+    let mut issued = Vec::new();
+    open(ring).write_to(&mut issued).unwrap();
+    let mut client = Peer::new(&Config::new([ring; CHANNELS], 64)).unwrap();
+    client.read_from(&mut issued.as_slice()).unwrap();
+    let mut bytes = Vec::new();
+    for channel in Channel::ALL {
+        for _ in 0..ring {
+            client.send(channel, b"m").unwrap();
+            client.write_to(&mut bytes).unwrap();
+        }
+    }
+    bytes
+}
+
+/// A peer at which this stream has arrived, and which has taken nothing.
+fn crowded(ring: u32, bytes: &[u8]) -> Peer {
+    let mut peer = open(ring);
+    peer.write_to(&mut Vec::new()).unwrap();
+    let mut rest = bytes;
+    while !rest.is_empty() {
+        peer.read_from(&mut rest).unwrap();
+    }
+    peer
+}
+
+/// One test, since a concurrent one would be counted, too.
 #[test]
 fn what_a_peer_takes_up_with_short_long_and_hostile_messages() {
     const PAIRS: usize = 50;
@@ -92,4 +128,14 @@ fn what_a_peer_takes_up_with_short_long_and_hostile_messages() {
             );
         }
     }
+
+    const RING: u32 = 32_768;
+    const CROWDED: usize = 10;
+    let bytes = short_messages(RING);
+    let before = resident();
+    let peers: Vec<_> = (0..CROWDED).map(|_| crowded(RING, &bytes)).collect();
+    let each = (resident() - before) / CROWDED;
+    let most = 72 * 1024 + 7 * RING as usize * 21 / 10;
+    assert!((4_096..most).contains(&each), "{each} bytes");
+    drop(peers);
 }

@@ -1,26 +1,26 @@
-//! What the calls of a peer put, answer and leave, where `rows.txt` does not say it.
+//! The frames, the results and the effects of calls that `rows.txt` does not cover.
 mod common;
 
 use common::{hex, rows};
 use lcmux::{
     Channel,
     Channel::{Data, Overlap},
-    ClientBook, Config, Delivery, Peer, PeerFault, Refusal, ServerBook, Take, Version,
+    ClientBook, Config, Delivery, Peer, PeerFault, Refusal, ServerBook, Take, Version, CHANNELS,
 };
 use std::marker::PhantomData;
 use std::thread;
 
-fn peer_in(version: Version, capacities: [u32; 7]) -> Peer {
+fn peer_in(version: Version, capacities: [u32; CHANNELS]) -> Peer {
     let mut config = Config::new(capacities, 16);
     config.version = version;
     Peer::new(&config).unwrap()
 }
 
 fn peer() -> Peer {
-    peer_in(Version::One, [300_000; 7])
+    peer_in(Version::One, [300_000; CHANNELS])
 }
 
-/// All that waits at one peer arrives at the other.
+/// Delivers all pending bytes of one peer to the other.
 fn carry(from: &mut Peer, to: &mut Peer) {
     let mut wire = vec![0; from.pending()];
     assert_eq!(from.write(&mut wire), wire.len());
@@ -61,23 +61,28 @@ fn versions_have_their_numbers_and_one_is_the_default() {
     }
     assert_eq!([0, 3, 255].map(Version::from_number), [None; 3]);
     assert_eq!(Version::default(), Version::One);
-    assert_eq!(Config::new([8; 7], 4).version, Version::One);
+    assert_eq!(Config::new([8; CHANNELS], 4).version, Version::One);
 }
 
 #[test]
 fn a_configuration_is_judged_by_channel_then_by_slots() {
     let bad = |capacities, slots| Peer::new(&Config::new(capacities, slots)).unwrap_err();
-    let capacity_of = |channel| PeerFault::BadCapacity { channel };
+    let capacity_of = |channel, capacity| PeerFault::BadCapacity { channel, capacity };
     assert_eq!(
         bad([8, 8, 8, 8, 8, 8, 0], 0),
-        capacity_of(Channel::StaticToken)
+        capacity_of(Channel::StaticToken, 0)
     );
     assert_eq!(
         bad([8, 8, 0, 8, 8, (1 << 24) + 1, 8], 4),
-        capacity_of(Overlap)
+        capacity_of(Overlap, 0)
     );
-    assert_eq!(bad([8; 7], 0), PeerFault::BadSlots);
-    assert_eq!(bad([8; 7], 65_537), PeerFault::BadSlots);
+    let wide = (1 << 24) + 1;
+    assert_eq!(bad([8, 8, wide, 8, 8, 8, 8], 4), capacity_of(Overlap, wide));
+    assert_eq!(bad([8; CHANNELS], 0), PeerFault::BadSlots { slots: 0 });
+    assert_eq!(
+        bad([8; CHANNELS], 65_537),
+        PeerFault::BadSlots { slots: 65_537 }
+    );
     let widest = Peer::new(&Config::new([1, 2, 3, 4, 5, 6, 1 << 24], 65_536)).unwrap();
     let capacities = Channel::ALL.map(|channel| widest.server(channel).capacity);
     assert_eq!(capacities, [1, 2, 3, 4, 5, 6, 1 << 24]);
@@ -86,7 +91,7 @@ fn a_configuration_is_judged_by_channel_then_by_slots() {
 #[test]
 fn each_call_puts_its_frame_on_its_channel() {
     for channel in Channel::ALL {
-        let mut peer = peer_in(Version::Two, [8; 7]);
+        let mut peer = peer_in(Version::Two, [8; CHANNELS]);
         let tag = |kind: u8| 16 * kind + channel.number();
         let arrived = peer.deliver(&[tag(2), 0, 0, 0, 9]);
         assert_eq!(arrived.frames, 1);
@@ -165,7 +170,7 @@ fn messages_are_taken_one_by_one() {
 
 #[test]
 fn a_message_that_goes_round_the_end_of_its_ring_is_lent_in_two_pieces() {
-    let mut peer = Peer::new(&Config::new([8; 7], 4)).unwrap();
+    let mut peer = Peer::new(&Config::new([8; CHANNELS], 4)).unwrap();
     assert_eq!(peer.front(Data), None);
     assert_eq!(peer.pop(Data), Take::Empty);
     peer.issue(Data, 8).unwrap();
@@ -191,7 +196,7 @@ fn a_message_that_goes_round_the_end_of_its_ring_is_lent_in_two_pieces() {
     assert_eq!(peer.pop(Data), Take::Ended);
 }
 
-/// A peer that sent, was asked and limited, and one that received, with what both say of the channel.
+/// A peer that sent, got a plead and set limits, and one that received, with the ledgers of both.
 #[test]
 fn both_books_show_each_balance() {
     let capacities = [0, 1, 2, 3, 4, 5, 6].map(|number| 1_000_000 + number);
@@ -222,6 +227,9 @@ fn both_books_show_each_balance() {
     let receiving = ServerBook {
         capacity: 1_000_002,
         issued: 300_000,
+        received: 40,
+        taken: 0,
+        absolved: 15,
         outstanding: 299_945,
         buffered: 40,
         room: 700_017,
@@ -259,8 +267,8 @@ fn both_books_show_each_balance() {
     assert_eq!(server.server(Overlap), receiving);
 }
 
-// A piece, then how many bytes of it were taken, how many frames arrived, and why it stopped. A fault is
-// known with its byte or its number, a violation with its whole frame.
+// A chunk, then how many bytes of it were consumed, how many frames arrived, and the protocol error. A fault is
+// detected at its byte or its number, a violation at its whole frame.
 const DELIVERIES: &str = "\
 - => 0 0 None
 21000000052100 => 7 1 None
@@ -285,7 +293,7 @@ fn a_delivery_says_what_it_took_and_where_it_stopped() {
     }
 }
 
-// What came of a stream, and what it means that it ends there.
+// The bytes of a stream, and the result of an end there.
 const ENDS: &str = "\
 - => Ok(())
 4c43 => Err(Fault(Truncated))
@@ -302,7 +310,7 @@ fn the_end_of_a_stream_is_judged_by_what_is_held() {
     }
 }
 
-/// Whether a type is `Sync`: a constant of the type itself comes before one of a trait.
+/// Whether a type is `Sync`: a constant of the type itself precedes one of a trait.
 struct Threads<T>(PhantomData<T>);
 
 trait OneAtATime {

@@ -2,11 +2,11 @@
 mod common;
 
 use common::{hex, shared};
-use lcmux::{Channel, Config, Needs, Peer, Ready, Refusal, Stop, Take, Version};
+use lcmux::{Channel, Config, Needs, Peer, Ready, Refusal, Stop, Take, Version, CHANNELS};
 
 struct Side {
     peer: Peer,
-    // The side's bytes that did not arrive yet.
+    // The bytes of the side that have not arrived.
     wire: Vec<u8>,
 }
 
@@ -50,8 +50,8 @@ fn needed(needs: Needs) -> String {
     }
 }
 
-// The channels on which there is something to do, and what.
-fn ready(all: [Ready; 7]) -> String {
+// The channels that the application can act on, and how.
+fn ready(all: [Ready; CHANNELS]) -> String {
     let mut words = Vec::new();
     for (channel, ready) in all.into_iter().enumerate() {
         let flags = [
@@ -112,7 +112,7 @@ fn taken(take: Result<Take, Refusal>, buffer: &[u8]) -> String {
     }
 }
 
-// What was waived, where the channel is finished.
+// The waived guarantees, if the channel is finished.
 fn waived(finished: bool, waived: u64) -> String {
     match (finished, waived) {
         (false, 0) => String::new(),
@@ -144,7 +144,7 @@ fn balances(peer: &Peer, word: &str, channel: Channel) -> String {
     )
 }
 
-// A call of the side `me`, in words.
+// Runs a call of the side `me`, given as words.
 fn answer(me: &mut Side, other: &mut Side, words: &[&str], piece: usize) -> String {
     let number = |at: usize| {
         words
@@ -190,7 +190,7 @@ fn answer(me: &mut Side, other: &mut Side, words: &[&str], piece: usize) -> Stri
         "would-finish" => own(peer.would_finish(channel)),
         "would-honour" => honoured(peer.would_honour(channel)),
         "needs" => needed(peer.needs(channel, number(2) as usize)),
-        // A lent message, copied and dropped.
+        // A borrowed message, copied and dropped.
         "take" if words.len() == 2 && piece == 1 => match peer.take(channel) {
             Take::Took(message) => format!("took {}", unhex(&message)),
             Take::Empty => "empty".into(),
@@ -215,9 +215,12 @@ fn answer(me: &mut Side, other: &mut Side, words: &[&str], piece: usize) -> Stri
     }
 }
 
-// The bytes of every ring, how many frames may wait, and the version where it is not One.
+// The size of every ring, the slots, and the version if it is not One.
 fn side(words: &[&str]) -> Side {
-    let mut config = Config::new([words[0].parse().unwrap(); 7], words[1].parse().unwrap());
+    let mut config = Config::new(
+        [words[0].parse().unwrap(); CHANNELS],
+        words[1].parse().unwrap(),
+    );
     if let Some(number) = words.get(2) {
         config.version = Version::from_number(number.parse().unwrap()).unwrap();
     }

@@ -1,5 +1,5 @@
-//! `read_from` and `write_to` over readers and writers that are interrupted, block, fail, stop, and
-//! take or give less than they could.
+//! `read_from` and `write_to` over readers and writers that are interrupted, block, fail, stop, and read or write
+//! less than they could.
 mod common;
 #[path = "common/watchdog.rs"]
 mod watchdog;
@@ -7,7 +7,7 @@ mod watchdog;
 use common::{hex, rows};
 use lcmux::{
     Channel::{Capability, Data, Overlap},
-    Config, Fault, Incoming, Overrun, Peer, ReadError, Stop, Take, Version,
+    Config, Fault, Incoming, Overrun, Peer, ReadError, Stop, Take, Version, CHANNELS,
 };
 use std::collections::VecDeque;
 use std::io::{self, ErrorKind, Read, Write};
@@ -21,10 +21,10 @@ use watchdog::Watchdog;
 const ISSUE: [u8; 5] = [0x21, 0, 0, 0, 5];
 
 fn peer() -> Peer {
-    Peer::new(&Config::new([8; 7], 4)).unwrap()
+    Peer::new(&Config::new([8; CHANNELS], 4)).unwrap()
 }
 
-/// What a device answers, call by call: each word is the name of an error, or what was done.
+/// The results of a device, call by call: each word is the name of an error, or a success.
 fn script<T>(words: &str, done: fn(&str) -> T) -> VecDeque<io::Result<T>> {
     let kinds = [
         ErrorKind::Interrupted,
@@ -40,7 +40,8 @@ fn script<T>(words: &str, done: fn(&str) -> T) -> VecDeque<io::Result<T>> {
     words.split_whitespace().map(answer).collect()
 }
 
-/// Takes so many bytes at each call, and then all; keeps what it took, and how much it was offered.
+/// Accepts this many bytes at each call, and then all; records the bytes that it accepted and how many it was
+/// offered.
 struct Writer {
     answers: VecDeque<io::Result<usize>>,
     taken: Vec<u8>,
@@ -71,7 +72,7 @@ impl Write for Writer {
     }
 }
 
-/// Gives bytes at each call, and then ends; keeps how much it was asked for.
+/// Reads bytes at each call, and then ends; records how many it was asked for.
 struct Reader {
     answers: VecDeque<io::Result<Vec<u8>>>,
     asked: Vec<usize>,
@@ -90,7 +91,7 @@ impl Read for Reader {
     fn read(&mut self, buffer: &mut [u8]) -> io::Result<usize> {
         self.asked.push(buffer.len());
         assert!(self.asked.len() < 100, "the reader is called on and on");
-        // What an earlier read left in the buffer is no byte of this one.
+        // The buffer may contain bytes of an earlier read.
         buffer.fill(0x77);
         let bytes = self.answers.pop_front().unwrap_or(Ok(Vec::new()))?;
         buffer[..bytes.len()].copy_from_slice(&bytes);
@@ -98,7 +99,7 @@ impl Read for Reader {
     }
 }
 
-// What the writer answers, then what `write_to` does, and how many of five bytes the writer has.
+// The results of the writer, then the result of `write_to`, and how many of five bytes the writer has.
 const WRITES: &str = "\
 5 => 5, has 5
 1 1 2 1 => 5, has 5
@@ -129,7 +130,7 @@ fn a_write_that_stops_loses_nothing() {
     }
 }
 
-/// What waits is asked for in pieces, of which the first that is not full is the last.
+/// Pending bytes are fetched in chunks, and the first one that is not full is the last.
 #[test]
 fn a_write_offers_all_that_waits_by_pieces_of_16_kib() {
     for (body, offered) in [
@@ -164,7 +165,7 @@ fn a_short_piece_that_waited_for_the_writer_is_not_the_last() {
     assert_eq!((writer.offered, peer.pending()), (vec![5, 5], 0));
 }
 
-/// Takes what it is offered, or fills what it is asked for, and claims some bytes more.
+/// Accepts all offered bytes, or fills the buffer, and claims some bytes more.
 struct Boaster {
     more: usize,
     taken: Vec<u8>,
@@ -236,7 +237,7 @@ fn of_a_read_that_claims_more_than_was_asked_for_nothing_arrives() {
     }
 }
 
-/// Takes or gives the bytes of an issue but the last, and panics at the second call.
+/// Accepts or reads the bytes of an issue but the last, and panics at the second call.
 struct Broken(bool);
 
 impl Broken {
@@ -283,7 +284,7 @@ fn a_device_that_panics_leaves_both_streams_as_they_were() {
     assert_eq!(peer.client(Data).held, 5);
 }
 
-/// Three frames, of which the chunk had two when the third came.
+/// Three frames, of which the chunk has two when the third is enqueued.
 #[test]
 fn a_chunk_stays_until_it_is_advanced_over() {
     let mut peer = peer();
@@ -308,7 +309,7 @@ fn a_chunk_stays_until_it_is_advanced_over() {
     peer.advance(6).unwrap();
     assert_eq!((peer.pending(), peer.chunk()), (5, &[0x23, 0, 0, 0, 8][..]));
     peer.advance(1).unwrap();
-    // Nothing waits any more but what the chunk still has.
+    // Only the rest of the chunk is pending.
     assert!(peer.wants_write());
     let mut wire = Vec::new();
     assert_eq!(peer.write_to(&mut wire).unwrap(), 4);
@@ -316,7 +317,7 @@ fn a_chunk_stays_until_it_is_advanced_over() {
     assert!(!peer.wants_write());
 }
 
-/// Two frames of which a writer took six bytes, and a third behind them.
+/// Two frames of which a writer accepted six bytes, and a third after them.
 #[test]
 fn a_buffer_gets_what_no_writer_took_and_then_what_waits() {
     let frames = [[0x21, 0, 0, 0, 5], [0x22, 0, 0, 0, 7], [0x23, 0, 0, 0, 8]].concat();
@@ -340,8 +341,8 @@ fn a_buffer_gets_what_no_writer_took_and_then_what_waits() {
     }
 }
 
-// What the reader answers, then what `read_from` does, call by call, and how much is held then. Behind a
-// stop stands how many frames arrived in that call.
+// The results of the reader, then those of `read_from`, call by call, and the guarantees that are held then. A
+// protocol error is followed by the number of frames that arrived in that call.
 const READS: &str = "\
 - => 0 0, held 0
 2100000005 => 5 0 0, held 5
@@ -398,8 +399,8 @@ impl Read for Stream {
     }
 }
 
-// What the stream answers to writes and, behind `|`, to reads; then what one drive says: how many bytes it
-// wrote and read, whether it is blocked, and how the read went. Five bytes wait to go out.
+// The results of writes and, after `|`, of reads of the stream; then the result of one drive: the bytes that it wrote
+// and read, whether it is blocked, and the state of the inbound stream. Five bytes are pending.
 const DRIVES: &str = "\
 5 | 2100000005 => 5 5 false Open
 2 Interrupted 3 | Interrupted 2100 => 5 2 false Open
@@ -451,7 +452,7 @@ fn a_drive_over_a_stream_that_was_given_up_still_writes() {
 
 type End = fn() -> io::Result<usize>;
 
-/// Gives the front of a message of 1 MiB, in reads as long as they may be, and takes nothing for now.
+/// Reads the beginning of a message of 1 MiB, in reads as long as possible, and accepts nothing for now.
 struct Long {
     left: usize,
     writes: usize,
@@ -489,10 +490,10 @@ impl Read for Long {
     }
 }
 
-/// What one drive says of so many bytes and what is behind them, and how many reads it made; `frames` are to
-/// go out, which the stream does not take.
+/// The result of one drive over this many bytes and their continuation, and how many reads it made; `frames` are
+/// pending, and the stream does not accept them.
 fn driven(left: usize, end: End, frames: u32) -> String {
-    let mut peer = Peer::new(&Config::new([1 << 20; 7], 4)).unwrap();
+    let mut peer = Peer::new(&Config::new([1 << 20; CHANNELS], 4)).unwrap();
     peer.issue(Data, 1 << 20).unwrap();
     let count = peer.chunk().len();
     peer.advance(count).unwrap();
@@ -528,7 +529,7 @@ fn a_drive_that_could_not_write_all_reads_while_pieces_are_full() {
     }
 }
 
-/// The stream may be one that blocks: a second read would wait for what the other side may never write.
+/// The stream may be a blocking one: a second read would wait for bytes that the peer may never write.
 #[test]
 fn a_drive_that_wrote_all_reads_once() {
     let blocks: End = || panic!("a second read waits for good");
@@ -545,9 +546,9 @@ fn a_drive_that_wrote_all_reads_once() {
 const SWAPPED: usize = 40;
 const LONG: usize = 60_000;
 
-/// Sends all messages and takes as many of the other side's, each with room for far more than a socket holds.
+/// Sends all messages and takes as many of the peer's, each ring with space for far more than a socket buffers.
 fn swap(mut stream: UnixStream) {
-    let mut peer = Peer::new(&Config::new([4 << 20; 7], 200)).unwrap();
+    let mut peer = Peer::new(&Config::new([4 << 20; CHANNELS], 200)).unwrap();
     let (mut sent, mut taken, mut owed) = (0, 0, 4 << 20);
     let deadline = Instant::now() + Duration::from_secs(60);
     while sent < SWAPPED || taken < SWAPPED || peer.pending() > 0 {
@@ -595,7 +596,7 @@ fn drives_over_sockets_that_do_not_block_do_not_wait_for_each_other() {
     swap_over(|stream| stream.set_nonblocking(true));
 }
 
-/// All that waits at one peer goes to the other, by as many reads as that takes.
+/// Delivers all pending bytes of one peer to the other, in as many reads as necessary.
 fn carry(from: &mut Peer, to: &mut Peer) -> usize {
     let mut wire = Vec::new();
     from.write_to(&mut wire).unwrap();
@@ -618,7 +619,7 @@ fn messages_of_every_length_that_a_frame_has() {
         ),
     ];
     for (version, header, lengths) in lengths {
-        let mut config = Config::new([1 << 20; 7], 4);
+        let mut config = Config::new([1 << 20; CHANNELS], 4);
         config.version = version;
         let (mut client, mut server) = (Peer::new(&config).unwrap(), Peer::new(&config).unwrap());
         carry(&mut client, &mut server);

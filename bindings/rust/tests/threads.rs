@@ -1,10 +1,10 @@
-//! Twenty-eight ends of two sessions on threads, on one, two and four processors, beside threads that do
-//! nothing but run.
+//! Twenty-eight handles of two sessions on threads, on one, two and four processors, beside threads that only burn
+//! processor time.
 //!
-//! ThreadSanitizer sees std's locks only where std is built with it, whose source the toolchain at hand
-//! lacks; tried without, it names the locks' own steps as races. Miri runs no C, and is not at hand. The one
-//! unsafe module has no threads in it, and all that threads share is behind one `Mutex`.
-use lcmux::{Channel, Closed, Config, IssuePolicy, Mux, MuxConfig, Receiver, Sender};
+//! ThreadSanitizer recognizes the locks of std only if std is built with it, and the toolchain at hand lacks the
+//! source of std. Without that, it reports the steps of the locks as races. Miri runs no C, and is not at hand. The
+//! one unsafe module has no threads, and all shared state is behind one `Mutex`.
+use lcmux::{Channel, Closed, Config, IssuePolicy, Mux, MuxConfig, Receiver, Sender, CHANNELS};
 use std::os::unix::net::UnixStream;
 use std::sync::atomic::{AtomicBool, Ordering};
 use std::sync::Arc;
@@ -19,7 +19,7 @@ use watchdog::Watchdog;
 const MESSAGES: u32 = 300;
 const EATERS: usize = 4;
 
-/// A set of processors, as `sched_setaffinity` of the C library has it.
+/// A set of processors, in the form of `sched_setaffinity` of the C library.
 type Processors = [u64; 16];
 
 extern "C" {
@@ -27,7 +27,7 @@ extern "C" {
     fn sched_setaffinity(process: i32, size: usize, set: *const Processors) -> i32;
 }
 
-/// This thread, and those that it starts, run on the first of the processors that it has, at most so many.
+/// Restricts this thread, and those that it starts, to the first `count` of its processors.
 fn on_processors(count: u32) {
     let (mut all, mut first) = (Processors::default(), Processors::default());
     let size = std::mem::size_of::<Processors>();
@@ -56,7 +56,7 @@ fn body(channel: Channel, number: u32) -> Vec<u8> {
     body
 }
 
-// Each way that waits, in turn.
+// Uses each waiting call in turn.
 fn send(sender: &Sender) -> Result<(), Closed> {
     for number in 0..MESSAGES {
         let body = body(sender.channel(), number);
@@ -107,8 +107,8 @@ fn receive(receiver: &mut Receiver, watchdog: &Watchdog) -> Result<u32, Closed> 
 }
 
 fn side(stream: UnixStream, issue: IssuePolicy, watchdog: &Arc<Watchdog>) -> Vec<JoinHandle<()>> {
-    let mut config = MuxConfig::from(Config::new([64; 7], 16));
-    config.issue = [issue; 7];
+    let mut config = MuxConfig::from(Config::new([64; CHANNELS], 16));
+    config.issue = [issue; CHANNELS];
     let (mut mux, driver) = Mux::new(config).unwrap();
     let mut threads = Vec::new();
     for channel in Channel::ALL {
@@ -126,7 +126,7 @@ fn side(stream: UnixStream, issue: IssuePolicy, watchdog: &Arc<Watchdog>) -> Vec
     threads
 }
 
-/// One test, since the threads of another would not be where these are.
+/// One test, since the threads of another one would run on other processors.
 #[test]
 fn all_ends_on_one_two_and_four_processors_beside_eaters() {
     for count in [4, 2, 1] {

@@ -1,4 +1,4 @@
-//! What the benchmarks of sessions send, and how they say what it took.
+//! The load of the benchmarks of sessions, and its results.
 use lcmux::Channel;
 use std::error::Error;
 use std::time::{Duration, Instant};
@@ -7,13 +7,13 @@ use std::{env, fs};
 /// The lanes of two sessions.
 const LANES: u32 = 14;
 
-/// How long a figure is taken at least.
+/// The least time of a measurement.
 const TARGET: Duration = Duration::from_secs(1);
 
-/// What goes through a session: so many messages on each channel and way.
+/// The messages of a session: this many on each channel and way.
 #[derive(Clone, Copy)]
 pub struct Load {
-    /// Of each message, and with 0 those of 4 to 16 bytes.
+    /// The length of each message; 0 stands for 4 to 16 bytes.
     len: usize,
     pub count: u32,
 }
@@ -21,7 +21,7 @@ pub struct Load {
 impl Load {
     const ALL: [(&'static str, usize); 3] = [("small", 0), ("1k", 1_024), ("60k", 61_440)];
 
-    /// The message of a number: the number, and then the channel's.
+    /// The message of a number: the number, and then bytes of the channel's number.
     pub fn write(&self, number: u32, channel: Channel, message: &mut Vec<u8>) {
         let len = match self.len {
             0 => 4 + number as usize % 13,
@@ -33,7 +33,7 @@ impl Load {
     }
 }
 
-/// The processor time of this process until now, to a hundredth of a second.
+/// The processor time of this process so far, to a hundredth of a second.
 fn processor_time() -> Result<Duration, Box<dyn Error>> {
     let stat = fs::read_to_string("/proc/self/stat")?;
     let (_, fields) = stat.rsplit_once(')').ok_or("no name")?;
@@ -46,8 +46,8 @@ fn processor_time() -> Result<Duration, Box<dyn Error>> {
     Ok(Duration::from_millis(10 * ticks?.iter().sum::<u64>()))
 }
 
-/// Prints what each kind of load takes: messages a second, all lanes together, and the processor time of each. An
-/// argument is what the names of the figures begin with that are taken.
+/// Prints the results of each kind of load: messages a second, all lanes together, and the processor time of each
+/// message. An argument selects the results whose names begin with it.
 pub fn print_figures(
     name: &str,
     run: impl Fn(Load) -> Result<(), Box<dyn Error>>,

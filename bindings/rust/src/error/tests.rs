@@ -1,9 +1,10 @@
-//! Each code by its name, its number and its whole sentence.
+//! Checks the name, the number and the whole sentence of each code.
 use super::*;
 use std::fs;
 use std::path::Path;
 
-// A code, what it becomes where 6 is the number that goes with it, and what that says.
+// Each row: a code, the value that it becomes with the number 6, and its text.
+// codes: begin refusals
 const REFUSALS: &str = "\
 1 | EmptyBody | the message is empty
 2 | BodyTooLong | the message is too long
@@ -22,7 +23,9 @@ const REFUSALS: &str = "\
 15 | ChannelFinished | the channel is finished
 16 | BufferTooSmall { need: 6 } | the buffer is too small (need 6)
 17 | WrongVersion | version 1 of the format cannot finish a channel";
+// codes: end
 
+// codes: begin violations
 const VIOLATIONS: &str = "\
 101 | NotGuaranteed | a message longer than the guarantees outstanding
 102 | SentPastLimit | a message beyond the limit on sending
@@ -33,17 +36,20 @@ const VIOLATIONS: &str = "\
 107 | ReceiveLimitRaised | a limit on receiving that raises an earlier one
 108 | TotalPassed | more than 2^62 guarantees on one channel
 109 | AfterFinish | a frame of the client behind its Finish";
+// codes: end
 
+// codes: begin faults
 const FAULTS: &str = "\
 201 | BadTag | a byte names no kind or channel, or is not the greeting's
 202 | ZeroLength | a message has length 0
 203 | BadNumber | a number in a frame is out of its range
 204 | Truncated | the stream ends within a frame or a greeting";
+// codes: end
 
 const PEER_FAULTS: &str = "\
 14 | OutOfMemory | out of memory
-36 | BadCapacity { channel: StaticToken } | the capacity of StaticToken is not 1 to 2^24
-37 | BadSlots | the slots are not 1 to 65,536";
+36 | BadCapacity { channel: StaticToken, capacity: 0 } | the capacity of StaticToken must be in 1..=16777216, got 0
+37 | BadSlots { slots: 65537 } | slots must be in 1..=65536, got 65537";
 
 fn rows(table: &str) -> impl Iterator<Item = (u32, String)> + '_ {
     table.lines().map(|row| {
@@ -94,16 +100,20 @@ fn each_fault() {
 
 #[test]
 fn each_fault_of_a_configuration() {
+    let config = Config::new([8, 8, 8, 8, 8, 8, 0], 65_537);
     for (code, row) in rows(PEER_FAULTS) {
-        assert_eq!(shown(PeerFault::of(code, 6)), row);
+        assert_eq!(shown(PeerFault::of(code, 6, &config)), row);
     }
 }
 
 #[test]
 fn a_library_of_another_version_says_both() {
-    let said = "WrongLibrary { found: 65794 } | the library has version 1.1.2 and not ";
+    let said = "WrongLibrary { found: 65794 } | the linked library must have version ";
     let fault = PeerFault::WrongLibrary { found: 0x010102 };
-    assert_eq!(shown(fault), [said, env!("CARGO_PKG_VERSION")].concat());
+    assert_eq!(
+        shown(fault),
+        [said, env!("CARGO_PKG_VERSION"), ", got 1.1.2"].concat()
+    );
 }
 
 #[test]
@@ -114,7 +124,7 @@ fn an_overrun_says_both_counts_and_is_invalid_data() {
     };
     let error = io::Error::from(overrun);
     assert_eq!(error.kind(), ErrorKind::InvalidData);
-    let said = "6 bytes are claimed, where there were 5";
+    let said = "6 bytes claimed, but only 5 offered";
     assert_eq!(
         (overrun.to_string(), error.to_string()),
         (said.into(), said.into())
@@ -123,7 +133,7 @@ fn an_overrun_says_both_counts_and_is_invalid_data() {
     assert_eq!(inner, Some(&overrun));
 }
 
-// Each stop as an error of a device.
+// Each protocol error as an I/O error.
 const DEVICE_ERRORS: [(Stop, ErrorKind); 3] = [
     (Stop::Fault(Fault::Truncated), ErrorKind::UnexpectedEof),
     (Stop::Fault(Fault::BadTag), ErrorKind::InvalidData),

@@ -1,4 +1,4 @@
-//! A future in a form that blocks its thread.
+//! Runs a future on a blocked thread.
 use std::cell::Cell;
 use std::future::Future;
 use std::pin::pin;
@@ -8,7 +8,7 @@ use std::task::{Context, Poll, Wake, Waker};
 use std::thread;
 use std::time::Instant;
 
-/// What a thread sleeps on. It is no `thread::park`: whose token it took could be the caller's.
+/// The primitive on which a thread blocks. It is not `thread::park`, whose token belongs to the caller.
 #[derive(Default)]
 struct Parker {
     state: AtomicU8,
@@ -26,7 +26,7 @@ impl Parker {
         self.asleep.lock().unwrap_or_else(PoisonError::into_inner)
     }
 
-    // Whether it was woken since it was asked last.
+    // Returns whether a wake-up arrived since the last call.
     fn take_wake(&self) -> bool {
         self.change(WOKEN, AWAKE)
     }
@@ -36,8 +36,9 @@ impl Parker {
         changed.is_ok()
     }
 
-    // Waits until it is woken, or the deadline passed, which is `false`. Who wakes it needs the processor
-    // often only for a moment, and no call of the system where this has not gone to sleep by then.
+    // Blocks until a wake-up, or until the deadline, which returns `false`. It yields first: the thread that wakes it
+    // often needs the processor only for a moment, and needs no system call if this one has not gone to sleep by
+    // then.
     fn park(&self, deadline: Option<Instant>) -> bool {
         if self.take_wake() {
             return true;
@@ -75,7 +76,7 @@ impl Wake for Parker {
 
     fn wake_by_ref(self: &Arc<Parker>) {
         if self.state.swap(WOKEN, SeqCst) == ASLEEP {
-            // It sleeps, or is about to: with the lock in between, not before the bell is heard.
+            // The thread sleeps or is about to: the lock orders this wake-up after the start of its wait.
             drop(self.lock());
             self.bell.notify_one();
         }
@@ -83,12 +84,12 @@ impl Wake for Parker {
 }
 
 thread_local! {
-    // The thread's parker, while no call sleeps on it. A call within a call, as of a hook, has its own: it
-    // takes no wake-up of the outer one.
+    // The thread's parker, while no call blocks on it. A nested call, as of a hook, has its own, so that it takes no
+    // wake-up of the outer one.
     static PARKER: Cell<Option<Arc<Parker>>> = const { Cell::new(None) };
 }
 
-/// Runs a future to its end on this thread.
+/// Runs a future to completion on this thread.
 pub(crate) fn block_on<F: Future>(future: F) -> F::Output {
     match block_until(future, None) {
         Some(output) => output,
@@ -96,7 +97,7 @@ pub(crate) fn block_on<F: Future>(future: F) -> F::Output {
     }
 }
 
-/// Runs a future on this thread until the deadline, at which it is dropped.
+/// Runs a future on this thread until the deadline. Then it drops the future and returns `None`.
 pub(crate) fn block_until<F: Future>(future: F, deadline: Option<Instant>) -> Option<F::Output> {
     let mut future = pin!(future);
     let kept = PARKER.try_with(Cell::take).ok().flatten();
@@ -119,7 +120,7 @@ pub(crate) fn block_until<F: Future>(future: F, deadline: Option<Instant>) -> Op
 mod tests {
     use super::*;
 
-    // No test of sessions brings a wake about right between the last look and the sleep.
+    // No test of sessions makes a wake-up arrive between the last poll and the sleep.
     #[test]
     fn a_wake_before_the_sleep_ends_it() {
         let (parker, now) = (Arc::new(Parker::default()), Some(Instant::now()));

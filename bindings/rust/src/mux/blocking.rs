@@ -1,4 +1,4 @@
-//! A session on threads: two that block in the transport, or one that takes turns.
+//! Drivers on threads: two threads that block in the transport, or one that alternates between both directions.
 use super::block::{block_on, block_until};
 use super::driver::{Driver, Reading, Writing};
 use super::io::{PollRead, PollWrite, WriteHalf};
@@ -15,22 +15,22 @@ use std::task::{Context, Poll};
 use std::thread;
 use std::time::{Duration, Instant};
 
-/// How long a write of a socket blocks at most before the writing thread looks at the time.
+/// The longest time that a write of a socket blocks before the writing thread checks the timeouts.
 const TICK: Duration = Duration::from_secs(1);
 
-/// How long it does where one thread takes turns.
+/// The longest time that a write blocks if one thread alternates between both directions.
 const TURN: Duration = Duration::from_millis(10);
 
-/// A session on threads.
+/// Drivers on threads.
 impl Driver {
-    /// Sets the timeouts of a session on threads; before, they are those of [`Timeouts::default`].
+    /// Sets the timeouts of a session on threads. The default is [`Timeouts::default`].
     ///
     /// ```
-    /// use lcmux::{Config, Mux, Timeouts};
+    /// use lcmux::{Config, Mux, Timeouts, CHANNELS};
     /// use std::{net::TcpStream, time::Duration};
     ///
     /// fn run(stream: TcpStream) -> Result<(), Box<dyn std::error::Error>> {
-    ///     let (mux, mut driver) = Mux::new(Config::new([65_536; 7], 64))?;
+    ///     let (mux, mut driver) = Mux::new(Config::new([65_536; CHANNELS], 64))?;
     ///     let mut timeouts = Timeouts::default();
     ///     timeouts.idle = Some(Duration::from_secs(60));
     ///     driver.set_timeouts(timeouts);
@@ -39,20 +39,25 @@ impl Driver {
     /// }
     /// ```
     pub fn set_timeouts(&mut self, timeouts: Timeouts) {
-        self.timeouts = timeouts;
+        self.timeouts = timeouts.kept();
     }
 
-    /// Runs the session on this thread, which reads, and on one of its own, which writes. Both block in their calls of
-    /// the transport, and the writing thread blocks where there is nothing to write; what it wrote is flushed before.
-    /// It returns once both directions ended, or the session failed.
+    /// Runs the session on this thread, which reads, and on a thread of its own, which writes. Both block in their
+    /// calls of the transport. If nothing is pending, the writing thread flushes and then blocks until a frame is.
+    /// The call returns once both directions ended, or the session failed.
     ///
-    /// For a socket give the stream twice: `driver.run_blocking(stream.try_clone()?, stream)`. The socket needs no
-    /// timeouts of its own: one of its reads that expires fails the session, as any error of a call but an
-    /// interruption does, and that of its writes is set here, by [`WriteHalf::set_write_timeout`]. The
-    /// [timeouts](Driver::set_timeouts) of the session are kept by the writing thread. When the session fails or is
-    /// aborted, [`WriteHalf::breaker`] ends the calls that block.
+    /// For a socket, pass the stream twice: `driver.run_blocking(stream.try_clone()?, stream)`. Set no timeouts on
+    /// the socket: an expired read timeout fails the session, as any error but an interruption does, and the driver
+    /// itself sets the write timeout by [`WriteHalf::set_write_timeout`]. The writing thread checks the
+    /// [timeouts](Driver::set_timeouts) of the session. If the session fails or is aborted, the shutdown handle from
+    /// [`WriteHalf::breaker`] ends the blocked calls.
     ///
-    /// A stream that can't be split, as one with TLS, is for [`Driver::run_unsplit`].
+    /// The socket must block: over one that does not, the session fails by the first read that finds nothing. For a
+    /// stream that cannot be split, such as one with TLS, use [`Driver::run_unsplit`].
+    ///
+    /// # Errors
+    ///
+    /// The reason why the session failed.
     pub fn run_blocking<R, W>(self, reader: R, mut writer: W) -> Result<(), Closed>
     where
         R: Read,
@@ -73,7 +78,7 @@ impl Driver {
         let writer = Timed::new(writer, &shared, timeouts, Blocked::InTheCall);
         let mut unspawned = Some((writing, writer));
         thread::scope(|scope| {
-            // The halves are dropped where they run: one that panics ends the other.
+            // Each half is dropped on its thread: one that panics ends the other.
             let write = || {
                 if let Some((writing, writer)) = unspawned.take() {
                     write_until_the_end(writing, writer, &heard);
@@ -86,25 +91,33 @@ impl Driver {
         result(&shared)
     }
 
-    /// Runs the session on this thread alone, over a stream that can't be split, as one with TLS. The thread takes
-    /// turns, so neither a read nor a write may block for long: the stream is non-blocking, or its reads have a timeout
-    /// of a few milliseconds, and its [`WriteHalf::set_write_timeout`] sets that of its writes.
+    /// Runs the session on this thread alone, over a stream that cannot be split, such as one with TLS.
+    ///
+    /// The thread alternates between reads and writes, so neither may block for long: the stream is non-blocking, or
+    /// its reads have a timeout of a few milliseconds, and [`WriteHalf::set_write_timeout`] bounds its writes.
     /// [`WouldBlock`](ErrorKind::WouldBlock) and [`TimedOut`](ErrorKind::TimedOut) are no failures here.
-    /// Between two turns in which nothing moved the thread sleeps for the interval, or until a message is to be
-    /// written: with reads that have a timeout the interval is zero, and over a non-blocking stream a few
-    /// milliseconds, which bound the latency of what arrives.
+    ///
+    /// If a round moves no bytes, the thread sleeps for `interval`, or until a frame is pending. With reads that have
+    /// a timeout, use an interval of zero; over a non-blocking stream, use a few milliseconds, which bound the
+    /// latency of inbound messages.
+    ///
+    /// # Errors
+    ///
+    /// The reason why the session failed.
+    ///
+    /// # Examples
     ///
     /// ```
-    /// use lcmux::{Channel::Data, Config, Mux};
+    /// use lcmux::{Channel::Data, Config, Mux, CHANNELS};
     /// use std::{net::TcpListener, net::TcpStream, thread, time::Duration};
     ///
     /// # let listener = TcpListener::bind("127.0.0.1:0")?;
     /// # let stream = TcpStream::connect(listener.local_addr()?)?;
     /// # let (there, _) = listener.accept()?;
-    /// # let (mut bob, driver) = Mux::new(Config::new([64; 7], 16))?;
+    /// # let (mut bob, driver) = Mux::new(Config::new([64; CHANNELS], 16))?;
     /// # let other = thread::spawn(move || driver.run_blocking(there.try_clone()?, there));
-    /// stream.set_read_timeout(Some(Duration::from_millis(5)))?; // in place of TLS, for short
-    /// let (mut mux, driver) = Mux::new(Config::new([64; 7], 16))?;
+    /// stream.set_read_timeout(Some(Duration::from_millis(5)))?; // stands for a TLS stream
+    /// let (mut mux, driver) = Mux::new(Config::new([64; CHANNELS], 16))?;
     /// let run = thread::spawn(move || driver.run_unsplit(stream, Duration::ZERO));
     /// mux.sender(Data).unwrap().send_blocking(b"hello")?;
     /// # let mut receiver = bob.receiver(Data).unwrap();
@@ -140,12 +153,12 @@ impl Driver {
             if block_until(turn, until).is_some() {
                 return result(&shared);
             }
-            writer.look_at_the_time(&heard, self.is_written());
+            writer.check_timeouts(&heard, self.is_written());
         }
     }
 }
 
-// What ends the calls of the transport where the session fails.
+// Registers the shutdown handle of the transport.
 fn prepare(shared: &Shared, writer: &mut impl WriteHalf) {
     match writer.breaker() {
         Ok(breaker) => shared.with(|state| state.set_breaker(breaker)),
@@ -171,31 +184,31 @@ fn read_until_the_end(mut reading: Reading, mut reader: Noted<impl Read>) {
 
 fn write_until_the_end<W: WriteHalf>(mut writing: Writing, mut writer: Timed<W>, heard: &Heard) {
     loop {
-        let until = writer.next_look(heard);
+        let until = writer.next_check(heard);
         match block_until(poll_fn(|cx| writing.poll(cx, &mut writer)), until) {
             Some(Ok(())) => break,
             Some(Err(_)) => return,
-            None => writer.look_at_the_time(heard, writing.is_written()),
+            None => writer.check_timeouts(heard, writing.is_written()),
         }
     }
     let shared = Arc::clone(&writer.shared);
-    while block_until(Over::new(&shared), writer.next_look(heard)).is_none() {
-        writer.look_at_the_time(heard, true);
+    while block_until(Over::new(&shared), writer.next_check(heard)).is_none() {
+        writer.check_timeouts(heard, true);
     }
 }
 
 impl Timeouts {
-    // How long a write of the transport may block before the time is looked at.
+    // The longest time that a write of the transport may block before the timeouts are checked.
     fn tick(&self) -> Option<Duration> {
         let least = self.idle.into_iter().chain(self.grace).min()?;
         Some(least.clamp(Duration::from_millis(1), TICK))
     }
 }
 
-/// When something was read last.
+/// The time of the last read that returned bytes.
 struct Heard {
     begin: Instant,
-    /// So many milliseconds after the beginning.
+    /// Milliseconds after `begin`.
     after: AtomicU64,
 }
 
@@ -217,7 +230,7 @@ impl Heard {
     }
 }
 
-/// A reader that notes when it read something. It is always ready, once its call returned.
+/// A reader that records the time of its last read. It is always ready once its call has returned.
 struct Noted<R> {
     reader: R,
     heard: Arc<Heard>,
@@ -233,7 +246,7 @@ impl<R: Read> PollRead for Noted<R> {
     }
 }
 
-/// A reader whose call may find nothing, and is then made again in the next turn.
+/// A reader whose call may find no bytes, and is then repeated in the next round.
 struct Turn<'a, R>(&'a mut R);
 
 impl<R: PollRead> PollRead for Turn<'_, R> {
@@ -249,24 +262,24 @@ fn found_nothing(error: &io::Error) -> bool {
     matches!(error.kind(), ErrorKind::WouldBlock | ErrorKind::TimedOut)
 }
 
-/// Where a thread is while its transport takes nothing.
+/// Where a thread is while its transport accepts no bytes.
 #[derive(PartialEq, Eq)]
 enum Blocked {
     InTheCall,
     BetweenCalls,
 }
 
-/// A writer that keeps the time.
+/// A writer that checks the timeouts.
 struct Timed<W> {
     writer: W,
     shared: Arc<Shared>,
     timeouts: Timeouts,
     blocked: Blocked,
-    /// When something was written last.
+    /// The time of the last write that succeeded.
     wrote: Instant,
-    /// Since when the transport takes nothing of what is to be written.
+    /// The time since which the transport accepts none of the pending bytes.
     stalled: Option<Instant>,
-    /// When the session was seen to be closed, and when this direction ended.
+    /// The times at which this thread observed the close of the session, and at which this direction ended.
     closed: Option<Instant>,
     ended: Option<Instant>,
 }
@@ -285,8 +298,8 @@ impl<W: WriteHalf> Timed<W> {
         }
     }
 
-    /// When the time is to be looked at next.
-    fn next_look(&self, heard: &Heard) -> Option<Instant> {
+    /// The next time at which a timeout may expire.
+    fn next_check(&self, heard: &Heard) -> Option<Instant> {
         let silent = after(heard.last(), self.timeouts.idle);
         let next = match self.ended {
             Some(ended) => after(ended, self.timeouts.grace),
@@ -295,8 +308,8 @@ impl<W: WriteHalf> Timed<W> {
         silent.into_iter().chain(next).min()
     }
 
-    /// Fails the session where a timeout expired, or has a frame written that keeps it alive.
-    fn look_at_the_time(&mut self, heard: &Heard, is_written: bool) {
+    /// Fails the session if a timeout expired, or enqueues a frame that keeps it alive.
+    fn check_timeouts(&mut self, heard: &Heard, is_written: bool) {
         let (now, timeouts) = (Instant::now(), self.timeouts);
         if is_past(after(heard.last(), timeouts.idle), now) {
             self.expire(Timeouts::SILENT);
@@ -318,7 +331,7 @@ impl<W: WriteHalf> Timed<W> {
         self.shared.with(|state| state.fail(error.into()));
     }
 
-    // What a call of the writer answered.
+    // Records the result of a call of the writer, and fails it if a timeout expired.
     fn wrote<T>(&mut self, answer: io::Result<T>) -> Poll<io::Result<T>> {
         let now = Instant::now();
         if !answer.as_ref().is_err_and(found_nothing) {
@@ -336,7 +349,7 @@ impl<W: WriteHalf> Timed<W> {
             return Poll::Ready(Err(error));
         }
         match self.blocked {
-            Blocked::InTheCall => Poll::Ready(Err(ErrorKind::Interrupted.into())), // it is made again
+            Blocked::InTheCall => Poll::Ready(Err(ErrorKind::Interrupted.into())), // the caller repeats it
             Blocked::BetweenCalls => Poll::Pending,
         }
     }

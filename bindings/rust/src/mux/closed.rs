@@ -4,36 +4,36 @@ use std::fmt::{self, Display, Formatter};
 use std::io;
 use std::sync::Arc;
 
-/// Why a call can't go on: the session, or its part that the call needs, has ended.
+/// The reason why a call cannot proceed: the session, or the part of it that the call needs, has ended.
 ///
 /// A session ends *in order* once both sides have finished all their channels and ended their streams, as
-/// [`Mux::close`](crate::Mux::close) does. Every other end is a failure: it has one reason, the first, which every call
-/// then answers. Which call answers what is one table in the repository's `docs/sessions.md`.
+/// [`Mux::close`](crate::Mux::close) does. Every other end is a failure, and every call then returns its first
+/// reason. The repository's `docs/reference/sessions.md` has a table of the results of all calls.
 ///
 /// ```
-/// use lcmux::{Closed, Config, Mux};
+/// use lcmux::{Closed, Config, Mux, CHANNELS};
 ///
-/// let (mux, driver) = Mux::new(Config::new([64; 7], 16))?;
-/// drop(driver); // and no one moves the bytes
+/// let (mux, driver) = Mux::new(Config::new([64; CHANNELS], 16))?;
+/// drop(driver); // this aborts the session
 /// assert_eq!(mux.closed_blocking(), Err(Closed::Aborted));
 /// # Ok::<(), lcmux::MuxFault>(())
 /// ```
 #[derive(Clone, Debug)]
 #[non_exhaustive]
 pub enum Closed {
-    /// This side closed the session: by [`Mux::close`](crate::Mux::close), or by dropping all its handles.
+    /// This side closed the session, by [`Mux::close`](crate::Mux::close) or by dropping all its handles.
     Local,
     /// The peer closed the session in order: it finished all its channels, ended its stream, and issues no more
-    /// guarantees. What this side holds guarantees for may still be sent.
+    /// guarantees. This side may still send what it holds guarantees for.
     Remote,
-    /// The peer's stream ended while channels of it were unfinished: the peer crashed, was aborted, or dropped the
-    /// connection. What arrived before may still be received.
+    /// The peer's stream ended while channels of it were unfinished: the peer crashed, aborted, or dropped the
+    /// connection. The messages that arrived before may still be received.
     Cut,
-    /// This side gave up: by [`Mux::abort`](crate::Mux::abort), by a handle that a panic dropped, or by a
-    /// [`Driver`](crate::Driver) that was dropped before the session was over.
+    /// This side aborted the session: by [`Mux::abort`](crate::Mux::abort), by a panic that dropped a handle, or by
+    /// dropping the [`Driver`](crate::Driver) before the session was over.
     Aborted,
     /// A read or a write of the transport failed, or a timeout expired, which is an error of the kind
-    /// [`TimedOut`](io::ErrorKind::TimedOut). It is the [`source`](Error::source) of this error.
+    /// [`TimedOut`](io::ErrorKind::TimedOut). That error is the [`source`](Error::source) of this one.
     Transport(Arc<io::Error>),
     /// The peer's stream broke the framing.
     Fault(Fault),
@@ -50,7 +50,7 @@ impl Closed {
     }
 }
 
-/// Two failures of a transport are equal where they are of one kind and one text.
+/// Two failures of a transport are equal if their kinds and their texts are.
 impl PartialEq for Closed {
     fn eq(&self, other: &Closed) -> bool {
         match (self, other) {
@@ -70,7 +70,7 @@ impl PartialEq for Closed {
 
 impl Eq for Closed {}
 
-/// The transport failed.
+/// Makes a [`Closed::Transport`].
 impl From<io::Error> for Closed {
     fn from(error: io::Error) -> Closed {
         Closed::Transport(Arc::new(error))
@@ -91,7 +91,9 @@ impl Display for Closed {
         match self {
             Closed::Local => f.write_str("the session is closed"),
             Closed::Remote => f.write_str("the peer closed the session"),
-            Closed::Cut => f.write_str("the peer's stream ended before its channels did"),
+            Closed::Cut => {
+                f.write_str("the peer's stream ended while its channels were unfinished")
+            }
             Closed::Aborted => f.write_str("the session was aborted"),
             Closed::Transport(error) => write!(f, "the transport failed: {error}"),
             Closed::Fault(fault) => write!(f, "F{}: {fault}", fault.number()),
@@ -109,8 +111,8 @@ impl Error for Closed {
     }
 }
 
-/// A failure of the transport keeps its kind. A fault or a violation is of the kind `InvalidData`, a stream that
-/// was cut, also within a frame, of the kind `UnexpectedEof`, and the rest of the kind `ConnectionAborted`.
+/// A failure of the transport keeps its kind. A fault or a violation has the kind `InvalidData`. A stream that was
+/// cut, also within a frame, has the kind `UnexpectedEof`. All other reasons have the kind `ConnectionAborted`.
 impl From<Closed> for io::Error {
     fn from(closed: Closed) -> io::Error {
         let kind = match &closed {
@@ -123,14 +125,14 @@ impl From<Closed> for io::Error {
     }
 }
 
-/// Why a call that does not wait did nothing.
+/// The error of a call that does not wait and sends no message.
 ///
 /// ```
-/// use lcmux::{CallError, Channel::Data, Config, Mux, Refusal};
+/// use lcmux::{CallError, Channel::Data, Config, Mux, Refusal, CHANNELS};
 ///
-/// let (mut mux, _driver) = Mux::new(Config::new([64; 7], 16))?;
+/// let (mut mux, _driver) = Mux::new(Config::new([64; CHANNELS], 16))?;
 /// let receiver = mux.receiver(Data).unwrap();
-/// let refused = receiver.issue(1); // since the policy issued the whole ring
+/// let refused = receiver.issue(1); // the policy issued the whole ring
 /// assert_eq!(refused, Err(CallError::Refused(Refusal::NoRoom { room: 0 })));
 /// # Ok::<(), lcmux::MuxFault>(())
 /// ```
@@ -139,7 +141,7 @@ impl From<Closed> for io::Error {
 pub enum CallError {
     /// The call is not allowed.
     Refused(Refusal),
-    /// The session is over.
+    /// This side closed the session, or the session is over.
     Closed(Closed),
 }
 
@@ -173,12 +175,12 @@ impl From<Closed> for CallError {
     }
 }
 
-/// Why a message of a [`Sender`](crate::Sender) will not go, however long it waits.
+/// The error of [`Sender::send`](crate::Sender::send): the message can never be sent, however long the call waits.
 ///
 /// ```
-/// use lcmux::{Channel::Data, Config, Mux, Refusal, SendError};
+/// use lcmux::{Channel::Data, Config, Mux, Refusal, SendError, CHANNELS};
 ///
-/// let (mut mux, _driver) = Mux::new(Config::new([64; 7], 16))?;
+/// let (mut mux, _driver) = Mux::new(Config::new([64; CHANNELS], 16))?;
 /// let sender = mux.sender(Data).unwrap();
 /// let sent = sender.send_blocking(&[0; 65_536]);
 /// assert_eq!(sent, Err(SendError::Refused(Refusal::BodyTooLong)));
@@ -189,15 +191,15 @@ impl From<Closed> for CallError {
 pub enum SendError {
     /// The call is not allowed.
     Refused(Refusal),
-    /// The message is longer than what is held and what the other side will still issue: by a limit of
-    /// its own, or because it dropped its receiver.
+    /// The message is longer than the guarantees that the sender holds plus those that the receiver may still issue.
+    /// The receiver set a limit on receiving, or its handle was dropped.
     Unwanted {
-        /// How many guarantees are held.
+        /// The guarantees that the sender holds.
         held: u64,
-        /// How many the other side may still issue.
+        /// The guarantees that the receiver may still issue.
         left: u64,
     },
-    /// The session is closed or over, or, where guarantees are missing, the peer closed it and issues none any more.
+    /// The session is closed or over; or guarantees are missing, and the peer closed the session and issues no more.
     Closed(Closed),
 }
 
@@ -207,7 +209,7 @@ impl Display for SendError {
             SendError::Refused(refusal) => refusal.fmt(f),
             SendError::Unwanted { held, left } => write!(
                 f,
-                "the message is longer than what the other side still takes (held {held}, left {left})"
+                "the message is longer than the guarantees that are held and those that the peer may still issue (held {held}, left {left})"
             ),
             SendError::Closed(closed) => closed.fmt(f),
         }
@@ -235,12 +237,13 @@ impl From<Closed> for SendError {
     }
 }
 
-/// Why a call did not go at once.
+/// The error of [`Sender::try_send`](crate::Sender::try_send) and
+/// [`Sender::try_reserve`](crate::Sender::try_reserve).
 ///
 /// ```
-/// use lcmux::{Channel::Data, Config, Mux, Needs, TrySendError};
+/// use lcmux::{Channel::Data, Config, Mux, Needs, TrySendError, CHANNELS};
 ///
-/// let (mut mux, _driver) = Mux::new(Config::new([64; 7], 16))?;
+/// let (mut mux, _driver) = Mux::new(Config::new([64; CHANNELS], 16))?;
 /// let reserved = mux.sender(Data).unwrap().try_reserve(5).err();
 /// assert_eq!(reserved, Some(TrySendError::Full(Needs::Guarantees(5))));
 /// # Ok::<(), lcmux::MuxFault>(())
@@ -248,10 +251,10 @@ impl From<Closed> for SendError {
 #[derive(Clone, Debug, PartialEq, Eq)]
 #[non_exhaustive]
 pub enum TrySendError {
-    /// It would have to wait: for guarantees, or for a place in the queue or its turn, which is
-    /// [`Needs::Slot`].
+    /// The call would have to wait: for guarantees; or for the outbound queue, which is [`Needs::Slot`]: for a slot,
+    /// for its bytes, or for an earlier call of the channel.
     Full(Needs),
-    /// It will never go.
+    /// The message can never be sent.
     Failed(SendError),
 }
 
@@ -259,9 +262,11 @@ impl Display for TrySendError {
     fn fmt(&self, f: &mut Formatter<'_>) -> fmt::Result {
         match self {
             TrySendError::Full(Needs::Guarantees(more)) => {
-                write!(f, "the message needs {more} guarantees more")
+                write!(f, "the message needs {more} more guarantees")
             }
-            TrySendError::Full(_) => f.write_str("the message has to wait for its turn"),
+            TrySendError::Full(_) => {
+                f.write_str("the message has to wait for a slot in the outbound queue")
+            }
             TrySendError::Failed(error) => error.fmt(f),
         }
     }
@@ -282,13 +287,14 @@ impl<E: Into<SendError>> From<E> for TrySendError {
     }
 }
 
-/// Why a call with a timeout did not go.
+/// The error of [`Sender::send_timeout`](crate::Sender::send_timeout) and
+/// [`Sender::reserve_timeout`](crate::Sender::reserve_timeout).
 ///
 /// ```
-/// use lcmux::{Channel::Data, Config, Mux, SendTimeoutError};
+/// use lcmux::{Channel::Data, Config, Mux, SendTimeoutError, CHANNELS};
 /// use std::time::Duration;
 ///
-/// let (mut mux, _driver) = Mux::new(Config::new([64; 7], 16))?;
+/// let (mut mux, _driver) = Mux::new(Config::new([64; CHANNELS], 16))?;
 /// let sender = mux.sender(Data).unwrap();
 /// let sent = sender.send_timeout(b"hello", Duration::from_millis(1));
 /// assert_eq!(sent, Err(SendTimeoutError::Timeout));
@@ -297,9 +303,9 @@ impl<E: Into<SendError>> From<E> for TrySendError {
 #[derive(Clone, Debug, PartialEq, Eq)]
 #[non_exhaustive]
 pub enum SendTimeoutError {
-    /// The time was over, and nothing was sent.
+    /// The timeout expired, and nothing was sent.
     Timeout,
-    /// It will never go.
+    /// The message can never be sent.
     Failed(SendError),
 }
 
@@ -327,12 +333,12 @@ impl From<SendError> for SendTimeoutError {
     }
 }
 
-/// Why no message was to be had at once.
+/// The error of [`Receiver::try_recv`](crate::Receiver::try_recv).
 ///
 /// ```
-/// use lcmux::{Channel::Data, Closed, Config, Mux, TryRecvError};
+/// use lcmux::{Channel::Data, Closed, Config, Mux, TryRecvError, CHANNELS};
 ///
-/// let (mut mux, driver) = Mux::new(Config::new([64; 7], 16))?;
+/// let (mut mux, driver) = Mux::new(Config::new([64; CHANNELS], 16))?;
 /// let mut receiver = mux.receiver(Data).unwrap();
 /// assert_eq!(receiver.try_recv(), Err(TryRecvError::Empty));
 /// drop(driver);
@@ -342,7 +348,7 @@ impl From<SendError> for SendTimeoutError {
 #[derive(Clone, Debug, PartialEq, Eq)]
 #[non_exhaustive]
 pub enum TryRecvError {
-    /// None waits now.
+    /// No message is available now.
     Empty,
     /// The session is over.
     Closed(Closed),
@@ -351,7 +357,7 @@ pub enum TryRecvError {
 impl Display for TryRecvError {
     fn fmt(&self, f: &mut Formatter<'_>) -> fmt::Result {
         match self {
-            TryRecvError::Empty => f.write_str("no message waits"),
+            TryRecvError::Empty => f.write_str("no message is available"),
             TryRecvError::Closed(closed) => closed.fmt(f),
         }
     }
@@ -372,13 +378,13 @@ impl From<Closed> for TryRecvError {
     }
 }
 
-/// Why no message came in time.
+/// The error of [`Receiver::recv_timeout`](crate::Receiver::recv_timeout).
 ///
 /// ```
-/// use lcmux::{Channel::Data, Config, Mux, RecvTimeoutError};
+/// use lcmux::{Channel::Data, Config, Mux, RecvTimeoutError, CHANNELS};
 /// use std::time::Duration;
 ///
-/// let (mut mux, _driver) = Mux::new(Config::new([64; 7], 16))?;
+/// let (mut mux, _driver) = Mux::new(Config::new([64; CHANNELS], 16))?;
 /// let mut receiver = mux.receiver(Data).unwrap();
 /// let taken = receiver.recv_timeout(Duration::from_millis(1));
 /// assert_eq!(taken, Err(RecvTimeoutError::Timeout));
@@ -387,7 +393,7 @@ impl From<Closed> for TryRecvError {
 #[derive(Clone, Debug, PartialEq, Eq)]
 #[non_exhaustive]
 pub enum RecvTimeoutError {
-    /// The time was over, and nothing was taken.
+    /// The timeout expired, and no message was taken.
     Timeout,
     /// The session is over.
     Closed(Closed),
@@ -417,46 +423,52 @@ impl From<Closed> for RecvTimeoutError {
     }
 }
 
-/// Why there is no [`Mux`](crate::Mux).
+/// The error of [`Mux::new`](crate::Mux::new) and of
+/// [`Receiver::set_issue_policy`](crate::Receiver::set_issue_policy).
 ///
 /// ```
-/// use lcmux::{Config, Mux, MuxFault};
-/// let fault = Mux::new(Config::new([64; 7], 7)).unwrap_err();
-/// assert_eq!(fault, MuxFault::TooFewSlots);
-/// assert_eq!(fault.to_string(), "there have to be 14 slots or more");
+/// use lcmux::{Config, Mux, MuxFault, CHANNELS};
+/// let fault = Mux::new(Config::new([64; CHANNELS], 7)).unwrap_err();
+/// assert_eq!(fault, MuxFault::TooFewSlots { slots: 7 });
+/// assert_eq!(fault.to_string(), "slots must be in 14..=65536, got 7");
 /// ```
 #[derive(Clone, Copy, Debug, PartialEq, Eq)]
 #[non_exhaustive]
 pub enum MuxFault {
-    /// There is no peer.
+    /// [`Peer::new`](crate::Peer::new) failed.
     Peer(PeerFault),
     /// The slots are fewer than [`Mux::LEAST_SLOTS`](crate::Mux::LEAST_SLOTS).
-    TooFewSlots,
-    /// The low-water mark of this channel, and of none of a lower number, is not between 1 and the bytes
-    /// of its ring.
+    TooFewSlots {
+        /// The number of slots that the configuration names.
+        slots: u32,
+    },
+    /// A low-water mark is not in 1 to the size of its ring buffer. The channel is the first such one.
     BadMark {
         /// The channel.
         channel: crate::Channel,
+        /// The low-water mark.
+        mark: u32,
+        /// The size of the channel's ring buffer.
+        capacity: u32,
     },
 }
 
 impl Display for MuxFault {
     fn fmt(&self, f: &mut Formatter<'_>) -> fmt::Result {
         match self {
+            MuxFault::Peer(PeerFault::BadSlots { slots }) | MuxFault::TooFewSlots { slots } => {
+                let least = crate::Mux::LEAST_SLOTS;
+                write!(f, "slots must be in {least}..=65536, got {slots}")
+            }
             MuxFault::Peer(fault) => fault.fmt(f),
-            MuxFault::TooFewSlots => {
-                write!(
-                    f,
-                    "there have to be {} slots or more",
-                    crate::Mux::LEAST_SLOTS
-                )
-            }
-            MuxFault::BadMark { channel } => {
-                write!(
-                    f,
-                    "the low-water mark of {channel:?} is not 1 to its capacity"
-                )
-            }
+            MuxFault::BadMark {
+                channel,
+                mark,
+                capacity,
+            } => write!(
+                f,
+                "the low-water mark of {channel:?} must be in 1..={capacity}, got {mark}"
+            ),
         }
     }
 }

@@ -1,17 +1,17 @@
-//! Cooperative scheduling: a handle whose futures are always ready lets other tasks run now and then.
+//! Cooperative scheduling: a handle whose futures are always ready yields to other tasks now and then.
 use std::sync::atomic::{AtomicU8, Ordering::Relaxed};
 use std::task::{Context, Poll};
 
-/// How many futures of a handle in a row are ready before one yields once.
+/// How many futures of a handle complete in a row before one yields once.
 const IN_A_ROW: u8 = 128;
 
-/// Counts them for a handle. Over a runtime that polls a task until it waits, a loop of calls that are always ready
-/// would else keep its thread from all other tasks.
+/// Counts the futures of a handle that complete in a row. On a runtime that polls a task until it is pending, a loop
+/// of calls that are always ready would else starve all other tasks of its thread.
 #[derive(Debug, Default)]
 pub(super) struct Coop(AtomicU8);
 
 impl Coop {
-    /// Polls a call of the handle, or yields: then nothing of the call was begun.
+    /// Polls a call of the handle, or yields before the call has begun.
     pub fn poll<T>(
         &self,
         cx: &mut Context<'_>,
@@ -71,7 +71,7 @@ mod tests {
             for _ in 0..128 {
                 assert!(coop.poll(&mut cx, |_| Poll::Ready(())).is_ready());
             }
-            // It is this call that is polled after the yield.
+            // The same call is polled after the yield.
             assert!(coop.poll(&mut cx, |_| Poll::Ready(())).is_pending());
             assert!(coop.poll(&mut cx, |_| Poll::<()>::Pending).is_pending());
         }

@@ -11,29 +11,30 @@ use std::io::{self, ErrorKind, IoSlice};
 use std::sync::Arc;
 use std::task::{ready, Context, Poll};
 
-/// The bytes asked for per read, and offered at most per write. What was pulled goes before all that is sent
-/// later, so over a slow transport a longer piece holds up a short message for longer.
+/// The size of one read, and the most bytes that are offered per write. Bytes that the driver took from the queue
+/// precede all later ones, so over a slow transport a larger chunk delays a short message for longer.
 const PIECE: usize = 131_072;
 
-/// As many at first: a session of short messages needs no more.
+/// The initial buffer size; it doubles up to `PIECE` when a read or a write fills it.
 const FIRST_PIECE: usize = 4_096;
 
-/// How many pieces a poll moves at most before it lets others go on.
+/// The most chunks that one poll moves before it yields to other tasks.
 const PIECES: usize = 16;
 
-/// Moves the bytes of a session: the only one that touches the transport.
+/// The driver of a session: it moves the bytes between the session and its transport.
 ///
-/// It runs once, on two threads ([`Driver::run_blocking`]) or as a future ([`Driver::run`]), until both
-/// directions ended or the session fails. A driver that is dropped before aborts the session.
+/// A driver runs once, on threads ([`Driver::run_blocking`], [`Driver::run_unsplit`]) or as a future
+/// ([`Driver::run`]), until both directions ended or the session failed. A driver that is dropped before aborts the
+/// session.
 ///
 /// ```
-/// use lcmux::{Channel::Data, Config, Mux};
+/// use lcmux::{Channel::Data, Config, Mux, CHANNELS};
 /// use std::{os::unix::net::UnixStream, thread};
 ///
 /// let (here, there) = UnixStream::pair()?;
-/// let (mut alice, driver) = Mux::new(Config::new([1024; 7], 16))?;
+/// let (mut alice, driver) = Mux::new(Config::new([1024; CHANNELS], 16))?;
 /// let one = thread::spawn(move || driver.run_blocking(here.try_clone()?, here));
-/// let (mut bob, driver) = Mux::new(Config::new([1024; 7], 16))?;
+/// let (mut bob, driver) = Mux::new(Config::new([1024; CHANNELS], 16))?;
 /// let other = thread::spawn(move || driver.run_blocking(there.try_clone()?, there));
 ///
 /// alice.sender(Data).unwrap().send_blocking(b"hello")?;
@@ -53,7 +54,7 @@ pub struct Driver {
 
 pub(super) struct Reading {
     shared: Arc<Shared>,
-    // At its front, what was read of a message that is cut, and is not delivered yet: so many bytes.
+    // The read buffer. Its first `held` bytes are the beginning of an incomplete message, not yet delivered.
     piece: Vec<u8>,
     held: usize,
     cutter: Cutter,
@@ -63,15 +64,15 @@ pub(super) struct Reading {
 
 pub(super) struct Writing {
     shared: Arc<Shared>,
-    // What was pulled and is not written: the bytes from start to end, and of the message behind them, which the
-    // state lent until the next pull, those after so many.
+    // The bytes that were pulled and not written: those of the buffer from start to end, and then those of the message,
+    // which the state lends until the next pull, after the first `written`.
     buffer: Vec<u8>,
     start: usize,
     end: usize,
     message: Option<Lent>,
     written: usize,
     is_flushed: bool,
-    // Whether it waits for a frame, for which its waker was kept when none was found.
+    // Whether it waits for a frame. The state then has its waker.
     is_idle: bool,
     scanner: Scanner,
     result: Option<Result<(), Closed>>,
@@ -104,16 +105,22 @@ impl Driver {
         }
     }
 
-    /// Has this called for each frame: one that goes out once its last byte was written, one that comes
-    /// once it has arrived, each direction in its order. A frame that breaks the rules is not told; nor is
-    /// a greeting, which is no frame.
+    /// Sets a hook that is called for each frame: for an outbound frame once its last byte was written, for an
+    /// inbound frame once it has arrived, in the order of each direction. A frame that breaks a rule is not reported,
+    /// and neither is the preface, which is no frame.
     ///
-    /// It is called by whoever runs the driver, outside every lock, so it may call the session; while it
-    /// runs, its direction stands still. Where it panics, the driver does.
+    /// The thread or task that runs the driver calls the hook outside of every lock, so the hook may call the
+    /// session. Meanwhile that direction makes no progress.
+    ///
+    /// # Panics
+    ///
+    /// If the hook panics, the driver does.
+    ///
+    /// # Examples
     ///
     /// ```
-    /// use lcmux::{Config, Mux};
-    /// let (mux, mut driver) = Mux::new(Config::new([64; 7], 16))?;
+    /// use lcmux::{Config, Mux, CHANNELS};
+    /// let (mux, mut driver) = Mux::new(Config::new([64; CHANNELS], 16))?;
     /// driver.on_frame(|frame| eprintln!("{frame:?}"));
     /// # Ok::<(), lcmux::MuxFault>(())
     /// ```
@@ -123,7 +130,7 @@ impl Driver {
         self.writing.scanner.hook(hook);
     }
 
-    /// From which length on a message is given to the transport where it lies: for tests alone.
+    /// Sets the length from which on a message is written without a copy: for tests alone.
     #[doc(hidden)]
     pub fn borrow_from(&self, len: usize) {
         self.writing.shared.with(|state| state.borrow_from(len));
@@ -141,11 +148,19 @@ impl Driver {
         self.writing.is_written()
     }
 
-    /// Runs the session over a transport that is polled, until both directions ended or the session
-    /// failed; then it drops the transport.
+    /// Runs the session over a polled transport until both directions ended or the session failed; then it drops the
+    /// transport.
     ///
-    /// *Not cancel-safe*: a future of it that is dropped before it is ready aborts the session. Who wants to
-    /// give up a poll, and not the session, keeps the driver and calls [`Driver::poll`].
+    /// # Cancel safety
+    ///
+    /// This method is not cancel safe: a future that is dropped before it completes aborts the session. To cancel a
+    /// poll and not the session, keep the driver and call [`Driver::poll`].
+    ///
+    /// # Errors
+    ///
+    /// The reason why the session failed.
+    ///
+    /// # Examples
     ///
     /// ```
     /// # use std::{future::Future, pin::pin, sync::Arc, task::{Context, Poll, Wake}, thread};
@@ -163,15 +178,15 @@ impl Driver {
     /// #         }
     /// #     }
     /// # }
-    /// use lcmux::{Channel::Data, Config, Mux};
+    /// use lcmux::{Channel::Data, Config, Mux, CHANNELS};
     ///
-    /// let (mut mux, driver) = Mux::new(Config::new([64; 7], 16))?;
+    /// let (mut mux, driver) = Mux::new(Config::new([64; CHANNELS], 16))?;
     /// let mut receiver = mux.receiver(Data).unwrap();
     /// mux.close();
     /// // The message `hi` on channel 1, a limit of 0 on each channel, and the end of the stream.
-    /// let mut came = b"\x11\0\x02hi".to_vec();
-    /// (0x50..0x57).for_each(|tag| came.extend([tag, 0, 0, 0, 0, 0, 0, 0, 0]));
-    /// block_on(driver.run(&came[..], Vec::new()))?;
+    /// let mut inbound = b"\x11\0\x02hi".to_vec();
+    /// (0x50..0x57).for_each(|tag| inbound.extend([tag, 0, 0, 0, 0, 0, 0, 0, 0]));
+    /// block_on(driver.run(&inbound[..], Vec::new()))?;
     /// assert_eq!(block_on(receiver.recv())?, Some(b"hi".to_vec()));
     /// # Ok::<(), Box<dyn std::error::Error>>(())
     /// ```
@@ -183,13 +198,14 @@ impl Driver {
         poll_fn(|cx| self.poll(cx, &mut reader, &mut writer)).await
     }
 
-    /// Has a frame go out that changes nothing, where none waits to: so the other side hears something. It
-    /// says anew what a limit leaves, and where there is none, the most that one may be, which is all that
-    /// there are guarantees for. `false` where there is no need, or where nothing may be said: the session is
-    /// closed, or all its channels are finished both ways.
+    /// Enqueues a frame that changes nothing, if no frame is pending, so that the peer receives bytes. The frame
+    /// repeats what a limit leaves; if there is no limit, it sets the largest one, 2^62, which bounds nothing and which
+    /// the channel's balances show from then on.
+    /// Returns `false` if frames are pending, or if no frame may be sent: the session is closed, or all its channels
+    /// are finished in both directions.
     ///
     /// ```
-    /// use lcmux::{Config, Mux};
+    /// use lcmux::{Config, Mux, CHANNELS};
     /// # use std::task::{Context, Wake};
     /// # struct Noop;
     /// # impl Wake for Noop {
@@ -197,8 +213,8 @@ impl Driver {
     /// # }
     /// # let waker = std::sync::Arc::new(Noop).into();
     /// # let mut context = Context::from_waker(&waker);
-    /// let (mux, mut driver) = Mux::new(Config::new([64; 7], 16))?;
-    /// assert!(!driver.keep_alive()); // since the first issues wait
+    /// let (mux, mut driver) = Mux::new(Config::new([64; CHANNELS], 16))?;
+    /// assert!(!driver.keep_alive()); // the first issues are pending
     /// let mut written = Vec::new();
     /// assert!(driver.poll_write(&mut context, &mut written).is_pending());
     /// assert!(driver.keep_alive());
@@ -208,12 +224,12 @@ impl Driver {
         self.writing.is_written() && self.writing.shared.with(State::keep_alive)
     }
 
-    /// Whether the session is closed on this side: what was accepted is still written, and nothing more is
-    /// accepted.
+    /// Returns whether the session is closed on this side, or over: no more messages are accepted. Until it is over,
+    /// accepted messages are still written.
     ///
     /// ```
-    /// use lcmux::{Config, Mux};
-    /// let (mux, driver) = Mux::new(Config::new([64; 7], 16))?;
+    /// use lcmux::{Config, Mux, CHANNELS};
+    /// let (mux, driver) = Mux::new(Config::new([64; CHANNELS], 16))?;
     /// assert!(!driver.is_closing());
     /// mux.close();
     /// assert!(driver.is_closing());
@@ -223,9 +239,17 @@ impl Driver {
         self.writing.shared.with(|state| state.is_closing())
     }
 
-    /// Reads what is there and writes what the transport takes. It is ready once both directions ended, or
-    /// the session failed, and answers the same from then on. Polls may be given up: what was read is
-    /// delivered or stays in the driver, and what was pulled and not written stays there.
+    /// Reads the available bytes and writes the bytes that the transport accepts. It is ready once both directions
+    /// ended or the session failed, and returns the same result from then on.
+    ///
+    /// # Cancel safety
+    ///
+    /// A poll loses nothing if it is not repeated: bytes that were read are delivered or stay in the driver, and
+    /// bytes that were taken from the queue and not written stay there.
+    ///
+    /// # Errors
+    ///
+    /// The reason why the session failed.
     pub fn poll(
         &mut self,
         cx: &mut Context<'_>,
@@ -243,9 +267,13 @@ impl Driver {
         }
     }
 
-    /// The reading half alone: it is ready once the other side ended its direction, or the session failed.
-    /// What was read is delivered, or stays in the driver until the rest of its message is read, so no call that
-    /// is given up loses a byte.
+    /// Polls the reading half alone. It is ready once the peer ended its direction or the session failed. Bytes that
+    /// were read are delivered, or stay in the driver until the rest of their message arrives, so an abandoned call
+    /// loses no byte.
+    ///
+    /// # Errors
+    ///
+    /// The reason why the session failed.
     pub fn poll_read(
         &mut self,
         cx: &mut Context<'_>,
@@ -254,8 +282,12 @@ impl Driver {
         self.reading.poll(cx, reader)
     }
 
-    /// The writing half alone: it is ready once this direction ended, or the session failed. What it
-    /// pulled stays in the driver until the transport took it, so no call that is given up loses a byte.
+    /// Polls the writing half alone. It is ready once this direction ended or the session failed. Bytes that it took
+    /// from the queue stay in the driver until the transport accepted them, so an abandoned call loses no byte.
+    ///
+    /// # Errors
+    ///
+    /// The reason why the session failed.
     pub fn poll_write(
         &mut self,
         cx: &mut Context<'_>,
@@ -271,14 +303,14 @@ impl fmt::Debug for Driver {
     }
 }
 
-// Has room for the next piece, twice as much where this one filled it.
+// Makes room for the next chunk, twice as much if this one filled the buffer.
 fn grow(buffer: &mut Vec<u8>, filled: usize) {
     if filled == buffer.len() {
         buffer.resize((2 * filled).clamp(FIRST_PIECE, PIECE), 0);
     }
 }
 
-// What the end of a half leaves of the session.
+// The result of a half that ended for this reason: the session may have ended for another one before.
 fn stopped(shared: &Shared, reason: Closed) -> Result<(), Closed> {
     shared.with(|state| {
         state.fail(reason);
@@ -325,7 +357,7 @@ impl Reading {
         Poll::Pending
     }
 
-    // Delivers what is there up to this place, but for a message that is cut there.
+    // Delivers the bytes up to `end`, apart from an incomplete message at their end.
     fn take_in(&mut self, end: usize) -> Result<(), Closed> {
         let whole = self.cutter.cut(&self.piece[..end], PIECE);
         self.deliver(whole)?;
@@ -353,7 +385,7 @@ impl Writing {
             let result = match self.poll_out(cx, writer) {
                 Poll::Pending if self.is_idle => return Poll::Pending,
                 Poll::Pending => {
-                    // The transport wakes it, or the end of the session does.
+                    // The transport wakes the task, or the end of the session does.
                     let waits = self.shared.with(|state| state.wait_to_write(cx.waker()));
                     match waits {
                         Ok(()) => return Poll::Pending,
@@ -394,6 +426,7 @@ impl Writing {
                     grow(&mut self.buffer, count);
                 }
                 Pulled::Idle if self.is_idle => return Poll::Pending,
+                Pulled::Soon => break,
                 Pulled::Idle => ready!(self.poll_flush(cx, writer))?,
                 Pulled::End => {
                     ready!(self.poll_flush(cx, writer))?;
@@ -407,7 +440,7 @@ impl Writing {
         Poll::Pending
     }
 
-    // What is not written of the bytes, and of the message behind them.
+    // The bytes of the buffer and of the message that are not written.
     fn rest(&self) -> [&[u8]; 2] {
         let message = self.message.as_deref().unwrap_or_default();
         [&self.buffer[self.start..self.end], &message[self.written..]]
@@ -465,7 +498,7 @@ impl Writing {
     }
 }
 
-// A half that is dropped before its end, as by a panic, leaves no one to wait for it.
+// A half that is dropped before its end, as by a panic, ends the session for all waiting calls.
 impl Drop for Reading {
     fn drop(&mut self) {
         if self.result.is_none() {

@@ -1,8 +1,8 @@
-//! The frames of a stream, by its bytes, for those who trace them.
+//! The frames of a stream, recognized by its bytes, for tracing.
 use crate::Channel;
 use std::sync::Arc;
 
-/// Which way a [`Frame`] goes.
+/// The direction of a [`Frame`].
 ///
 /// ```
 /// use lcmux::{Direction, Frame};
@@ -16,18 +16,18 @@ use std::sync::Arc;
 /// ```
 #[derive(Clone, Copy, Debug, PartialEq, Eq, Hash)]
 pub enum Direction {
-    /// From the other side.
+    /// Inbound: from the peer.
     In,
-    /// To the other side.
+    /// Outbound: to the peer.
     Out,
 }
 
-/// What a [`Frame`] says.
+/// The kind of a [`Frame`].
 ///
 /// ```
 /// use lcmux::{Frame, FrameKind};
 ///
-/// /// The bytes of messages, of which guarantees are counted.
+/// /// Returns how many guarantees a frame uses: one for each byte of a message.
 /// fn spent(frame: &Frame) -> u64 {
 ///     match frame.kind {
 ///         FrameKind::Send => frame.number,
@@ -38,28 +38,30 @@ pub enum Direction {
 #[derive(Clone, Copy, Debug, PartialEq, Eq, Hash)]
 #[non_exhaustive]
 pub enum FrameKind {
-    /// A message; its number is the length.
+    // codes: begin kinds
+    /// A message of the sender. The number is its length.
     Send,
-    /// Room is promised; its number is the amount.
+    /// The receiver issues guarantees. The number is the amount.
     Issue,
-    /// Guarantees are given up; its number is the amount.
+    /// The sender gives guarantees back. The number is the amount.
     Absolve,
-    /// Guarantees are asked back; its number is the target.
+    /// The receiver asks the sender to give guarantees back. The number is the target.
     Plead,
-    /// What is still sent is bounded; its number is the bound.
+    /// The sender limits what it still sends. The number is the bound.
     LimitSending,
-    /// What is still issued is bounded; its number is the bound.
+    /// The receiver limits what it still issues. The number is the bound.
     LimitReceiving,
-    /// The channel ends; its number is 0.
+    /// The sender finishes the channel. The number is 0.
     Finish,
+    // codes: end
 }
 
-/// A frame that went out or came, as [`Driver::on_frame`](crate::Driver::on_frame) tells it.
+/// A frame that was sent or that arrived, as [`Driver::on_frame`](crate::Driver::on_frame) reports it.
 ///
 /// ```
-/// use lcmux::{Config, Direction, FrameKind, Mux};
+/// use lcmux::{Config, Direction, FrameKind, Mux, CHANNELS};
 ///
-/// let (mux, mut driver) = Mux::new(Config::new([64; 7], 16))?;
+/// let (mux, mut driver) = Mux::new(Config::new([64; CHANNELS], 16))?;
 /// driver.on_frame(|frame| match (frame.direction, frame.kind) {
 ///     (Direction::In, FrameKind::Send) => println!("{} bytes on {:?}", frame.number, frame.channel),
 ///     (direction, kind) => println!("{direction:?} {kind:?}"),
@@ -69,24 +71,24 @@ pub enum FrameKind {
 #[derive(Clone, Copy, Debug, PartialEq, Eq, Hash)]
 #[non_exhaustive]
 pub struct Frame {
-    /// Which way it goes.
+    /// The direction of the frame.
     pub direction: Direction,
-    /// What it says.
+    /// The kind of the frame.
     pub kind: FrameKind,
-    /// Its channel.
+    /// The channel of the frame.
     pub channel: Channel,
-    /// The number that it carries.
+    /// The number that the frame carries: a length, an amount, a target or a bound.
     pub number: u64,
-    /// How many bytes it has on the wire, with its tag and its number.
+    /// The size of the frame on the wire in bytes, including its tag and its number.
     pub size: usize,
 }
 
 pub(crate) type Hook = Arc<dyn Fn(&Frame) + Send + Sync>;
 
-/// The first byte of a greeting, and how long one is.
+/// The first byte and the length of the preface.
 const GREETING: (u8, usize) = (0x4c, 4);
 
-/// Finds the frames of one direction.
+/// Recognizes the frames of one direction.
 pub(crate) struct Scanner {
     direction: Direction,
     hook: Option<Hook>,
@@ -106,35 +108,35 @@ impl Scanner {
         self.hook = Some(hook);
     }
 
-    /// Tells the frames that these bytes make whole, at most so many.
+    /// Reports the frames that these bytes complete, at most `most`.
     pub fn scan(&mut self, mut bytes: &[u8], most: u64) {
         let Some(hook) = self.hook.clone() else {
             return;
         };
-        let mut told = 0;
+        let mut reported = 0;
         while self.heads.pass(&mut bytes) {
             let Some(frame) = self.heads.frame(self.direction) else {
                 return;
             };
-            if told < most {
+            if reported < most {
                 hook(&frame);
             }
-            told += 1;
+            reported += 1;
         }
     }
 }
 
-/// Says how much of what came is to be delivered now. A message that is cut waits for its rest, so that it goes from
-/// there to its ring, and not over what the peer holds of a frame. It judges nothing: all bytes are delivered, in
-/// their order.
+/// Decides how many inbound bytes are delivered now. An incomplete message waits for its rest, so that it is copied
+/// once, from the read buffer to its ring, and not through the buffer in which the peer keeps an incomplete frame. It
+/// validates nothing: all bytes are delivered in their order.
 #[derive(Default)]
 pub(crate) struct Cutter {
     heads: Heads,
 }
 
 impl Cutter {
-    /// How many of these bytes, which come behind those that were delivered, are delivered now: all, or those
-    /// before the message that is cut, where that has at most so many bytes.
+    /// Returns how many of these bytes, which follow the delivered ones, are delivered now: all, or those before an
+    /// incomplete message of at most `most` bytes.
     pub fn cut(&mut self, bytes: &[u8], most: usize) -> usize {
         let (mut rest, mut start) = (bytes, self.heads);
         let mut left = rest.len();
@@ -149,18 +151,18 @@ impl Cutter {
     }
 }
 
-/// The tag and the number of a frame, as far as they came, and how much of it is missing.
+/// The part of a frame's tag and number that arrived, and the number of bytes that its body lacks.
 #[derive(Clone, Copy, Default)]
 struct Heads {
     is_version_two: bool,
     head: [u8; 9],
     have: usize,
-    /// What is missing of a message whose head is whole.
+    /// The bytes that the body of a message still lacks once its head is complete.
     body: usize,
 }
 
 impl Heads {
-    // Goes past one frame, or else past all bytes. Whether it came to its end.
+    // Skips one frame, or all bytes. Returns whether the frame is complete.
     fn pass(&mut self, bytes: &mut &[u8]) -> bool {
         if self.is_whole() {
             self.have = 0;
@@ -174,7 +176,7 @@ impl Heads {
         self.body == 0
     }
 
-    // The tag and the number, and whether they are whole. Those of a greeting are of no frame.
+    // Reads the tag and the number. Returns whether they are complete. A preface is skipped.
     fn take_head(&mut self, bytes: &mut &[u8]) -> bool {
         while self.have < self.head_len() {
             let Some((byte, rest)) = bytes.split_first() else {
@@ -213,12 +215,12 @@ impl Heads {
         self.have == self.head_len() && self.body == 0
     }
 
-    // Whether what came ends where a frame does.
+    // Whether the bytes so far end at the end of a frame.
     fn is_between(&self) -> bool {
         self.have == 0 || self.is_whole()
     }
 
-    // Whether the head of a message came, and not all of its body.
+    // Whether the head of a message arrived, and not its whole body.
     fn is_in_body(&self) -> bool {
         self.body > 0 && self.channel().is_some()
     }
@@ -232,7 +234,7 @@ impl Heads {
         Channel::from_number(self.head[0] & 15)
     }
 
-    // How many bytes the frame has whose head is whole.
+    // The size of the frame whose head is complete.
     fn size(&self) -> usize {
         match self.is_message() {
             true => self.have + self.number() as usize,
@@ -240,9 +242,10 @@ impl Heads {
         }
     }
 
-    // The frame, once it is whole, unless its tag is of none.
+    // The frame, once it is complete, unless its tag names none.
     fn frame(&self, direction: Direction) -> Option<Frame> {
         let kind = match self.head[0] >> 4 {
+            // codes: begin kinds of codes
             1 => FrameKind::Send,
             2 => FrameKind::Issue,
             3 => FrameKind::Absolve,
@@ -250,6 +253,7 @@ impl Heads {
             5 => FrameKind::LimitSending,
             6 => FrameKind::LimitReceiving,
             7 => FrameKind::Finish,
+            // codes: end
             _ => return None,
         };
         Some(Frame {
@@ -266,7 +270,7 @@ impl Heads {
 mod tests {
     use super::*;
 
-    // Reads in hexadecimal, and what is delivered by each, where a message of up to nine bytes waits for its rest.
+    // Reads in hexadecimal, and the bytes that each one delivers if a message of up to nine bytes waits for its rest.
     const CUTS: [(&str, &str); 18] = [
         ("1100026869", "1100026869"),
         ("11000268 69", " 1100026869"),
@@ -276,7 +280,7 @@ mod tests {
         ("110001aa110002bb cc110001dd", "110001aa 110002bbcc110001dd"),
         ("110002aa bb110002cc dd", " 110002aabb 110002ccdd"),
         ("160002aa bb", " 160002aabb"),
-        // The peer holds the first bytes already, so it gets the others, too.
+        // The peer has the first bytes already, so it gets the others, too.
         ("1100 02aa bb", "1100 02aa bb"),
         ("1100 02aa bb110002cc dd", "1100 02aa bb 110002ccdd"),
         ("21000000 05", "21000000 05"),
@@ -284,7 +288,7 @@ mod tests {
             "5100000000000000 09110002 aabb",
             "5100000000000000 09 110002aabb",
         ),
-        // No frame: its channel is above 6.
+        // Not a frame: its channel is above 6.
         ("170002aa bb", "170002aa bb"),
         ("110006010203 040506", " 110006010203040506"),
         ("110007010203 04050607", "110007010203 04050607"),
@@ -310,7 +314,7 @@ mod tests {
     }
 
     #[test]
-    fn a_message_that_is_cut_waits_for_its_rest() {
+    fn an_incomplete_message_waits_for_its_rest() {
         for (reads, due) in CUTS {
             assert_eq!(delivered(reads), due, "{reads}");
         }

@@ -1,23 +1,24 @@
-//! What a driver asks of transports.
+//! The traits that a driver needs of its transport.
 use std::io::{self, IoSlice, Read, Write};
 use std::net::{Shutdown, TcpStream};
 use std::task::{ready, Context, Poll};
 use std::time::Duration;
 
-/// Ends what blocks in a transport, from any thread: what [`WriteHalf::breaker`] answers.
+/// A shutdown handle of a transport: it ends the calls that block in the transport, from any thread.
+/// [`WriteHalf::breaker`] returns it.
 ///
 /// ```
 /// use lcmux::{Breaker, WriteHalf};
 ///
 /// let (mut stream, _other) = std::os::unix::net::UnixStream::pair()?;
 /// let breaker: Breaker = stream.breaker()?.expect("a socket has one");
-/// breaker(); // a read of the stream that blocks answers 0, and a write fails
+/// breaker(); // a blocked read of the stream returns 0, and a blocked write fails
 /// # Ok::<(), std::io::Error>(())
 /// ```
 pub type Breaker = Box<dyn FnOnce() + Send>;
 
-/// The writing half of a transport for [`Driver::run_blocking`](crate::Driver::run_blocking): what a driver
-/// needs beside [`Write`]. [`TcpStream`] and `UnixStream` have it; any other writer does in a [`Pipe`].
+/// The writing half of a transport for [`Driver::run_blocking`](crate::Driver::run_blocking): the operations that a
+/// driver needs beside [`Write`]. [`TcpStream`] and `UnixStream` implement it; wrap any other writer in a [`Pipe`].
 ///
 /// ```
 /// use lcmux::{Breaker, WriteHalf};
@@ -50,31 +51,45 @@ pub type Breaker = Box<dyn FnOnce() + Send>;
 /// }
 /// ```
 pub trait WriteHalf: Write {
-    /// Ends this direction, so that the other side reads its end. It comes once, behind the last byte.
+    /// Ends this direction, so that the peer reads the end of the stream. The driver calls it once, after the last
+    /// byte.
+    ///
+    /// # Errors
+    ///
+    /// Any error of the transport. It fails the session.
     fn end(&mut self) -> io::Result<()>;
 
-    /// Whether [`Write::write_vectored`] writes several slices at once: then a long message is given to it where
-    /// it lies, behind the bytes before it, and else copied.
+    /// Returns whether [`Write::write_vectored`] writes several slices at once. If so, a long message is written from
+    /// the library's memory without a copy; else it is copied first.
     fn writes_vectored(&self) -> bool {
         false
     }
 
-    /// Has a write that takes nothing for so long fail by [`WouldBlock`](io::ErrorKind::WouldBlock) or
-    /// [`TimedOut`](io::ErrorKind::TimedOut), so that the [timeouts](crate::Timeouts) of a session are seen to while the
-    /// peer takes nothing. By default it does nothing: then they expire once the write returns.
+    /// Sets the time after which a blocked write fails with [`WouldBlock`](io::ErrorKind::WouldBlock) or
+    /// [`TimedOut`](io::ErrorKind::TimedOut), so that the driver checks the [timeouts](crate::Timeouts) of the
+    /// session while the peer reads nothing. By default it does nothing: then the timeouts expire only once the write
+    /// returns.
+    ///
+    /// # Errors
+    ///
+    /// Any error of the transport. It fails the session.
     fn set_write_timeout(&mut self, _timeout: Duration) -> io::Result<()> {
         Ok(())
     }
 
-    /// What ends a read and a write that block, for a session that fails or is aborted; one that ends in
-    /// order drops it. `None` where nothing can: then
+    /// Returns the shutdown handle, which the driver calls to end a blocked read or write if the session fails or is
+    /// aborted, and drops if the session ends in order. Return `None` if nothing can end these calls: then
     /// [`Driver::run_blocking`](crate::Driver::run_blocking) returns once they do.
+    ///
+    /// # Errors
+    ///
+    /// Any error of the transport. It fails the session.
     fn breaker(&mut self) -> io::Result<Option<Breaker>>;
 }
 
 macro_rules! write_half_of_a_socket {
     ($(#[$attribute:meta])* $socket:ty) => {
-        /// Its direction is shut down, and a breaker shuts down both.
+        /// The writing direction is shut down at its end, and the shutdown handle shuts down both.
         $(#[$attribute])*
         impl WriteHalf for $socket {
             fn end(&mut self) -> io::Result<()> {
@@ -105,7 +120,7 @@ write_half_of_a_socket!(
     std::os::unix::net::UnixStream
 );
 
-// A connection that the other side is done with too is ended already.
+// A connection that the peer has closed, too, is ended already.
 fn ended(shutdown: io::Result<()>) -> io::Result<()> {
     match shutdown {
         Err(error) if error.kind() == io::ErrorKind::NotConnected => Ok(()),
@@ -113,19 +128,19 @@ fn ended(shutdown: io::Result<()>) -> io::Result<()> {
     }
 }
 
-/// A writer whose direction ends when it is dropped, as that of a pipe does.
+/// A writer whose direction ends when the writer is dropped, such as a pipe.
 ///
-/// No read of a pipe can be ended from outside in general. Where there is a way, as to kill the child process
-/// at its other end, [`Pipe::with_breaker`] has it.
+/// In general nothing can end a blocked read of a pipe from another thread. If there is a way, such as killing the
+/// child process at the other end, pass it to [`Pipe::with_breaker`].
 ///
 /// ```no_run
-/// use lcmux::{Config, Mux, Pipe};
+/// use lcmux::{Config, Mux, Pipe, CHANNELS};
 /// use std::process::{Command, Stdio};
 ///
 /// let mut command = Command::new("sync-server");
 /// let mut child = command.stdin(Stdio::piped()).stdout(Stdio::piped()).spawn()?;
 /// let (reader, writer) = (child.stdout.take().unwrap(), child.stdin.take().unwrap());
-/// let (mux, driver) = Mux::new(Config::new([4096; 7], 64))?;
+/// let (mux, driver) = Mux::new(Config::new([4096; CHANNELS], 64))?;
 /// let writer = Pipe::with_breaker(writer, move || drop(child.kill()));
 /// driver.run_blocking(reader, writer)?;
 /// # Ok::<(), Box<dyn std::error::Error>>(())
@@ -136,7 +151,7 @@ pub struct Pipe<W> {
 }
 
 impl<W: Write> Pipe<W> {
-    /// A writer that is ended by being dropped, and whose other half no one ends.
+    /// Wraps a writer without a shutdown handle.
     pub fn new(writer: W) -> Pipe<W> {
         Pipe {
             writer: Some(writer),
@@ -144,7 +159,7 @@ impl<W: Write> Pipe<W> {
         }
     }
 
-    /// The same, where this call ends a read and a write that block.
+    /// Wraps a writer with a shutdown handle, which ends a blocked read and a blocked write.
     pub fn with_breaker(writer: W, breaker: impl FnOnce() + Send + 'static) -> Pipe<W> {
         Pipe {
             writer: Some(writer),
@@ -187,11 +202,11 @@ impl<W> std::fmt::Debug for Pipe<W> {
     }
 }
 
-/// The reading half of a transport that is polled, as the `AsyncRead` of futures-io. It takes `&mut self`,
-/// so that an adapter over a runtime's own trait needs no pin of its own.
+/// The reading half of a polled transport, like `AsyncRead` of futures-io. It takes `&mut self`, so an adapter over a
+/// runtime's own trait needs no pin of its own.
 ///
-/// A slice is one: its bytes, and then the end. Over a trait with pins, such as this one of futures-io, it
-/// is a line:
+/// A slice implements it: it reads its bytes, and then the end. An adapter over a trait with pins, such as that of
+/// futures-io, takes one line:
 ///
 /// ```
 /// use lcmux::PollRead;
@@ -216,14 +231,14 @@ impl<W> std::fmt::Debug for Pipe<W> {
 /// }
 /// ```
 pub trait PollRead {
-    /// Reads to the front of the buffer, and answers how many bytes: 0 at the end of the stream. Where
-    /// none are there, it keeps the waker and wakes it once some are.
+    /// Reads into the front of the buffer and returns how many bytes it read: 0 at the end of the stream. If no bytes
+    /// are available, it registers the waker.
     fn poll_read(&mut self, cx: &mut Context<'_>, buffer: &mut [u8]) -> Poll<io::Result<usize>>;
 }
 
-/// The writing half of a transport that is polled, as the `AsyncWrite` of futures-io.
+/// The writing half of a polled transport, like `AsyncWrite` of futures-io.
 ///
-/// A vector is one: it takes all bytes at once.
+/// A vector implements it: it accepts all bytes at once.
 ///
 /// ```
 /// use lcmux::PollWrite;
@@ -239,12 +254,12 @@ pub trait PollRead {
 /// assert_eq!(written, b"hi");
 /// ```
 pub trait PollWrite {
-    /// Writes from the front of the bytes, and answers how many were taken. Where the transport takes none
-    /// now, it keeps the waker and wakes it once it does.
+    /// Writes from the front of the bytes and returns how many it accepted. If the transport accepts none now, it
+    /// registers the waker.
     fn poll_write(&mut self, cx: &mut Context<'_>, bytes: &[u8]) -> Poll<io::Result<usize>>;
 
-    /// Writes from the front of the slices, one after the other, as [`PollWrite::poll_write`] does: by default from
-    /// the first that has bytes alone.
+    /// Writes from the front of the slices, one after the other, as [`PollWrite::poll_write`] does. By default it
+    /// writes from the first slice that is not empty.
     fn poll_write_vectored(
         &mut self,
         cx: &mut Context<'_>,
@@ -254,16 +269,16 @@ pub trait PollWrite {
         self.poll_write(cx, first.map_or(&[], |slice| slice))
     }
 
-    /// Whether [`PollWrite::poll_write_vectored`] writes several slices at once: then a long message is given to it
-    /// where it lies, behind the bytes before it, and else copied.
+    /// Returns whether [`PollWrite::poll_write_vectored`] writes several slices at once. If so, a long message is
+    /// written from the library's memory without a copy; else it is copied first.
     fn is_write_vectored(&self) -> bool {
         false
     }
 
-    /// Brings on their way the bytes that were taken.
+    /// Flushes the bytes that were accepted.
     fn poll_flush(&mut self, cx: &mut Context<'_>) -> Poll<io::Result<()>>;
 
-    /// Ends this direction, so that the other side reads its end.
+    /// Ends this direction, so that the peer reads the end of the stream.
     fn poll_close(&mut self, cx: &mut Context<'_>) -> Poll<io::Result<()>>;
 }
 
@@ -319,7 +334,7 @@ impl PollWrite for Vec<u8> {
     }
 }
 
-/// A call that a signal interrupted is made again.
+/// Repeats a call that a signal interrupted.
 pub(crate) fn poll_uninterrupted<T>(
     mut call: impl FnMut() -> Poll<io::Result<T>>,
 ) -> Poll<io::Result<T>> {

@@ -13,23 +13,23 @@ use std::task::{Context, Poll};
 use std::thread;
 use std::time::{Duration, Instant};
 
-/// The end of a channel that receives.
+/// The receiving handle of a channel.
 ///
-/// [`Receiver::recv`] gives the next message, `None` once the channel has ended, and an error once the
-/// session is over and all that arrived was taken; after [`Mux::abort`](crate::Mux::abort) an error at once.
-/// As a future or, as [`Receiver::recv_blocking`], for a thread. [`Receiver::recv_ref`] lends the message
-/// where it lies.
+/// [`Receiver::recv`] returns the next message, `None` once the channel has ended, and an error once the session has
+/// failed and all messages that arrived were taken. After [`Mux::abort`](crate::Mux::abort) it returns an error at
+/// once. [`Receiver::recv_blocking`] does the same for a thread. [`Receiver::recv_ref`] borrows the message without
+/// copying it.
 ///
-/// The room of what was taken is issued anew by the channel's [`IssuePolicy`].
+/// The channel's [`IssuePolicy`] issues the bytes of a taken message again.
 ///
-/// A receiver that is dropped tells the other side that no more room will be issued: what it holds it may
-/// still send, which no one takes, and a send of more is [`SendError::Unwanted`](crate::SendError::Unwanted).
-/// One that a panic drops aborts the session.
+/// When a receiver is dropped, it notifies the sender that no more guarantees will be issued. The sender may still
+/// use the guarantees that it holds, but nobody receives those messages; a send of more fails with
+/// [`SendError::Unwanted`](crate::SendError::Unwanted). A receiver that a panic drops aborts the session.
 ///
 /// ```
-/// use lcmux::{Channel::Data, Closed, Config, Mux, TryRecvError};
+/// use lcmux::{Channel::Data, Closed, Config, Mux, TryRecvError, CHANNELS};
 ///
-/// let (mut mux, driver) = Mux::new(Config::new([64; 7], 16))?;
+/// let (mut mux, driver) = Mux::new(Config::new([64; CHANNELS], 16))?;
 /// let mut receiver = mux.receiver(Data).unwrap();
 /// assert_eq!(receiver.try_recv(), Err(TryRecvError::Empty));
 /// mux.abort();
@@ -37,12 +37,12 @@ use std::time::{Duration, Instant};
 /// # Ok::<(), lcmux::MuxFault>(())
 /// ```
 pub struct Receiver {
-    shared: Arc<Shared>,
+    pub(super) shared: Arc<Shared>,
     channel: Channel,
-    coop: Coop,
+    pub(super) coop: Coop,
 }
 
-// One try, which keeps the waker where nothing waits.
+// Takes a message, or registers the waker if none is available.
 fn poll_take<T>(
     shared: &Shared,
     channel: Channel,
@@ -71,29 +71,35 @@ impl Receiver {
         }
     }
 
-    /// The channel that it receives on.
+    /// Returns the channel of this receiver.
     pub fn channel(&self) -> Channel {
         self.channel
     }
 
-    /// Takes the next message, once there is one; `None` where the channel has ended.
+    /// Receives the next message. Returns `None` once the channel has ended.
     ///
-    /// After 128 messages in a row without a wait its future yields once, so that other tasks run.
+    /// After 128 messages in a row that it did not wait for, its future yields once, so that other tasks run.
     ///
     /// # Cancel safety
     ///
-    /// A message is taken when the future is ready. By a future that is dropped before none is, nor is any room forgotten.
+    /// This method is cancel safe. A message is taken when the future completes; a future that is dropped before
+    /// takes no message and loses no free bytes of the ring.
     ///
     /// # Errors
     ///
-    /// Why the session failed, once all was taken that arrived and where this channel had not ended by then: a peer that
-    /// crashed is [`Closed::Cut`], and never `None`. After [`Mux::abort`](crate::Mux::abort) [`Closed::Aborted`], whatever
-    /// is left.
+    /// The reason why the session failed, once all messages that arrived were taken, and if this channel had not
+    /// ended before. A peer that crashed is [`Closed::Cut`], never `None`. After [`Mux::abort`](crate::Mux::abort) it
+    /// is [`Closed::Aborted`] at once, even if messages are left.
     pub async fn recv(&mut self) -> Result<Option<Vec<u8>>, Closed> {
         poll_fn(|cx| self.poll_recv(cx)).await
     }
 
-    /// [`Receiver::recv`], polled. The last waker is kept, and woken once; it takes nothing before it is ready.
+    /// Polls for the next message, as [`Receiver::recv`] does. Only the last waker is registered, and it is woken
+    /// once. A pending poll takes nothing.
+    ///
+    /// # Errors
+    ///
+    /// Those of [`Receiver::recv`].
     pub fn poll_recv(&mut self, cx: &mut Context<'_>) -> Poll<Result<Option<Vec<u8>>, Closed>> {
         self.coop.poll(cx, |cx| self.poll_take(cx))
     }
@@ -104,12 +110,12 @@ impl Receiver {
             .map_ok(|taken| taken.map(|taken| self.copied(taken)))
     }
 
-    fn poll_lend(&self, cx: &mut Context<'_>) -> Poll<Result<Option<Lent>, Closed>> {
+    pub(super) fn poll_lend(&self, cx: &mut Context<'_>) -> Poll<Result<Option<Lent>, Closed>> {
         let channel = self.channel;
         poll_take(&self.shared, channel, cx, |state| state.lend(channel))
     }
 
-    // A message in a vector of its own: a long one is copied while others go on.
+    // Copies a message into a vector, a long one without the lock.
     fn copied(&self, taken: Taken) -> Vec<u8> {
         match taken {
             Taken::Copied(message) => message,
@@ -121,12 +127,21 @@ impl Receiver {
         }
     }
 
-    /// [`Receiver::recv`] for a thread, which sleeps meanwhile. It is not for a task of an executor.
+    /// Receives the next message, as [`Receiver::recv`] does, and blocks the thread. Do not call it from a task of an
+    /// executor.
+    ///
+    /// # Errors
+    ///
+    /// Those of [`Receiver::recv`].
     pub fn recv_blocking(&mut self) -> Result<Option<Vec<u8>>, Closed> {
         block_on(poll_fn(|cx| self.poll_take(cx)))
     }
 
-    /// [`Receiver::recv_blocking`] that waits so long at most, and then has taken nothing.
+    /// Receives the next message, as [`Receiver::recv_blocking`] does, and waits for at most `timeout`.
+    ///
+    /// # Errors
+    ///
+    /// [`RecvTimeoutError::Timeout`] if no message arrived in that time, and those of [`Receiver::recv`].
     pub fn recv_timeout(&mut self, timeout: Duration) -> Result<Option<Vec<u8>>, RecvTimeoutError> {
         let deadline = Instant::now().checked_add(timeout);
         match block_until(poll_fn(|cx| self.poll_take(cx)), deadline) {
@@ -135,7 +150,11 @@ impl Receiver {
         }
     }
 
-    /// Takes the next message, if one is there.
+    /// Receives the next message if one is available, and does not wait.
+    ///
+    /// # Errors
+    ///
+    /// [`TryRecvError::Empty`] if no message is available, and those of [`Receiver::recv`].
     pub fn try_recv(&mut self) -> Result<Option<Vec<u8>>, TryRecvError> {
         match self.shared.with(|state| state.take(self.channel))? {
             Take::Took(taken) => Ok(Some(self.copied(taken))),
@@ -144,13 +163,45 @@ impl Receiver {
         }
     }
 
-    /// [`Receiver::recv`] that lends the message where it lies, without a copy. Its room is issued anew when
-    /// it is dropped.
+    /// Borrows the next message without copying it, and waits as [`Receiver::recv`] does. Its bytes are issued again
+    /// when the [`Message`] is dropped.
     ///
-    /// Its errors and its cancel safety are those of [`Receiver::recv`].
+    /// # Cancel safety
+    ///
+    /// This method is cancel safe, as [`Receiver::recv`] is.
+    ///
+    /// # Errors
+    ///
+    /// Those of [`Receiver::recv`].
     pub async fn recv_ref(&mut self) -> Result<Option<Message<'_>>, Closed> {
         let front = poll_fn(|cx| self.coop.poll(cx, |cx| self.poll_lend(cx))).await?;
         Ok(self.borrowed(front))
+    }
+
+    /// Polls for the next message and borrows it, as [`Receiver::recv_ref`] does. Only the last waker is registered,
+    /// and it is woken once. A pending poll borrows nothing.
+    ///
+    /// # Errors
+    ///
+    /// Those of [`Receiver::recv`].
+    ///
+    /// ```
+    /// use lcmux::{Closed, Receiver};
+    /// use std::task::{ready, Context, Poll};
+    ///
+    /// /// Polls for the length of the next message, and drops that message.
+    /// fn poll_len(receiver: &mut Receiver, cx: &mut Context<'_>) -> Poll<Result<Option<usize>, Closed>> {
+    ///     let message = ready!(receiver.poll_recv_ref(cx))?;
+    ///     Poll::Ready(Ok(message.map(|message| message.len())))
+    /// }
+    /// # let _ = poll_len;
+    /// ```
+    pub fn poll_recv_ref(
+        &mut self,
+        cx: &mut Context<'_>,
+    ) -> Poll<Result<Option<Message<'_>>, Closed>> {
+        let polled = self.coop.poll(cx, |cx| self.poll_lend(cx));
+        polled.map_ok(|front| self.borrowed(front))
     }
 
     fn borrowed(&mut self, front: Option<Lent>) -> Option<Message<'_>> {
@@ -158,55 +209,131 @@ impl Receiver {
         front.map(|front| Message { receiver, front })
     }
 
-    /// [`Receiver::recv_ref`] for a thread, which sleeps meanwhile.
+    /// Borrows the next message, as [`Receiver::recv_ref`] does, and blocks the thread.
+    ///
+    /// # Errors
+    ///
+    /// Those of [`Receiver::recv`].
     pub fn recv_ref_blocking(&mut self) -> Result<Option<Message<'_>>, Closed> {
         let front = block_on(poll_fn(|cx| self.poll_lend(cx)))?;
         Ok(self.borrowed(front))
     }
 
-    /// The room of the ring that was not issued yet, but for a message that is lent.
+    /// Borrows the next message, as [`Receiver::recv_ref_blocking`] does, and waits for at most `timeout`. A message
+    /// that is available is borrowed even with a timeout of zero.
+    ///
+    /// # Errors
+    ///
+    /// [`RecvTimeoutError::Timeout`] if no message arrived in that time, and those of [`Receiver::recv`].
+    ///
+    /// ```
+    /// use lcmux::{Receiver, RecvTimeoutError};
+    /// use std::time::Duration;
+    ///
+    /// /// Sums up the lengths of the messages, until the channel ends or none arrives for a second.
+    /// fn sum(receiver: &mut Receiver) -> Result<usize, RecvTimeoutError> {
+    ///     let mut sum = 0;
+    ///     while let Some(message) = receiver.recv_ref_timeout(Duration::from_secs(1))? {
+    ///         sum += message.len();
+    ///     }
+    ///     Ok(sum)
+    /// }
+    /// # let _ = sum;
+    /// ```
+    pub fn recv_ref_timeout(
+        &mut self,
+        timeout: Duration,
+    ) -> Result<Option<Message<'_>>, RecvTimeoutError> {
+        let deadline = Instant::now().checked_add(timeout);
+        match block_until(poll_fn(|cx| self.poll_lend(cx)), deadline) {
+            Some(front) => Ok(self.borrowed(front?)),
+            None => Err(RecvTimeoutError::Timeout),
+        }
+    }
+
+    /// Borrows the next message, as [`Receiver::recv_ref`] does, if one is available, and does not wait.
+    ///
+    /// # Errors
+    ///
+    /// [`TryRecvError::Empty`] if no message is available, and those of [`Receiver::recv`].
+    ///
+    /// ```
+    /// use lcmux::{Channel::Data, Config, Mux, TryRecvError, CHANNELS};
+    ///
+    /// let (mut mux, _driver) = Mux::new(Config::new([64; CHANNELS], 16))?;
+    /// let mut receiver = mux.receiver(Data).unwrap();
+    /// assert!(matches!(receiver.try_recv_ref(), Err(TryRecvError::Empty)));
+    /// # Ok::<(), lcmux::MuxFault>(())
+    /// ```
+    pub fn try_recv_ref(&mut self) -> Result<Option<Message<'_>>, TryRecvError> {
+        match self.shared.with(|state| state.lend(self.channel))? {
+            Take::Took(front) => Ok(self.borrowed(Some(front))),
+            Take::Ended => Ok(None),
+            Take::Empty => Err(TryRecvError::Empty),
+        }
+    }
+
+    /// Returns the free bytes of the ring buffer that may be issued now. The bytes of a borrowed message are not
+    /// free.
     pub fn room(&self) -> u32 {
         self.shared.with(|state| state.room(self.channel))
     }
 
-    /// Promises room for so many bytes, beside what the policy does. It does not wait. Refused by 15, 5, 9, 10
-    /// and 12, as [`Refusal`](crate::Refusal) numbers them.
+    /// Issues `amount` guarantees, beside those that the policy issues. It does not wait.
+    ///
+    /// # Errors
+    ///
+    /// [`CallError::Closed`] if the session is closed or over; else [`CallError::Refused`] with
+    /// `Refusal::ChannelFinished`, `Refusal::ZeroAmount`, `Refusal::PastReceiveLimit`, `Refusal::NoRoom` or
+    /// `Refusal::TotalReached` (see [`Refusal`](crate::Refusal)).
     pub fn issue(&self, amount: u32) -> Result<(), CallError> {
         self.shared.with(|state| state.issue(self.channel, amount))
     }
 
-    /// Issues by this policy from here on, also what an earlier plead kept back.
+    /// Sets the issue policy from here on. It also issues what an earlier plead kept back.
+    ///
+    /// # Errors
+    ///
+    /// [`MuxFault::BadMark`] if a low-water mark is 0 or above the size of the ring buffer.
     pub fn set_issue_policy(&self, policy: IssuePolicy) -> Result<(), MuxFault> {
         let channel = self.channel;
         self.shared.with(|state| {
-            if !policy.fits(state.capacity(channel)) {
-                return Err(MuxFault::BadMark { channel });
-            }
+            policy.judge(channel, state.capacity(channel))?;
             state.set_issue_policy(channel, policy);
             Ok(())
         })
     }
 
-    /// Asks the other side to hold at most so many guarantees, and to give up what it holds above that.
-    /// From here on the policy issues no more than that many, until it is set anew. It does not wait. Refused
-    /// by 15 and 11, in this order.
+    /// Pleads: asks the sender to hold at most `target` guarantees and to absolve the others. From here on the policy
+    /// issues no more than `target`, until the policy is set again. A plead that is refused leaves the policy as it is.
+    /// It does not wait.
+    ///
+    /// # Errors
+    ///
+    /// The first of these that applies: [`CallError::Closed`] if the session is closed or over,
+    /// `Refusal::ChannelFinished`, `Refusal::NothingToAsk` (see [`Refusal`](crate::Refusal)).
     pub fn plead(&self, target: u32) -> Result<(), CallError> {
         self.shared.with(|state| state.plead(self.channel, target))
     }
 
-    /// At most so many guarantees are issued from here on. It does not wait. Refused by 15, 7 and 8, in this
-    /// order.
+    /// Limits issuing to at most `bound` guarantees from here on. It does not wait.
+    ///
+    /// # Errors
+    ///
+    /// The first of these that applies: [`CallError::Closed`] if the session is closed or over,
+    /// `Refusal::ChannelFinished`, `Refusal::BoundTooLarge`, `Refusal::LimitRaised` (see
+    /// [`Refusal`](crate::Refusal)).
     pub fn limit(&self, bound: u64) -> Result<(), CallError> {
         self.shared
             .with(|state| state.limit_receiving(self.channel, bound))
     }
 
-    /// The channel's balances on this side.
+    /// Returns the receiver's ledger of the channel.
     pub fn book(&self) -> ServerBook {
         self.shared.with(|state| state.server(self.channel))
     }
 
-    /// What the channel did so far.
+    /// Returns the statistics of the channel.
     pub fn stats(&self) -> Stats {
         self.shared.with(|state| state.stats(self.channel))
     }
@@ -229,16 +356,16 @@ impl fmt::Debug for Receiver {
     }
 }
 
-/// A message that is lent: its bytes stand in the ring of its channel, and their room is issued anew when it is
+/// A borrowed message: a zero-copy view into the ring buffer of its channel. Its bytes are issued again when it is
 /// dropped.
 ///
 /// ```
-/// use lcmux::{Channel::Data, Config, Mux};
+/// use lcmux::{Channel::Data, Config, Mux, CHANNELS};
 /// # use std::{os::unix::net::UnixStream, thread};
 /// # let (here, there) = UnixStream::pair()?;
-/// # let (mut alice, driver) = Mux::new(Config::new([64; 7], 16))?;
+/// # let (mut alice, driver) = Mux::new(Config::new([64; CHANNELS], 16))?;
 /// # thread::spawn(move || driver.run_blocking(here.try_clone()?, here));
-/// # let (mut bob, driver) = Mux::new(Config::new([64; 7], 16))?;
+/// # let (mut bob, driver) = Mux::new(Config::new([64; CHANNELS], 16))?;
 /// # thread::spawn(move || driver.run_blocking(there.try_clone()?, there));
 /// # alice.sender(Data).unwrap().send_blocking(b"hello")?;
 /// let mut receiver = bob.receiver(Data).unwrap();

@@ -1,5 +1,6 @@
 use super::block::block_until;
 use super::coop::Coop;
+use super::owned_permit::OwnedPermit;
 use super::shared::Shared;
 use super::state::{Ask, Call};
 use crate::TrySendError;
@@ -15,38 +16,40 @@ use std::time::{Duration, Instant};
 
 /// The sending handle of a channel.
 ///
-/// [`Sender::send`] waits for guarantees and for a place in the outbound queue: as a future, as
-/// [`Sender::send_blocking`] for a thread, or up to a [`Sender::send_timeout`]. Several tasks may share one sender by
-/// reference or by clones; their calls keep the order in which they began to wait.
+/// [`Sender::send`] waits for guarantees and for a slot in the outbound queue: as a future, as
+/// [`Sender::send_blocking`] for a thread, or up to the timeout of [`Sender::send_timeout`]. Several tasks may share
+/// one sender by reference or by clones; their calls keep the order in which they began to wait.
+/// [`PollSender`](crate::PollSender) polls the same calls.
 ///
-/// When the last clone of a sender is dropped, its channel is finished: the peer's receiver gets what was sent, and then
-/// the end. In version One, which has no frame for that, a limit of 0 says so. A sender that a panic drops aborts the
-/// session: what was sent so far is not to be taken for all. One that an early return or an aborted task drops does
-/// not ([what to do](crate::Mux#early-returns-and-aborted-tasks)).
+/// When the last clone of a sender is dropped, its channel is finished: the peer's receiver gets all messages that
+/// were sent, and then the end of the channel. In version One, which has no frame for that, a limit of 0 ends the
+/// channel. A sender that a panic drops aborts the session, so that the peer does not take the messages so far for
+/// all of them. A sender that an early return or an aborted task drops finishes the channel ([how to avoid
+/// that](crate::Mux#early-returns-and-aborted-tasks)).
 ///
 /// ```
-/// use lcmux::{Channel::Data, Config, Mux, Needs, TrySendError};
+/// use lcmux::{Channel::Data, Config, Mux, Needs, TrySendError, CHANNELS};
 ///
-/// let (mut mux, _driver) = Mux::new(Config::new([64; 7], 16))?;
+/// let (mut mux, _driver) = Mux::new(Config::new([64; CHANNELS], 16))?;
 /// let sender = mux.sender(Data).unwrap();
-/// let needs = Needs::Guarantees(5); // since the other side issued none yet
+/// let needs = Needs::Guarantees(5); // the peer has issued none yet
 /// assert_eq!(sender.try_send(b"hello"), Err(TrySendError::Full(needs)));
 /// # Ok::<(), lcmux::MuxFault>(())
 /// ```
 pub struct Sender {
-    shared: Arc<Shared>,
-    channel: Channel,
-    coop: Coop,
+    pub(super) shared: Arc<Shared>,
+    pub(super) channel: Channel,
+    pub(super) coop: Coop,
 }
 
-/// A call that waits, from its first poll until it is ready or dropped.
+/// A call that waits, from its first poll until it completes or is dropped.
 struct Sending<'a> {
     sender: &'a Sender,
     call: Call<'a>,
 }
 
 impl Sending<'_> {
-    // Whether it was given up: one that was done meanwhile is not.
+    // Cancels the call. Returns whether it was cancelled: a call that was completed meanwhile is not.
     fn give_up(&mut self) -> bool {
         let Sender {
             shared, channel, ..
@@ -63,15 +66,9 @@ impl Future for Sending<'_> {
 
     fn poll(mut self: Pin<&mut Self>, cx: &mut Context<'_>) -> Poll<Self::Output> {
         let Sending { sender, call } = &mut *self;
-        let is_blocked = call.is_thread;
-        let mut poll = |cx: &mut Context<'_>| {
-            sender
-                .shared
-                .with(|state| state.poll_send(sender.channel, call, cx.waker()))
-        };
-        match is_blocked {
-            true => poll(cx),
-            false => sender.coop.poll(cx, poll),
+        match call.is_thread {
+            true => sender.poll_at_once(cx, call),
+            false => sender.poll_call(cx, call),
         }
     }
 }
@@ -79,7 +76,7 @@ impl Future for Sending<'_> {
 impl Drop for Sending<'_> {
     fn drop(&mut self) {
         if let (false, Ask::Permit(len)) = (self.give_up(), self.call.ask) {
-            // It was given to a thread that a panic took away.
+            // The permit was granted to a thread that panics.
             let Sender {
                 shared, channel, ..
             } = self.sender;
@@ -112,8 +109,22 @@ impl Sender {
         }
     }
 
-    // Makes a call for a thread, which sleeps meanwhile. It is no future that may be dropped, so what it waits
-    // for may be done for it.
+    /// Polls a call of a task, or yields to other tasks.
+    pub(super) fn poll_call(
+        &self,
+        cx: &mut Context<'_>,
+        call: &mut Call,
+    ) -> Poll<Result<(), SendError>> {
+        self.coop.poll(cx, |cx| self.poll_at_once(cx, call))
+    }
+
+    fn poll_at_once(&self, cx: &mut Context<'_>, call: &mut Call) -> Poll<Result<(), SendError>> {
+        self.shared
+            .with(|state| state.poll_send(self.channel, call, cx.waker()))
+    }
+
+    // Makes a call for a thread and blocks it. A blocked thread cannot drop the call, so another thread may complete
+    // it.
     fn block(&self, ask: Ask, deadline: Option<Instant>) -> Result<(), SendTimeoutError> {
         let mut call = self.sending(ask, true);
         match block_until(&mut call, deadline) {
@@ -130,68 +141,95 @@ impl Sender {
         })
     }
 
-    /// The channel that it sends on.
+    /// Returns the channel of this sender.
     pub fn channel(&self) -> Channel {
         self.channel
     }
 
-    /// Sends a copy of 1 to 65,535 bytes as one message, in version Two of 1 to 1,048,576. It waits until its guarantees
-    /// are there and it [can proceed](crate::Mux#scheduling). What can never be sent is an error at once; but this side
-    /// does not know the peer's ring, so a message longer than that waits until the end.
+    /// Sends a copy of the body as one message: 1 to 65,535 bytes, in version Two 1 to 1,048,576. It waits until the
+    /// guarantees arrived and the call [can proceed](crate::Mux#scheduling). A message that can never be sent fails
+    /// at once, but this side does not know the size of the peer's ring buffer: a message longer than that ring waits
+    /// until the session ends.
     ///
-    /// After 128 messages in a row without a wait its future yields once, so that other tasks run.
+    /// After 128 messages in a row that it did not wait for, its future yields once, so that other tasks run.
     ///
     /// # Cancel safety
     ///
-    /// The message is sent, whole, once the future is ready. A future that is dropped before sent nothing, spent no
-    /// guarantee, and left its place in line to the next.
+    /// This method is cancel safe. The whole message is enqueued once the future completes. A future that is dropped
+    /// before sends nothing, uses no guarantee, and leaves its slot of the wait queue to the next call.
     ///
     /// # Errors
     ///
-    /// - [`SendError::Refused`] by 15, 1, 2 and 3, as [`Refusal`](crate::Refusal) numbers them, and by 14,
-    ///   where memory was refused and the same call may be made again.
-    /// - [`SendError::Unwanted`] where the other side will not issue as much.
-    /// - [`SendError::Closed`] once the session is closed or over, and with [`Closed::Remote`] where guarantees are missing
-    ///   and the peer closed the session.
+    /// - [`SendError::Refused`] with `Refusal::ChannelFinished`, `Refusal::EmptyBody`, `Refusal::BodyTooLong` or
+    ///   `Refusal::PastSendLimit` (see [`Refusal`](crate::Refusal)), or with `Refusal::OutOfMemory` if an allocation
+    ///   failed and the same call may be made again.
+    /// - [`SendError::Unwanted`] if the peer will not issue enough guarantees.
+    /// - [`SendError::Closed`] once the session is closed or over, and with [`Closed::Remote`] if guarantees are
+    ///   missing and the peer closed the session.
     pub async fn send(&self, body: &[u8]) -> Result<(), SendError> {
         self.sending(Ask::Message(body), false).await
     }
 
-    /// [`Sender::send`] for a thread, which sleeps meanwhile. It is not for a task of an executor.
+    /// Sends a message, as [`Sender::send`] does, and blocks the thread. Do not call it from a task of an executor.
+    ///
+    /// # Errors
+    ///
+    /// Those of [`Sender::send`].
     pub fn send_blocking(&self, body: &[u8]) -> Result<(), SendError> {
         self.block_for_good(Ask::Message(body))
     }
 
-    /// [`Sender::send_blocking`] that waits so long at most, and then has sent nothing. What could go at
-    /// once goes also where the time is none.
+    /// Sends a message, as [`Sender::send_blocking`] does, and waits for at most `timeout`. A message that need not
+    /// wait is sent even with a timeout of zero.
+    ///
+    /// # Errors
+    ///
+    /// [`SendTimeoutError::Timeout`] if the message was not sent in that time, and those of [`Sender::send`].
     pub fn send_timeout(&self, body: &[u8], timeout: Duration) -> Result<(), SendTimeoutError> {
         self.block(Ask::Message(body), deadline(timeout))
     }
 
-    /// Sends a message if that needs no wait, and no call of this channel waits.
+    /// Sends a message if it can proceed now and no call of this channel waits.
+    ///
+    /// # Errors
+    ///
+    /// [`TrySendError::Full`] if it would have to wait, and those of [`Sender::send`].
     pub fn try_send(&self, body: &[u8]) -> Result<(), TrySendError> {
         self.shared
             .with(|state| state.try_send(self.channel, Ask::Message(body)))
     }
 
-    /// Waits, as [`Sender::send`] does, until a message of so many bytes could be sent, and answers a permit to send it: so
-    /// it need not be made before. Its errors are those of [`Sender::send`], but for 14.
+    /// Waits, as [`Sender::send`] does, until a message of `len` bytes can be sent, and returns a permit to send it.
+    /// So the application need not build the message before it can be sent.
     ///
     /// # Cancel safety
     ///
-    /// A future that is dropped before it is ready reserved nothing, and left its place in line to the next.
+    /// This method is cancel safe. A future that is dropped before it completes reserves nothing, and leaves its slot
+    /// of the wait queue to the next call.
+    ///
+    /// # Errors
+    ///
+    /// Those of [`Sender::send`], apart from `Refusal::OutOfMemory`.
     pub async fn reserve(&self, len: usize) -> Result<Permit<'_>, SendError> {
         self.sending(Ask::Permit(len), false).await?;
         Ok(Permit { sender: self, len })
     }
 
-    /// [`Sender::reserve`] for a thread, which sleeps meanwhile.
+    /// Reserves a permit, as [`Sender::reserve`] does, and blocks the thread.
+    ///
+    /// # Errors
+    ///
+    /// Those of [`Sender::reserve`].
     pub fn reserve_blocking(&self, len: usize) -> Result<Permit<'_>, SendError> {
         self.block_for_good(Ask::Permit(len))?;
         Ok(Permit { sender: self, len })
     }
 
-    /// [`Sender::reserve_blocking`] that waits so long at most, and then has reserved nothing.
+    /// Reserves a permit, as [`Sender::reserve_blocking`] does, and waits for at most `timeout`.
+    ///
+    /// # Errors
+    ///
+    /// [`SendTimeoutError::Timeout`] if no permit was reserved in that time, and those of [`Sender::reserve`].
     pub fn reserve_timeout(
         &self,
         len: usize,
@@ -201,66 +239,138 @@ impl Sender {
         Ok(Permit { sender: self, len })
     }
 
-    /// Answers a permit if that needs no wait.
+    /// Reserves a permit if it can proceed now and no call of this channel waits.
+    ///
+    /// # Errors
+    ///
+    /// [`TrySendError::Full`] if it would have to wait, and those of [`Sender::reserve`].
     pub fn try_reserve(&self, len: usize) -> Result<Permit<'_>, TrySendError> {
         self.shared
             .with(|state| state.try_send(self.channel, Ask::Permit(len)))?;
         Ok(Permit { sender: self, len })
     }
 
-    /// Ends the channel: nothing more is sent, all guarantees are given up, and the other side's receiver
-    /// gets what was sent, and then the end. It does not wait: calls that do already go before it, and later
-    /// ones are refused; so are permits. In version One a limit of 0 does so. A second one is refused by 15.
+    /// Reserves a permit, as [`Sender::reserve`] does, that has a clone of the sender: it borrows nothing, so it may
+    /// move to another task.
+    ///
+    /// # Cancel safety
+    ///
+    /// This method is cancel safe, as [`Sender::reserve`] is.
+    ///
+    /// # Errors
+    ///
+    /// Those of [`Sender::reserve`].
+    ///
+    /// ```
+    /// use lcmux::{SendError, Sender};
+    /// use std::future::Future;
+    ///
+    /// /// Reserves, and returns a task that sends once the message is made.
+    /// async fn send_later(
+    ///     sender: &Sender,
+    ///     message: impl Future<Output = Vec<u8>> + Send + 'static,
+    /// ) -> Result<impl Future<Output = Result<(), SendError>> + Send + 'static, SendError> {
+    ///     let permit = sender.reserve_owned(4096).await?;
+    ///     Ok(async move { permit.send(&message.await) })
+    /// }
+    /// ```
+    pub async fn reserve_owned(&self, len: usize) -> Result<OwnedPermit, SendError> {
+        Ok(self.reserve(len).await?.into_owned())
+    }
+
+    /// Reserves a permit that has a clone of the sender, if it can proceed now and no call of this channel waits.
+    ///
+    /// # Errors
+    ///
+    /// Those of [`Sender::try_reserve`].
+    ///
+    /// ```
+    /// use lcmux::{Channel::Data, Config, Mux, Needs, TrySendError, CHANNELS};
+    ///
+    /// let (mut mux, _driver) = Mux::new(Config::new([64; CHANNELS], 16))?;
+    /// let sender = mux.sender(Data).unwrap();
+    /// let full = TrySendError::Full(Needs::Guarantees(5)); // the peer has issued none yet
+    /// assert_eq!(sender.try_reserve_owned(5).unwrap_err(), full);
+    /// # Ok::<(), lcmux::MuxFault>(())
+    /// ```
+    pub fn try_reserve_owned(&self, len: usize) -> Result<OwnedPermit, TrySendError> {
+        Ok(self.try_reserve(len)?.into_owned())
+    }
+
+    /// Finishes the channel: this side sends nothing more on it and waives its guarantees. The peer's receiver gets
+    /// all messages that were sent, and then the end of the channel. It does not wait: calls that already wait precede
+    /// it, and later calls and permits are refused by `Refusal::ChannelFinished`. In version One a limit of 0 ends the
+    /// channel, so there later sends are refused by `Refusal::PastSendLimit`.
+    ///
+    /// # Errors
+    ///
+    /// The first of these that applies: [`CallError::Closed`] if the session is closed or over,
+    /// `Refusal::ChannelFinished` if the channel is finished already (see [`Refusal`](crate::Refusal)).
     pub fn finish(&self) -> Result<(), CallError> {
         self.shared.with(|state| state.finish(self.channel))
     }
 
-    /// At most so many bytes are sent from here on; 0 ends the channel. It does not wait: calls that do
-    /// already go before it, and a later one that is longer is refused; so is such a permit. Refused by 15, 7
-    /// and 8, in this order.
+    /// Limits sending to at most `bound` bytes from here on; 0 ends the channel. It does not wait: calls that already
+    /// wait precede it, and a later call or permit for more bytes is refused.
+    ///
+    /// # Errors
+    ///
+    /// The first of these that applies: [`CallError::Closed`] if the session is closed or over,
+    /// `Refusal::ChannelFinished`, `Refusal::BoundTooLarge`, `Refusal::LimitRaised` (see
+    /// [`Refusal`](crate::Refusal)).
     pub fn limit(&self, bound: u64) -> Result<(), CallError> {
         self.shared
             .with(|state| state.limit_sending(self.channel, bound))
     }
 
-    /// Gives up guarantees that no permit owns, also such as a call waits for. It does not wait. Refused by
-    /// 15, 5 and 6, in this order.
+    /// Absolves: gives `amount` guarantees back to the receiver. They may be guarantees that a call waits to use, but
+    /// not those that permits own. It does not wait.
+    ///
+    /// # Errors
+    ///
+    /// The first of these that applies: [`CallError::Closed`] if the session is closed or over,
+    /// `Refusal::ChannelFinished`, `Refusal::ZeroAmount`, `Refusal::NotHeld` (see [`Refusal`](crate::Refusal)).
     pub fn absolve(&self, amount: u32) -> Result<(), CallError> {
         self.shared
             .with(|state| state.absolve(self.channel, amount))
     }
 
-    /// The target of the other side's last plead, to hold at most so much; `None` once it was honoured, also
-    /// where this side holds more by what was issued meanwhile. That one came is told by
-    /// [`Driver::on_frame`](crate::Driver::on_frame).
+    /// Returns the target of the receiver's last plead: the most guarantees that this side should hold. `None` once
+    /// the plead was honoured, even if guarantees that were issued meanwhile exceed the target.
+    /// [`Driver::on_frame`](crate::Driver::on_frame) reports the arrival of a plead.
     pub fn pleaded(&self) -> Option<u32> {
         self.shared.with(|state| state.pleaded(self.channel))
     }
 
-    /// Honours the other side's last plead, where [`PleadPolicy::ByCaller`](crate::PleadPolicy::ByCaller)
-    /// leaves that to the caller: what is held above its target is given up, which is the answer. What
-    /// permits own is kept, and then the plead is, too. It does not wait. Refused by 15.
+    /// Honours the receiver's last plead, if [`PleadPolicy::ByCaller`](crate::PleadPolicy::ByCaller) leaves that to
+    /// the application. It absolves the guarantees above the target and returns how many these are. Guarantees that
+    /// permits own are kept, and then the plead stays pending. It does not wait.
+    ///
+    /// # Errors
+    ///
+    /// [`CallError::Closed`] if the session is closed or over, else [`CallError::Refused`] with
+    /// `Refusal::ChannelFinished` (see [`Refusal`](crate::Refusal)).
     pub fn honour(&self) -> Result<u32, CallError> {
         self.shared.with(|state| state.honour(self.channel))
     }
 
-    /// The guarantees that calls may use: those that are held and that no permit owns.
+    /// Returns the guarantees that calls may use: those that this side holds and no permit owns.
     pub fn held(&self) -> u64 {
         self.shared.with(|state| state.held(self.channel))
     }
 
-    /// The channel's balances on this side, those of permits among what is held.
+    /// Returns the sender's ledger of the channel. Its `held` includes the guarantees that permits own.
     pub fn book(&self) -> ClientBook {
         self.shared.with(|state| state.client(self.channel))
     }
 
-    /// What the channel did so far.
+    /// Returns the statistics of the channel.
     pub fn stats(&self) -> Stats {
         self.shared.with(|state| state.stats(self.channel))
     }
 }
 
-/// The channel is finished once the last clone is dropped.
+/// Makes another handle of the channel. The channel is finished once the last clone is dropped.
 impl Clone for Sender {
     fn clone(&self) -> Sender {
         self.shared.with(|state| state.join(self.channel));
@@ -285,50 +395,73 @@ impl fmt::Debug for Sender {
     }
 }
 
-/// The right to send one message: it holds guarantees and a slot until it is used or dropped.
+/// The right to send one message: a permit holds guarantees and a slot until it is used or dropped.
 ///
-/// No other call of the channel spends its guarantees, and no policy gives them up. A permit that is dropped gives both
-/// back, and notifies the calls that wait for them. The first permit of a channel holds the channel's own slot, a further
-/// one a shared slot: one that is kept for long holds up its own channel, and no other.
+/// No other call of the channel uses its guarantees, and no policy absolves them. A dropped permit returns both, and
+/// notifies the calls that wait for them. The first permit of a channel holds the channel's own slot, a further one a
+/// shared slot. A permit that is kept for long delays its own channel, and no other.
 ///
 /// ```
-/// use lcmux::{Channel::Data, Config, Mux};
+/// use lcmux::{Channel::Data, Config, Mux, CHANNELS};
 /// # use std::{os::unix::net::UnixStream, thread};
 /// # let (here, there) = UnixStream::pair()?;
-/// # let (mut alice, driver) = Mux::new(Config::new([64; 7], 16))?;
+/// # let (mut alice, driver) = Mux::new(Config::new([64; CHANNELS], 16))?;
 /// # thread::spawn(move || driver.run_blocking(here.try_clone()?, here));
-/// # let (_bob, driver) = Mux::new(Config::new([64; 7], 16))?;
+/// # let (_bob, driver) = Mux::new(Config::new([64; CHANNELS], 16))?;
 /// # thread::spawn(move || driver.run_blocking(there.try_clone()?, there));
 /// let sender = alice.sender(Data).unwrap();
 /// let permit = sender.reserve_blocking(60)?;
 /// assert_eq!(sender.held(), 4);
-/// permit.send(b"short")?; // and the rest is given back
+/// permit.send(b"short")?; // and returns the other guarantees
 /// assert_eq!(sender.held(), 59);
 /// # Ok::<(), Box<dyn std::error::Error>>(())
 /// ```
-#[must_use = "a permit that is dropped is given back"]
+#[must_use = "a dropped permit returns its guarantees"]
 pub struct Permit<'a> {
-    sender: &'a Sender,
-    len: usize,
+    pub(super) sender: &'a Sender,
+    pub(super) len: usize,
 }
 
 impl Permit<'_> {
-    /// How long a message it is for, at most.
+    /// Returns the length of the longest message that the permit allows.
     #[allow(clippy::len_without_is_empty)]
     pub fn len(&self) -> usize {
         self.len
     }
 
-    /// Sends the message at once, and gives back the guarantees that it does not need. The permit is used up,
-    /// whatever the answer is. It is refused only
-    /// where the message is empty or longer than the permit, where memory was, or where the channel was
-    /// finished or limited or the session ended meanwhile.
+    /// Sends the message at once and returns the guarantees that it does not need. This uses up the permit, whatever
+    /// the result.
+    ///
+    /// # Errors
+    ///
+    /// - [`SendError::Refused`] with `Refusal::EmptyBody` if the message is empty, with `Refusal::NoGuarantee` if it
+    ///   is longer than the permit, with `Refusal::OutOfMemory` if an allocation failed, or with the refusal of a
+    ///   finish or a limit that this side set meanwhile (see [`Refusal`](crate::Refusal)).
+    /// - [`SendError::Closed`] if the session was closed or ended meanwhile.
     pub fn send(self, body: &[u8]) -> Result<(), SendError> {
         let Permit { sender, len } = self;
         mem::forget(self);
         sender
             .shared
             .with(|state| state.send_reserved(sender.channel, len, body))
+    }
+
+    /// Gives the permit a clone of its sender, so that it borrows nothing.
+    ///
+    /// ```
+    /// use lcmux::{OwnedPermit, SendError, Sender};
+    ///
+    /// /// Blocks the thread until there is a permit that may move to another one.
+    /// fn owned_permit(sender: &Sender) -> Result<OwnedPermit, SendError> {
+    ///     Ok(sender.reserve_blocking(4096)?.into_owned())
+    /// }
+    /// # let _ = owned_permit;
+    /// ```
+    pub fn into_owned(self) -> OwnedPermit {
+        let Permit { sender, len } = self;
+        let owned = OwnedPermit::new(sender.clone(), len);
+        mem::forget(self);
+        owned
     }
 }
 
@@ -349,7 +482,7 @@ impl fmt::Debug for Permit<'_> {
 #[cfg(test)]
 mod tests {
     use super::*;
-    use crate::{Channel::Data, Config, Mux};
+    use crate::{Channel::Data, Config, Mux, CHANNELS};
     use std::task::Wake;
 
     struct Noop;
@@ -358,20 +491,20 @@ mod tests {
         fn wake(self: Arc<Noop>) {}
     }
 
-    // As it is where a panic unwinds a thread that waits.
+    // As when a panic unwinds a waiting thread.
     #[test]
-    fn a_permit_that_was_given_to_who_is_gone_is_given_back() {
-        let (mut mux, _driver) = Mux::new(Config::new([64; 7], 14)).unwrap();
+    fn a_permit_that_was_granted_to_a_dropped_call_is_returned() {
+        let (mut mux, _driver) = Mux::new(Config::new([64; CHANNELS], 14)).unwrap();
         let sender = mux.sender(Data).unwrap();
         let mut call = sender.sending(Ask::Permit(5), true);
         let waker = Arc::new(Noop).into();
         let polled = Pin::new(&mut call).poll(&mut Context::from_waker(&waker));
         assert!(polled.is_pending());
-        let came = sender.shared.with(|state| {
+        let delivered = sender.shared.with(|state| {
             state.pull(&mut [0; 64], false, &waker);
             state.deliver(b"\x21\0\0\0\x08")
         });
-        assert_eq!(came, Ok((5, 1)));
+        assert_eq!(delivered, Ok((5, 1)));
         assert_eq!(sender.held(), 3);
         drop(call);
         assert_eq!(sender.held(), 8);

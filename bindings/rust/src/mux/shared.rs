@@ -7,10 +7,10 @@ use std::sync::atomic::{AtomicBool, AtomicU8, Ordering::Relaxed, Ordering::SeqCs
 use std::sync::{Mutex, MutexGuard, PoisonError};
 use std::task::Waker;
 
-/// What is done once the lock is free: wakers may run anything, also when they are dropped.
+/// The actions that follow once the lock is free: wakers may run any code, also when they are dropped.
 #[derive(Default)]
 pub(crate) struct Wakes {
-    /// Most calls wake one alone.
+    /// The first waker: most calls wake only one.
     next: Option<Waker>,
     wakers: VecDeque<Waker>,
     stale: Vec<Waker>,
@@ -33,7 +33,7 @@ impl Wakes {
         self.breaker = breaker;
     }
 
-    /// All of this, where there is something to be done.
+    /// Takes all actions, if there are any.
     fn take(&mut self) -> Option<Wakes> {
         let is_empty = self.next.is_none() && self.stale.is_empty() && self.breaker.is_none();
         (!is_empty).then(|| mem::take(self))
@@ -50,19 +50,19 @@ impl Wakes {
     }
 }
 
-// A waker that panics keeps no other from being woken.
+// A waker that panics does not prevent the wake-up of the others.
 impl Drop for Wakes {
     fn drop(&mut self) {
         self.run();
     }
 }
 
-/// A session, as its ends, its driver and its `Mux` share it.
+/// The session that its handles, its driver and its `Mux` share.
 pub(crate) struct Shared {
     state: Mutex<State>,
-    /// Channels whose lent message was given back, of which the state was not told yet, as bits.
+    /// Channels whose borrowed message was returned and whose free bytes the state does not know of yet, as bits.
     given_back: AtomicU8,
-    /// Whether the writing half waits until something is to go out: then the state is told at once.
+    /// Whether the writing half waits for a frame: then the state is notified at once.
     is_idle: AtomicBool,
 }
 
@@ -75,11 +75,11 @@ impl Shared {
         }
     }
 
-    /// Changes the state, and then wakes whom that lets go on.
+    /// Changes the state under the lock, and then wakes the tasks that can proceed.
     pub fn with<T>(&self, call: impl FnOnce(&mut State) -> T) -> T {
         let rescue = Rescue(self);
         let mut state = self.lock();
-        self.tell_given_back(&mut state);
+        self.apply_given_back(&mut state);
         let answer = call(&mut state);
         self.note_idle(&mut state);
         let wakes = state.wakes.take();
@@ -91,8 +91,9 @@ impl Shared {
         answer
     }
 
-    /// A message that was lent on a channel is room again. The lock is not taken for it where the writing half is
-    /// on its way: whoever takes it next tells the state, at the latest that half before it waits.
+    /// Returns a borrowed message of a channel: its bytes are free. The lock is not taken for it while the writing
+    /// half is active. The next call that takes the lock notifies the state, at the latest the writing half before it
+    /// waits.
     pub fn give_back(&self, channel: Channel) {
         self.given_back.fetch_or(1 << channel.number(), SeqCst);
         if self.is_idle.load(SeqCst) {
@@ -100,18 +101,18 @@ impl Shared {
         }
     }
 
-    fn tell_given_back(&self, state: &mut State) {
+    fn apply_given_back(&self, state: &mut State) {
         if self.given_back.load(SeqCst) != 0 {
             state.give_back_lent(self.given_back.swap(0, SeqCst));
         }
     }
 
-    // Who gives back sees that the writing half waits, or else this sees what was given back.
+    // Either `give_back` observes that the writing half waits, or this method observes the returned message.
     fn note_idle(&self, state: &mut State) {
         let is_idle = state.is_idle();
         if self.is_idle.load(Relaxed) != is_idle {
             self.is_idle.store(is_idle, SeqCst);
-            self.tell_given_back(state);
+            self.apply_given_back(state);
         }
     }
 
@@ -120,7 +121,7 @@ impl Shared {
     }
 }
 
-/// Aborts a session of which a call panicked under the lock: no one may wait for what half happened.
+/// Aborts a session if a call panicked under the lock, so that no call waits for a change that happened in part.
 struct Rescue<'a>(&'a Shared);
 
 impl Drop for Rescue<'_> {
@@ -138,7 +139,7 @@ mod tests {
     use super::*;
     use crate::mux::state::Pulled;
     use crate::Channel::{Data, Overlap};
-    use crate::{Config, Take};
+    use crate::{Config, Take, CHANNELS};
     use std::sync::atomic::AtomicUsize;
     use std::sync::Arc;
     use std::task::Wake;
@@ -159,9 +160,9 @@ mod tests {
     }
 
     impl Session {
-        /// One whose first issues are written, and that lent a message on channel 2.
+        /// A session whose first issues are written, and that lends a message on channel 2.
         fn new() -> Session {
-            let state = State::new(&Config::new([64; 7], 16).into()).unwrap();
+            let state = State::new(&Config::new([64; CHANNELS], 16).into()).unwrap();
             let mut session = Session {
                 shared: Shared::new(state),
                 buffer: [0; 64],
@@ -180,12 +181,12 @@ mod tests {
             assert!(matches!(lent, Ok(Take::Took(front)) if *front == *b"hi"));
         }
 
-        /// What the writing half has to write; where that is nothing, it waits.
+        /// Returns the bytes that the writing half has to write; if there are none, it waits.
         fn pull(&mut self) -> &[u8] {
             self.pull_and(|_| {})
         }
 
-        // What else happens before the lock is free again.
+        // Runs `also` before the lock is free again.
         fn pull_and(&mut self, also: impl FnOnce(&Shared)) -> &[u8] {
             let waker = Waker::from(Arc::clone(&self.count));
             let pulled = self.shared.with(|state| {
@@ -196,7 +197,7 @@ mod tests {
             match pulled {
                 Pulled::Bytes(count, _) => &self.buffer[..count],
                 Pulled::Idle => &[],
-                Pulled::End | Pulled::Over(_) => unreachable!(),
+                Pulled::Soon | Pulled::End | Pulled::Over(_) => unreachable!(),
             }
         }
 
@@ -208,7 +209,7 @@ mod tests {
     const ISSUE: &[u8] = b"\x22\0\0\0\x02";
 
     #[test]
-    fn what_is_given_back_is_issued_when_the_writing_half_comes() {
+    fn a_returned_message_is_issued_at_the_next_pull() {
         let mut session = Session::new();
         session.shared.give_back(Overlap);
         assert_eq!(session.pull(), ISSUE);
@@ -216,7 +217,7 @@ mod tests {
     }
 
     #[test]
-    fn what_is_given_back_on_two_channels_is_issued_on_both() {
+    fn returned_messages_of_two_channels_are_issued_on_both() {
         let mut session = Session::new();
         session.lend(Data, b"\x11\0\x02hi");
         session.shared.give_back(Overlap);
@@ -225,7 +226,7 @@ mod tests {
     }
 
     #[test]
-    fn what_is_given_back_wakes_a_writing_half_that_waits() {
+    fn a_returned_message_wakes_an_idle_writing_half() {
         let mut session = Session::new();
         assert_eq!(session.pull(), b"");
         session.shared.give_back(Overlap);
@@ -233,9 +234,9 @@ mod tests {
         assert_eq!(session.pull(), ISSUE);
     }
 
-    // Between its last look and its wait: there no lock is taken, so this does not wait for itself.
+    // Between its last poll and its wait. `give_back` takes no lock there, so this does not deadlock.
     #[test]
-    fn what_is_given_back_just_before_the_writing_half_waits_wakes_it() {
+    fn a_message_returned_just_before_the_writing_half_waits_wakes_it() {
         let mut session = Session::new();
         assert_eq!(session.pull_and(|shared| shared.give_back(Overlap)), b"");
         assert_eq!(session.wakes(), 1);

@@ -1,8 +1,9 @@
 //! A session as a pure state machine: no threads, no lock and no transport.
 //!
-//! Each change ends with `settle`: it enqueues pending control frames, completes the calls of blocked threads that can
-//! proceed, and notifies the others that can. A wake-up carries no grant: a woken task looks again when it is polled,
-//! and where its future is dropped instead, `Drop` settles once more. So no wake-up is lost to a cancelled future.
+//! Each change ends with `settle`, the scheduler: it enqueues pending control frames, completes the calls of blocked
+//! threads that can proceed, and notifies the other calls that can. Wake-ups carry no grant. A woken task
+//! re-evaluates when polled; if its future is dropped instead, `Drop` runs the scheduler again, so no wake-up is lost
+//! to a cancelled future.
 mod bytes;
 mod control;
 mod line;
@@ -23,6 +24,7 @@ use super::stats::Stats;
 use crate::sys::Lent;
 use crate::{
     Channel, ClientBook, Closed, IssuePolicy, MuxFault, Peer, PleadPolicy, ServerBook, Version,
+    CHANNELS,
 };
 use bytes::Bytes;
 use control::{ClientOwed, Pleaded, ServerOwed};
@@ -33,23 +35,23 @@ use std::mem;
 use std::task::Waker;
 use std::time::Instant;
 
-/// The handles that a session has at first: a sender and a receiver for each channel, and its `Mux`.
-const USERS: usize = 15;
+/// The number of handles of a new session: a sender and a receiver for each channel, and its `Mux`.
+const USERS: usize = 2 * CHANNELS + 1;
 
 /// All channels, as bits.
-const ALL: u8 = 0x7f;
+const ALL: u8 = (1 << CHANNELS) - 1;
 
 /// A channel in the direction in which this side sends.
 #[derive(Default)]
 struct Outgoing {
     line: Line,
-    /// The guarantees that permits hold.
+    /// The guarantees that permits own.
     reserved: u64,
-    /// When the channel sent last, counted in messages and permits of all; 0 before.
+    /// When the channel sent last, counted in messages and permits of all channels; 0 before its first.
     went: u64,
-    /// The bytes that are left to its first call, of a thread that was woken to send them.
+    /// The bytes of the queue that are reserved for its first call, of a thread that was woken to send them.
     claimed: usize,
-    /// How many senders of the channel there are, clones among them.
+    /// The number of senders of the channel, including clones.
     senders: usize,
     policy: PleadPolicy,
     pleaded: Option<Pleaded>,
@@ -60,25 +62,26 @@ struct Outgoing {
 #[derive(Default)]
 struct Incoming {
     waker: Option<Waker>,
-    /// Whether the first message is lent: it is taken once it is given back.
+    /// Whether the first message is borrowed: it is taken once the borrow ends.
     is_lent: bool,
     policy: IssuePolicy,
-    /// The target of the last plead, above which no policy issues.
+    /// The target of the last plead: no policy issues above it.
     most: Option<u32>,
     owed: ServerOwed,
 }
 
-/// The shortest message that a transport is given where it lies; a shorter one is copied.
+/// The shortest message that is written without a copy.
 const BORROWED_FROM: usize = 4_096;
 
-/// What the writing half does next.
+/// The next step of the writing half.
 pub(crate) enum Pulled {
-    /// So many bytes were put into its buffer, and the message that goes behind them, if there is one, is lent
-    /// until the next pull.
+    /// This many bytes are in its buffer. If a message follows them, it is borrowed until the next pull.
     Bytes(usize, Option<Lent>),
-    /// Nothing is to go out; it is woken.
+    /// No frame is pending. The writing half is woken once one is.
     Idle,
-    /// Nothing more will go out.
+    /// No frame is pending, and tasks that were woken are about to send: the writing half pulls again after them.
+    Soon,
+    /// No frame will follow: the stream ends.
     End,
     /// The session is over.
     Over(Closed),
@@ -87,27 +90,31 @@ pub(crate) enum Pulled {
 pub(crate) struct State {
     peer: Peer,
     version: Version,
-    out: [Outgoing; 7],
-    inc: [Incoming; 7],
-    stats: [Stats; 7],
+    out: [Outgoing; CHANNELS],
+    inc: [Incoming; CHANNELS],
+    stats: [Stats; CHANNELS],
     slots: Slots,
     bytes: Bytes,
-    /// The shortest message that counts as long, and how many in the queue do, or more.
+    /// The shortest message that counts as long, and an upper bound of the long messages in the queue.
     borrowed_from: usize,
     long: usize,
-    /// Whether the first frame in the queue is lent to the writing half.
+    /// Whether the writing half borrows the first frame of the queue.
     is_lent: bool,
-    /// The bytes that are left to threads which were woken to send them.
+    /// Whether the writing half found no frame, and pulls again, since it last took any.
+    pulls_again: bool,
+    /// The bytes of the queue that are reserved for threads that were woken to send them.
     claimed: usize,
-    /// How many messages and permits there were so far.
+    /// The number of messages and permits so far.
     turns: u64,
-    /// Channels on which a receiver or a sender may owe something, as bits, and the one that is looked at first.
+    /// Channels whose receiver or sender may have pending control frames, as bits, and the channel that is served
+    /// first.
     owing_in: u8,
     owing_out: u8,
     first: usize,
-    /// Channels by their first waiting call, as bits: those of which it may have changed, so that nothing is known;
-    /// whose call has its guarantees; whose call will never proceed; whose call was woken to proceed, and was neither
-    /// polled nor dropped since; and of these, whose call was since the writing half last took frames.
+    /// Channels by their first waiting call, as bits. `stale`: the call may have changed and is evaluated again.
+    /// `able`: the call has its guarantees. `hopeless`: the call will never proceed. `notified`: the call was woken
+    /// to proceed, and was neither polled nor dropped since. `fresh`: it was notified after the writing half last
+    /// took frames.
     stale: u8,
     able: u8,
     hopeless: u8,
@@ -119,10 +126,10 @@ pub(crate) struct State {
     in_ended: bool,
     closed: Option<Closed>,
     reader: Option<Waker>,
-    /// The writing half, whatever it waits for: its transport, or, where it is idle, a frame to write.
+    /// The waker of the writing half, whether it waits for its transport or, while it is idle, for a frame.
     writer: Option<Waker>,
     is_idle: bool,
-    /// Calls that wait for the end.
+    /// Calls that wait until the session is over.
     over: Vec<(u64, Waker)>,
     tickets: u64,
     breaker: Option<Breaker>,
@@ -137,7 +144,7 @@ fn bit(channel: Channel) -> u8 {
     1 << at(channel)
 }
 
-// The channels of these bits.
+// The channels whose bits are set.
 fn channels(mut bits: u8) -> impl Iterator<Item = Channel> {
     iter::from_fn(move || {
         let lowest = Channel::ALL.get(bits.trailing_zeros() as usize)?;
@@ -146,7 +153,7 @@ fn channels(mut bits: u8) -> impl Iterator<Item = Channel> {
     })
 }
 
-// The waker of a task in the place of the one before.
+// Registers the waker of a task in place of an earlier one.
 fn keep(place: &mut Option<Waker>, waker: &Waker, wakes: &mut Wakes) {
     if !place.as_ref().is_some_and(|kept| kept.will_wake(waker)) {
         wakes.discard(place.replace(waker.clone()));
@@ -168,6 +175,7 @@ impl State {
             borrowed_from: BORROWED_FROM,
             long: 0,
             is_lent: false,
+            pulls_again: false,
             claimed: 0,
             turns: 0,
             owing_in: ALL,
@@ -191,7 +199,7 @@ impl State {
             breaker: None,
             wakes: Wakes::default(),
         };
-        for channel in Channel::ALL.map(at) {
+        for channel in Channel::ALL {
             state.inc[channel].policy = config.issue[channel];
             state.out[channel].policy = config.plead[channel];
             state.out[channel].senders = 1;
@@ -201,8 +209,8 @@ impl State {
     }
 
     pub fn stats(&self, channel: Channel) -> Stats {
-        let mut stats = self.stats[at(channel)];
-        let lacking = &self.out[at(channel)].line.lacking;
+        let mut stats = self.stats[channel];
+        let lacking = &self.out[channel].line.lacking;
         lacking.count(Instant::now(), &mut stats);
         stats
     }
@@ -224,17 +232,17 @@ impl State {
         self.closing || self.closed.is_some()
     }
 
-    /// Whether the writing half waits for a frame to write.
+    /// Returns whether the writing half waits for a frame.
     pub fn is_idle(&self) -> bool {
         self.is_idle
     }
 
-    /// From which length on a message is given to the transport where it lies.
+    /// Sets the length from which on a message is written without a copy.
     pub fn borrow_from(&mut self, len: usize) {
         self.borrowed_from = len;
     }
 
-    // Why a call that puts something on the stream is refused.
+    // The reason why no frame may be enqueued any more, if there is one.
     fn is_open(&self) -> Result<(), Closed> {
         match &self.closed {
             Some(closed) => Err(closed.clone()),
@@ -243,7 +251,7 @@ impl State {
         }
     }
 
-    // What follows from a change: pending control frames are enqueued, and whoever can proceed is woken.
+    // The scheduler: enqueues pending control frames, and completes or notifies the calls that can proceed.
     fn settle(&mut self) {
         self.flush();
         self.wake_senders();
@@ -257,13 +265,13 @@ impl State {
         self.wakes.wake(self.writer.take());
     }
 
-    // Anything may have changed.
+    // Marks every channel to be evaluated again.
     fn look_everywhere(&mut self) {
         (self.owing_in, self.owing_out, self.stale) = (ALL, ALL, ALL);
     }
 
-    /// The next bytes that go out, to the front of an empty buffer; before a long message they end, and where the
-    /// transport writes several slices at once that is lent. Where there are none the waker is kept.
+    /// Copies the next outbound bytes to the front of an empty buffer. They end before a long message, which is
+    /// borrowed if the transport writes several slices at once. If no bytes are pending, it registers the waker.
     pub fn pull(&mut self, buffer: &mut [u8], may_lend: bool, waker: &Waker) -> Pulled {
         if let Some(closed) = &self.closed {
             return Pulled::Over(closed.clone());
@@ -284,31 +292,47 @@ impl State {
         if count > 0 {
             let len = lent.map_or(count, |message| count + message.len());
             self.bytes.take(len);
+            self.pulls_again = false;
             self.settle();
             return Pulled::Bytes(count, lent);
         }
         if self.closing {
             return Pulled::End;
         }
+        self.pull_nothing(waker)
+    }
+
+    // The writing half gives woken tasks one turn to send. Then it is idle, and the calls that wait for the bytes of
+    // such a task are notified, too.
+    fn pull_nothing(&mut self, waker: &Waker) -> Pulled {
+        if !self.pulls_again && self.waits_for_bytes() {
+            self.pulls_again = true;
+            return Pulled::Soon;
+        }
         self.is_idle = true;
+        self.wake_senders();
+        if self.peer.wants_write() {
+            self.is_idle = false;
+            return Pulled::Soon;
+        }
         keep(&mut self.writer, waker, &mut self.wakes);
         Pulled::Idle
     }
 
-    // The message that was lent was written.
+    // Counts the borrowed message as sent.
     fn count_sent(&mut self) {
         self.sent();
         self.long = self.long.saturating_sub(1);
         self.settle();
     }
 
-    // The first frame in the queue was written.
+    // Counts the first frame of the queue as sent.
     fn sent(&mut self) {
         self.peer.sent();
         self.follow_queue();
     }
 
-    // What a call of the peer did to the queue is known to the slots. Whether frames entered it.
+    // Updates the slots after a call of the peer. Returns whether a frame entered the queue.
     fn follow_queue(&mut self) -> bool {
         self.slots.follow(self.peer.slots_left())
     }
@@ -322,7 +346,7 @@ impl State {
         count
     }
 
-    // Frame by frame as many as fit, up to a message that is long.
+    // Copies whole frames as long as they fit, up to a long message.
     fn pull_frames(&mut self, buffer: &mut [u8]) -> (usize, Option<Lent>) {
         let mut count = 0;
         while let Some(next) = self.peer.next() {
@@ -343,12 +367,12 @@ impl State {
             self.sent();
         }
         match count {
-            0 => (self.write(buffer), None), // the rest of a frame that was cut, or one that fits no buffer
+            0 => (self.write(buffer), None), // the rest of a frame, or a frame that fits no buffer
             _ => (count, None),
         }
     }
 
-    /// Bytes that came. The answer is how many were taken, and how many frames they made whole.
+    /// Processes inbound bytes. Returns how many were consumed, and how many frames they completed.
     pub fn deliver(&mut self, piece: &[u8]) -> Result<(usize, u64), Closed> {
         if let Some(closed) = &self.closed {
             return Err(closed.clone());
@@ -361,15 +385,15 @@ impl State {
         Ok((delivery.taken, delivery.frames))
     }
 
-    // What frames that came let go on.
+    // Notifies the calls that inbound frames let proceed.
     fn arrived(&mut self) {
         for (channel, ready) in Channel::ALL.into_iter().zip(self.peer.ready()) {
             if ready.message {
-                let most = &mut self.stats[at(channel)].most_buffered;
+                let most = &mut self.stats[channel].most_buffered;
                 *most = self.peer.server(channel).buffered.max(*most);
             }
             if ready.message || ready.ended {
-                let waker = self.inc[at(channel)].waker.take();
+                let waker = self.inc[channel].waker.take();
                 self.wakes.wake(waker);
             }
         }
@@ -377,19 +401,20 @@ impl State {
         self.settle();
     }
 
-    /// Keeps the waker of a reading half that waits for bytes, unless the session is over.
+    /// Registers the waker of a reading half that waits for bytes, unless the session is over.
     pub fn wait_to_read(&mut self, waker: &Waker) -> Result<(), Closed> {
         keep(&mut self.reader, waker, &mut self.wakes);
         self.closed.clone().map_or(Ok(()), Err)
     }
 
-    /// Keeps the waker of a writing half that waits for its transport, unless the session is over.
+    /// Registers the waker of a writing half that waits for its transport, unless the session is over.
     pub fn wait_to_write(&mut self, waker: &Waker) -> Result<(), Closed> {
         keep(&mut self.writer, waker, &mut self.wakes);
         self.closed.clone().map_or(Ok(()), Err)
     }
 
-    /// The peer ended its stream: in order, where it had finished all its channels, and else it was cut.
+    /// Records the end of the peer's stream: in order if the peer had finished all its channels, else the stream was
+    /// cut.
     pub fn input_ended(&mut self) -> Result<(), Closed> {
         if let Some(closed) = &self.closed {
             return closed.clone().result();
@@ -415,13 +440,13 @@ impl State {
         Ok(())
     }
 
-    // Whether the peer sends nothing more on the channel: by a Finish, or by a limit that is used up.
+    // Whether the peer sends nothing more on the channel: it finished it, or used up its limit on sending.
     fn is_finished_there(&self, channel: Channel) -> bool {
         let book = self.peer.server(channel);
         book.finished || book.send_left == Some(0)
     }
 
-    /// This side's stream is written and ended.
+    /// Records the end of this side's stream.
     pub fn output_ended(&mut self) {
         self.out_ended = true;
         self.end_if_done();
@@ -433,24 +458,25 @@ impl State {
         }
     }
 
-    /// What was accepted is written, every channel is finished, and then this side's stream ends.
+    /// Closes the session in order: accepted messages are written, every channel is finished, and then this side's
+    /// stream ends.
     pub fn close(&mut self) {
         if self.is_closing() {
             return;
         }
-        self.flush(); // from here on nothing is issued
+        self.flush(); // no guarantees are issued after this
         for channel in Channel::ALL {
             self.finish_once(channel);
         }
         self.closing = true;
         self.wake_waiting();
-        self.look_everywhere(); // also at what is pending behind calls that wait, none of which will proceed
-                                // Whatever the writing half waits for: it ends the stream, and may bound how long that takes.
+        self.look_everywhere(); // frames may be pending behind waiting calls, none of which will proceed
+                                // The writing half ends the stream, and may bound how long that takes.
         self.wake_writer();
         self.settle();
     }
 
-    /// The session is over, for this reason unless it had one.
+    /// Ends the session for this reason, unless it has ended before.
     pub fn fail(&mut self, reason: Closed) {
         if self.closed.is_some() {
             return;
@@ -470,7 +496,7 @@ impl State {
         }
     }
 
-    /// What ends the transport's calls where the session fails: at once, where it has.
+    /// Registers the shutdown handle of the transport, or calls it if the session has failed.
     pub fn set_breaker(&mut self, breaker: Option<Breaker>) {
         match &self.closed {
             Some(reason) if *reason != Closed::Local => self.wakes.break_by(breaker),
@@ -478,18 +504,18 @@ impl State {
         }
     }
 
-    /// The breaker of a transport that is no longer used, to be dropped without the lock.
+    /// Takes the shutdown handle of a transport that is no longer used, so that it is dropped without the lock.
     pub fn take_breaker(&mut self) -> Option<Breaker> {
         self.breaker.take()
     }
 
-    /// One more handle: a clone of a sender.
+    /// Counts one more handle: a clone of a sender.
     pub fn join(&mut self, channel: Channel) {
         self.users += 1;
-        self.out[at(channel)].senders += 1;
+        self.out[channel].senders += 1;
     }
 
-    /// One of the handles, or the `Mux`, is dropped. The last one closes the session.
+    /// Counts one handle, or the `Mux`, as dropped. The last one closes the session.
     pub fn leave(&mut self) {
         self.users -= 1;
         if self.users == 0 {
@@ -497,7 +523,7 @@ impl State {
         }
     }
 
-    /// The reason why the session is over. The waker is kept until then, at the place of the ticket.
+    /// Returns the reason why the session is over, or registers the waker under the ticket.
     pub fn poll_over(&mut self, ticket: &mut Option<u64>, waker: &Waker) -> Option<Closed> {
         if let Some(closed) = &self.closed {
             *ticket = None;

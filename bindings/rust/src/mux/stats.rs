@@ -1,40 +1,42 @@
 use std::time::{Duration, Instant};
 
-/// What a channel did so far, in both directions.
+/// The statistics of a channel, in both directions.
 ///
 /// ```
-/// use lcmux::{Channel::Data, Config, Mux};
-/// let (mux, _driver) = Mux::new(Config::new([64; 7], 16))?;
+/// use lcmux::{Channel::Data, Config, Mux, CHANNELS};
+/// let (mux, _driver) = Mux::new(Config::new([64; CHANNELS], 16))?;
 /// assert_eq!(mux.stats(Data).messages_sent, 0);
 /// # Ok::<(), lcmux::MuxFault>(())
 /// ```
 #[derive(Clone, Copy, Debug, Default, PartialEq, Eq)]
 #[non_exhaustive]
 pub struct Stats {
-    /// Messages that were accepted to be sent.
+    /// The messages that were accepted to be sent.
     pub messages_sent: u64,
-    /// Their bytes.
+    /// The bytes of these messages.
     pub bytes_sent: u64,
-    /// Messages that were taken.
+    /// The messages that were received.
     pub messages_received: u64,
-    /// Their bytes.
+    /// The bytes of these messages.
     pub bytes_received: u64,
-    /// How long a sender's first call that waited did so for guarantees, also one that still does.
+    /// The time in which the first waiting call of the sender lacked guarantees, summed over all calls so far. A call
+    /// that still waits counts.
     pub waited_for_guarantees: Duration,
-    /// How long it waited for a place in the queue, or for its turn.
+    /// The time in which the first waiting call had its guarantees and waited for the outbound queue, for a slot or
+    /// for its bytes, summed in the same way.
     pub waited_for_slots: Duration,
-    /// The most bytes of messages that were in the ring at once.
+    /// The most bytes of messages that the ring buffer held at once.
     pub most_buffered: u64,
 }
 
-/// What the first call that waits on a channel waits for.
+/// What the first waiting call of a channel lacks.
 #[derive(Clone, Copy, Debug, PartialEq, Eq)]
 pub(crate) enum Lack {
     Guarantees,
     Slot,
 }
 
-/// Counts how long a channel lacks what.
+/// Measures how long the first waiting call of a channel lacks what it lacks.
 #[derive(Debug, Default)]
 pub(crate) struct Lacking(Option<(Lack, Instant)>);
 
@@ -48,7 +50,7 @@ impl Lacking {
         self.0 = lack.map(|lack| (lack, now));
     }
 
-    /// Adds the time up to now of what it lacks still.
+    /// Adds the time up to now.
     pub fn count(&self, now: Instant, stats: &mut Stats) {
         match self.0 {
             Some((Lack::Guarantees, since)) => stats.waited_for_guarantees += now - since,

@@ -1,9 +1,9 @@
 use std::time::Duration;
 
-/// How long a session waits for its peer.
+/// The timeouts of a session.
 ///
-/// [`Driver::set_timeouts`](crate::Driver::set_timeouts) sets them for a session on threads, and `lcmux_tokio` takes the
-/// same for one on tokio. A timeout that expires fails the session:
+/// [`Driver::set_timeouts`](crate::Driver::set_timeouts) sets them for a session on threads, and `lcmux_tokio`
+/// accepts the same type for a session on tokio. A timeout that expires fails the session with
 /// [`Closed::Transport`](crate::Closed::Transport), of the kind [`TimedOut`](std::io::ErrorKind::TimedOut).
 ///
 /// ```
@@ -17,15 +17,16 @@ use std::time::Duration;
 #[derive(Clone, Copy, Debug, PartialEq, Eq)]
 #[non_exhaustive]
 pub struct Timeouts {
-    /// How long the peer may send nothing, and how long it may take nothing of what is to be written. The peer needs a
-    /// [`Timeouts::keep_alive`] well below that. `None` by default.
+    /// The longest time without an inbound byte, and the longest time in which the transport accepts none of the
+    /// pending bytes. The peer needs a [`Timeouts::keep_alive`] well below this timeout. `None` by default.
     pub idle: Option<Duration>,
-    /// After how long without a write a frame is sent that changes nothing, as
-    /// [`Driver::keep_alive`](crate::Driver::keep_alive) does. `None` by default.
+    /// The time without a write after which a frame is sent that changes nothing, as
+    /// [`Driver::keep_alive`](crate::Driver::keep_alive) does. A time below a millisecond counts as one. `None` by
+    /// default.
     pub keep_alive: Option<Duration>,
-    /// How long the end may take: once the session is closed on this side, how long the peer may take nothing of what
-    /// is still to be written, and then, how long it may take to end its stream. 30 seconds by default; with `None`,
-    /// as long as it takes.
+    /// The longest time that the end may take. Once the session is closed on this side, it bounds the time in which
+    /// the transport accepts none of the pending bytes, and then the time until the peer ends its stream. 30 seconds
+    /// by default; `None` sets no bound.
     pub grace: Option<Duration>,
 }
 
@@ -39,10 +40,19 @@ impl Default for Timeouts {
     }
 }
 
-/// The texts of the errors of timeouts, also for sessions on other runtimes.
+/// What sessions on other runtimes use, too: the texts of the timeout errors, and the timeouts that a session keeps.
 #[doc(hidden)]
 impl Timeouts {
-    pub const SILENT: &'static str = "the peer sent nothing in time";
-    pub const STALLED: &'static str = "the peer took nothing in time";
-    pub const UNENDED: &'static str = "the peer did not end its stream in time";
+    pub const SILENT: &'static str = "the peer sent nothing within the timeout";
+    pub const STALLED: &'static str = "the transport accepted no bytes within the timeout";
+    pub const UNENDED: &'static str = "the peer did not end its stream within the timeout";
+
+    /// A keep-alive without a pause would leave no time for anything else.
+    pub fn kept(self) -> Timeouts {
+        let least = Duration::from_millis(1);
+        Timeouts {
+            keep_alive: self.keep_alive.map(|pause| pause.max(least)),
+            ..self
+        }
+    }
 }

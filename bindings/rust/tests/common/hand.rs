@@ -1,4 +1,4 @@
-//! A session whose bytes the test moves by hand, and wakers that count.
+//! A session whose bytes the test moves by hand, and wakers that count their wake-ups.
 use crate::watchdog::Watchdog;
 use lcmux::{Closed, Driver, Mux, MuxConfig, PollRead, PollWrite};
 use std::future::Future;
@@ -24,7 +24,7 @@ impl Count {
     }
 }
 
-/// A call that is polled by hand: how often it was woken is counted.
+/// A call that is polled by hand and counts its wake-ups.
 pub struct Call<'a, T> {
     future: Pin<Box<dyn Future<Output = T> + 'a>>,
     count: Arc<Count>,
@@ -38,7 +38,7 @@ impl<'a, T> Call<'a, T> {
         }
     }
 
-    /// A call that was polled and has to wait.
+    /// A call that was polled and is pending.
     pub fn waiting(future: impl Future<Output = T> + 'a) -> Call<'a, T> {
         let mut call = Call::new(future);
         assert!(call.poll().is_none());
@@ -57,14 +57,14 @@ impl<'a, T> Call<'a, T> {
         self.count.count()
     }
 
-    /// Polls a call that was woken once, and is then ready.
+    /// Polls a call that was woken once, and that is ready then.
     pub fn woken(mut self) -> T {
         assert_eq!(self.wakes(), 1);
         self.poll().expect("it was woken")
     }
 }
 
-/// Bytes, behind which none come yet.
+/// Inbound bytes, after which the transport is pending.
 pub struct Feed<'a>(pub &'a [u8]);
 
 impl PollRead for Feed<'_> {
@@ -76,7 +76,7 @@ impl PollRead for Feed<'_> {
     }
 }
 
-/// Takes so many bytes, and then none.
+/// Accepts this many bytes, and then none.
 struct Narrow<'a>(&'a mut Vec<u8>, usize);
 
 impl PollWrite for Narrow<'_> {
@@ -103,7 +103,7 @@ pub struct Hand {
     pub mux: Mux,
     pub driver: Driver,
     pub written: Arc<Count>,
-    // No thread moves the bytes, so a call that waits where it should not would do so for ever.
+    // No thread moves the bytes, so a call that waits by mistake would wait forever.
     _watchdog: Watchdog,
 }
 
@@ -119,7 +119,7 @@ impl Hand {
         }
     }
 
-    /// A session of which the first issues are written.
+    /// A session whose first issues are written.
     pub fn started(config: impl Into<MuxConfig>) -> Hand {
         let mut hand = Hand::new(config);
         hand.written();
@@ -138,26 +138,26 @@ impl Hand {
             .poll_write(&mut Context::from_waker(&waker), writer)
     }
 
-    /// Bytes come.
+    /// Delivers inbound bytes.
     pub fn feed(&mut self, bytes: &[u8]) {
         assert_eq!(self.read(&mut Feed(bytes)), Poll::Pending);
     }
 
-    /// All that waits to be written.
+    /// Returns all pending bytes.
     pub fn written(&mut self) -> Vec<u8> {
         let mut bytes = Vec::new();
         assert_eq!(self.write(&mut bytes), Poll::Pending);
         bytes
     }
 
-    /// The next bytes that are written, of which the transport takes no more.
+    /// Returns the next pending bytes, of which the transport accepts no more than this many.
     pub fn written_at_most(&mut self, most: usize) -> Vec<u8> {
         let mut bytes = Vec::new();
         assert_eq!(self.write(&mut Narrow(&mut bytes, most)), Poll::Pending);
         bytes
     }
 
-    /// How often the writing half was woken.
+    /// Returns how often the writing half was woken.
     pub fn write_wakes(&self) -> usize {
         self.written.count()
     }

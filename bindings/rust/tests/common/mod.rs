@@ -1,10 +1,10 @@
-//! What the tests read their tables by. Not every one of them uses all of it.
+//! Helpers that read the tables of the tests. Not every test uses all of them.
 #![allow(dead_code)]
 
 use std::fs;
 use std::path::Path;
 
-/// Bytes in hexadecimal, or `-` for none.
+/// Parses bytes in hexadecimal, or `-` for none.
 pub fn hex(text: &str) -> Vec<u8> {
     let text = text.trim_start_matches('-');
     (0..text.len() / 2)
@@ -12,7 +12,7 @@ pub fn hex(text: &str) -> Vec<u8> {
         .collect()
 }
 
-/// A file that lies beside the crate, or among its tests in a package of it.
+/// Reads a file that is beside the crate, or among its tests in a package of it.
 pub fn shared(name: &str) -> String {
     let folder = Path::new(env!("CARGO_MANIFEST_DIR"));
     let packed = fs::read_to_string(folder.join("tests").join(name));
@@ -21,7 +21,7 @@ pub fn shared(name: &str) -> String {
         .unwrap_or_else(|error| panic!("{name}: {error}"))
 }
 
-/// The rows of a table, each with what stands before ` => ` and what stands behind it.
+/// Returns the rows of a table, each split at ` => `.
 pub fn rows(table: &str) -> impl Iterator<Item = (&str, &str)> {
     table.lines().map(|row| row.split_once(" => ").unwrap())
 }

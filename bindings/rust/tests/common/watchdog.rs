@@ -3,8 +3,8 @@ use std::sync::mpsc::{self, RecvTimeoutError, Sender};
 use std::time::Duration;
 use std::{process, thread};
 
-/// Ends the whole program, with a word, where it is neither fed nor dropped within a minute: a call that
-/// hangs does not hang the gate.
+/// Ends the whole program, with a message, if it is neither fed nor dropped within a minute: a call that hangs does
+/// not hang the gate.
 pub struct Watchdog {
     alive: Sender<()>,
 }
@@ -18,7 +18,7 @@ impl Watchdog {
                 Ok(()) => {}
                 Err(RecvTimeoutError::Disconnected) => return,
                 Err(RecvTimeoutError::Timeout) => {
-                    // Past what a test's output is caught by, which ends with the program.
+                    // Bypasses the capture of a test's output, which is lost with the program.
                     let _ = writeln!(io::stderr(), "{what} hangs");
                     process::abort();
                 }
@@ -27,7 +27,7 @@ impl Watchdog {
         Watchdog { alive }
     }
 
-    /// Something got on: it begins to wait anew. For tests that a machine with other work may slow down.
+    /// Restarts the minute after progress: for tests that a busy machine may slow down.
     #[allow(dead_code)]
     pub fn feed(&self) {
         let _ = self.alive.send(());

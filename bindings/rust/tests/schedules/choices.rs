@@ -1,4 +1,4 @@
-//! Where a schedule's choices come from: a seed, or a tape of the choices of an earlier run.
+//! The source of a schedule's choices: a seed, or a tape of the choices of an earlier run.
 
 pub struct Choices {
     tape: Vec<u32>,
@@ -15,7 +15,7 @@ impl Choices {
         }
     }
 
-    /// Behind its end each choice is the first.
+    /// After its end each choice is the first one.
     pub fn of_tape(tape: Vec<u32>) -> Choices {
         Choices {
             tape,
@@ -41,7 +41,7 @@ impl Choices {
         choice
     }
 
-    /// Whether one of `n` choices fell on this.
+    /// Makes one of `n` choices, and returns whether it is this one.
     pub fn one_in(&mut self, n: u32) -> bool {
         self.below(n) == n - 1
     }
@@ -52,7 +52,7 @@ impl Choices {
     }
 }
 
-/// A shorter or plainer tape on which `fails` still holds, found in at most so many tries.
+/// A shorter or simpler tape on which `fails` still holds, found in at most this many tries.
 pub fn shrunk(mut tape: Vec<u32>, tries: usize, mut fails: impl FnMut(&[u32]) -> bool) -> Vec<u32> {
     let mut left = tries;
     let mut size = tape.len().div_ceil(2).max(1);

@@ -1,21 +1,20 @@
-//! The tasks of a channel's ends.
+//! The tasks of a channel's handles.
 use crate::choices::Choices;
 use crate::executor::Yield;
 use crate::model::{body, Model};
-use lcmux::{
-    CallError, Closed, IssuePolicy, Permit, Receiver, SendError, Sender, TryRecvError, TrySendError,
-};
+use lcmux::{CallError, Closed, IssuePolicy, OwnedPermit, Permit, PollSender, Receiver};
+use lcmux::{SendError, Sender, TryRecvError, TrySendError};
 use std::cell::{Cell, RefCell};
 use std::future::{poll_fn, Future};
 use std::pin::{pin, Pin};
 use std::rc::Rc;
 use std::task::{Context, Poll};
 
-/// The longest message of a schedule, and the ring of each channel.
+/// The longest message of a schedule, and the size of each ring.
 pub const LONGEST: usize = 12;
 pub const RING: u32 = 24;
 
-/// An end: of which side, of which channel, and what its calls are chosen by.
+/// A handle: its side, its channel, and the source of its choices.
 #[derive(Clone)]
 pub struct End {
     pub side: usize,
@@ -27,7 +26,7 @@ pub struct End {
     pub model: Rc<RefCell<Model>>,
 }
 
-/// A call that may be given up while it waits.
+/// A call that may be cancelled while it waits.
 struct Fickle<'a, F> {
     call: Pin<&'a mut F>,
     end: &'a End,
@@ -63,7 +62,7 @@ impl End {
         }
     }
 
-    // Makes a call, which may be given up.
+    // Makes a call, which may be cancelled.
     async fn fickle<F: Future>(&self, call: F) -> Option<F::Output> {
         let mut call = pin!(call);
         let fickle = Fickle {
@@ -73,7 +72,7 @@ impl End {
         fickle.await
     }
 
-    // The next message to be sent, or one behind it.
+    // The next message to be sent, or a later one.
     fn message(&self, behind: usize) -> Vec<u8> {
         let number = behind + self.model.borrow().next_number(self.side, self.channel);
         let len = 1 + self.below(LONGEST as u32) as usize;
@@ -101,7 +100,7 @@ pub async fn send_all(end: End, sender: Rc<Sender>, count: u32) {
     match send_some(&end, &sender, count).await {
         Ok(()) => {}
         Err(SendError::Closed(closed)) => end.closed(closed),
-        // The other side's receiver was dropped when it learnt of the end.
+        // The peer's receiver was dropped when it observed the end.
         Err(SendError::Unwanted { .. }) if !end.is_clean => {}
         Err(error) => panic!("{error:?}"),
     }
@@ -113,7 +112,7 @@ async fn send_some(end: &End, sender: &Sender, count: u32) -> Result<(), SendErr
     for _ in 0..count {
         end.rest().await;
         let message = end.message(0);
-        match end.below(9) {
+        match end.below(12) {
             0..=3 => send_one(end, sender, message).await?,
             4 => match sender.try_send(&message) {
                 Ok(()) => {
@@ -125,6 +124,7 @@ async fn send_some(end: &End, sender: &Sender, count: u32) -> Result<(), SendErr
             },
             5 | 6 => send_by_permit(end, sender, message).await?,
             7 => send_two(end, sender, [message, end.message(1)]).await?,
+            8..=10 => send_polled(end, PollSender::new(sender.clone()), message).await?,
             _ if end.policy == IssuePolicy::ByCaller => {}
             _ if end.one_in(2) => allowed(sender.honour().map(drop))?,
             _ => allowed(sender.absolve(1 + end.below(6)))?,
@@ -147,7 +147,31 @@ async fn send_one(end: &End, sender: &Sender, message: Vec<u8>) -> Result<(), Se
     }
 }
 
-// Makes two calls at the same time, of which either may be given up: the second goes behind the first.
+// Polls a call by one future after another. Between them it goes on, is made for another message, or is cancelled.
+async fn send_polled(
+    end: &End,
+    mut sender: PollSender,
+    mut message: Vec<u8>,
+) -> Result<(), SendError> {
+    loop {
+        let call = poll_fn(|cx| sender.poll_send(cx, &message));
+        if let Some(sent) = end.fickle(call).await {
+            sent?;
+            assert!(!sender.cancel(), "the call waits after its end");
+            end.accepted(message);
+            return Ok(());
+        }
+        end.rest().await;
+        match end.below(8) {
+            0..=3 => {}
+            4 | 5 => message = end.message(0),
+            6 => assert!(sender.cancel(), "the call does not wait"),
+            _ => return Ok(()),
+        }
+    }
+}
+
+// Makes two calls at the same time, either of which may be cancelled: the second follows the first.
 async fn send_two(end: &End, sender: &Sender, messages: [Vec<u8>; 2]) -> Result<(), SendError> {
     let [one, other] = messages;
     let is_first_over = Cell::new(false);
@@ -167,7 +191,7 @@ async fn send_two(end: &End, sender: &Sender, messages: [Vec<u8>; 2]) -> Result<
     both(first, second).await
 }
 
-// Runs two calls to their ends, and answers the error of the first, or of the second.
+// Runs two calls to their ends, and returns the error of the first, or of the second.
 async fn both<T, E>(
     first: impl Future<Output = Result<T, E>>,
     second: impl Future<Output = Result<T, E>>,
@@ -194,7 +218,7 @@ fn step<F: Future>(call: Pin<&mut F>, result: &mut Option<F::Output>, cx: &mut C
     }
 }
 
-// Reserves, may send or try to meanwhile, and uses the permit or drops it.
+// Reserves a permit, may send or try to send meanwhile, and uses the permit or drops it.
 async fn send_by_permit(end: &End, sender: &Sender, message: Vec<u8>) -> Result<(), SendError> {
     let len = (message.len() + end.below(3) as usize).min(LONGEST);
     let permit: Permit = match end.fickle(sender.reserve(len)).await {
@@ -202,6 +226,20 @@ async fn send_by_permit(end: &End, sender: &Sender, message: Vec<u8>) -> Result<
         Some(Err(error)) => return Err(error),
         Some(Ok(permit)) => permit,
     };
+    if end.one_in(2) {
+        return send_by_owned(end, permit.into_owned(), message).await;
+    }
+    end.rest().await;
+    if end.one_in(3) {
+        drop(permit);
+        return Ok(());
+    }
+    permit.send(&message)?;
+    end.accepted(message);
+    Ok(())
+}
+
+async fn send_by_owned(end: &End, permit: OwnedPermit, message: Vec<u8>) -> Result<(), SendError> {
     end.rest().await;
     if end.one_in(3) {
         drop(permit);
@@ -229,14 +267,16 @@ async fn recv_some(end: &End, receiver: &mut Receiver) -> Result<(), Closed> {
                 allowed(receiver.issue(room))?;
             }
         } else if end.one_in(16) {
-            // Policies issue no more than was pleaded for, until they are set anew.
+            // Policies issue no more than the target of a plead, until they are set again.
             allowed(receiver.plead(end.below(RING)))?;
             end.rest().await;
             receiver.set_issue_policy(end.policy).unwrap();
         }
-        let is_ended = match end.below(4) {
+        let is_ended = match end.below(6) {
             0 | 1 => recv_one(end, receiver).await?,
             2 => lend_one(end, receiver).await?,
+            3 => lend_polled(end, receiver).await?,
+            4 => try_to_lend(end, receiver)?,
             _ => try_one(end, receiver)?,
         };
         if is_ended {
@@ -270,6 +310,28 @@ async fn lend_one(end: &End, receiver: &mut Receiver) -> Result<bool, Closed> {
             end.rest().await;
             Ok(false)
         }
+    }
+}
+
+async fn lend_polled(end: &End, receiver: &mut Receiver) -> Result<bool, Closed> {
+    let lend = poll_fn(|cx| {
+        let polled = receiver.poll_recv_ref(cx);
+        polled.map_ok(|message| message.map(|message| took(end, &message)))
+    });
+    let lent = end.fickle(lend).await.transpose()?;
+    Ok(lent == Some(None))
+}
+
+fn try_to_lend(end: &End, receiver: &mut Receiver) -> Result<bool, Closed> {
+    match receiver.try_recv_ref() {
+        Ok(Some(message)) => {
+            took(end, &message);
+            Ok(false)
+        }
+        Ok(None) => Ok(true),
+        Err(TryRecvError::Empty) => Ok(false),
+        Err(TryRecvError::Closed(closed)) => Err(closed),
+        Err(error) => panic!("{error}"),
     }
 }
 

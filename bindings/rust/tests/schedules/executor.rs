@@ -1,4 +1,4 @@
-//! Tasks on one thread, of which a choice says which is polled next.
+//! An executor on one thread. A choice selects the task that is polled next.
 use crate::choices::Choices;
 use std::cell::RefCell;
 use std::future::Future;
@@ -43,12 +43,12 @@ impl Executor {
         });
     }
 
-    /// Polls until all tasks are done. Panics where some are left that no one woke.
+    /// Polls until all tasks complete. Panics if tasks are left and none was woken.
     pub fn run(self, most: usize) {
         self.run_until(most, || false);
     }
 
-    /// The same, and stops earlier once that holds.
+    /// Polls the same way, and stops once the condition holds.
     pub fn run_until(mut self, most: usize, is_over: impl Fn() -> bool) {
         for _ in 0..most {
             if self.tasks.is_empty() || is_over() {
@@ -66,7 +66,7 @@ impl Executor {
         panic!("not done after {most} polls: {}", self.names());
     }
 
-    // A task that was woken; now and then another.
+    // A task that was woken; occasionally another one.
     fn next(&mut self) -> usize {
         let mut choices = self.choices.borrow_mut();
         let is_woken = |task: &Task| task.woken.0.load(Ordering::Relaxed);
@@ -88,7 +88,7 @@ impl Executor {
     }
 }
 
-/// Lets other tasks go on.
+/// Yields to other tasks.
 pub struct Yield(pub bool);
 
 impl Future for Yield {

@@ -1,9 +1,9 @@
-//! Two sessions over streams in memory, on an executor of its own: each choice of a seed says which task is
-//! polled next, how bytes are cut, which calls are put off, fail or are given up. Beside a model: nothing is
-//! lost, sent twice, out of order or left asleep.
+//! Two sessions over streams in memory, on an executor of the test. The choices of a seed decide which task is polled
+//! next, how bytes are cut, and which calls are postponed, fail or are cancelled. A model checks that no message is
+//! lost, duplicated or out of order, and that no task misses its wake-up.
 //!
-//! `LCMUX_SCHEDULES=100000 cargo test --release --test schedules` runs so many, on all processors. A
-//! schedule that fails is made shorter and printed; `LCMUX_SEED` runs one seed alone.
+//! `LCMUX_SCHEDULES=100000 cargo test --release --test schedules` runs this many schedules, on all processors. A
+//! failing schedule is shortened and printed; `LCMUX_SEED` runs one seed alone.
 mod choices;
 mod ends;
 mod executor;
@@ -18,7 +18,9 @@ mod watchdog;
 use choices::{shrunk, Choices};
 use ends::{recv_all, send_all, End, LONGEST, RING};
 use executor::{Executor, Yield};
-use lcmux::{Channel, Closed, Config, Driver, IssuePolicy, Mux, MuxConfig, PleadPolicy, Version};
+use lcmux::{
+    Channel, Closed, Config, Driver, IssuePolicy, Mux, MuxConfig, PleadPolicy, Version, CHANNELS,
+};
 use model::Model;
 use std::any::Any;
 use std::cell::RefCell;
@@ -34,12 +36,12 @@ use wire::{wire, Fault, Reader, Writer};
 /// More polls than any schedule needs.
 const POLLS: usize = 200_000;
 
-/// The bytes of both sides at once, their drivers' four buffers of 32 KiB among them.
+/// The bytes of both sides at once, including the four buffers of 32 KiB of their drivers.
 const MOST_MEMORY: isize = 190_000;
 
 type Shared<T> = Rc<RefCell<T>>;
 
-/// How a session is to end. A number is that of calls or polls before.
+/// How a session is to end. A number counts the calls or polls before.
 #[derive(Clone, Copy, Debug, PartialEq)]
 enum Ending {
     Clean,
@@ -62,13 +64,13 @@ fn chosen_ending(choices: &mut Choices) -> Ending {
     }
 }
 
-/// A schedule in the making.
+/// A schedule that is being set up.
 struct World {
     choices: Shared<Choices>,
     model: Shared<Model>,
     executor: Executor,
     ending: Ending,
-    policies: [[IssuePolicy; 7]; 2],
+    policies: [[IssuePolicy; CHANNELS]; 2],
 }
 
 fn chosen_policy(choices: &mut Choices) -> IssuePolicy {
@@ -79,9 +81,9 @@ fn chosen_policy(choices: &mut Choices) -> IssuePolicy {
     }
 }
 
-fn chosen_config(choices: &mut Choices, issue: [IssuePolicy; 7]) -> MuxConfig {
+fn chosen_config(choices: &mut Choices, issue: [IssuePolicy; CHANNELS]) -> MuxConfig {
     let slots = Mux::LEAST_SLOTS + choices.below(4);
-    let mut config = MuxConfig::from(Config::new([RING; 7], slots));
+    let mut config = MuxConfig::from(Config::new([RING; CHANNELS], slots));
     config.peer.version = match choices.below(2) {
         0 => Version::One,
         _ => Version::Two,
@@ -97,7 +99,7 @@ fn chosen_config(choices: &mut Choices, issue: [IssuePolicy; 7]) -> MuxConfig {
 impl World {
     fn new(mut choices: Choices) -> World {
         let ending = chosen_ending(&mut choices);
-        let policies = [(); 2].map(|()| [(); 7].map(|()| chosen_policy(&mut choices)));
+        let policies = [(); 2].map(|()| [(); CHANNELS].map(|()| chosen_policy(&mut choices)));
         let choices = Rc::new(RefCell::new(choices));
         let model = Model {
             left: [14; 2],
@@ -117,7 +119,7 @@ impl World {
         self.choices.borrow_mut().below(n)
     }
 
-    // One side: its ends, its driver and who closes it.
+    // One side: its handles, its driver and the task that closes it.
     fn spawn_side(&mut self, side: usize, writer: Writer, reader: Reader) {
         let config = chosen_config(&mut self.choices.borrow_mut(), self.policies[side]);
         let (mut mux, driver) = Mux::new(config).unwrap();
@@ -178,7 +180,7 @@ impl World {
         }
     }
 
-    // Closes the session once all ends are dropped, or aborts it before.
+    // Closes the session once all handles are dropped, or aborts it before.
     fn close(&self, side: usize, mux: Mux) -> impl Future<Output = ()> {
         let (model, ending) = (Rc::clone(&self.model), self.ending);
         let by_drop = self.below(2) == 0;
@@ -208,7 +210,7 @@ impl World {
     }
 }
 
-// A schedule, to its end. Panics where something is not as it should be.
+// Runs a schedule to its end. Panics if a check fails.
 fn play(choices: Choices, made: &Shared<Vec<u32>>) -> usize {
     let mut world = World::new(choices);
     let fault = match world.ending {
@@ -238,14 +240,14 @@ fn play(choices: Choices, made: &Shared<Vec<u32>>) -> usize {
     messages
 }
 
-// What holds at the end, beside that all tasks got there.
+// The checks at the end, once all tasks have completed.
 fn judge(model: &Model, ending: Ending) {
     if ending == Ending::Clean {
         assert!(model.is_whole(), "messages are lost");
         assert_eq!(model.reasons, [vec![], vec![]]);
     }
     for reasons in &model.reasons {
-        // Where the peer ended in order, a call may be answered that before this side fails.
+        // If the peer ended in order, a call may return that before this side fails.
         let is_failure = |it: &&Closed| !matches!(it, Closed::Local | Closed::Remote);
         let mut kinds: Vec<&Closed> = reasons.iter().filter(is_failure).collect();
         kinds.dedup();
@@ -267,7 +269,7 @@ fn said(panic: &(dyn Any + Send)) -> String {
         .unwrap_or_default()
 }
 
-// What goes wrong with these choices, and which were made.
+// Returns the failure with these choices, and the choices that were made.
 fn failure(choices: Choices) -> Result<usize, (String, Vec<u32>)> {
     let made = Rc::default();
     let play = || panic::catch_unwind(AssertUnwindSafe(|| play(choices, &made)));
@@ -275,7 +277,7 @@ fn failure(choices: Choices) -> Result<usize, (String, Vec<u32>)> {
     let tape = made.take();
     match played {
         Err(panic) => Err((said(&*panic), tape)),
-        // What the test keeps beside is the tape, which may have grown to twice its length.
+        // Beside the sessions, the test keeps the tape, which may have grown to twice its length.
         Ok(_) if most > MOST_MEMORY + 16 * tape.len() as isize => {
             Err((format!("{most} bytes at once"), tape))
         }
@@ -284,8 +286,8 @@ fn failure(choices: Choices) -> Result<usize, (String, Vec<u32>)> {
     }
 }
 
-// Tells of a failing seed, by the shortest schedule that was found, and before that at once: the watchdog may
-// end the search.
+// Reports a failing seed: at once, since the watchdog may end the search, and again with the shortest schedule that
+// was found.
 fn tell(seed: u64, what: &str, tape: Vec<u32>) -> String {
     let _ = writeln!(io::stderr(), "LCMUX_SEED={seed}: {what}");
     let long = tape.len();
@@ -307,7 +309,7 @@ fn asked(name: &str) -> Option<u64> {
 /// The next seed that no thread has taken.
 static SEEDS: AtomicU64 = AtomicU64::new(0);
 
-// Plays seeds until there are no more: how many messages arrived.
+// Runs seeds until none is left. Returns how many messages arrived.
 fn play_seeds(most: u64) -> usize {
     let mut messages = 0;
     loop {
@@ -353,7 +355,7 @@ fn every_schedule_ends_as_the_model_says() {
     assert!(schedules == 1 || messages as u64 > 5 * schedules);
 }
 
-/// What fails where a 7 comes and later a 9 becomes those two; what fails whatever stands in it, nothing.
+/// A failure by a 7 and a later 9 shrinks to those two; one that does not depend on the tape shrinks to nothing.
 #[test]
 fn a_tape_that_fails_becomes_short() {
     let long: Vec<u32> = (0..200).map(|at| at % 23).collect();
@@ -370,7 +372,7 @@ fn a_tape_that_fails_becomes_short() {
     assert_eq!(made.made(), [5, 6]);
 }
 
-/// The same seed makes the same choices, and its tape does again.
+/// The same seed makes the same choices, and so does its tape.
 #[test]
 fn a_seed_and_its_tape_play_the_same() {
     for seed in [1, 2, 3] {

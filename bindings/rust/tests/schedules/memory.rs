@@ -1,4 +1,4 @@
-//! The bytes of Rust's heap that each thread has: those that it asked for, less those that it gave back.
+//! The bytes of Rust's heap that each thread allocated and has not freed.
 use std::alloc::{GlobalAlloc, Layout, System};
 use std::cell::Cell;
 
@@ -30,7 +30,7 @@ unsafe impl GlobalAlloc for Counting {
 #[global_allocator]
 static HEAP: Counting = Counting;
 
-/// What a call answers, the most bytes that it had at once, and those that it left behind.
+/// The result of a call, the most bytes that it had at once, and those that it left behind.
 pub fn counted<T>(call: impl FnOnce() -> T) -> (T, isize, isize) {
     let before = NOW.get();
     MOST.set(before);

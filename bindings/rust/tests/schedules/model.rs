@@ -1,5 +1,5 @@
-//! What both sides should have, beside what they have.
-use lcmux::Closed;
+//! The model: the expected state of both sides.
+use lcmux::{Closed, CHANNELS};
 use std::task::Waker;
 
 /// A channel in one direction.
@@ -11,14 +11,14 @@ pub struct Way {
 
 #[derive(Default)]
 pub struct Model {
-    pub ways: [[Way; 7]; 2],
+    pub ways: [[Way; CHANNELS]; 2],
     pub reasons: [Vec<Closed>; 2],
-    /// How many tasks are left of each side, and who waits for that.
+    /// How many tasks of each side are left, and the task that waits for them.
     pub left: [usize; 2],
     pub closers: [Option<Waker>; 2],
-    /// Whether bytes may have been changed on their way.
+    /// Whether bytes may have been changed in transit.
     pub is_garbled: bool,
-    /// Calls that were given up, for the tests of the tests.
+    /// The calls that were cancelled, for the tests of the tests.
     pub dropped: usize,
 }
 
@@ -36,7 +36,7 @@ impl Model {
         self.ways[side][channel].accepted.push(message);
     }
 
-    /// A message was taken that this side sent.
+    /// Records that a message of this side was taken.
     pub fn taken(&mut self, side: usize, channel: usize, message: &[u8]) {
         let way = &mut self.ways[side][channel];
         if !self.is_garbled {
@@ -55,7 +55,7 @@ impl Model {
         }
     }
 
-    /// All that was accepted was taken.
+    /// Checks that all accepted messages were taken.
     pub fn is_whole(&self) -> bool {
         let mut ways = self.ways.iter().flatten();
         ways.all(|way| way.taken == way.accepted.len())

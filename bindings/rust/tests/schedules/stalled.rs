@@ -1,12 +1,12 @@
-//! Callers of up to six channels that stop polling what they began: for a while, for good, forgotten, dropped late or
-//! holding permits. Meanwhile the seventh channel carries its messages, over streams of any capacity, and in silence,
-//! where nothing else wakes a driver.
+//! Callers of up to six channels stop polling their calls: for a while, forever, leaked, dropped late or holding
+//! permits. Meanwhile the seventh channel carries its messages, over streams of any capacity, and also if nothing
+//! else wakes a driver.
 use crate::choices::Choices;
 use crate::executor::{Executor, Yield};
 use crate::watchdog::Watchdog;
 use crate::wire::{wire_of, Shape};
 use crate::{asked, Shared, POLLS};
-use lcmux::{Channel, Config, Driver, Mux, Receiver, Sender, Version};
+use lcmux::{Channel, Config, Driver, Mux, Receiver, Sender, Version, CHANNELS};
 use std::cell::{Cell, RefCell};
 use std::future::{poll_fn, Future};
 use std::mem;
@@ -19,15 +19,15 @@ use std::task::{Context, Wake, Waker};
 /// How a caller stops.
 #[derive(Clone, Copy, Debug)]
 enum Stop {
-    /// A call is forgotten once it waits.
+    /// A call is leaked once it waits.
     Waiting,
-    /// A call is forgotten once it was woken to proceed.
+    /// A call is leaked once it was woken to proceed.
     Woken,
-    /// All permits that are to be had are forgotten.
+    /// All available permits are leaked.
     WithPermits,
-    /// A call is not polled for a while, again and again, and then dropped.
+    /// A call is not polled for a while, repeatedly, and then dropped.
     DroppedLate,
-    /// The same, and then it is polled on.
+    /// The same, but then it is polled again.
     Slow,
 }
 
@@ -48,7 +48,7 @@ impl Wake for Flag {
     }
 }
 
-/// A send that is polled now and then.
+/// A send that is polled occasionally.
 struct Sending {
     future: Pin<Box<dyn Future<Output = ()>>>,
     woken: Arc<Flag>,
@@ -76,7 +76,7 @@ impl Sending {
     }
 }
 
-/// One caller, and what its choices come from.
+/// One caller, and the source of its choices.
 struct Caller {
     choices: Shared<Choices>,
     sender: Rc<Sender>,
@@ -129,7 +129,7 @@ impl Caller {
         }
     }
 
-    // Now and then the session falls silent before the next message.
+    // Occasionally the session is idle before the next message.
     async fn send_all(self, count: u32) {
         for number in 0..count {
             if self.below(16) == 0 {
@@ -180,8 +180,8 @@ fn play(seed: u64) {
     let mut choices = Choices::of_seed(seed);
     let (ring, longest, count) = sizes(&mut choices);
     let shape = shape(&mut choices, longest);
-    let carrying = choices.below(7) as usize;
-    let mut config = Config::new([ring; 7], Mux::LEAST_SLOTS + choices.below(12));
+    let carrying = choices.below(CHANNELS as u32) as usize;
+    let mut config = Config::new([ring; CHANNELS], Mux::LEAST_SLOTS + choices.below(12));
     config.version = Version::Two;
     let choices = Rc::new(RefCell::new(choices));
     let [(to_there, from_here), (to_here, from_there)] = [(); 2].map(|()| wire_of(&choices, shape));

@@ -1,4 +1,4 @@
-//! A stream of one direction in memory, whose calls are cut, put off and failed by choice.
+//! A stream of one direction in memory, whose calls are cut, postponed and failed by choice.
 use crate::choices::Choices;
 use lcmux::{PollRead, PollWrite};
 use std::cell::RefCell;
@@ -7,7 +7,7 @@ use std::io::{self, ErrorKind, IoSlice};
 use std::rc::Rc;
 use std::task::{Context, Poll, Waker};
 
-/// What goes wrong on a stream, and behind how many calls.
+/// The failure of a stream, and after how many calls it happens.
 #[derive(Clone, Copy, Debug, PartialEq)]
 pub enum Fault {
     Read(u32),
@@ -19,7 +19,7 @@ pub enum Fault {
 
 #[derive(Default)]
 struct Stream {
-    /// What was written and not flushed.
+    /// The bytes that were written and not flushed.
     held: Vec<u8>,
     bytes: VecDeque<u8>,
     ended: bool,
@@ -29,17 +29,17 @@ struct Stream {
     calls: u32,
 }
 
-/// How a stream behaves where nothing goes wrong.
+/// How a stream behaves without failures.
 #[derive(Clone, Copy)]
 pub struct Shape {
-    /// How many bytes lie in it at most.
+    /// The most bytes that it buffers.
     pub capacity: usize,
-    /// Whether each call does what it can, and wakes no one for nothing.
+    /// Whether each call moves all bytes that it can, and no wake-up is spurious.
     pub is_steady: bool,
 }
 
 pub struct Reader(Half);
-/// It takes several slices at once, or one.
+/// Whether it accepts several slices at once.
 pub struct Writer {
     half: Half,
     is_vectored: bool,
@@ -61,7 +61,7 @@ pub fn wire(choices: &Rc<RefCell<Choices>>, fault: Option<Fault>) -> (Writer, Re
     ends(choices, fault, shape)
 }
 
-/// The two ends of a stream of this shape, on which nothing goes wrong.
+/// The two ends of a stream of this shape, without failures.
 pub fn wire_of(choices: &Rc<RefCell<Choices>>, shape: Shape) -> (Writer, Reader) {
     ends(choices, None, shape)
 }
@@ -83,7 +83,7 @@ fn ends(choices: &Rc<RefCell<Choices>>, fault: Option<Fault>, shape: Shape) -> (
 }
 
 impl Half {
-    // A call that is put off, though it could go on.
+    // A call that is postponed, though it could proceed.
     fn is_put_off(&self, cx: &Context<'_>) -> bool {
         let is_put_off = !self.shape.is_steady && self.choices.borrow_mut().one_in(8);
         if is_put_off {
@@ -222,7 +222,7 @@ impl PollWrite for Writer {
         if self.half.is_put_off(cx) {
             return Poll::Pending;
         }
-        // What was not flushed never comes.
+        // Bytes that were not flushed never arrive.
         let mut stream = self.half.stream.borrow_mut();
         stream.held.clear();
         stream.end();
@@ -230,7 +230,7 @@ impl PollWrite for Writer {
     }
 }
 
-// The transport of a driver that is done, or given up, is closed.
+// The transport of a driver that completed or was dropped is closed.
 impl Drop for Writer {
     fn drop(&mut self) {
         self.half.stream.borrow_mut().end();

@@ -1,4 +1,4 @@
-//! The table "What each call answers" of `docs/sessions.md`, cell by cell.
+//! The table "What each call answers" of `docs/reference/sessions.md`, cell by cell.
 use crate::hand::{Call, Hand};
 use crate::*;
 use lcmux::Channel::{Capability, Data, Overlap};
@@ -12,10 +12,12 @@ use std::time::Duration;
 fn page() -> String {
     let folder = Path::new(env!("CARGO_MANIFEST_DIR"));
     let packed = fs::read_to_string(folder.join("tests/sessions.md"));
-    packed.unwrap_or_else(|_| fs::read_to_string(folder.join("../../docs/sessions.md")).unwrap())
+    packed.unwrap_or_else(|_| {
+        fs::read_to_string(folder.join("../../docs/reference/sessions.md")).unwrap()
+    })
 }
 
-/// The rows behind this heading, without the line below the first.
+/// The rows after this heading, without the line below the first one.
 fn table(heading: &str) -> Vec<Vec<String>> {
     let page = page();
     let (_, behind) = page.split_once(&format!("### {heading}\n")).unwrap();
@@ -32,7 +34,7 @@ fn table(heading: &str) -> Vec<Vec<String>> {
         .collect()
 }
 
-/// What brings a session there, the column, and the reason that its cells speak of.
+/// How a session gets into a state, the state's column, and the reason that its cells mention.
 struct State {
     column: &'static str,
     enter: fn(&mut Hand),
@@ -54,7 +56,7 @@ const OVER: &str = "over, in order";
 const FAILED: &str = "cut, transport, protocol error";
 const ABORTED: &str = "aborted";
 
-// Overlap is finished before.
+// Overlap is finished first.
 fn end_in_order(hand: &mut Hand) {
     let others = frames("finish 0, finish 1, finish 3, finish 4, finish 5, finish 6");
     assert!(hand.read(&mut &others[..]).is_ready());
@@ -113,7 +115,7 @@ fn states() -> Vec<State> {
     ]
 }
 
-/// A cell of the page for what was answered.
+/// The cell of the page for a result.
 fn word(closed: &Closed, reason: &Closed) -> String {
     match closed {
         Closed::Local => "closed here".into(),
@@ -149,7 +151,7 @@ fn allowed(answer: Result<(), CallError>, reason: &Closed) -> String {
     }
 }
 
-/// A cell may stand for two answers: with guarantees and without.
+/// A cell may describe two results: with guarantees and without.
 fn both(with: String, without: String) -> String {
     match with == without {
         true => with,
@@ -157,7 +159,7 @@ fn both(with: String, without: String) -> String {
     }
 }
 
-/// The answers of all calls in a state, in the order of the page's rows.
+/// The results of all calls in a state, in the order of the page's rows.
 fn answers(state: &State) -> Vec<String> {
     let reason = &state.reason;
     let mut hand = Hand::started(by_caller(64));
@@ -218,7 +220,8 @@ fn each_call_answers_as_the_page_says() {
         let column = head.iter().position(|it| it == state.column).unwrap();
         columns |= 1 << column;
         for (row, answer) in rows.iter().zip(answers(&state)) {
-            // At once is said by the poll; an empty cell can't be reached, and is the end of its channel.
+            // A call that returns at once is ready at its first poll. An empty cell cannot be reached; it is the end
+            // of its channel.
             let cell = row[column].split(", at once").next().unwrap();
             let cell = if cell.is_empty() { "the end" } else { cell };
             assert_eq!(

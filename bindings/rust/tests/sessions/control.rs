@@ -2,17 +2,19 @@
 use crate::hand::{Call, Hand};
 use crate::*;
 use lcmux::Channel::{Capability, Data};
-use lcmux::{CallError, IssuePolicy, Mux, MuxFault, Needs, PleadPolicy, Refusal, TrySendError};
+use lcmux::{
+    CallError, IssuePolicy, Mux, MuxFault, Needs, PleadPolicy, Refusal, TrySendError, CHANNELS,
+};
 
 #[test]
 fn a_session_begins_with_the_room_of_all_rings() {
-    let rooms: Vec<_> = (0..7)
+    let rooms: Vec<_> = (0..CHANNELS)
         .map(|channel| format!("issue {channel} 64"))
         .collect();
     let rooms = rooms.join(", ");
     assert_eq!(Hand::new(narrow()).written(), greeted(&rooms));
     let mut config = narrow();
-    config.issue = [IssuePolicy::LowWater(1); 7];
+    config.issue = [IssuePolicy::LowWater(1); CHANNELS];
     assert_eq!(Hand::new(config).written(), greeted(&rooms));
     assert_eq!(Hand::new(by_caller(14)).written(), GREETING);
 }
@@ -22,8 +24,11 @@ fn bounds_of_a_session() {
     let made = |config: MuxConfig| Mux::new(config).err();
     assert_eq!(Mux::LEAST_SLOTS, 14);
     assert_eq!(made(narrow()), None);
-    assert_eq!(made(with_slots(13)), Some(MuxFault::TooFewSlots));
-    let peer = lcmux::PeerFault::BadSlots;
+    assert_eq!(
+        made(with_slots(13)),
+        Some(MuxFault::TooFewSlots { slots: 13 })
+    );
+    let peer = lcmux::PeerFault::BadSlots { slots: 0 };
     assert_eq!(made(with_slots(0)), Some(MuxFault::Peer(peer)));
     for (mark, channel) in [
         (0, Some(Capability)),
@@ -33,7 +38,12 @@ fn bounds_of_a_session() {
     ] {
         let mut config = narrow();
         config.issue[3] = IssuePolicy::LowWater(mark);
-        let fault = channel.map(|channel| MuxFault::BadMark { channel });
+        let capacity = 64;
+        let fault = channel.map(|channel| MuxFault::BadMark {
+            channel,
+            mark,
+            capacity,
+        });
         assert_eq!(made(config), fault, "{mark}");
         let receiver = Hand::new(narrow()).mux.receiver(Capability).unwrap();
         let set = receiver.set_issue_policy(IssuePolicy::LowWater(mark));
@@ -41,7 +51,7 @@ fn bounds_of_a_session() {
     }
 }
 
-// What comes, and what is written then where the first message is taken; `-` takes none.
+// The inbound frames, and the frames that are written if the first message is taken; `-` takes none.
 const POLICIES: [(IssuePolicy, &str, &str); 6] = [
     (IssuePolicy::AtOnce, "send 1 6869", "issue 1 2"),
     (IssuePolicy::AtOnce, "absolve 1 4, send 1 6869", "issue 1 6"),
@@ -68,7 +78,7 @@ fn each_policy_issues_what_was_taken() {
         hand.written();
         hand.feed(&greeted(came));
         assert_eq!(receiver.try_recv(), Ok(Some(b"hi".to_vec())));
-        // An absolve is room before the message is.
+        // The bytes of an absolve are free before those of the message.
         let bytes = match came.starts_with("absolve") {
             true => frames("issue 1 4, issue 1 2"),
             false if written.is_empty() => Vec::new(),
@@ -88,7 +98,7 @@ fn a_lent_message_is_room_once_it_is_dropped() {
         let message = Call::new(receiver.recv_ref()).poll().unwrap().unwrap();
         let message = message.unwrap();
         assert_eq!(&*message, body);
-        // What else makes the policy look does not take it for room.
+        // Other events for the policy do not count these bytes as free.
         hand.feed(&frames("absolve 1 1"));
         assert_eq!(hand.written(), frames("issue 1 1"));
         drop(message);
@@ -111,7 +121,7 @@ fn what_finds_no_slot_is_joined_and_goes_before_messages() {
     assert_eq!(sender.try_send(b"b"), Err(full));
     let mut waits = Call::waiting(sender.send(b"b"));
     for receiver in &receivers {
-        receiver.issue(1).unwrap(); // the seven slots that messages leave free
+        receiver.issue(1).unwrap(); // the seven reserved control slots
     }
     for amount in [2, 3] {
         receivers[1].issue(amount).unwrap();
@@ -123,7 +133,7 @@ fn what_finds_no_slot_is_joined_and_goes_before_messages() {
     sender.absolve(1).unwrap();
     assert_eq!(sender.held(), 64 - 1 - 7);
     let rest = "issue 1 9, limit-receiving 1 16, absolve 1 7, issue 5 5";
-    let rooms = (0..7).map(|channel| format!("issue {channel} 1"));
+    let rooms = (0..CHANNELS).map(|channel| format!("issue {channel} 1"));
     let rooms = rooms.collect::<Vec<_>>().join(", ");
     assert_eq!(
         hand.written(),
@@ -133,8 +143,8 @@ fn what_finds_no_slot_is_joined_and_goes_before_messages() {
     assert_eq!(hand.written(), frames("send 1 62"));
 }
 
-/// What is issued behind a plead was not pleaded for, also where both wait for a slot; and a call that is given
-/// up meanwhile forgets neither.
+/// Guarantees that are issued after a plead are not subject to it, even if both wait for a slot; cancelling a call
+/// meanwhile affects neither.
 #[test]
 fn a_later_issue_is_counted_onto_a_plead_that_waits() {
     let mut hand = Hand::started(by_caller(14));
@@ -164,7 +174,7 @@ fn what_is_owed_is_counted_in_refusals() {
         .iter()
         .for_each(|receiver| receiver.issue(1).unwrap());
     let (receiver, refused) = (&receivers[1], |refusal| Err(CallError::Refused(refusal)));
-    receiver.issue(3).unwrap(); // which is owed from here on
+    receiver.issue(3).unwrap(); // which is pending from here on
     assert_eq!(receiver.room(), 60);
     assert_eq!(receiver.issue(0), refused(Refusal::ZeroAmount));
     assert_eq!(receiver.issue(61), refused(Refusal::NoRoom { room: 60 }));
@@ -196,7 +206,7 @@ fn what_is_owed_is_counted_in_refusals() {
     assert_eq!(sender.finish(), refused(Refusal::ChannelFinished));
     assert_eq!(sender.limit(1), refused(Refusal::ChannelFinished));
     assert_eq!(sender.absolve(1), refused(Refusal::ChannelFinished));
-    let rooms = (0..7).map(|channel| format!("issue {channel} 1"));
+    let rooms = (0..CHANNELS).map(|channel| format!("issue {channel} 1"));
     let rooms = rooms.collect::<Vec<_>>().join(", ");
     let owed = "issue 1 13, limit-receiving 1 20, absolve 1 4, limit-sending 1 9, finish 1";
     assert_eq!(
@@ -260,7 +270,7 @@ fn a_policy_issues_no_more_than_a_limit_leaves() {
     assert_eq!(hand.written(), []);
 }
 
-/// A limit that found no slot goes before what its policy issues.
+/// A limit that found no slot precedes the issues of the policy.
 #[test]
 fn a_limit_that_waits_for_a_slot_bounds_what_its_policy_issues() {
     let mut hand = Hand::started(narrow());
@@ -276,8 +286,8 @@ fn a_limit_that_waits_for_a_slot_bounds_what_its_policy_issues() {
     assert!(hand.written().ends_with(&last));
 }
 
-/// A channel that always has something to say does not keep another's frame back: here where each piece
-/// that is written frees one slot.
+/// A channel that always has a pending control frame does not starve another one: here each written chunk frees one
+/// slot.
 #[test]
 fn channels_owe_in_turn() {
     let mut hand = Hand::started(by_caller(16));
@@ -298,7 +308,7 @@ fn channels_owe_in_turn() {
     let mut written = hand.written_at_most(1000);
     receivers[0].issue(3).unwrap();
     written.extend(hand.written());
-    let rooms = (0..7).map(|channel| format!("issue {channel} 1"));
+    let rooms = (0..CHANNELS).map(|channel| format!("issue {channel} 1"));
     let rooms = rooms.collect::<Vec<_>>().join(", ");
     let last = frames(&format!("{rooms}, issue 0 5, issue 5 2"));
     assert_eq!(written[3 * 131_077..], last);

@@ -1,4 +1,4 @@
-//! How sessions end, and who is told what.
+//! How sessions end, and the results of their calls.
 use crate::hand::{Call, Count, Feed, Hand};
 use crate::*;
 use lcmux::Channel::{Capability, Data, Overlap};
@@ -11,7 +11,7 @@ use std::sync::{Arc, Mutex};
 use std::task::{Context, Poll, RawWaker, RawWakerVTable, Wake, Waker};
 use std::thread;
 
-/// Fails each call, or claims more bytes than there are.
+/// Fails each call, or claims more bytes than it was offered.
 enum Bad {
     Fails,
     Claims,
@@ -57,7 +57,7 @@ fn transport(kind: ErrorKind, message: &str) -> Closed {
 
 type End = fn(&mut Hand);
 
-// What ends a session, with the reason and what that says.
+// The end of a session, with its reason and its text.
 fn ends() -> Vec<(End, Closed, &'static str)> {
     fn read(hand: &mut Hand, mut bytes: &[u8]) {
         assert!(hand.read(&mut bytes).is_ready());
@@ -106,9 +106,9 @@ fn ends() -> Vec<(End, Closed, &'static str)> {
             |hand| assert!(hand.read(&mut Bad::Claims).is_ready()),
             transport(
                 ErrorKind::InvalidData,
-                "4097 bytes are claimed, where there were 4096",
+                "4097 bytes claimed, but only 4096 offered",
             ),
-            "the transport failed: 4097 bytes are claimed, where there were 4096",
+            "the transport failed: 4097 bytes claimed, but only 4096 offered",
         ),
         (
             |hand| {
@@ -117,9 +117,9 @@ fn ends() -> Vec<(End, Closed, &'static str)> {
             },
             transport(
                 ErrorKind::InvalidData,
-                "4093 bytes are claimed, where there were 4092",
+                "4093 bytes claimed, but only 4092 offered",
             ),
-            "the transport failed: 4093 bytes are claimed, where there were 4092",
+            "the transport failed: 4093 bytes claimed, but only 4092 offered",
         ),
         (
             |hand| assert!(hand.write(&mut Bad::Fails).is_ready()),
@@ -130,9 +130,9 @@ fn ends() -> Vec<(End, Closed, &'static str)> {
             |hand| assert!(hand.write(&mut Bad::Claims).is_ready()),
             transport(
                 ErrorKind::InvalidData,
-                "40 bytes are claimed, where there were 39",
+                "40 bytes claimed, but only 39 offered",
             ),
-            "the transport failed: 40 bytes are claimed, where there were 39",
+            "the transport failed: 40 bytes claimed, but only 39 offered",
         ),
         (
             |hand| assert!(hand.write(&mut Bad::TakesNone).is_ready()),
@@ -156,9 +156,9 @@ fn each_reason_is_told_to_every_call_that_waits_and_to_later_ones() {
         let [first, second] = &mut receivers;
         let recv = Call::waiting(first.recv());
         let lend = Call::waiting(second.recv_ref());
-        // Who waits for the end holds no borrow that `end` needs.
+        // A call that waits for the end keeps no borrow that `end` needs.
         end(&mut hand);
-        // All are told at once, and none waits for another to be polled.
+        // All calls are notified at once, and none depends on another one's poll.
         assert!(sends.iter().all(|send| send.wakes() == 1), "{said}");
         let closed = SendError::Closed(reason.clone());
         for send in sends {
@@ -190,7 +190,7 @@ fn who_waits_for_the_end_is_told_the_first_reason_in_both_halves() {
         let one = Call::waiting(async move { one.closed().await });
         let other = Call::waiting(async move { other.closed().await });
         drop(Call::waiting(async { shared.closed().await }));
-        // The same session behind a hand of its own.
+        // The same session, moved by a second hand.
         let mut hand = Hand::new(narrow());
         hand.driver = driver;
         if reason == Closed::Aborted {
@@ -200,13 +200,13 @@ fn who_waits_for_the_end_is_told_the_first_reason_in_both_halves() {
         }
         assert_eq!(one.woken(), Err(reason.clone()), "{said}");
         assert_eq!(other.woken(), Err(reason.clone()));
-        shared.abort(); // which is too late
+        shared.abort(); // too late to change the reason
         assert_eq!(hand.read(&mut Feed(b"")), Poll::Ready(Err(reason.clone())));
         assert_eq!(hand.write(&mut Vec::new()), Poll::Ready(Err(reason)));
     }
 }
 
-/// The last task that polled it is told, and one that gave it up is not kept.
+/// The last task that polled is notified, and the waker of a cancelled call is dropped.
 #[test]
 fn who_waits_for_the_end_is_known_by_its_last_waker() {
     let hand = Hand::started(narrow());
@@ -274,7 +274,7 @@ impl PollWrite for Stuck {
     }
 }
 
-/// What a writer is asked for: `w5` for five bytes, `f` to flush, `c` to close.
+/// The calls of a writer: `w5` for five bytes, `f` for a flush, `c` for a close.
 #[derive(Default)]
 struct Log(Vec<String>);
 
@@ -409,7 +409,7 @@ fn what_arrived_is_there_after_a_failure_and_not_after_an_abort() {
     }
 }
 
-// What a side writes when it drops an end, in each version.
+// The frames that a side writes when it drops a handle, in each version.
 #[test]
 fn an_end_that_is_dropped_is_told() {
     for (version, sender, receiver) in [
@@ -424,7 +424,7 @@ fn an_end_that_is_dropped_is_told() {
         drop(hand.mux.receiver(Overlap));
         assert_eq!(hand.written(), frames(receiver));
 
-        // One that was finished is told once.
+        // A finish is sent only once.
         let finished = hand.mux.sender(Capability).unwrap();
         finished.finish().unwrap();
         assert_eq!(hand.written(), frames(&sender.replace(" 1", " 3")));
@@ -495,7 +495,7 @@ fn an_end_that_a_panic_drops_aborts_the_session() {
             0 => panicking(hand.mux.sender(Data)),
             1 => panicking(hand.mux.receiver(Data)),
             _ => {
-                // None is left in it that would tell in its place.
+                // No other handle is left in it that could abort instead.
                 let ends = |it| (hand.mux.sender(it), hand.mux.receiver(it));
                 let _ends = ALL.map(ends);
                 panicking(hand.mux)
@@ -506,7 +506,7 @@ fn an_end_that_a_panic_drops_aborts_the_session() {
     }
 }
 
-/// A permit and a call that a panic drops are given back, and nothing else.
+/// A permit and a call that a panic drops return their guarantees, and nothing else happens.
 #[test]
 fn a_call_that_a_panic_drops_is_given_back() {
     let mut hand = Hand::started(narrow());
@@ -555,7 +555,7 @@ fn a_waker_that_panics_keeps_no_other_asleep() {
     assert_eq!(call.woken(), Err(Closed::Aborted));
 }
 
-/// What panics inside of a call poisons no lock: the session is aborted, and all are told.
+/// A panic inside a call poisons no lock: the session is aborted, and all calls are notified.
 #[test]
 fn a_panic_inside_of_a_call_aborts_the_session() {
     let _watchdog = watchdog::Watchdog::new("a panic inside of a call");
@@ -572,14 +572,14 @@ fn a_panic_inside_of_a_call_aborts_the_session() {
     assert_eq!(receiver.recv_blocking(), Err(Closed::Aborted));
 }
 
-/// Holds an end, as the task of an executor does whose last waker is dropped.
+/// Owns a handle, as the task of an executor whose last waker is dropped does.
 struct Holds(#[allow(dead_code)] Mutex<Option<Sender>>);
 
 impl Wake for Holds {
     fn wake(self: Arc<Holds>) {}
 }
 
-/// A waker that is dropped may drop a task, whose ends then call the session.
+/// A dropped waker may drop a task, whose handles then call the session.
 #[test]
 fn a_waker_that_is_dropped_may_call_the_session() {
     let _watchdog = watchdog::Watchdog::new("a waker that is dropped");
@@ -589,7 +589,7 @@ fn a_waker_that_is_dropped_may_call_the_session() {
     let holding = |hand: &mut Hand, channel| {
         Waker::from(Arc::new(Holds(Mutex::new(hand.mux.sender(channel)))))
     };
-    // Its place is taken by another.
+    // Another waker replaces it.
     let waker = holding(&mut hand, Data);
     assert!(receiver
         .poll_recv(&mut Context::from_waker(&waker))
@@ -597,7 +597,7 @@ fn a_waker_that_is_dropped_may_call_the_session() {
     drop(waker);
     assert!(Call::waiting(receiver.recv()).poll().is_none());
     assert_eq!(hand.written(), frames("finish 1"));
-    // Its call is given up.
+    // Its call is cancelled.
     let waker = holding(&mut hand, Capability);
     let mut call = Box::pin(sender.send(b"hello"));
     let polled = call.as_mut().poll(&mut Context::from_waker(&waker));
@@ -605,7 +605,7 @@ fn a_waker_that_is_dropped_may_call_the_session() {
     drop(waker);
     drop(call);
     assert_eq!(hand.written(), frames("finish 3"));
-    // It is woken.
+    // The waker is woken.
     let waker = holding(&mut hand, Channel::StaticToken);
     assert!(receiver
         .poll_recv(&mut Context::from_waker(&waker))
@@ -639,7 +639,7 @@ fn a_reason_is_an_error_of_a_device() {
     assert_eq!(refused.to_string(), "the message is empty");
 }
 
-/// Aborts its session while it reads the front of a message.
+/// Aborts its session while it reads the beginning of a message.
 struct Aborts<'a>(&'a Mux, u32);
 
 impl PollRead for Aborts<'_> {

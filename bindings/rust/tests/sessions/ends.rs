@@ -1,5 +1,4 @@
-//! How the peer's stream ends over TCP, before and after this side's own close, and what each call on threads answers
-//! then.
+//! How the peer's stream ends over TCP, before and after this side's close, and the result of each call on threads.
 use crate::watchdog::Watchdog;
 use crate::*;
 use lcmux::Channel::Data;
@@ -9,7 +8,7 @@ use std::net::{Shutdown, TcpListener, TcpStream};
 use std::thread::{self, JoinHandle};
 use std::time::Duration;
 
-/// What the peer does last.
+/// The last operation of the peer.
 #[derive(Clone, Copy, Debug, PartialEq)]
 enum End {
     InOrder,

@@ -1,4 +1,4 @@
-//! What each error says.
+//! The text of each error.
 use lcmux::Channel::Overlap;
 use lcmux::{CallError, Closed, MuxFault, Needs, PeerFault, RecvTimeoutError, Refusal, SendError};
 use lcmux::{SendTimeoutError, TryRecvError, TrySendError};
@@ -8,7 +8,7 @@ use std::error::Error;
 fn each_error_says_its_sentence() {
     let refused = || SendError::Refused(Refusal::NoGuarantee { held: 6 });
     let closed = Closed::Aborted;
-    let errors: [(Box<dyn Error>, &str); 17] = [
+    let errors: [(Box<dyn Error>, &str); 19] = [
         (Box::new(Closed::Local), "the session is closed"),
         (Box::new(closed.clone()), "the session was aborted"),
         (
@@ -25,7 +25,7 @@ fn each_error_says_its_sentence() {
         ),
         (
             Box::new(SendError::Unwanted { held: 6, left: 7 }),
-            "the message is longer than what the other side still takes (held 6, left 7)",
+            "the message is longer than the guarantees that are held and those that the peer may still issue (held 6, left 7)",
         ),
         (
             Box::new(SendError::Closed(closed.clone())),
@@ -33,18 +33,18 @@ fn each_error_says_its_sentence() {
         ),
         (
             Box::new(TrySendError::Full(Needs::Guarantees(6))),
-            "the message needs 6 guarantees more",
+            "the message needs 6 more guarantees",
         ),
         (
             Box::new(TrySendError::Full(Needs::Slot)),
-            "the message has to wait for its turn",
+            "the message has to wait for a slot in the outbound queue",
         ),
         (
             Box::new(TrySendError::Failed(refused())),
             "the message is longer than the guarantees that are held (held 6)",
         ),
         (Box::new(SendTimeoutError::Timeout), "the send timed out"),
-        (Box::new(TryRecvError::Empty), "no message waits"),
+        (Box::new(TryRecvError::Empty), "no message is available"),
         (
             Box::new(TryRecvError::Closed(closed.clone())),
             "the session was aborted",
@@ -58,12 +58,27 @@ fn each_error_says_its_sentence() {
             "the session was aborted",
         ),
         (
-            Box::new(MuxFault::BadMark { channel: Overlap }),
-            "the low-water mark of Overlap is not 1 to its capacity",
+            Box::new(MuxFault::BadMark {
+                channel: Overlap,
+                mark: 65,
+                capacity: 64,
+            }),
+            "the low-water mark of Overlap must be in 1..=64, got 65",
         ),
         (
-            Box::new(MuxFault::Peer(PeerFault::BadSlots)),
-            "the slots are not 1 to 65,536",
+            Box::new(MuxFault::TooFewSlots { slots: 13 }),
+            "slots must be in 14..=65536, got 13",
+        ),
+        (
+            Box::new(MuxFault::Peer(PeerFault::BadSlots { slots: 0 })),
+            "slots must be in 14..=65536, got 0",
+        ),
+        (
+            Box::new(MuxFault::Peer(PeerFault::BadCapacity {
+                channel: Overlap,
+                capacity: 0,
+            })),
+            "the capacity of Overlap must be in 1..=16777216, got 0",
         ),
     ];
     for (error, said) in errors {

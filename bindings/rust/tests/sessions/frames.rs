@@ -1,10 +1,10 @@
-//! What the hook sees.
+//! The frames that the hook is called for.
 use crate::hand::Hand;
 use crate::*;
 use lcmux::Channel::Data;
 use std::sync::{Arc, Mutex};
 
-// A session of each version: what it writes and reads, and what the hook says of it.
+// A session of each version: the frames that it writes and reads, and the frames of the hook.
 const TRACES: [(Version, &str, &str); 4] = [
     (
         Version::One,
@@ -62,7 +62,7 @@ fn each_frame_that_comes_is_told() {
     }
 }
 
-// What goes out behind a greeting so long: each frame is told with its last byte, and none before.
+// The bytes after a preface of this length: each frame is reported with its last byte, and no earlier.
 fn written_byte_by_byte(
     hand: &mut Hand,
     seen: &Mutex<Vec<String>>,

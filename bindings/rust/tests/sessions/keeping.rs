@@ -1,12 +1,12 @@
-//! Frames that change nothing, and what who drives a session knows of its end.
+//! Keep-alives, which change nothing, and how a driver observes the end of its session.
 use crate::hand::{Call, Hand};
 use crate::*;
-use lcmux::Channel::Data;
+use lcmux::{Channel::Data, CHANNELS};
 use lcmux::{Closed, PollRead, PollWrite, Receiver, Sender};
 use std::io;
 use std::task::{Context, Poll};
 
-/// A session whose first issues are written, with all of its ends.
+/// A session whose first issues are written, with all of its handles.
 struct Kept {
     hand: Hand,
     senders: Vec<Option<Sender>>,
@@ -23,7 +23,7 @@ impl Kept {
         }
     }
 
-    /// What a keep-alive has go out, for which the writing half is woken.
+    /// The frame of a keep-alive, for which the writing half is woken.
     fn keep_alive(&mut self) -> Vec<u8> {
         let wakes = self.hand.write_wakes();
         let is_said = self.hand.driver.keep_alive();
@@ -33,7 +33,7 @@ impl Kept {
         written
     }
 
-    // Does what is done on a channel, as `limit 0 100`, and writes it out.
+    // Makes a call on a channel, such as `limit 0 100`, and writes its frame.
     fn act(&mut self, act: &str) {
         let words: Vec<_> = act.split(' ').collect();
         let at: usize = words[1].parse().unwrap();
@@ -50,7 +50,7 @@ impl Kept {
     }
 }
 
-/// What came first, what was done then, and the frame of a keep-alive. The most that a limit may be is 2^62.
+/// The inbound frames, the calls after them, and the frame of a keep-alive. The largest limit is 2^62.
 const KEEPERS: [(&str, &str, &str); 8] = [
     ("issue 0 64", "", "limit-receiving 0 4611686018427387904"),
     (
@@ -82,7 +82,7 @@ const KEEPERS: [(&str, &str, &str); 8] = [
     ),
 ];
 
-/// The other side sends nothing more, and has room on channel 0.
+/// The peer sends nothing more, and has space on channel 0.
 const FINISHED: &str =
     "issue 0 64, finish 0, finish 1, finish 2, finish 3, finish 4, finish 5, finish 6";
 
@@ -104,7 +104,7 @@ fn a_keep_alive_says_the_first_limit_anew() {
     assert_eq!(Kept::new(one).keep_alive(), wanted);
 }
 
-/// It goes out also where calls wait on the channel whose limit it says, and these go behind it as before.
+/// The keep-alive is sent even if calls wait on the channel whose limit it repeats, and these proceed afterwards.
 #[test]
 fn a_keep_alive_passes_calls_that_wait() {
     let mut kept = Kept::new(narrow());
@@ -121,7 +121,8 @@ fn a_keep_alive_passes_calls_that_wait() {
     assert_eq!(kept.hand.written(), frames("send 0 6869"));
 }
 
-/// Where all is finished both ways, or closed, or something waits to be written.
+/// There is no keep-alive if all channels are finished in both directions, the session is closed, or bytes are
+/// pending.
 #[test]
 fn a_keep_alive_says_nothing_where_there_is_no_need() {
     let mut kept = Kept::new(narrow());
@@ -145,7 +146,7 @@ fn a_keep_alive_says_nothing_where_there_is_no_need() {
     assert_eq!(kept.hand.write(&mut Vec::new()), Poll::Ready(Ok(())));
 }
 
-/// It is woken by the close also where its transport takes nothing.
+/// The close wakes the driver even if its transport accepts no bytes.
 #[test]
 fn who_drives_a_session_knows_that_it_is_closed() {
     let mut hand = Hand::new(narrow());
@@ -160,7 +161,7 @@ fn who_drives_a_session_knows_that_it_is_closed() {
     assert!(hand.driver.is_closing());
 }
 
-/// Takes and gives whole pieces, and keeps how long they are.
+/// Reads and writes whole chunks, and records their lengths.
 struct Pieces {
     lengths: Vec<usize>,
     bytes: Vec<u8>,
@@ -195,7 +196,7 @@ impl PollWrite for Pieces {
     }
 }
 
-/// Polls until nothing moves any more.
+/// Polls until no bytes move.
 fn move_all(pieces: &mut Pieces, mut poll: impl FnMut(&mut Pieces) -> Poll<Result<(), Closed>>) {
     let mut before = None;
     while before != Some(pieces.lengths.len()) {
@@ -204,11 +205,11 @@ fn move_all(pieces: &mut Pieces, mut poll: impl FnMut(&mut Pieces) -> Poll<Resul
     }
 }
 
-/// A session of short messages has small buffers; those of others grow to 128 KiB.
+/// A session of short messages has small buffers; other buffers grow to 128 KiB.
 #[test]
 fn pieces_become_longer_while_they_are_filled() {
     let mut config = with_slots(20);
-    config.peer.capacities = [500_200; 7];
+    config.peer.capacities = [500_200; CHANNELS];
     let [mut here, mut there] = [Hand::new(config), Hand::new(config)];
     let pieces = |from: &mut Hand, to: &mut Hand| {
         let (lengths, bytes) = (Vec::new(), Vec::new());

@@ -1,20 +1,24 @@
-//! Messages that are lent where they lie: to who receives one, and to a transport that takes several slices at once.
+//! Borrowed messages: those of a receiver, and those that are written to a transport which accepts several slices at
+//! once.
 use crate::hand::Hand;
 use crate::*;
 use lcmux::Channel::{Data, Overlap};
-use lcmux::{Closed, Direction, Pipe, PollWrite, WriteHalf};
+use lcmux::{Closed, Direction, Pipe, PollWrite, WriteHalf, CHANNELS};
+use lcmux::{Receiver, RecvTimeoutError, TryRecvError};
 use std::io::{self, IoSlice};
 use std::mem;
 use std::sync::{Arc, Mutex};
 use std::task::{Context, Poll};
+use std::thread;
+use std::time::Duration;
 
-/// A message of so many equal bytes.
+/// A message of this many equal bytes.
 fn send(channel: u8, byte: u8, len: usize) -> Vec<u8> {
     let header = [&[0x10 + channel], &(len as u32).to_be_bytes()[..]].concat();
     [header, vec![byte; len]].concat()
 }
 
-/// Also while the rest of its ring is filled, round the end of its memory.
+/// The borrow stays valid while the rest of its ring is filled, beyond the wrap point.
 #[test]
 fn a_lent_message_stays_as_it_is_until_it_is_given_back() {
     let mut hand = Hand::started(narrow());
@@ -51,7 +55,7 @@ fn a_lent_message_is_read_when_the_session_is_over() {
     assert_eq!(receiver.recv_blocking(), Err(Closed::Aborted));
 }
 
-/// What is forgotten is taken, and counts once, when a further call comes.
+/// A leaked borrow counts as taken, once, when the next call is made.
 #[test]
 fn a_lent_message_that_is_forgotten_is_taken_by_the_next_call() {
     for lends in [false, true] {
@@ -72,11 +76,104 @@ fn a_lent_message_that_is_forgotten_is_taken_by_the_next_call() {
     }
 }
 
-/// A message longer than 4,096 bytes is copied where no lock is held.
+#[test]
+fn a_polled_borrow_waits_and_is_woken_once() {
+    let mut hand = Hand::started(narrow());
+    let mut receiver = hand.mux.receiver(Data).unwrap();
+    let counts: [Arc<hand::Count>; 2] = Default::default();
+    let wakers = counts.clone().map(std::task::Waker::from);
+    for waker in &wakers {
+        let mut cx = Context::from_waker(waker);
+        assert!(receiver.poll_recv_ref(&mut cx).is_pending());
+    }
+    hand.feed(&greeted("send 1 6869, send 1 77"));
+    assert_eq!(counts.map(|count| count.count()), [0, 1]);
+    let mut cx = Context::from_waker(&wakers[0]);
+    for body in [b"hi".as_slice(), b"w"] {
+        let Poll::Ready(Ok(Some(message))) = receiver.poll_recv_ref(&mut cx) else {
+            panic!("there is a message");
+        };
+        assert_eq!(*message, *body);
+        assert_eq!(hand.written(), [], "its bytes are not free yet");
+        drop(message);
+        assert_eq!(hand.written(), frames(&format!("issue 1 {}", body.len())));
+    }
+    assert!(receiver.poll_recv_ref(&mut cx).is_pending());
+    hand.feed(&frames("finish 1"));
+    for _ in 0..2 {
+        let end = receiver.poll_recv_ref(&mut cx);
+        assert!(matches!(end, Poll::Ready(Ok(None))));
+    }
+}
+
+#[test]
+fn the_129th_polled_borrow_in_a_row_yields_once() {
+    let mut hand = Hand::started(with_slots(16));
+    let mut receiver = hand.mux.receiver(Data).unwrap();
+    hand.feed(GREETING);
+    let waker = std::task::Waker::from(Arc::new(hand::Count::default()));
+    let mut cx = Context::from_waker(&waker);
+    for count in 1..=130 {
+        hand.feed(&frames("send 1 78"));
+        let is_ready = receiver.poll_recv_ref(&mut cx).is_ready();
+        assert_eq!(is_ready, count != 129, "{count}");
+        hand.written();
+    }
+}
+
+/// Each way to borrow without a task: what is available, nothing, the end of the channel, and the session's.
+#[test]
+fn a_borrow_that_does_not_wait_for_long_has_each_answer() {
+    let zero = Duration::ZERO;
+    let mut hand = Hand::started(narrow());
+    let mut receiver = hand.mux.receiver(Data).unwrap();
+    let empty = |receiver: &mut Receiver| {
+        let tried = receiver.try_recv_ref().err();
+        assert_eq!(tried, Some(TryRecvError::Empty));
+        let timed = receiver.recv_ref_timeout(zero).err();
+        assert_eq!(timed, Some(RecvTimeoutError::Timeout));
+    };
+    empty(&mut receiver);
+    hand.feed(&greeted("send 1 6869, send 1 77"));
+    assert_eq!(*receiver.try_recv_ref().unwrap().unwrap(), *b"hi");
+    assert_eq!(hand.written(), frames("issue 1 2"));
+    assert_eq!(*receiver.recv_ref_timeout(zero).unwrap().unwrap(), *b"w");
+    assert_eq!(hand.written(), frames("issue 1 1"));
+    empty(&mut receiver);
+    let mut other = hand.mux.receiver(Overlap).unwrap();
+    hand.feed(&frames("finish 1, send 2 6869"));
+    assert!(receiver.try_recv_ref().unwrap().is_none());
+    assert!(receiver.recv_ref_timeout(zero).unwrap().is_none());
+    assert_eq!(hand.read(&mut &b""[..]), Poll::Ready(Err(Closed::Cut)));
+    assert_eq!(*other.try_recv_ref().unwrap().unwrap(), *b"hi");
+    let tried = other.try_recv_ref().err();
+    assert_eq!(tried, Some(TryRecvError::Closed(Closed::Cut)));
+    let timed = other.recv_ref_timeout(zero).err();
+    assert_eq!(timed, Some(RecvTimeoutError::Closed(Closed::Cut)));
+    assert!(receiver.try_recv_ref().unwrap().is_none());
+}
+
+#[test]
+fn a_message_that_arrives_in_time_is_borrowed() {
+    let mut hand = Hand::started(narrow());
+    let mut receiver = hand.mux.receiver(Data).unwrap();
+    let second = Duration::from_secs(60);
+    let receiving = thread::spawn(move || {
+        receiver
+            .recv_ref_timeout(second)
+            .unwrap()
+            .map(|it| it.to_vec())
+    });
+    thread::sleep(Duration::from_millis(20));
+    hand.feed(&greeted("send 1 6869"));
+    assert_eq!(receiving.join().unwrap(), Some(b"hi".to_vec()));
+}
+
+/// A message longer than 4,096 bytes is copied without the lock.
 #[test]
 fn long_messages_are_received_whole() {
     let mut config = with_slots(14);
-    config.peer.capacities = [20_000; 7];
+    config.peer.capacities = [20_000; CHANNELS];
     let mut hand = Hand::started(config);
     let mut receiver = hand.mux.receiver(Data).unwrap();
     hand.feed(GREETING);
@@ -88,7 +185,7 @@ fn long_messages_are_received_whole() {
     }
 }
 
-/// Takes at most so many bytes of several slices, and keeps how long these were.
+/// Accepts at most this many bytes of several slices, and records the lengths of the slices.
 struct Slices {
     most: usize,
     lengths: Vec<Vec<usize>>,
@@ -136,7 +233,7 @@ impl PollWrite for Slices {
     }
 }
 
-/// A session with room on all channels, whose first issues are written, and three messages that wait: a short one
+/// A session with guarantees on all channels, whose first issues are written, and three waiting messages: a short one
 /// and two long ones.
 fn with_messages() -> Hand {
     with_messages_of(Hand::new(with_slots(16)))
@@ -179,7 +276,7 @@ fn a_transport_that_takes_one_slice_gets_copies() {
     assert_eq!(bytes, messages());
 }
 
-/// A default goes from the first slice that has bytes.
+/// By default a vectored write starts with the first slice that has bytes.
 #[test]
 fn by_default_several_slices_are_written_one_by_one() {
     let waker = std::task::Waker::from(Arc::new(hand::Count::default()));
@@ -205,7 +302,7 @@ fn sockets_take_several_slices_at_once() {
     assert!(!Pipe::new(here).writes_vectored());
 }
 
-/// Each write goes on where the one before ended, and each frame is told once its last byte is written.
+/// Each write continues where the one before ended, and each frame is reported once its last byte is written.
 #[test]
 fn a_lent_message_is_written_in_any_pieces() {
     for most in (1..30).chain([4_095, 4_100, 5_010, 5_015, 5_020]) {
@@ -266,6 +363,6 @@ fn a_transport_that_claims_more_than_both_slices_fails_the_session() {
     };
     assert_eq!(
         error.to_string(),
-        "5016 bytes are claimed, where there were 5015"
+        "5016 bytes claimed, but only 5015 offered"
     );
 }

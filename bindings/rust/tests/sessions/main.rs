@@ -1,4 +1,4 @@
-//! Sessions whose bytes are moved by hand, so that each step is seen, and by drivers over sockets.
+//! Sessions whose bytes are moved by hand, so that each step is observed, and sessions with drivers over sockets.
 #[path = "../common/mod.rs"]
 mod common;
 #[path = "../common/hand.rs"]
@@ -14,6 +14,8 @@ mod errors;
 mod frames;
 mod keeping;
 mod lent;
+mod owned;
+mod polled;
 mod races;
 mod receiving;
 mod scheduling;
@@ -21,7 +23,7 @@ mod sending;
 mod sockets;
 mod timeouts;
 
-use lcmux::{Channel, Config, IssuePolicy, Mux, MuxConfig, Version};
+use lcmux::{Channel, Config, IssuePolicy, Mux, MuxConfig, Version, CHANNELS};
 
 /// Version Two, with rings of 64 bytes and the fewest slots: one for the messages of each channel.
 fn narrow() -> MuxConfig {
@@ -29,19 +31,19 @@ fn narrow() -> MuxConfig {
 }
 
 fn with_slots(slots: u32) -> MuxConfig {
-    let mut config = Config::new([64; 7], slots);
+    let mut config = Config::new([64; CHANNELS], slots);
     config.version = Version::Two;
     config.into()
 }
 
-/// The same, where only the caller issues.
+/// The same configuration, with issues by the caller alone.
 fn by_caller(slots: u32) -> MuxConfig {
     let mut config = with_slots(slots);
-    config.issue = [IssuePolicy::ByCaller; 7];
+    config.issue = [IssuePolicy::ByCaller; CHANNELS];
     config
 }
 
-/// The bytes of frames, without a greeting: `send 1 6869`, `issue 1 5`, `finish 1` and so on.
+/// The bytes of frames, without a preface: `send 1 6869`, `issue 1 5`, `finish 1` and so on.
 fn frames(text: &str) -> Vec<u8> {
     text.split(", ").flat_map(frame).collect()
 }
@@ -74,14 +76,14 @@ fn frame(text: &str) -> Vec<u8> {
 
 const GREETING: &[u8] = b"\x4c\x43\x4d\x02";
 
-/// What the other side's stream of version Two begins with, and these frames.
+/// The bytes of a peer of version Two: the preface and these frames.
 fn greeted(text: &str) -> Vec<u8> {
     [GREETING, &frames(text)].concat()
 }
 
-/// Room for 64 bytes on each channel.
+/// Issues of 64 guarantees on each channel.
 fn room_on_all() -> Vec<u8> {
-    let rooms: Vec<_> = (0..7)
+    let rooms: Vec<_> = (0..CHANNELS)
         .map(|channel| format!("issue {channel} 64"))
         .collect();
     greeted(&rooms.join(", "))
@@ -89,29 +91,36 @@ fn room_on_all() -> Vec<u8> {
 
 /// The end of all channels.
 fn finishes() -> Vec<u8> {
-    let finishes: Vec<_> = (0..7).map(|channel| format!("finish {channel}")).collect();
+    let finishes: Vec<_> = (0..CHANNELS)
+        .map(|channel| format!("finish {channel}"))
+        .collect();
     frames(&finishes.join(", "))
 }
 
-const ALL: [Channel; 7] = Channel::ALL;
+const ALL: [Channel; CHANNELS] = Channel::ALL;
 
-/// What goes to another thread, and what is shared between some.
+/// The types that are `Send`, and those that are `Sync`.
 #[test]
 fn ends_go_to_threads_and_so_do_their_calls() {
     fn goes<T: Send + 'static>() {}
     fn is_shared<T: Sync>() {}
     fn call_goes<T: Send>(_: &T) {}
     goes::<lcmux::Sender>();
+    goes::<lcmux::PollSender>();
+    goes::<lcmux::OwnedPermit>();
     goes::<lcmux::Receiver>();
     goes::<lcmux::Driver>();
     goes::<lcmux::Mux>();
     is_shared::<lcmux::Sender>();
+    is_shared::<lcmux::PollSender>();
+    is_shared::<lcmux::OwnedPermit>();
     is_shared::<lcmux::Mux>();
     let (mut mux, driver) = lcmux::Mux::new(narrow()).unwrap();
     let sender = mux.sender(Channel::Data).unwrap();
     let mut receiver = mux.receiver(Channel::Data).unwrap();
     call_goes(&sender.send(b"hello"));
     call_goes(&sender.reserve(5));
+    call_goes(&sender.reserve_owned(5));
     call_goes(&receiver.recv());
     call_goes(&receiver.recv_ref());
     call_goes(&mux.closed());

@@ -1,5 +1,5 @@
-//! What happens while a half of the driver is between two steps: wakers whose last clone, when it is dropped there,
-//! closes, aborts, sends or drops the last handle.
+//! Events between two steps of a half of the driver: wakers whose last clone, when it is dropped there, closes,
+//! aborts, sends or drops the last handle.
 use crate::hand::{Count, Hand};
 use crate::*;
 use lcmux::Channel::Data;
@@ -7,7 +7,7 @@ use lcmux::{Closed, Mux};
 use std::sync::{Arc, Mutex};
 use std::task::{Context, Poll, Wake, Waker};
 
-/// A waker that does something once, when the last clone of it is dropped.
+/// A waker that runs a closure once, when its last clone is dropped.
 struct OnDrop(Mutex<Option<Box<dyn FnOnce() + Send>>>);
 
 impl OnDrop {
@@ -29,8 +29,8 @@ impl Drop for OnDrop {
     }
 }
 
-/// The writing half is idle with this waker, whose place another one takes then: how often that one is woken, and
-/// what the half answers when it is polled again.
+/// The writing half is idle with this waker, which another one then replaces: how often the other one is woken, and
+/// the result of the next poll.
 fn writing_half(hand: &mut Hand, call: impl FnOnce() + Send + 'static) -> Poll<Result<(), Closed>> {
     let waker = OnDrop::waker(call);
     let mut sink = Vec::new();

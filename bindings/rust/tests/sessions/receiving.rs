@@ -2,7 +2,7 @@
 use crate::hand::{Call, Count, Hand};
 use crate::*;
 use lcmux::Channel::{Data, Overlap};
-use lcmux::{PollRead, Receiver, RecvTimeoutError, TryRecvError};
+use lcmux::{PollRead, Receiver, RecvTimeoutError, TryRecvError, CHANNELS};
 use std::future::Future;
 use std::io;
 use std::sync::Arc;
@@ -26,7 +26,7 @@ fn a_message_wakes_the_receiver_of_its_channel_alone() {
     assert_eq!((stats.messages_received, stats.bytes_received), (1, 2));
 }
 
-// Reads of at most so many bytes. What is asked for is never nothing.
+// Reads of at most this many bytes. No read has an empty buffer.
 struct Reads<'a>(&'a [u8], usize);
 
 impl PollRead for Reads<'_> {
@@ -42,7 +42,7 @@ impl PollRead for Reads<'_> {
 
 #[test]
 fn a_read_that_was_filled_by_short_messages_is_followed_by_one_of_twice_as_many_bytes() {
-    let mut hand = Hand::started(Config::new([1 << 20; 7], 16));
+    let mut hand = Hand::started(Config::new([1 << 20; CHANNELS], 16));
     let stream = b"\x11\0\x02hi".repeat(100_000);
     let mut asked = Vec::new();
     let mut rest = &stream[..];
@@ -55,7 +55,7 @@ fn a_read_that_was_filled_by_short_messages_is_followed_by_one_of_twice_as_many_
     assert!(asked.iter().zip(&full).all(near), "{asked:?}");
 }
 
-/// Notes how many bytes each read asks for.
+/// Records how many bytes each read asks for.
 struct Asked<'a, 'b>(&'a mut &'b [u8], &'a mut Vec<usize>);
 
 impl PollRead for Asked<'_, '_> {
@@ -70,7 +70,7 @@ impl PollRead for Asked<'_, '_> {
     }
 }
 
-/// On both sides of what a read asks for at first, and at most.
+/// Lengths around the first and the largest buffer of a read.
 const LENGTHS: [usize; 9] = [
     4_090, 4_091, 4_092, 8_187, 61_440, 131_067, 131_068, 262_144, 1_048_576,
 ];
@@ -78,7 +78,7 @@ const LENGTHS: [usize; 9] = [
 #[test]
 fn messages_of_any_length_come_however_they_are_cut() {
     for most in [1_000, 65_536, 70_001, usize::MAX] {
-        let mut config = Config::new([1 << 22; 7], 16);
+        let mut config = Config::new([1 << 22; CHANNELS], 16);
         config.version = Version::Two;
         let mut hand = Hand::started(config);
         let mut receiver = hand.mux.receiver(Data).unwrap();
@@ -163,7 +163,7 @@ fn a_wait_for_a_message_times_out() {
     assert_eq!(taken, Ok(Some(b"hi".to_vec())));
 }
 
-/// A receiver that took three messages, of which the first woke the writing half, and that has not come yet.
+/// A receiver that took three messages, the first of which woke the writing half, before that half runs.
 fn took_three(hand: &mut Hand) -> Receiver {
     let mut receiver = hand.mux.receiver(Data).unwrap();
     hand.feed(&greeted("send 1 61, send 1 6262, send 1 636363"));
@@ -189,7 +189,7 @@ fn room_that_is_freed_meanwhile_is_issued_as_one() {
     assert_eq!(bytes, [issues, finishes()].concat());
 }
 
-/// To who asks, and before what the caller has go out, it is issued.
+/// Freed bytes are issued when the caller queries the receiver, and before the caller's own control frames.
 #[test]
 fn room_that_is_freed_is_issued_before_all_else() {
     type Case = (fn(&Receiver), &'static str);
@@ -238,7 +238,7 @@ fn a_long_message_is_lent_behind_a_short_one() {
     }
 }
 
-/// A call that another task polls wakes that one.
+/// A call wakes the task that polled it last.
 #[test]
 fn the_last_task_that_polled_is_woken() {
     let mut hand = Hand::started(narrow());
@@ -259,7 +259,7 @@ fn the_last_task_that_polled_is_woken() {
     assert_eq!([0, 1].map(count), [0, 2]);
 }
 
-/// Sends when it is dropped, and waits for that.
+/// Sends when it is dropped, and waits for that send.
 struct Sends(lcmux::Sender);
 
 impl Wake for Sends {
@@ -272,7 +272,7 @@ impl Drop for Sends {
     }
 }
 
-/// A call that waits within another, on the same thread, takes no wake-up of that.
+/// A call within another call on the same thread takes no wake-up of the outer one.
 #[test]
 fn a_call_within_a_call_leaves_its_wake_ups_to_it() {
     let mut hand = Hand::started(narrow());
@@ -280,7 +280,7 @@ fn a_call_within_a_call_leaves_its_wake_ups_to_it() {
     let waker = Waker::from(Arc::new(Sends(hand.mux.sender(Data).unwrap())));
     let polled = receiver.poll_recv(&mut Context::from_waker(&waker));
     assert!(polled.is_pending());
-    drop(waker); // but for the one that the receiver keeps, until it has another
+    drop(waker); // the receiver keeps one clone until it gets another waker
     let recv = thread::spawn(move || receiver.recv_blocking());
     while hand.mux.stats(Data).waited_for_guarantees.is_zero() {
         thread::yield_now();
@@ -290,7 +290,7 @@ fn a_call_within_a_call_leaves_its_wake_ups_to_it() {
     assert_eq!(recv.join().unwrap(), Ok(Some(b"hi".to_vec())));
 }
 
-// The time for which this thread ran, in hundredths of a second: words 14 and 15 of its line.
+// The processor time of this thread, in hundredths of a second: fields 14 and 15 of its line.
 fn ran() -> u64 {
     let line = std::fs::read_to_string("/proc/thread-self/stat").unwrap();
     let words = line.rsplit(')').next().unwrap().split(' ').skip(12).take(2);
@@ -302,7 +302,7 @@ fn a_thread_that_waits_sleeps() {
     let mut hand = Hand::started(narrow());
     let mut receiver = hand.mux.receiver(Data).unwrap();
     let before = ran();
-    // A word that comes early, as a wake-up of a call before it, does not keep it awake.
+    // An early token, such as the wake-up of an earlier call, does not keep the thread awake.
     for _ in 0..2 {
         let timed_out = receiver.recv_timeout(Duration::from_millis(300));
         assert_eq!(timed_out, Err(RecvTimeoutError::Timeout));

@@ -1,4 +1,4 @@
-//! Which message is written next, as `docs/sessions.md` says.
+//! The scheduling of messages, as `docs/reference/sessions.md` has it.
 use crate::hand::{Call, Hand};
 use crate::*;
 use lcmux::Channel::Data;
@@ -12,7 +12,7 @@ fn senders(hand: &mut Hand) -> Vec<Sender> {
     ALL.map(|channel| hand.mux.sender(channel).unwrap()).into()
 }
 
-// The channels of the messages that are written, each of one byte, of which the transport takes so many.
+// The channels of the written messages of one byte each; the transport accepts this many.
 fn written(hand: &mut Hand, count: usize) -> Vec<u8> {
     let bytes = hand.written_at_most(6 * count);
     assert_eq!(bytes.len() % 6, 0);
@@ -31,13 +31,13 @@ fn sends(sender: &Sender) -> Call<'_, Result<(), SendError>> {
 
 const FULL: Result<(), TrySendError> = Err(TrySendError::Full(Needs::Slot));
 
-/// All senders want to send all the time: between two messages of one there are fewer than `slots` of others.
+/// All senders always have a waiting call: between two messages of one there are fewer than `slots` of others.
 #[test]
 fn fewer_than_slots_messages_of_others_come_between_two_of_one() {
     for slots in [14, 15, 17, 20, 32] {
         let mut hand = Hand::started(with_slots(slots));
         hand.feed(&greeted(
-            &(0..7)
+            &(0..CHANNELS)
                 .map(|channel| format!("issue {channel} 9999"))
                 .collect::<Vec<_>>()
                 .join(", "),
@@ -46,8 +46,8 @@ fn fewer_than_slots_messages_of_others_come_between_two_of_one() {
         let mut calls: Vec<_> = senders.iter().map(|sender| (sends(sender), 0)).collect();
         let mut sent = Vec::new();
         for round in 0..600 {
-            // Whoever is woken is polled before the driver writes again, in any order.
-            let order = (0..7).map(|at| (at * 3 + round) % 7);
+            // Every woken task is polled before the driver writes again, in any order.
+            let order = (0..CHANNELS).map(|at| (at * 3 + round) % CHANNELS);
             let is_woken = |(call, wakes): &(Call<_>, usize)| call.wakes() > *wakes;
             while let Some(at) = order.clone().find(|at| is_woken(&calls[*at])) {
                 let (call, wakes) = &mut calls[at];
@@ -69,7 +69,7 @@ fn fewer_than_slots_messages_of_others_come_between_two_of_one() {
     }
 }
 
-/// A call that lacks guarantees holds up no one, and proceeds once they come.
+/// A call that lacks guarantees delays no other channel, and proceeds once they arrive.
 #[test]
 fn a_channel_without_guarantees_holds_up_no_other() {
     let mut hand = Hand::started(narrow());
@@ -109,7 +109,30 @@ fn a_call_that_is_dropped_notifies_the_next() {
     assert_eq!(sender.try_send(b"x"), Ok(()));
 }
 
-/// Futures and permits of six channels that are forgotten, once they wait or once they were woken: the seventh sends.
+/// A driver with nothing left to write is polled once more, after the tasks that were just woken. Then the calls behind
+/// a forgotten one are notified.
+#[test]
+fn a_driver_is_polled_once_more_for_the_calls_behind_a_forgotten_task() {
+    let mut hand = Hand::started(with_slots(32));
+    hand.feed(&greeted("issue 0 99999, issue 1 99999, issue 2 99999"));
+    let (senders, long) = (senders(&mut hand), vec![7; 40_000]);
+    for _ in 0..2 {
+        senders[0].try_send(&long).unwrap();
+        let forgotten = Call::waiting(senders[1].send(&long));
+        let behind = Call::waiting(senders[2].send(&long));
+        let before = hand.write_wakes();
+        assert_eq!(hand.written().len(), 40_005);
+        assert_eq!((forgotten.wakes(), behind.wakes()), (1, 0));
+        assert_eq!(hand.write_wakes(), before + 1);
+        assert_eq!(hand.written(), []);
+        assert_eq!(hand.write_wakes(), before + 1);
+        assert_eq!(behind.woken(), Ok(()));
+        assert_eq!(hand.written().len(), 40_005);
+    }
+}
+
+/// Futures and permits of six channels are leaked, once they wait or once they were woken: the seventh channel still
+/// sends.
 #[test]
 fn forgotten_calls_hold_up_no_other_channel() {
     for (slots, is_woken) in [(14, false), (14, true), (20, true)] {
@@ -144,8 +167,8 @@ fn until_it_waits(sender: &Sender) {
     }
 }
 
-/// Whoever moves the bytes completes what threads wait to send, the channel that sent least recently first and with
-/// what is pending behind it, while these sleep; a task is notified.
+/// The driver completes the sends of blocked threads, the channel that sent least recently first, with the frames
+/// that are pending after them. A task is notified.
 #[test]
 fn calls_of_threads_are_completed_while_they_sleep() {
     let mut hand = Hand::started(narrow());
@@ -170,7 +193,7 @@ fn calls_of_threads_are_completed_while_they_sleep() {
     });
 }
 
-/// The permit is given while the thread that waits for it sleeps, and is its own.
+/// A permit is granted while its thread blocks, and belongs to it.
 #[test]
 fn a_permit_is_given_to_a_thread_that_sleeps() {
     let mut hand = Hand::started(narrow());

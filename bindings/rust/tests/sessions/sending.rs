@@ -36,7 +36,7 @@ fn a_send_waits_for_a_slot_and_is_woken_once() {
     let call = Call::waiting(sender.send(b"b"));
     let full = Err(TrySendError::Full(Needs::Slot));
     assert_eq!(sender.try_send(b"c"), full);
-    other.try_send(b"d").unwrap(); // which has a slot of its own
+    other.try_send(b"d").unwrap(); // in its channel's own slot
     assert_eq!(call.wakes(), 0);
     assert_eq!(hand.written(), frames("send 1 61, send 2 64"));
     assert_eq!(call.woken(), Ok(()));
@@ -70,7 +70,7 @@ fn a_call_that_is_dropped_leaves_its_place_to_the_next() {
     drop(long);
     assert_eq!(short.woken(), Ok(()));
 
-    // One that was woken, and not polled again.
+    // A call that was woken, and not polled again.
     hand.written();
     let woken = Call::waiting(sender.reserve(2));
     let next = Call::waiting(sender.send(b"n"));
@@ -82,7 +82,7 @@ fn a_call_that_is_dropped_leaves_its_place_to_the_next() {
     assert_eq!(sender.held(), 2);
 }
 
-// What the other side sends first, what this side does, and why a message of so many bytes never goes.
+// The peer's first frames, the calls of this side, and why a message of this length can never be sent.
 #[test]
 fn what_never_goes_is_an_error_at_once() {
     let mut hand = Hand::started(narrow());
@@ -109,7 +109,7 @@ fn what_never_goes_is_an_error_at_once() {
     answers(1, refused(Refusal::ChannelFinished));
 }
 
-// A call that waits learns that it never goes: by what comes, or by what this side does meanwhile.
+// A waiting call fails once it can never proceed: by an inbound frame, or by a call of this side meanwhile.
 #[test]
 fn a_call_that_waits_learns_that_it_never_goes() {
     let mut hand = Hand::started(narrow());
@@ -117,13 +117,13 @@ fn a_call_that_waits_learns_that_it_never_goes() {
     let call = Call::waiting(sender.send(b"hello"));
     hand.feed(&greeted("issue 1 1, limit-receiving 1 3"));
     assert_eq!(call.woken(), Err(SendError::Unwanted { held: 1, left: 3 }));
-    // The limit is that of the other side: what came before it is not more than it allows.
+    // The limit is that of the peer: earlier guarantees count towards it.
     let call = Call::waiting(sender.send(b"way"));
     hand.feed(&frames("limit-receiving 1 0"));
     assert_eq!(call.woken(), Err(SendError::Unwanted { held: 1, left: 0 }));
 }
 
-/// So it does where no slot is left, and a channel before owes a frame.
+/// The same if no slot is free, and an earlier channel has a pending frame.
 #[test]
 fn a_call_that_waits_learns_that_it_never_goes_where_no_slot_is_left() {
     let mut hand = Hand::started(by_caller(14));
@@ -142,7 +142,7 @@ fn a_call_that_waits_learns_that_it_never_goes_where_no_slot_is_left() {
     assert_eq!(next.wakes(), 0, "it still waits for a slot");
 }
 
-/// Where no slot is left, a limit waits for one, and the call behind it for the limit.
+/// If no slot is free, a limit waits for one, and the call after it waits for the limit.
 #[test]
 fn a_call_behind_a_limit_goes_once_that_has_a_slot() {
     let mut hand = Hand::started(by_caller(14));
@@ -159,7 +159,7 @@ fn a_call_behind_a_limit_goes_once_that_has_a_slot() {
     assert!(written.ends_with(&frames("limit-sending 1 3, send 1 79")));
 }
 
-/// A limit and a finish go behind the calls that wait when they are made, and before later ones.
+/// A limit and a finish follow the calls that wait at that time, and precede later ones.
 #[test]
 fn a_limit_and_a_finish_keep_their_place_behind_calls_that_wait() {
     let mut hand = Hand::started(with_slots(32));
@@ -182,13 +182,13 @@ fn a_limit_and_a_finish_keep_their_place_behind_calls_that_wait() {
     assert_eq!((first.wakes(), second.wakes(), third.wakes()), (1, 0, 0));
     assert_eq!(first.woken(), Ok(()));
     hand.feed(&frames("issue 1 5"));
-    drop(second); // which is before them no more
+    drop(second); // which no longer precedes them
     assert_eq!(third.woken(), Ok(()));
     let written = "send 1 776f7264, limit-sending 1 3, send 1 616263, finish 1";
     assert_eq!(hand.written(), frames(written));
 }
 
-/// What goes between two limits counts for the first, and what it leaves is not raised by the second.
+/// A message between two limits counts towards the first, and the second does not raise what the first allows.
 #[test]
 fn each_limit_keeps_its_place_between_calls_that_wait() {
     let mut hand = Hand::started(with_slots(32));
@@ -196,7 +196,7 @@ fn each_limit_keeps_its_place_between_calls_that_wait() {
     let call = |body: &'static [u8]| Call::waiting(sender.send(body));
     let first = call(b"first");
     sender.limit(9).unwrap();
-    sender.limit(8).unwrap(); // in the place of the other
+    sender.limit(8).unwrap(); // replaces the other limit
     let between = [call(b"four"), call(b"five5"), call(b"two")];
     sender.limit(3).unwrap();
     let raised = Refusal::LimitRaised { left: 3 };
@@ -233,7 +233,7 @@ fn a_close_sends_a_finish_that_waits_behind_calls() {
     );
 }
 
-/// A message by a permit goes before a limit that finds no slot, and counts for it.
+/// A message of a permit precedes a limit that finds no slot, and counts towards it.
 #[test]
 fn a_permit_counts_for_a_limit_that_is_owed() {
     let mut hand = Hand::started(with_slots(15));
@@ -250,13 +250,13 @@ fn a_permit_counts_for_a_limit_that_is_owed() {
     permit.send(b"four").unwrap();
     let past = Refusal::PastSendLimit { left: 2 };
     assert_eq!(other.send(b"two"), Err(refused(past)));
-    let limits = (0..7).map(|channel| format!("limit-receiving {channel} 9"));
+    let limits = (0..CHANNELS).map(|channel| format!("limit-receiving {channel} 9"));
     let limits = limits.collect::<Vec<_>>().join(", ");
     let written = format!("{limits}, send 1 666f7572, limit-sending 1 2");
     assert_eq!(hand.written(), frames(&written));
 }
 
-/// What a limit leaves is a permit's, too.
+/// A limit also bounds permits.
 #[test]
 fn a_call_leaves_to_a_permit_what_a_limit_leaves() {
     let mut hand = Hand::started(with_slots(16));
@@ -285,7 +285,7 @@ fn a_permit_owns_guarantees_and_a_slot() {
     assert_eq!(sender.try_send(b"five5"), full(Needs::Guarantees(1)));
     assert_eq!(sender.try_send(&[0; 70]), full(Needs::Guarantees(66)));
     assert_eq!(sender.try_send(b"four"), full(Needs::Slot));
-    other.try_send(b"four").unwrap(); // which has a slot of its own
+    other.try_send(b"four").unwrap(); // in its channel's own slot
     let not_held = lcmux::CallError::Refused(Refusal::NotHeld { held: 4 });
     assert_eq!(sender.absolve(5), Err(not_held));
     let five = Call::waiting(sender.send(b"five5"));
@@ -326,7 +326,7 @@ fn a_permit_is_not_absolved_by_a_plead_before_it_is_given_back() {
     hand.feed(&frames("plead 1 2"));
     assert_eq!(hand.written(), frames("absolve 1 6"));
     assert_eq!(sender.held(), 0);
-    // What is issued meanwhile was not pleaded for.
+    // Guarantees that are issued meanwhile are not subject to the plead.
     hand.feed(&frames("issue 1 5"));
     assert_eq!((hand.written(), sender.held()), (vec![], 5));
     let [first, second] = permits;
@@ -337,8 +337,8 @@ fn a_permit_is_not_absolved_by_a_plead_before_it_is_given_back() {
     assert_eq!(sender.held(), 5);
 }
 
-/// Where only what was issued later keeps this side above its target, a plead was honoured, and another one is
-/// new: for another target, or once no more than the target is held.
+/// If only guarantees that were issued later keep this side above its target, the plead was honoured. Another plead
+/// is new if it has another target, or once no more than the target is held.
 #[test]
 fn a_plead_is_honoured_once_whatever_is_issued_later() {
     for (sent, came, written) in [
@@ -435,7 +435,7 @@ fn timeouts_leave_no_call_behind() {
     );
 }
 
-/// A task that is woken only once it is told.
+/// A task whose wake-up is delayed until the test releases it.
 struct Slow(Mutex<mpsc::Receiver<()>>);
 
 impl Wake for Slow {
@@ -444,7 +444,7 @@ impl Wake for Slow {
     }
 }
 
-// What a call answers whose time is over before its thread is woken, and whether its message was sent by then.
+// The result of a call whose timeout expires before its thread wakes up, and whether its message was sent by then.
 fn sent_at_the_deadline() -> (Result<(), SendTimeoutError>, bool) {
     let mut hand = Hand::started(narrow());
     let sender = hand.mux.sender(Data).unwrap();
@@ -468,7 +468,7 @@ fn sent_at_the_deadline() -> (Result<(), SendTimeoutError>, bool) {
     (sent, hand.written() == frames("send 1 68656c6c6f"))
 }
 
-/// Where the machine is so busy that nothing came in time, it is tried again.
+/// If the machine is too busy for that, the test tries again.
 #[test]
 fn a_thread_whose_time_is_over_looks_whether_its_message_was_sent() {
     let is_seen = (0..50).any(|_| {
@@ -498,7 +498,7 @@ fn the_time_of_a_wait_is_that_of_what_lacks() {
     assert_eq!(stats.waited_for_guarantees, Duration::ZERO);
     assert_eq!(hand.mux.stats(Overlap).waited_for_slots, Duration::ZERO);
 
-    // Of a call that waits still, too.
+    // A call that still waits counts, too.
     hand.written();
     let long = Call::waiting(other.send(&[0; 64]));
     thread::sleep(wait);
@@ -510,7 +510,7 @@ fn the_time_of_a_wait_is_that_of_what_lacks() {
     drop(long);
 }
 
-/// A thread that sleeps in a call of the library keeps its own token of `thread::park`.
+/// A thread that blocks in a call of the library keeps its own token of `thread::park`.
 #[test]
 fn a_thread_that_waits_keeps_its_own_token() {
     let _watchdog = watchdog::Watchdog::new("park");

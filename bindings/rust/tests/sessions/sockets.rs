@@ -2,7 +2,7 @@
 use crate::watchdog::Watchdog;
 use crate::*;
 use lcmux::Channel::{Data, Overlap};
-use lcmux::{Closed, Driver, Mux, Pipe, Receiver, SendError, Sender, WriteHalf};
+use lcmux::{Closed, Driver, Mux, Pipe, Receiver, SendError, Sender, WriteHalf, CHANNELS};
 use std::io::{self, ErrorKind, Read, Write};
 use std::net::{Shutdown, TcpListener, TcpStream};
 use std::os::unix::net::UnixStream;
@@ -35,7 +35,7 @@ fn tcp_pair() -> (TcpStream, TcpStream) {
 }
 
 fn big() -> MuxConfig {
-    let mut config = Config::new([4 << 20; 7], 64);
+    let mut config = Config::new([4 << 20; CHANNELS], 64);
     config.version = Version::Two;
     config.into()
 }
@@ -59,7 +59,7 @@ fn take_many(mut receiver: Receiver) -> JoinHandle<usize> {
     })
 }
 
-/// Both sides have far more to write than sockets hold, and neither waits for the other.
+/// Both sides have far more to write than sockets buffer, and they do not deadlock.
 #[test]
 fn two_sides_swap_more_than_sockets_hold() {
     let _watchdog = Watchdog::new("a swap over TCP");
@@ -84,7 +84,7 @@ fn two_sides_swap_more_than_sockets_hold() {
     }
 }
 
-/// The session is dropped, and what was accepted arrives all the same.
+/// The session is dropped, and the accepted messages still arrive.
 #[test]
 fn what_was_accepted_arrives_when_all_is_dropped() {
     let _watchdog = Watchdog::new("a drop");
@@ -103,7 +103,7 @@ fn what_was_accepted_arrives_when_all_is_dropped() {
     assert_eq!(other_run.join().unwrap(), Ok(()));
 }
 
-// Aborts a session whose driver is asleep in a read, and whose calls wait.
+// Aborts a session whose driver blocks in a read, and whose calls wait.
 fn abort(mux: &mut Mux, run: Run) {
     let sender = mux.sender(Data).unwrap();
     let mut receiver = mux.receiver(Data).unwrap();
@@ -136,21 +136,21 @@ fn an_abort_ends_a_read_that_blocks() {
         &mut mux,
         over(driver, here.try_clone().map(|reader| (reader, here))),
     );
-    // Before it runs.
+    // Before the driver runs.
     let (here, _there) = tcp_pair();
     let (mux, driver) = Mux::new(narrow()).unwrap();
     mux.abort();
     assert_eq!(tcp(here, driver).join().unwrap(), Err(Closed::Aborted));
 }
 
-// Aborts a session whose driver is asleep in a write, since the other side reads nothing.
+// Aborts a session whose driver blocks in a write, since the peer reads nothing.
 fn abort_a_write<S>(here: S, reader: io::Result<S>, mut there: impl Write)
 where
     S: Read + WriteHalf + Send + 'static,
 {
     let (mut mux, driver) = Mux::new(big()).unwrap();
     let run = over(driver, reader.map(|reader| (reader, here)));
-    let room = (1u32 << 24).to_be_bytes(); // more than slots and sockets hold
+    let room = (1u32 << 24).to_be_bytes(); // more than the slots and the sockets hold
     let issue = [GREETING, &[0x21], &room].concat();
     there.write_all(&issue).unwrap();
     let sender = mux.sender(Data).unwrap();
@@ -162,8 +162,8 @@ where
     assert_eq!(run.join().unwrap(), Err(Closed::Aborted));
 }
 
-// Leaves no room in a connection. Where there is some, but too little to wake a write that waits, that goes on
-// by whatever else wakes it: also by a shutdown of the other direction alone.
+// Fills a connection. If it had some free space, but too little to wake a blocked write, any other wake-up would let
+// the write proceed, also a shutdown of the other direction alone.
 fn fill(mut stream: &TcpStream) {
     stream.set_nonblocking(true).unwrap();
     let mut refused = 0;
@@ -195,7 +195,7 @@ fn an_abort_ends_a_write_that_blocks() {
     abort_a_write(here, reader, &there);
 }
 
-/// A reader without an end of its own, which a breaker of the caller ends.
+/// A reader that does not end by itself, and that the caller's shutdown handle ends.
 struct Blocked(mpsc::Receiver<()>);
 
 impl Read for Blocked {
@@ -229,7 +229,7 @@ fn a_pipe_is_ended_by_its_drop_and_broken_by_its_breaker() {
 
 type Ends = fn(&Mux);
 
-/// A breaker is called also where the session was over before, and dropped where it ends in order.
+/// A shutdown handle is called even if the session was over before, and dropped if the session ends in order.
 #[test]
 fn a_breaker_is_called_or_dropped() {
     let _watchdog = Watchdog::new("a breaker");
@@ -251,7 +251,7 @@ fn a_breaker_is_called_or_dropped() {
     }
 }
 
-// This side's direction ends, though the stream is open still, and the other goes on.
+// This side's direction ends although the stream is still open, and the other direction continues.
 fn end<S: Read + WriteHalf>((mut here, mut there): (S, S)) {
     here.write_all(b"last").unwrap();
     here.end().unwrap();
@@ -271,14 +271,14 @@ fn one_direction_of_a_socket_ends_without_the_other() {
     end(UnixStream::pair().unwrap());
 }
 
-/// The other side reset the connection, which ends this direction too.
+/// The peer reset the connection, which ends this direction, too.
 #[test]
 fn a_direction_that_is_gone_is_ended() {
     let _watchdog = Watchdog::new("a reset");
     let (mut here, there) = tcp_pair();
     here.write_all(b"x").unwrap();
     there.peek(&mut [0]).unwrap();
-    drop(there); // with a byte that was not read
+    drop(there); // with an unread byte
     let read = here.read(&mut [0]).unwrap_err();
     assert_eq!(read.kind(), ErrorKind::ConnectionReset);
     here.end().unwrap();
@@ -324,7 +324,7 @@ fn a_transport_that_panics_ends_the_session_and_the_driver() {
     }
 }
 
-/// The other side is gone in the middle of a frame, or closes its socket at once.
+/// The peer is gone in the middle of a frame, or closes its socket at once.
 #[test]
 fn a_connection_that_is_cut_is_told() {
     let _watchdog = Watchdog::new("a connection that is cut");
@@ -347,7 +347,7 @@ fn a_connection_that_is_cut_is_told() {
     }
 }
 
-/// A hook may call the session, also where that waits: here for room that comes by the other thread.
+/// A hook may make a blocking call of the session: here it waits for guarantees that the other thread reads.
 #[test]
 fn a_hook_may_wait_for_the_session() {
     let _watchdog = Watchdog::new("a hook");

@@ -1,4 +1,4 @@
-//! The timeouts of sessions on threads, and streams that can't be split.
+//! The timeouts of sessions on threads, and streams that cannot be split.
 use crate::watchdog::Watchdog;
 use crate::*;
 use lcmux::Channel::Data;
@@ -11,8 +11,8 @@ use std::time::{Duration, Instant};
 
 type Run = JoinHandle<Result<(), Closed>>;
 
-const SHORT: Duration = Duration::from_millis(150);
-/// What a busy machine may add.
+const SHORT: Duration = Duration::from_millis(300);
+/// The delay that a busy machine may add.
 const LONG: Duration = Duration::from_secs(20);
 
 fn timed_out(why: &str) -> Result<(), Closed> {
@@ -52,7 +52,7 @@ fn run(way: Way, mut driver: Driver, stream: UnixStream, timeouts: Timeouts) -> 
     })
 }
 
-/// A session, and the other end of its stream, which a test has.
+/// A session, and the other end of its stream for the test.
 fn side(way: Way, timeouts: Timeouts) -> (Mux, Run, UnixStream) {
     let (here, there) = UnixStream::pair().unwrap();
     let (mux, driver) = Mux::new(by_caller(16)).unwrap();
@@ -77,11 +77,11 @@ fn a_silent_peer_is_given_up() {
         let recv = thread::spawn(move || receiver.recv_blocking());
         let begin = Instant::now();
         for byte in GREETING {
-            thread::sleep(SHORT / 2);
+            thread::sleep(SHORT / 3);
             there.write_all(&[*byte]).unwrap();
         }
-        let silent = timed_out("the peer sent nothing in time");
-        ends(run, begin, 3 * SHORT, silent.clone());
+        let silent = timed_out("the peer sent nothing within the timeout");
+        ends(run, begin, 2 * SHORT, silent.clone());
         assert_eq!(recv.join().unwrap().map(drop), silent);
         assert_eq!(mux.closed_blocking(), silent);
     }
@@ -91,7 +91,7 @@ fn a_silent_peer_is_given_up() {
 fn two_sides_keep_each_other_alive() {
     let _watchdog = Watchdog::new("keep-alive");
     let timeouts = timeouts(|it| {
-        it.idle = Some(10 * SHORT);
+        it.idle = Some(5 * SHORT);
         it.keep_alive = Some(SHORT);
     });
     for way in WAYS {
@@ -100,7 +100,7 @@ fn two_sides_keep_each_other_alive() {
             let (mux, driver) = Mux::new(narrow()).unwrap();
             (mux, run(way, driver, stream, timeouts))
         });
-        thread::sleep(15 * SHORT);
+        thread::sleep(8 * SHORT);
         sides.iter().for_each(|(mux, _)| mux.close());
         for (mux, run) in sides {
             assert_eq!(mux.closed_blocking(), Ok(()));
@@ -126,6 +126,31 @@ fn a_keep_alive_is_a_frame_that_changes_nothing() {
     }
 }
 
+/// A keep-alive without a pause is one each millisecond at most.
+#[test]
+fn keep_alives_leave_time_for_messages() {
+    let _watchdog = Watchdog::new("keep-alives without a pause");
+    for way in WAYS {
+        let begin = Instant::now();
+        let (mut mux, run, mut there) =
+            side(way, timeouts(|it| it.keep_alive = Some(Duration::ZERO)));
+        there.write_all(GREETING).unwrap();
+        thread::sleep(SHORT);
+        let sender = mux.sender(Data).unwrap();
+        assert_eq!(sender.held(), 0);
+        mux.abort();
+        let mut bytes = Vec::new();
+        there.read_to_end(&mut bytes).unwrap();
+        let most = 1 + begin.elapsed().as_millis() as usize;
+        assert!(
+            (2..=most).contains(&(bytes.len() / 9)),
+            "{} bytes",
+            bytes.len()
+        );
+        assert_eq!(run.join().unwrap(), Err(Closed::Aborted));
+    }
+}
+
 #[test]
 fn a_peer_that_does_not_end_is_waited_for_as_long_as_the_grace() {
     let _watchdog = Watchdog::new("grace");
@@ -138,12 +163,12 @@ fn a_peer_that_does_not_end_is_waited_for_as_long_as_the_grace() {
         let mut bytes = Vec::new();
         there.read_to_end(&mut bytes).unwrap();
         assert_eq!(bytes, [GREETING, &finishes()].concat());
-        let late = timed_out("the peer did not end its stream in time");
+        let late = timed_out("the peer did not end its stream within the timeout");
         ends(run, begin, SHORT, late);
     }
 }
 
-/// It sends, and takes nothing: of a message of 1 MiB the socket keeps a part.
+/// The peer sends and reads nothing: the socket buffers a part of a message of 1 MiB.
 #[test]
 fn a_peer_that_takes_nothing_is_given_up() {
     let _watchdog = Watchdog::new("a peer that takes nothing");
@@ -161,7 +186,7 @@ fn a_peer_that_takes_nothing_is_given_up() {
             if is_closed {
                 mux.close();
             }
-            let stalled = timed_out("the peer took nothing in time");
+            let stalled = timed_out("the transport accepted no bytes within the timeout");
             while !run.is_finished() {
                 let _ = there.write_all(&frames(&format!("limit-receiving 0 {}", 1u64 << 62)));
                 thread::sleep(SHORT / 10);
@@ -171,7 +196,7 @@ fn a_peer_that_takes_nothing_is_given_up() {
     }
 }
 
-/// By default an end waits for 30 seconds, and nothing else is timed.
+/// By default the end of a session waits for 30 seconds, and there is no other timeout.
 #[test]
 fn the_default_is_a_grace_alone() {
     let timeouts = Timeouts::default();
@@ -179,7 +204,7 @@ fn the_default_is_a_grace_alone() {
     assert_eq!(timeouts.grace, Some(Duration::from_secs(30)));
 }
 
-/// A stream that only one thread may use at a time, as one with TLS.
+/// A stream that only one thread may use at a time, such as one with TLS.
 struct Whole(UnixStream);
 
 impl Read for Whole {

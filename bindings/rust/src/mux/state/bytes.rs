@@ -1,13 +1,13 @@
-//! The bytes of the outbound queue: how many of them are of messages.
+//! The bytes of the outbound queue, and how many of them belong to messages.
 use crate::Version;
 use std::collections::VecDeque;
 
-/// How many bytes the frames of control have: those with an amount, those with a bound, and a finish.
+/// The sizes of control frames: those with an amount, those with a bound, and a finish.
 pub(super) const AMOUNT: usize = 5;
 pub(super) const BOUND: usize = 9;
 pub(super) const FINISH: usize = 1;
 
-/// How many bytes precede all frames.
+/// The size of the preface, which precedes all frames.
 fn greeting(version: Version) -> usize {
     match version {
         Version::One => 0,
@@ -15,7 +15,7 @@ fn greeting(version: Version) -> usize {
     }
 }
 
-/// How many bytes of a frame precede its message.
+/// The size of a frame's header, which precedes its message.
 fn message_header(version: Version) -> usize {
     match version {
         Version::One => 3,
@@ -23,14 +23,14 @@ fn message_header(version: Version) -> usize {
     }
 }
 
-/// A frame that the driver has not taken whole.
+/// A frame that the driver has not taken entirely.
 struct Frame {
-    /// The bytes that are left of its header, or of a frame that has no message.
+    /// The remaining bytes of its header, or of a frame without a message.
     header: usize,
     message: usize,
 }
 
-/// What waits to be taken, the rest of a frame that was begun among it.
+/// The bytes that are pending, including the rest of a frame that the driver took in part.
 pub(super) struct Bytes {
     version: Version,
     frames: VecDeque<Frame>,
@@ -48,17 +48,17 @@ impl Bytes {
         bytes
     }
 
-    /// How many bytes of messages wait.
+    /// Returns how many bytes of messages are pending.
     pub fn messages(&self) -> usize {
         self.messages
     }
 
-    /// A message of so many bytes enters the queue.
+    /// Counts a message of `len` bytes that enters the queue.
     pub fn enter_message(&mut self, len: usize) {
         self.enter(message_header(self.version), len);
     }
 
-    /// A control frame of so many bytes does.
+    /// Counts a control frame of `len` bytes that enters the queue.
     pub fn enter_control(&mut self, len: usize) {
         self.enter(len, 0);
     }
@@ -68,7 +68,7 @@ impl Bytes {
         self.messages += message;
     }
 
-    /// The driver takes so many bytes.
+    /// Counts `count` bytes that the driver takes.
     pub fn take(&mut self, mut count: usize) {
         while let Some(first) = self.frames.front_mut() {
             let of_header = count.min(first.header);
@@ -82,6 +82,6 @@ impl Bytes {
             }
             self.frames.pop_front();
         }
-        debug_assert_eq!(count, 0, "more was taken than waits");
+        debug_assert_eq!(count, 0, "more bytes were taken than are pending");
     }
 }

@@ -1,22 +1,24 @@
-//! Control frames: issues, absolves, limits, pleads and finishes. Each is enqueued at once, into a slot that messages
-//! leave free; room that was freed while the writing half is active is issued when it comes for more. What finds no
-//! slot stays pending as one amount for each channel and kind, which later calls add to, and precedes any message.
+//! Control frames: issues, absolves, limits, pleads and finishes. Each is enqueued at once, into a reserved control
+//! slot. Bytes that were freed while the writing half is active are issued at its next pull. A control frame that
+//! finds no slot stays pending, as one amount for each channel and kind, which later calls add to; it precedes any
+//! message.
 use super::bytes::{AMOUNT, BOUND, FINISH};
 use super::line::Place;
 use super::{at, bit, State};
 use crate::{CallError, Channel, IssuePolicy, Peer, PleadPolicy, Refusal, Version};
 
-/// The largest bound of a limit, and as many guarantees as a channel ever has: so it bounds nothing.
+/// The largest bound of a limit, which is also the most guarantees that a channel ever has: it limits nothing.
 const NO_LIMIT: u64 = 1 << 62;
 
-/// What a sender owes beside what stands in its line, in the order in which it goes.
+/// The pending control frames of a sender, apart from those in its wait queue, in the order in which they are
+/// enqueued.
 #[derive(Default)]
 pub(super) struct ClientOwed {
     pub absolve: u64,
     pub honour: bool,
 }
 
-/// A plead that is honoured in part, since permits own the rest of what it asks for.
+/// A plead that is honoured in part, since permits own the other guarantees that it asks for.
 #[derive(Clone, Copy)]
 pub(super) struct Pleaded {
     target: u32,
@@ -24,7 +26,7 @@ pub(super) struct Pleaded {
 }
 
 impl Pleaded {
-    /// How much is given up of what a permit gives back, where others still own so much.
+    /// Returns how many of the guarantees that a permit returns are absolved, if other permits still own `reserved`.
     pub fn take(&mut self, given_back: u64, reserved: u64) -> u64 {
         let amount = self.left.min(given_back);
         self.left = (self.left - amount).min(reserved);
@@ -32,8 +34,8 @@ impl Pleaded {
     }
 }
 
-/// What a receiver owes, in the order in which it goes. A later issue is counted off a limit, and onto a
-/// plead, that still wait: so they leave what they would have left.
+/// The pending control frames of a receiver, in the order in which they are enqueued. A later issue is subtracted
+/// from a pending limit and added to the target of a pending plead: the effect is that of the order of the calls.
 #[derive(Default)]
 pub(super) struct ServerOwed {
     pub issue: u32,
@@ -41,7 +43,7 @@ pub(super) struct ServerOwed {
     pub plead: Option<u32>,
 }
 
-// A call that may be made once there is a slot is allowed.
+// Treats a full queue as success: the control frame stays pending.
 fn but_for_a_slot<T: Default>(would: Result<T, Refusal>) -> Result<T, Refusal> {
     match would {
         Err(Refusal::QueueFull) => Ok(T::default()),
@@ -49,17 +51,17 @@ fn but_for_a_slot<T: Default>(would: Result<T, Refusal>) -> Result<T, Refusal> {
     }
 }
 
-/// The calls of a sender.
+/// The local operations of a sender.
 impl State {
     fn is_unfinished(&self, channel: Channel) -> Result<(), CallError> {
         self.is_open()?;
-        match self.out[at(channel)].line.is_finished() {
+        match self.out[channel].line.is_finished() {
             true => Err(Refusal::ChannelFinished.into()),
             false => Ok(()),
         }
     }
 
-    /// Gives up guarantees that no permit owns.
+    /// Absolves guarantees that no permit owns.
     pub fn absolve(&mut self, channel: Channel, amount: u32) -> Result<(), CallError> {
         self.is_unfinished(channel)?;
         but_for_a_slot(self.peer.would_absolve(channel, amount))?;
@@ -67,30 +69,31 @@ impl State {
         if u64::from(amount) > held {
             return Err(Refusal::NotHeld { held }.into());
         }
-        self.out[at(channel)].owed.absolve += u64::from(amount);
+        self.out[channel].owed.absolve += u64::from(amount);
         self.owes_out(channel);
         Ok(())
     }
 
-    /// The target of the plead that is kept, unless all that it asked for was given up.
+    /// Returns the target of the pending plead, unless all guarantees that it asked for were absolved.
     pub fn pleaded(&self, channel: Channel) -> Option<u32> {
         let target = self.asked(channel)?;
         let known = self.known(channel, target);
         (!known.is_some_and(|pleaded| pleaded.left == 0)).then_some(target)
     }
 
-    // The peer keeps a plead as long as more than its target is held, also by what was issued later.
+    // The peer keeps a plead while the held guarantees exceed its target, also if they were issued later.
     fn asked(&self, channel: Channel) -> Option<u32> {
         self.peer.client(channel).asked
     }
 
-    // A plead that the policy honours as permits are given back, so no call does.
+    // The plead that the policy honours as permits return guarantees; no call honours it.
     fn known(&self, channel: Channel, target: u32) -> Option<Pleaded> {
-        let pleaded = self.out[at(channel)].pleaded;
+        let pleaded = self.out[channel].pleaded;
         pleaded.filter(|pleaded| pleaded.target == target)
     }
 
-    /// Gives up what a plead asks for, but for what permits own: then it is kept.
+    /// Absolves the guarantees that a plead asks for, apart from those that permits own: then the plead stays
+    /// pending.
     pub fn honour(&mut self, channel: Channel) -> Result<u32, CallError> {
         self.is_unfinished(channel)?;
         let amount = match self.asked(channel) {
@@ -99,23 +102,23 @@ impl State {
             }
             _ => 0,
         };
-        self.out[at(channel)].owed.honour = true;
+        self.out[channel].owed.honour = true;
         self.owes_out(channel);
         Ok(amount as u32)
     }
 
-    // How much more is held than the target of a plead, once all is absolved that is owed.
+    // The guarantees above the target of a plead, once all pending absolves are sent.
     fn above(&self, channel: Channel, target: u32) -> u64 {
         let held = self.peer.client(channel).held;
-        held.saturating_sub(self.out[at(channel)].owed.absolve)
+        held.saturating_sub(self.out[channel].owed.absolve)
             .saturating_sub(target.into())
     }
 
-    /// Bounds what is still sent.
+    /// Limits sending.
     pub fn limit_sending(&mut self, channel: Channel, bound: u64) -> Result<(), CallError> {
         self.is_unfinished(channel)?;
         but_for_a_slot(self.peer.would_limit_sending(channel, bound))?;
-        let line = &mut self.out[at(channel)].line;
+        let line = &mut self.out[channel].line;
         match line.left() {
             Some(left) if bound > left => return Err(Refusal::LimitRaised { left }.into()),
             _ => line.push_limit(bound),
@@ -124,30 +127,30 @@ impl State {
         Ok(())
     }
 
-    /// Ends the channel: in version One by a limit, since no frame of it finishes one.
+    /// Finishes the channel: in version One by a limit, since that version has no frame to finish one.
     pub fn finish(&mut self, channel: Channel) -> Result<(), CallError> {
         self.is_unfinished(channel)?;
         if self.version == Version::One {
-            let owed = self.out[at(channel)].line.left();
+            let owed = self.out[channel].line.left();
             return match owed.or(self.peer.client(channel).send_left) {
                 Some(0) => Err(Refusal::ChannelFinished.into()),
                 _ => self.limit_sending(channel, 0),
             };
         }
         but_for_a_slot(self.peer.would_finish(channel))?;
-        self.out[at(channel)].line.push(Place::Finish);
+        self.out[channel].line.push(Place::Finish);
         self.owes_out(channel);
         Ok(())
     }
 }
 
-/// The calls of a receiver.
+/// The local operations of a receiver.
 impl State {
-    /// Promises room.
+    /// Issues guarantees.
     pub fn issue(&mut self, channel: Channel, amount: u32) -> Result<(), CallError> {
         self.is_open()?;
         self.flush();
-        let owed = &self.inc[at(channel)].owed;
+        let owed = &self.inc[channel].owed;
         match owed.limit {
             Some(left) if u64::from(amount) > left => {
                 return Err(Refusal::PastReceiveLimit { left }.into());
@@ -155,7 +158,7 @@ impl State {
             _ => {}
         }
         self.would_issue(channel, amount, owed.issue)?;
-        let owed = &mut self.inc[at(channel)].owed;
+        let owed = &mut self.inc[channel].owed;
         owed.issue += amount;
         owed.limit = owed.limit.map(|left| left - u64::from(amount));
         owed.plead = owed.plead.map(|target| target.saturating_add(amount));
@@ -163,7 +166,7 @@ impl State {
         Ok(())
     }
 
-    // The refusal of an issue that comes after one that is owed.
+    // The refusal of an issue that follows a pending one.
     fn would_issue(&self, channel: Channel, amount: u32, owed: u32) -> Result<(), Refusal> {
         let joined = match amount {
             0 => 0,
@@ -179,14 +182,14 @@ impl State {
         }
     }
 
-    /// What may be issued beside what is owed.
+    /// Returns the bytes that may be issued beside the pending issue.
     pub fn room(&mut self, channel: Channel) -> u32 {
         self.flush();
         let room = self.peer.server(channel).room;
-        room.saturating_sub(self.inc[at(channel)].owed.issue.into()) as u32
+        room.saturating_sub(self.inc[channel].owed.issue.into()) as u32
     }
 
-    /// Bounds what is still issued.
+    /// Limits issuing.
     pub fn limit_receiving(&mut self, channel: Channel, bound: u64) -> Result<(), CallError> {
         self.is_open()?;
         self.flush();
@@ -194,49 +197,49 @@ impl State {
         let left = self.left_to_issue(channel);
         match left {
             Some(left) if bound > left => return Err(Refusal::LimitRaised { left }.into()),
-            _ => self.inc[at(channel)].owed.limit = Some(bound),
+            _ => self.inc[channel].owed.limit = Some(bound),
         }
         self.owes_in(channel);
         Ok(())
     }
 
-    // What limits leave once all is issued that is owed.
+    // What the limits allow once the pending issue is sent.
     fn left_to_issue(&self, channel: Channel) -> Option<u64> {
-        let owed = &self.inc[at(channel)].owed;
+        let owed = &self.inc[channel].owed;
         let left = self.peer.server(channel).receive_left;
         owed.limit.or(left.map(|left| left - u64::from(owed.issue)))
     }
 
-    /// Asks the other side to hold no more than the target, which no policy then issues above.
+    /// Asks the sender to hold no more than the target. No policy issues above it from then on.
     pub fn plead(&mut self, channel: Channel, target: u32) -> Result<(), CallError> {
         self.is_open()?;
         self.flush();
         but_for_a_slot(self.peer.would_plead(channel, target))?;
-        let inc = &mut self.inc[at(channel)];
+        let inc = &mut self.inc[channel];
         inc.owed.plead = Some(target);
         inc.most = Some(target);
         self.owes_in(channel);
         Ok(())
     }
 
-    /// Room is issued by this policy from here on, whatever was pleaded for.
+    /// Sets the issue policy, and drops the target of earlier pleads.
     pub fn set_issue_policy(&mut self, channel: Channel, policy: IssuePolicy) {
         self.flush();
-        let inc = &mut self.inc[at(channel)];
+        let inc = &mut self.inc[channel];
         inc.policy = policy;
         inc.most = None;
         self.owes_in(channel);
     }
 
-    /// How many bytes the ring of a channel has.
+    /// Returns the size of a channel's ring buffer.
     pub fn capacity(&self, channel: Channel) -> u32 {
         self.peer.server(channel).capacity as u32
     }
 }
 
-/// A frame that changes nothing.
+/// Keep-alives: frames that change nothing.
 impl State {
-    /// Has one go out where none waits: the first limit that may be said anew.
+    /// Enqueues one if no frame is pending: the first limit that may be repeated.
     pub fn keep_alive(&mut self) -> bool {
         let is_said = self.is_open().is_ok()
             && !self.wants_write()
@@ -259,7 +262,7 @@ impl State {
         repeated
     }
 
-    // It goes before calls that wait, and takes nothing from them.
+    // It precedes waiting calls and uses none of their guarantees.
     fn repeat_sending(&mut self, channel: Channel) -> bool {
         let left = self.peer.client(channel).send_left;
         let bound = left.unwrap_or(NO_LIMIT);
@@ -269,10 +272,10 @@ impl State {
     }
 }
 
-/// Handles that are dropped, of which the peer is notified.
+/// Dropped handles, of which the peer is notified.
 impl State {
     pub fn drop_sender(&mut self, channel: Channel) {
-        let senders = &mut self.out[at(channel)].senders;
+        let senders = &mut self.out[channel].senders;
         *senders -= 1;
         if *senders == 0 {
             self.finish_once(channel);
@@ -280,21 +283,21 @@ impl State {
         self.leave();
     }
 
-    /// Ends the channel, unless it is finished, or the session is closed or over.
+    /// Finishes the channel, unless it is finished, or the session is closed or over.
     pub fn finish_once(&mut self, channel: Channel) {
         let finished = self.finish(channel);
         debug_assert!(is_done_or_ended(&finished), "{finished:?}");
     }
 
     pub fn drop_receiver(&mut self, channel: Channel) {
-        // From here on no policy issues, either.
+        // The limit stops the issue policy, too.
         let limited = self.limit_receiving(channel, 0);
         debug_assert!(is_done_or_ended(&limited), "{limited:?}");
         self.leave();
     }
 }
 
-// Whether a call that ends a direction of a channel did, or the channel or the session had ended before.
+// Whether a call that ends one direction of a channel succeeded, or the channel or the session had ended before.
 fn is_done_or_ended(call: &Result<(), CallError>) -> bool {
     matches!(
         call,
@@ -302,7 +305,7 @@ fn is_done_or_ended(call: &Result<(), CallError>) -> bool {
     )
 }
 
-/// What goes into the queue.
+/// Enqueueing pending control frames.
 impl State {
     fn owes_in(&mut self, channel: Channel) {
         self.owing_in |= bit(channel);
@@ -314,8 +317,8 @@ impl State {
         self.settle();
     }
 
-    // Enqueues a control frame that was judged when it was asked for. By now it may not apply any more: the channel may
-    // be finished, and its call may name another refusal that means as much.
+    // Enqueues a control frame that was validated when its call was made. It may no longer apply: the channel may be
+    // finished, or an equivalent refusal may apply by now.
     fn enqueue<T>(
         &mut self,
         len: usize,
@@ -329,14 +332,14 @@ impl State {
         }
     }
 
-    // A control frame of so many bytes entered the queue, if any did.
+    // Counts a control frame of `len` bytes, if it entered the queue.
     fn entered(&mut self, len: usize) {
         if self.follow_queue() {
             self.bytes.enter_control(len);
         }
     }
 
-    // Pending control frames are enqueued, each channel in turn, as long as there are slots.
+    // Enqueues pending control frames, in round-robin order of the channels, as long as there are slots.
     pub(super) fn flush(&mut self) {
         if self.owing_in | self.owing_out == 0 || self.closed.is_some() {
             return;
@@ -351,7 +354,7 @@ impl State {
         }
     }
 
-    // `None` where slots ran out.
+    // Returns `None` if the slots ran out.
     fn flush_channel(&mut self, channel: Channel) -> Option<()> {
         let this = bit(channel);
         if self.owing_in & this != 0 {
@@ -369,40 +372,40 @@ impl State {
 
     fn flush_sender(&mut self, channel: Channel) -> Option<()> {
         self.flush_absolve(channel)?;
-        match self.out[at(channel)].policy {
+        match self.out[channel].policy {
             PleadPolicy::AtOnce if !self.closing => self.honour_by_policy(channel)?,
             _ => self.honour_by_call(channel)?,
         }
         self.flush_line(channel)
     }
 
-    // A slot for a control frame.
+    // A free slot for a control frame, if there is one.
     fn slot(&self) -> Option<()> {
         self.slots.has_control().then_some(())
     }
 
     fn flush_receiver(&mut self, channel: Channel) -> Option<()> {
-        let amount = self.inc[at(channel)].owed.issue;
+        let amount = self.inc[channel].owed.issue;
         if amount > 0 {
             self.slot()?;
             self.enqueue(AMOUNT, |peer| peer.issue(channel, amount), |_| false);
-            self.inc[at(channel)].owed.issue = 0;
+            self.inc[channel].owed.issue = 0;
         }
-        if let Some(bound) = self.inc[at(channel)].owed.limit {
+        if let Some(bound) = self.inc[channel].owed.limit {
             self.slot()?;
             self.enqueue(
                 BOUND,
                 |peer| peer.limit_receiving(channel, bound),
                 |_| false,
             );
-            self.inc[at(channel)].owed.limit = None;
+            self.inc[channel].owed.limit = None;
         }
-        if let Some(target) = self.inc[at(channel)].owed.plead {
+        if let Some(target) = self.inc[channel].owed.plead {
             self.slot()?;
-            // The peer may have used meanwhile what it was to give up.
+            // The peer may have used the guarantees meanwhile.
             let is_met = |refusal| matches!(refusal, Refusal::NothingToAsk { .. });
             self.enqueue(AMOUNT, |peer| peer.plead(channel, target), is_met);
-            self.inc[at(channel)].owed.plead = None;
+            self.inc[channel].owed.plead = None;
         }
         Some(())
     }
@@ -418,7 +421,7 @@ impl State {
     }
 
     fn due_by_policy(&self, channel: Channel) -> u32 {
-        let (inc, book) = (&self.inc[at(channel)], self.peer.server(channel));
+        let (inc, book) = (&self.inc[channel], self.peer.server(channel));
         let is_due = match inc.policy {
             IssuePolicy::AtOnce => true,
             IssuePolicy::LowWater(mark) => book.outstanding < u64::from(mark),
@@ -433,7 +436,7 @@ impl State {
     }
 
     fn flush_absolve(&mut self, channel: Channel) -> Option<()> {
-        let amount = self.out[at(channel)].owed.absolve;
+        let amount = self.out[channel].owed.absolve;
         if amount > 0 {
             self.slot()?;
             self.enqueue(
@@ -441,13 +444,13 @@ impl State {
                 |peer| peer.absolve(channel, amount as u32),
                 |_| false,
             );
-            self.out[at(channel)].owed.absolve = 0;
+            self.out[channel].owed.absolve = 0;
         }
         Some(())
     }
 
     fn honour_by_call(&mut self, channel: Channel) -> Option<()> {
-        if !self.out[at(channel)].owed.honour {
+        if !self.out[channel].owed.honour {
             return Some(());
         }
         if let Some(target) = self.asked(channel) {
@@ -457,13 +460,14 @@ impl State {
                 false => self.absolve_now(channel, held)?,
             }
         }
-        self.out[at(channel)].owed.honour = false;
+        self.out[channel].owed.honour = false;
         Some(())
     }
 
-    // What permits own is given up once they give it back, and what is issued meanwhile is not.
+    // Guarantees that permits own are absolved once the permits return them. Guarantees that are issued meanwhile are
+    // kept.
     fn honour_by_policy(&mut self, channel: Channel) -> Option<()> {
-        self.out[at(channel)].owed.honour = false;
+        self.out[channel].owed.honour = false;
         let Some(target) = self.asked(channel) else {
             return Some(());
         };
@@ -472,7 +476,7 @@ impl State {
         if is_known && above > 0 {
             return Some(());
         }
-        self.out[at(channel)].pleaded = if above <= held {
+        self.out[channel].pleaded = if above <= held {
             self.honour_whole(channel, above)?;
             None
         } else {
@@ -483,7 +487,7 @@ impl State {
         Some(())
     }
 
-    // All that the plead asks for, and the peer forgets it.
+    // Absolves all guarantees that the plead asks for. The plead is no longer pending.
     fn honour_whole(&mut self, channel: Channel, amount: u64) -> Option<()> {
         if amount > 0 {
             self.slot()?;
@@ -504,13 +508,13 @@ impl State {
         Some(())
     }
 
-    // Limits and a finish behind which no call waits that may go.
+    // Enqueues the limits and the finish at the front of the wait queue.
     fn flush_line(&mut self, channel: Channel) -> Option<()> {
-        while let Some(place) = self.out[at(channel)].line.owed(self.closing) {
+        while let Some(place) = self.out[channel].line.owed(self.closing) {
             self.slot()?;
-            match self.out[at(channel)].line.remove(place) {
+            match self.out[channel].line.remove(place) {
                 Some(Place::Limit(bound)) => {
-                    // Messages before it may have left less of an earlier limit.
+                    // Messages before it may have used more of an earlier limit.
                     let is_met = |refusal| matches!(refusal, Refusal::LimitRaised { .. });
                     self.enqueue(BOUND, |peer| peer.limit_sending(channel, bound), is_met)
                 }

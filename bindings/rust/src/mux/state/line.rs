@@ -1,32 +1,34 @@
-//! The line of a sender: the calls that wait, and the limits and the finish behind them, in their order.
+//! The wait queue of a sender: the waiting calls, and the limits and the finish behind them, in their order.
 use crate::mux::stats::Lacking;
 use crate::sys::Lent;
 use crate::Refusal;
 use std::collections::VecDeque;
 use std::task::Waker;
 
-/// What stands in a line.
+/// An entry of a wait queue.
 pub(super) enum Place {
     Call(Waiter),
-    /// At most so many bytes are sent behind it.
+    /// A limit: at most this many bytes are sent after it.
     Limit(u64),
     Finish,
 }
 
-/// A call that waits.
+/// A waiting call.
 pub(super) struct Waiter {
     pub ticket: u64,
     pub len: usize,
-    /// Taken once it was woken.
+    /// The guarantees that it waits for: as many as its length, or one for the next part of a stream.
+    pub least: usize,
+    /// The waker, until it is woken.
     pub waker: Option<Waker>,
-    /// Whether a blocked thread makes it, which comes when it is woken.
+    /// Whether a blocked thread makes the call. A woken thread always returns to it.
     pub is_thread: bool,
-    /// What it left to be completed on its behalf, if it did.
+    /// The request that another thread may complete on behalf of this one.
     pub left: Option<Left>,
 }
 
-/// What a blocked thread asks for, so that whoever holds the lock completes its call. The thread borrows the message
-/// out: it leaves the line before it goes on.
+/// The request of a blocked thread, which the holder of the lock completes on its behalf. The thread lends the
+/// message: the call leaves the wait queue before the thread proceeds.
 pub(super) enum Left {
     Message(Lent),
     Permit,
@@ -52,12 +54,12 @@ pub(super) struct Line {
 }
 
 impl Line {
-    /// The call that goes next, where nothing is owed before it.
+    /// Returns the first call, if no limit or finish precedes it.
     pub fn first(&self) -> Option<&Waiter> {
         self.places.front()?.call()
     }
 
-    /// Whether nothing stands before the call of this ticket, or before one that has none.
+    /// Returns whether no entry precedes the call of this ticket, or a new call without a ticket.
     pub fn is_first(&self, ticket: Option<u64>) -> bool {
         match (self.places.front(), ticket) {
             (None, None) => true,
@@ -66,7 +68,7 @@ impl Line {
         }
     }
 
-    /// Whether the call of this ticket waits.
+    /// Returns whether the call of this ticket waits.
     pub fn has(&self, ticket: u64) -> bool {
         self.places.iter().any(|place| place.has(ticket))
     }
@@ -86,7 +88,7 @@ impl Line {
         self.places.push_back(place);
     }
 
-    /// A limit takes the place of one that nothing stands behind.
+    /// Appends a limit. It replaces a limit that is the last entry.
     pub fn push_limit(&mut self, bound: u64) {
         if let Some(Place::Limit(left)) = self.places.back_mut() {
             *left = bound;
@@ -95,7 +97,7 @@ impl Line {
         }
     }
 
-    /// What the first call left, where nothing is owed before it.
+    /// Takes the delegated request of the first call, if no limit or finish precedes it.
     pub fn take_left(&mut self) -> Option<Left> {
         match self.places.front_mut()? {
             Place::Call(waiter) => waiter.left.take(),
@@ -111,7 +113,8 @@ impl Line {
         }
     }
 
-    /// Where the next limit or finish stands that may go: at the front, or, once no call will, anywhere.
+    /// Returns the index of the next limit or finish that may be enqueued: at the front, or, once no call will
+    /// proceed, anywhere.
     pub fn owed(&self, is_closing: bool) -> Option<usize> {
         let at = self.places.iter().position(|it| it.call().is_none())?;
         (at == 0 || is_closing).then_some(at)
@@ -125,12 +128,13 @@ impl Line {
         matches!(self.places.back(), Some(Place::Finish))
     }
 
-    /// What the last limit leaves, which is the least.
+    /// Returns what the last limit allows, which is the least.
     pub fn left(&self) -> Option<u64> {
         self.left_before(None)
     }
 
-    fn left_before(&self, ticket: Option<u64>) -> Option<u64> {
+    /// Returns what the last limit before a call allows, or before a new call without a ticket.
+    pub fn left_before(&self, ticket: Option<u64>) -> Option<u64> {
         let limits = self.before(ticket).filter_map(|place| match place {
             Place::Limit(bound) => Some(*bound),
             Place::Call(_) | Place::Finish => None,
@@ -143,7 +147,8 @@ impl Line {
         self.places.iter().take_while(move |place| !is_call(place))
     }
 
-    /// Whether what stands before a call, or before one without a ticket, allows so many bytes.
+    /// Checks whether the entries before a call, or before a new call without a ticket, allow a message of `len`
+    /// bytes.
     pub fn allows(&self, len: usize, ticket: Option<u64>) -> Result<(), Refusal> {
         if self.is_first(ticket) {
             return Ok(());
@@ -158,7 +163,7 @@ impl Line {
         }
     }
 
-    /// So many bytes went before all limits, and count for them.
+    /// Counts `len` bytes that were sent before all limits of the queue, which reduce what these allow.
     pub fn went_before(&mut self, len: u64) {
         for place in &mut self.places {
             if let Place::Limit(left) = place {

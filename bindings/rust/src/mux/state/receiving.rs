@@ -1,22 +1,22 @@
-//! Receivers: what is taken, and what is borrowed.
-use super::{at, bit, channels, keep, State};
+//! Receivers: messages that are taken, and messages that are borrowed.
+use super::{bit, channels, keep, State};
 use crate::sys::Lent;
 use crate::{Channel, Closed, Take};
 use std::mem;
 use std::task::Waker;
 
-/// The longest message that is copied at once: a longer one is lent, and copied without the lock.
+/// The longest message that is copied under the lock: a longer one is borrowed, and copied without the lock.
 const MOST_COPIED: usize = 4_096;
 
-/// A message that a call takes: a copy, or, where it is long, a view to copy without the lock, after which it is given
-/// back. A call that panics before loses no message: the next one finds it again.
+/// A message that a call takes: a copy, or, if it is long, a view that is copied without the lock and then returned.
+/// A call that panics meanwhile loses no message: the next call finds it again.
 pub(crate) enum Taken {
     Copied(Vec<u8>),
     Lent(Lent),
 }
 
 impl State {
-    /// The next message, to be had in a vector of its own.
+    /// Takes the next message, to be copied into a vector.
     pub fn take(&mut self, channel: Channel) -> Result<Take<Taken>, Closed> {
         Ok(match self.front(channel)? {
             Take::Took(front) if front.len() <= MOST_COPIED => {
@@ -30,17 +30,17 @@ impl State {
         })
     }
 
-    /// The next message where it lies, until it is given back.
+    /// Borrows the next message until it is returned.
     pub fn lend(&mut self, channel: Channel) -> Result<Take<Lent>, Closed> {
         let front = self.front(channel)?;
-        self.inc[at(channel)].is_lent = matches!(front, Take::Took(_));
+        self.inc[channel].is_lent = matches!(front, Take::Took(_));
         Ok(front)
     }
 
     fn front(&mut self, channel: Channel) -> Result<Take<Lent>, Closed> {
         self.may_take()?;
-        if mem::take(&mut self.inc[at(channel)].is_lent) {
-            self.pop(channel); // its view was forgotten
+        if mem::take(&mut self.inc[channel].is_lent) {
+            self.pop(channel); // its view was leaked
         }
         match self.peer.lend(channel) {
             Some(front) => Ok(Take::Took(front)),
@@ -48,29 +48,29 @@ impl State {
         }
     }
 
-    /// The views of the first messages of these channels are dropped: the messages are taken.
+    /// Ends the borrows of the first messages of these channels: the messages are taken.
     pub fn give_back_lent(&mut self, bits: u8) {
         for channel in channels(bits) {
-            self.inc[at(channel)].is_lent = false;
+            self.inc[channel].is_lent = false;
             self.pop(channel);
         }
     }
 
     fn pop(&mut self, channel: Channel) {
         if let Take::Took(len) = self.peer.pop(channel) {
-            let stats = &mut self.stats[at(channel)];
+            let stats = &mut self.stats[channel];
             stats.messages_received += 1;
             stats.bytes_received += len as u64;
             self.freed(channel);
         }
     }
 
-    /// Keeps the waker of a call that waits for a message.
+    /// Registers the waker of a call that waits for a message.
     pub fn wait_for_message(&mut self, channel: Channel, waker: &Waker) {
-        keep(&mut self.inc[at(channel)].waker, waker, &mut self.wakes);
+        keep(&mut self.inc[channel].waker, waker, &mut self.wakes);
     }
 
-    // What arrived may be taken also after the session, unless this side gave up.
+    // Messages that arrived may be taken after the end of the session, unless this side aborted it.
     fn may_take(&self) -> Result<(), Closed> {
         match self.closed {
             Some(Closed::Aborted) => Err(Closed::Aborted),
@@ -78,7 +78,7 @@ impl State {
         }
     }
 
-    // What a call answers where no message waits.
+    // The result of a call if no message is available.
     fn why_none<T>(&mut self, channel: Channel) -> Result<Take<T>, Closed> {
         match (self.peer.pop(channel), &self.closed) {
             (Take::Ended, _) => Ok(Take::Ended),
@@ -87,8 +87,8 @@ impl State {
         }
     }
 
-    // There is room. A writing half that is on its way finds it there, so all that is freed before it comes goes
-    // in one issue.
+    // Marks the freed bytes to be issued. An active writing half issues at its next pull all bytes that are free by
+    // then, in one frame.
     fn freed(&mut self, channel: Channel) {
         self.owing_in |= bit(channel);
         if self.is_idle {

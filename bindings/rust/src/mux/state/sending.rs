@@ -1,44 +1,55 @@
-//! Senders: what a message lacks, which waiting call proceeds next, and how it learns of that.
+//! Senders: what a message lacks, which waiting call proceeds next, and how that call is notified.
 //!
-//! The first waiting call of a channel *can proceed* once its guarantees are there, there is a slot for it, and its
-//! bytes fit into the queue. What [`State::settle`] leaves: each such call was completed, where a thread made it, or
-//! else notified, and no call that was notified stands in the way of another one. So a future that is not polled holds
-//! up its own channel alone.
+//! The first waiting call of a channel *can proceed* once it has its guarantees, there is a slot for it, and its
+//! bytes fit into the queue. After [`State::settle`] each such call was completed, if a thread made it, or else
+//! notified, apart from tasks whose bytes do not fit beside those of tasks that were just notified: these follow at
+//! the next pull of the writing half. So a future that is not polled delays its own channel alone.
 use super::line::{Left, Place, Waiter};
-use super::{at, bit, channels, keep, State, ALL};
+use super::{bit, channels, keep, State, ALL};
 use crate::mux::stats::Lack;
 use crate::sys::Lent;
-use crate::{Channel, Closed, Needs, Refusal, SendError, TrySendError};
+use crate::{Channel, Closed, Needs, Refusal, SendError, TrySendError, Version};
 use std::mem;
 use std::task::{Poll, Waker};
 
-/// The most bytes of messages in the queue, where there is more than one: a short message is written after all of
-/// them, and more would only lie there until the driver writes.
+/// The most bytes of messages in the queue, if it holds more than one: a short message is written after all of them,
+/// and more would only stay there until the driver writes.
 const MOST_QUEUED: usize = 65_536;
 
-/// The longest message that is sent on behalf of a thread: to copy a longer one takes as long as to wake it.
+/// The longest message that is sent on behalf of a thread: copying a longer one takes as long as waking the thread.
 const MOST_LEFT: usize = 4_096;
 
-/// What a call of a sender asks for.
+/// The request of a call.
 #[derive(Clone, Copy)]
 pub(crate) enum Ask<'a> {
-    /// To send this message.
+    /// To send a message.
     Message(&'a [u8]),
-    /// A permit for a message of so many bytes.
+    /// To send the next part of a stream, whose length each poll decides anew.
+    Part(&'a [u8]),
+    /// To reserve a permit for a message of this length.
     Permit(usize),
 }
 
 impl Ask<'_> {
-    fn len(self) -> usize {
+    pub fn len(self) -> usize {
         match self {
-            Ask::Message(body) => body.len(),
+            Ask::Message(body) | Ask::Part(body) => body.len(),
             Ask::Permit(len) => len,
         }
     }
 
-    // What is kept of it, so that another thread can complete the call.
+    // The guarantees that the call waits for.
+    fn least(self) -> usize {
+        match self {
+            Ask::Part(_) => 1,
+            _ => self.len(),
+        }
+    }
+
+    // The request in a form that another thread can complete.
     fn left(self) -> Option<Left> {
         match self {
+            Ask::Part(_) => None,
             Ask::Message(body) if body.len() > MOST_LEFT => None,
             Ask::Message(body) => Some(Left::Message(Lent::from(body))),
             Ask::Permit(_) => Some(Left::Permit),
@@ -46,11 +57,12 @@ impl Ask<'_> {
     }
 }
 
-/// A call that waits, between two polls of it.
+/// A call between two polls.
 pub(crate) struct Call<'a> {
     pub ask: Ask<'a>,
-    /// Whether a blocked thread makes it: it comes when it is woken, keeps the message until then, and asks before it
-    /// gives up. So the call may be completed on its behalf. A future, which may be forgotten, does none of that.
+    /// Whether a blocked thread makes the call. It returns when it is woken, keeps the message until then, and checks
+    /// the result before it gives up, so another thread may complete the call on its behalf. A future, which may be
+    /// leaked, does none of that.
     pub is_thread: bool,
     pub ticket: Option<u64>,
 }
@@ -63,7 +75,7 @@ impl State {
         Ok(())
     }
 
-    /// Makes a call that waits. Where it has to, it keeps its place in the line by the ticket.
+    /// Makes a call that waits. The ticket names its slot of the wait queue.
     pub fn poll_send(
         &mut self,
         channel: Channel,
@@ -97,21 +109,57 @@ impl State {
         Poll::Ready(answer)
     }
 
-    // The first call of the channel was polled, or is given up. Whether others left a shared slot to it until then.
+    /// Sends the first bytes of a stream as one message, at most `most`, and returns how many: as many as the guarantees
+    /// and the limits allow now. It waits for one guarantee, so a stream proceeds over a ring of one byte.
+    pub fn poll_send_part(
+        &mut self,
+        channel: Channel,
+        ticket: &mut Option<u64>,
+        (bytes, most): (&[u8], usize),
+        waker: &Waker,
+    ) -> Poll<Result<usize, SendError>> {
+        let len = self.part(channel, bytes.len().min(most), *ticket);
+        let mut call = Call {
+            ask: Ask::Part(&bytes[..len]),
+            is_thread: false,
+            ticket: *ticket,
+        };
+        let polled = self.poll_send(channel, &mut call, waker);
+        *ticket = call.ticket;
+        polled.map_ok(|()| len)
+    }
+
+    // The length of the next part of a stream: at least 1, which it waits for, and else what can be sent at once.
+    fn part(&self, channel: Channel, len: usize, ticket: Option<u64>) -> usize {
+        let left = self.out[channel].line.left_before(ticket);
+        let may = left.unwrap_or(u64::MAX).min(self.free(channel));
+        len.min(usize::try_from(may).unwrap_or(usize::MAX)).max(1)
+    }
+
+    /// Returns the length of the longest message.
+    pub fn longest(&self) -> usize {
+        match self.version {
+            Version::One => 65_535,
+            Version::Two => 1_048_576,
+        }
+    }
+
+    // Records that the first call of the channel was polled or cancelled. Returns whether a shared slot was kept for
+    // it until then.
     fn came(&mut self, channel: Channel) -> bool {
         let was_fresh = self.fresh & bit(channel) != 0;
-        self.claimed -= mem::take(&mut self.out[at(channel)].claimed);
+        self.claimed -= mem::take(&mut self.out[channel].claimed);
         self.notified &= !bit(channel);
         self.fresh &= !bit(channel);
         was_fresh
     }
 
-    // Whether a call that waited was completed on behalf of its caller: no other way leads out of the line without it.
+    // Whether a waiting call was completed on behalf of its caller: only that removes it from the wait queue.
     fn was_done(&self, channel: Channel, ticket: Option<u64>) -> bool {
-        ticket.is_some_and(|ticket| !self.out[at(channel)].line.has(ticket))
+        ticket.is_some_and(|ticket| !self.out[channel].line.has(ticket))
     }
 
-    /// A call that waited is given up. Whether it was: one that was completed meanwhile is not.
+    /// Cancels a waiting call. Returns whether it was cancelled: a call that was completed meanwhile is not.
     pub fn forget_send(&mut self, channel: Channel, ticket: u64) -> bool {
         if self.was_done(channel, Some(ticket)) {
             return false;
@@ -121,7 +169,7 @@ impl State {
         true
     }
 
-    /// A message by a permit for so many bytes, which is used up, whatever the answer is.
+    /// Sends a message with a permit for `len` bytes, which is used up whatever the result.
     pub fn send_reserved(
         &mut self,
         channel: Channel,
@@ -135,27 +183,27 @@ impl State {
         answer
     }
 
-    // It precedes a limit that is pending, and counts for it all the same.
+    // The message precedes a pending limit and counts towards it.
     fn put_reserved(&mut self, channel: Channel, len: usize, body: &[u8]) -> Result<(), SendError> {
         self.is_open()?;
-        self.out[at(channel)].line.allows(body.len(), None)?;
+        self.out[channel].line.allows(body.len(), None)?;
         if body.len() > len {
             return Err(Refusal::NoGuarantee { held: len as u64 }.into());
         }
         self.put(channel, body)?;
-        self.out[at(channel)].line.went_before(body.len() as u64);
+        self.out[channel].line.went_before(body.len() as u64);
         Ok(())
     }
 
-    /// A permit for so many bytes is dropped.
+    /// Drops a permit for `len` bytes.
     pub fn give_back(&mut self, channel: Channel, len: usize) {
         self.slots.release(channel);
         self.unreserve(channel, len as u64, 0);
     }
 
-    // What a permit did not use is given back: to the other side, where that pleaded for it.
+    // Returns the guarantees that a permit did not use: to the receiver, if a plead asked for them.
     fn unreserve(&mut self, channel: Channel, len: u64, used: u64) {
-        let out = &mut self.out[at(channel)];
+        let out = &mut self.out[channel];
         out.reserved -= len;
         if let Some(pleaded) = &mut out.pleaded {
             out.owed.absolve += pleaded.take(len - used, out.reserved);
@@ -163,7 +211,7 @@ impl State {
         self.owes_out(channel);
     }
 
-    // The call proceeds, if it can.
+    // Makes the call if it can proceed.
     fn go(&mut self, channel: Channel, ask: Ask, ticket: Option<u64>) -> Result<(), TrySendError> {
         let needs = self.lacks(channel, ask.len(), ticket)?;
         match needs {
@@ -172,14 +220,14 @@ impl State {
             needs => return Err(TrySendError::Full(needs)),
         }
         match ask {
-            Ask::Message(body) => self.put(channel, body)?,
+            Ask::Message(body) | Ask::Part(body) => self.put(channel, body)?,
             Ask::Permit(len) => self.reserve(channel, len),
         }
         Ok(())
     }
 
     fn reserve(&mut self, channel: Channel, len: usize) {
-        self.out[at(channel)].reserved += len as u64;
+        self.out[channel].reserved += len as u64;
         self.slots.hold(channel);
         self.went(channel);
     }
@@ -190,11 +238,11 @@ impl State {
         self.bytes.enter_message(body.len());
         self.long += usize::from(body.len() >= self.borrowed_from);
         self.went(channel);
-        if self.out[at(channel)].pleaded.is_some() {
-            // Its target may be all that is held now: then the next one is not taken for it.
+        if self.out[channel].pleaded.is_some() {
+            // The held guarantees may be down to its target: the next plead is a new one then.
             self.owing_out |= bit(channel);
         }
-        let stats = &mut self.stats[at(channel)];
+        let stats = &mut self.stats[channel];
         stats.messages_sent += 1;
         stats.bytes_sent += body.len() as u64;
         Ok(())
@@ -202,10 +250,10 @@ impl State {
 
     fn went(&mut self, channel: Channel) {
         self.turns += 1;
-        self.out[at(channel)].went = self.turns;
+        self.out[channel].went = self.turns;
     }
 
-    // The guarantees that a message of so many bytes lacks, or why it will never be sent.
+    // Returns what a message of `len` bytes lacks, or why it can never be sent.
     pub(super) fn lacks(
         &self,
         channel: Channel,
@@ -217,7 +265,7 @@ impl State {
         if needs == Needs::Never {
             return Err(self.never(channel, len));
         }
-        self.out[at(channel)].line.allows(len, ticket)?;
+        self.out[channel].line.allows(len, ticket)?;
         match needs {
             Needs::Guarantees(_) if self.in_ended => Err(Closed::Remote.into()),
             Needs::Guarantees(more) => Ok(Needs::Guarantees(more + self.set_aside(channel))),
@@ -225,13 +273,13 @@ impl State {
         }
     }
 
-    // Guarantees that are held and not for the next call.
+    // The held guarantees that the next call may not use.
     fn set_aside(&self, channel: Channel) -> u64 {
-        let out = &self.out[at(channel)];
+        let out = &self.out[channel];
         out.reserved + out.owed.absolve
     }
 
-    // What a message needs for which there would be guarantees, were none set aside.
+    // What a message needs that has enough guarantees, apart from those that are set aside.
     fn needs_beside(&self, channel: Channel, len: usize) -> Needs {
         if self.set_aside(channel) > 0 {
             let free = self.free(channel);
@@ -249,42 +297,63 @@ impl State {
         most.saturating_sub(self.set_aside(channel))
     }
 
-    // Whether a message of so many bytes, for which the guarantees are there, may enter the queue now: there is a slot,
-    // its bytes fit, and they are no other channel's, which waits for bytes and sent less recently.
+    // Whether a message of `len` bytes that has its guarantees may enter the queue now: there is a slot, its bytes
+    // fit, and no channel that sent less recently waits for these bytes.
     pub(super) fn fits(&mut self, channel: Channel, len: usize) -> bool {
         self.has_slot(channel) && self.has_bytes(len) && self.is_its_turn(channel)
     }
 
-    // The channel's own slot, or a shared one, unless that is left to a call that was notified since the writing half
-    // last took frames: others have sent so many messages since its channel did as may precede one.
+    // Whether the channel's own slot is free, or a shared one. A shared slot is kept for a call that was notified
+    // after the writing half last took frames, if other channels have sent as many messages since that channel did as
+    // may precede one.
     fn has_slot(&self, channel: Channel) -> bool {
-        self.slots.is_own_free(channel) || self.slots.has_shared() && !self.leaves_shared(channel)
+        self.slots.is_own_free(channel) || self.slots.has_shared() && !self.leaves_shared()
     }
 
-    fn leaves_shared(&self, channel: Channel) -> bool {
-        let is_passed = |other: Channel| {
-            let others = self.turns - self.out[at(other)].went;
+    // A call that is polled is no longer one of those that were notified.
+    fn leaves_shared(&self) -> bool {
+        let is_passed = |channel: Channel| {
+            let others = self.turns - self.out[channel].went;
             others >= self.slots.others()
         };
-        let fresh = self.fresh & !bit(channel);
-        // In an empty queue nothing waits for the writing half.
-        fresh != 0 && !self.slots.is_empty() && channels(fresh).any(is_passed)
+        // An empty queue gives the writing half nothing to take, so a slot that is kept until then could be kept for
+        // good.
+        !self.slots.is_empty() && channels(self.fresh).any(is_passed)
     }
 
     fn has_bytes(&self, len: usize) -> bool {
-        let taken = self.bytes.messages() + self.claimed;
+        self.has_bytes_beside(0, len)
+    }
+
+    pub(super) fn has_bytes_beside(&self, others: usize, len: usize) -> bool {
+        let taken = self.bytes.messages() + self.claimed + others;
         taken == 0 || taken + len <= MOST_QUEUED
+    }
+
+    // The bytes of the tasks that were notified since the writing half last took frames. Only the notification of
+    // another task waits for them, and not for a task that is not polled: an idle writing half awaits none.
+    pub(super) fn awaited(&self) -> usize {
+        if self.is_idle {
+            return 0;
+        }
+        let firsts = channels(self.fresh).filter_map(|it| self.out[it].line.first());
+        let of_tasks = firsts.filter(|first| !first.is_thread);
+        of_tasks.map(|first| first.len).sum()
+    }
+
+    pub(super) fn waits_for_bytes(&self) -> bool {
+        self.waiting_for_bytes().next().is_some()
     }
 
     fn is_its_turn(&mut self, channel: Channel) -> bool {
         self.look_at_fronts();
-        let went = |channel: Channel| self.out[at(channel)].went;
+        let went = |channel: Channel| self.out[channel].went;
         self.waiting_for_bytes()
             .all(|other| went(other) >= went(channel))
     }
 
-    // Channels whose first call has its guarantees and a slot, and was not notified: after `settle`, it is the bytes
-    // that it waits for.
+    // Channels whose first call has its guarantees and a slot and was not notified: after `settle`, it lacks bytes of
+    // the queue.
     fn waiting_for_bytes(&self) -> impl Iterator<Item = Channel> + '_ {
         channels(self.able & !self.notified).filter(|it| self.has_slot(*it))
     }
@@ -301,7 +370,7 @@ impl State {
         }
     }
 
-    /// The guarantees that a call may use now.
+    /// Returns the guarantees that a call may use now.
     pub fn held(&self, channel: Channel) -> u64 {
         let held = self.peer.client(channel).held;
         held.saturating_sub(self.set_aside(channel))
@@ -309,10 +378,10 @@ impl State {
 
     // Whether no earlier call of the same channel waits.
     fn is_first(&self, channel: Channel, ticket: Option<u64>) -> bool {
-        self.out[at(channel)].line.is_first(ticket)
+        self.out[channel].line.is_first(ticket)
     }
 
-    // Looks anew at the first calls that may have changed.
+    // Evaluates again the first calls that may have changed.
     fn look_at_fronts(&mut self) {
         let stale = mem::take(&mut self.stale);
         self.able &= !stale;
@@ -323,10 +392,10 @@ impl State {
     }
 
     fn look_at_front(&mut self, channel: Channel) {
-        let Some(first) = self.out[at(channel)].line.first() else {
+        let Some(first) = self.out[channel].line.first() else {
             return;
         };
-        match self.lacks(channel, first.len, Some(first.ticket)) {
+        match self.lacks(channel, first.least, Some(first.ticket)) {
             Ok(needs) => self.front_needs(channel, needs),
             Err(_) => self.hopeless |= bit(channel),
         }
@@ -344,13 +413,17 @@ impl State {
     fn wait(&mut self, channel: Channel, call: &mut Call, waker: &Waker) {
         let new = self.next_ticket();
         let ticket = *call.ticket.get_or_insert(new);
-        let line = &mut self.out[at(channel)].line;
+        let line = &mut self.out[channel].line;
         let known = line.calls().find(|waiter| waiter.ticket == ticket);
         match known {
-            Some(waiter) => keep(&mut waiter.waker, waker, &mut self.wakes),
+            Some(waiter) => {
+                waiter.len = call.ask.len();
+                keep(&mut waiter.waker, waker, &mut self.wakes);
+            }
             None => line.push(Place::Call(Waiter {
                 ticket,
                 len: call.ask.len(),
+                least: call.ask.least(),
                 waker: Some(waker.clone()),
                 is_thread: call.is_thread,
                 left: call.is_thread.then(|| call.ask.left()).flatten(),
@@ -363,39 +436,39 @@ impl State {
         self.wakes.discard(waker);
     }
 
-    // The call's waker, unless it was woken.
+    // Removes the call from the wait queue. Returns its waker, unless it was woken.
     fn leave_line(&mut self, channel: Channel, ticket: u64) -> Option<Waker> {
         if self.is_first(channel, Some(ticket)) {
             self.came(channel);
         }
         self.stale |= bit(channel);
-        let line = &mut self.out[at(channel)].line;
+        let line = &mut self.out[channel].line;
         let removed = line.remove_call(ticket);
         if line.owed(false).is_some() {
             self.owing_out |= bit(channel);
         }
         if !line.has_calls() {
-            line.lacking.note(None, &mut self.stats[at(channel)]);
+            line.lacking.note(None, &mut self.stats[channel]);
         }
         removed.and_then(|waiter| waiter.waker)
     }
 
-    // What the first call that waits lacks is counted from now.
+    // Measures from now on what the first waiting call lacks.
     fn note(&mut self, channel: Channel, needs: Needs) {
         let lack = match needs {
             Needs::Guarantees(_) => Lack::Guarantees,
             _ => Lack::Slot,
         };
-        let lacking = &mut self.out[at(channel)].line.lacking;
-        lacking.note(Some(lack), &mut self.stats[at(channel)]);
+        let lacking = &mut self.out[channel].line.lacking;
+        lacking.note(Some(lack), &mut self.stats[channel]);
     }
 
-    // Completes or notifies each first call that can proceed, the channel that sent least recently first, and wakes
-    // those that never will.
+    // Completes or notifies each first call that can proceed, in the order in which their channels sent least
+    // recently, and wakes the calls that never will.
     pub(super) fn wake_senders(&mut self) {
         while let Some(channel) = self.next() {
             if self.complete(channel) {
-                self.flush(); // limits and a finish behind it
+                self.flush(); // limits and a finish may follow it
             } else {
                 self.notify(channel);
             }
@@ -405,24 +478,27 @@ impl State {
         }
     }
 
-    // The channel whose first call proceeds next. Where its bytes don't fit, no later one's are taken.
+    // The channel whose first call proceeds next. If its bytes do not fit, no later channel overtakes it.
     fn next(&mut self) -> Option<Channel> {
         self.look_at_fronts();
-        let went = |channel: &Channel| self.out[at(*channel)].went;
+        let went = |channel: &Channel| self.out[*channel].went;
         let least = self.waiting_for_bytes().map(|it| went(&it)).min()?;
-        // Several, where they never sent.
+        // Several channels, if they never sent.
         let fits = |channel: &Channel| {
-            let first = self.out[at(*channel)].line.first();
-            first.is_some_and(|first| self.has_bytes(first.len))
+            let first = self.out[*channel].line.first();
+            first.is_some_and(|first| match first.is_thread {
+                true => self.has_bytes(first.len),
+                false => self.has_bytes_beside(self.awaited(), first.len),
+            })
         };
         let mut waiting = self.waiting_for_bytes();
         waiting.find(|channel| went(channel) == least && fits(channel))
     }
 
-    // Whether the first call could be completed on behalf of its thread. Where memory was refused, it is for that call
-    // to say so.
+    // Completes the first call on behalf of its thread, if that is possible. If an allocation failed, the call itself
+    // reports it.
     fn complete(&mut self, channel: Channel) -> bool {
-        let line = &mut self.out[at(channel)].line;
+        let line = &mut self.out[channel].line;
         let (Some(left), Some(first)) = (line.take_left(), line.first()) else {
             return false;
         };
@@ -437,11 +513,12 @@ impl State {
         true
     }
 
-    // The first call can proceed. The bytes are left to a thread, which comes, and not to a future.
+    // Notifies the first call that it can proceed. Bytes are reserved for a thread, which always returns, and not for
+    // a future.
     fn notify(&mut self, channel: Channel) {
         self.notified |= bit(channel);
         self.fresh |= bit(channel);
-        let out = &mut self.out[at(channel)];
+        let out = &mut self.out[channel];
         let first = out.line.first().filter(|first| first.is_thread);
         out.claimed = first.map_or(0, |first| first.len);
         self.claimed += out.claimed;
@@ -449,7 +526,7 @@ impl State {
     }
 
     fn wake_first(&mut self, channel: Channel) {
-        if let Some(first) = self.out[at(channel)].line.calls().next() {
+        if let Some(first) = self.out[channel].line.calls().next() {
             self.wakes.wake(first.waker.take());
         }
     }

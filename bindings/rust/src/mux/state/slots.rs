@@ -1,32 +1,32 @@
-//! The slots of the outbound queue: how many frames may wait in it, and whose they are.
+//! The slots of the outbound queue: how many frames it may hold, and which calls may use them.
 //!
-//! Seven slots are reserved for control frames, one is each channel's own, for its first message or permit that is
+//! Seven slots are reserved for control frames, one belongs to each channel, for its first message or permit that is
 //! under way, and the rest is shared by the messages of all channels. No other channel takes a channel's own slot, so
 //! a message whose channel has nothing under way always finds one.
 //!
-//! The queue is first in, first out, so its frames are told apart by numbers: the n-th frame that ever entered is
-//! still queued while fewer than n ever left. Permits of one channel are alike: the first of them that is used up or
+//! The queue is first in, first out, so its frames are identified by numbers: the n-th frame that ever entered is
+//! still queued while fewer than n have left. Permits of one channel are alike: the first of them that is used or
 //! dropped counts as the one that holds the own slot.
-use super::at;
-use crate::Channel;
+use super::bit;
+use crate::{Channel, CHANNELS};
 
-/// How many slots are reserved for control frames: one for a frame on each channel.
-pub(crate) const CONTROL: usize = 7;
+/// The number of reserved control slots: one for a frame on each channel.
+pub(crate) const CONTROL: usize = CHANNELS;
 
-/// How many slots are the channels' own: one each.
-pub(crate) const OWN: usize = 7;
+/// The number of slots that belong to a channel: one each.
+pub(crate) const OWN: usize = CHANNELS;
 
 pub(super) struct Slots {
     total: usize,
-    /// How many frames wait in the queue.
+    /// The number of frames in the queue.
     queued: usize,
-    /// How many frames ever left it.
+    /// The number of frames that ever left the queue.
     left: u64,
-    /// By channel: the number of the frame that took the channel's own slot last.
-    own: [u64; 7],
+    /// By channel: the number of the frame that last took the channel's own slot.
+    own: [u64; CHANNELS],
     /// Channels whose own slot a permit holds, as bits.
     own_permits: u8,
-    /// How many shared slots permits hold.
+    /// The number of shared slots that permits hold.
     shared_permits: usize,
 }
 
@@ -36,13 +36,13 @@ impl Slots {
             total,
             queued: 0,
             left: 0,
-            own: [0; 7],
+            own: [0; CHANNELS],
             own_permits: 0,
             shared_permits: 0,
         }
     }
 
-    /// Follows the queue, which has so many places left: frames entered it, or left it. Whether any entered.
+    /// Updates the slots after frames entered or left the queue. Returns whether any entered.
     pub fn follow(&mut self, places_left: usize) -> bool {
         let queued = self.total - places_left;
         let entered = queued > self.queued;
@@ -52,50 +52,50 @@ impl Slots {
         entered
     }
 
-    /// Whether a control frame may enter the queue.
+    /// Returns whether a control frame may enter the queue.
     pub fn has_control(&self) -> bool {
         self.free() > self.kept()
     }
 
-    /// Whether a shared slot is free for a message or a permit.
+    /// Returns whether a shared slot is free for a message or a permit.
     pub fn has_shared(&self) -> bool {
         self.free() > CONTROL + self.kept()
     }
 
-    /// Whether the channel's own slot is.
+    /// Returns whether the channel's own slot is free.
     pub fn is_own_free(&self, channel: Channel) -> bool {
-        self.own_permits & 1 << at(channel) == 0 && !self.is_own_queued(channel)
+        self.own_permits & bit(channel) == 0 && !self.is_own_queued(channel)
     }
 
-    /// Whether no frame waits to be written.
+    /// Returns whether the queue is empty.
     pub fn is_empty(&self) -> bool {
         self.queued == 0
     }
 
-    /// How many messages of other channels there may be in the queue beside one.
+    /// Returns how many messages of other channels the queue may hold beside one.
     pub fn others(&self) -> u64 {
         (self.total - CONTROL - 1) as u64
     }
 
-    /// A message of the channel entered the queue, into the channel's own slot where that is free.
+    /// Counts a message of the channel that entered the queue, into the channel's own slot if that is free.
     pub fn enter(&mut self, channel: Channel) {
         self.queued += 1;
         if self.is_own_free(channel) {
-            self.own[at(channel)] = self.left + self.queued as u64;
+            self.own[channel] = self.left + self.queued as u64;
         }
     }
 
-    /// A permit of the channel holds a slot from here on: the channel's own where that is free.
+    /// Reserves a slot for a permit of the channel: the channel's own if that is free.
     pub fn hold(&mut self, channel: Channel) {
         match self.is_own_free(channel) {
-            true => self.own_permits |= 1 << at(channel),
+            true => self.own_permits |= bit(channel),
             false => self.shared_permits += 1,
         }
     }
 
-    /// A permit of the channel holds its slot no longer. A message that it was used for enters by [`Slots::enter`].
+    /// Releases the slot of a permit. A message that the permit sends enters by [`Slots::enter`].
     pub fn release(&mut self, channel: Channel) {
-        match self.own_permits & 1 << at(channel) {
+        match self.own_permits & bit(channel) {
             0 => self.shared_permits -= 1,
             own => self.own_permits &= !own,
         }
@@ -106,10 +106,10 @@ impl Slots {
     }
 
     fn is_own_queued(&self, channel: Channel) -> bool {
-        self.own[at(channel)] > self.left
+        self.own[channel] > self.left
     }
 
-    // The places that only their owners take: own slots that no frame lies in, and shared ones that permits hold.
+    // The slots that only their owners may take: own slots that hold no frame, and shared ones that permits hold.
     fn kept(&self) -> usize {
         let queued = Channel::ALL
             .into_iter()
