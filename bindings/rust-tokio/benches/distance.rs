@@ -1,13 +1,14 @@
-//! What a ring carries over a distance: one busy channel and seven, one way, over a relay that holds each byte back.
-//! `cargo bench --bench distance` prints a line for each delay, ring and number of channels, with what the rings
-//! allow: in a round trip each as many bytes as it holds, and all together as many as the line takes.
+//! The throughput of a ring over a distance: one busy channel and seven, in one direction, over a relay that delays
+//! each byte. `cargo bench --bench distance` prints a line for each delay, ring and number of channels, with the
+//! bound by the bandwidth-delay product: in a round trip each channel carries at most the bytes of its ring, and all
+//! channels together what the line carries.
 //!
-//! `cargo bench --bench distance -- relay DELAY` only relays, with so many milliseconds each way, and says where:
-//! it joins the first connection to the second, and so on.
+//! `cargo bench --bench distance -- relay DELAY` only relays, with this many milliseconds in each direction, and
+//! prints its address. It joins the first connection to the second, and so on.
 #[path = "common/relay.rs"]
 mod relay;
 
-use lcmux::{Channel, Config, Mux, Receiver, Sender};
+use lcmux::{Channel, Config, Mux, Receiver, Sender, CHANNELS};
 use lcmux_tokio::connect;
 use relay::Distance;
 use std::env;
@@ -19,15 +20,15 @@ use std::time::Duration;
 use tokio::net::TcpStream;
 use tokio::time::{sleep, Instant};
 
-/// The bytes that the line takes in a second: a gigabit.
+/// The bytes per second of the line: a gigabit.
 const RATE: f64 = 125e6;
 
 const SLOTS: u32 = 64;
 
-/// The bytes of a message.
+/// The length of a message.
 const MESSAGE: usize = 16_384;
 
-/// How many round trips go before it is measured, and how many then are.
+/// How many round trips precede the measurement, and how many it has.
 const WARM: u32 = 10;
 const MEASURED: u32 = 20;
 
@@ -55,7 +56,7 @@ async fn take(mut receiver: Receiver, taken: Arc<AtomicU64>) {
     }
 }
 
-/// Lets so many channels send from one side to the other, and counts what is taken.
+/// Lets this many channels send from one side to the other, and counts the received bytes.
 fn start(from: &mut Mux, to: &mut Mux, busy: usize) -> Arc<AtomicU64> {
     let taken = Arc::new(AtomicU64::new(0));
     for channel in Channel::ALL.into_iter().take(busy) {
@@ -65,14 +66,14 @@ fn start(from: &mut Mux, to: &mut Mux, busy: usize) -> Arc<AtomicU64> {
     taken
 }
 
-/// The bytes of a second that arrive.
+/// The bytes per second that arrive.
 async fn measure(over: Distance, ring: u32, busy: usize) -> Result<f64, Box<dyn Error>> {
     let address = over.relay().await?;
     let mut sides = Vec::new();
     for _ in 0..2 {
         let stream = TcpStream::connect(address).await?;
         stream.set_nodelay(true)?;
-        sides.push(connect(stream, Config::new([ring; 7], SLOTS))?.0);
+        sides.push(connect(stream, Config::new([ring; CHANNELS], SLOTS))?.0);
     }
     let [from, to] = &mut sides[..] else {
         unreachable!()

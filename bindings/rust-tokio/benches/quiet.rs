@@ -1,11 +1,11 @@
-//! How long a message of one channel is on its way over TCP on the loopback, one each millisecond, while the other
-//! six carry messages of 60 KiB, all one way through rings of 256 KiB, with a task for each end: `one` with both
-//! sides on one thread, `two` with one thread a side, `many` on a thread for each processor.
-//! `cargo bench --bench quiet`.
+//! The latency of a message of one channel over TCP on the loopback, one each millisecond, while the other six
+//! channels carry messages of 60 KiB, all in one direction through rings of 256 KiB, with a task for each handle:
+//! `one` with both sides on one thread, `two` with one thread a side, `many` on a thread for each processor. `cargo
+//! bench --bench quiet`.
 #[path = "../../rust/benches/common/quiet.rs"]
 mod quiet;
 
-use lcmux::{Channel, Closed, Config, Mux, Receiver, Sender};
+use lcmux::{Channel, Closed, Config, Mux, Receiver, Sender, CHANNELS};
 use lcmux_tokio::connect;
 use quiet::{lasted, print_times, stamp, BEFORE, BULK, COUNT, PACE, QUIET};
 use std::error::Error;
@@ -21,7 +21,7 @@ use tokio::time::{sleep, sleep_until};
 
 type Failure = Box<dyn Error + Send + Sync>;
 
-/// What both sides know: the time that stamps count from, whether bulk is to end, and how much of it was taken.
+/// The shared state: the start of the clock, whether bulk is to end, and how much of it was received.
 struct Run {
     start: Instant,
     is_done: AtomicBool,
@@ -36,7 +36,7 @@ fn session(stream: net::TcpStream) -> Result<(Mux, JoinHandle<Result<(), Closed>
     stream.set_nodelay(true)?;
     stream.set_nonblocking(true)?;
     let stream = TcpStream::from_std(stream)?;
-    Ok(connect(stream, Config::new([262_144; 7], 64))?)
+    Ok(connect(stream, Config::new([262_144; CHANNELS], 64))?)
 }
 
 async fn send_bulk(sender: Sender, run: Arc<Run>) {

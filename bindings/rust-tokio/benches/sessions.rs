@@ -1,11 +1,11 @@
-//! What two sessions pass over one TCP connection on the loopback, both ways on all seven channels, through rings
-//! of 256 KiB, with a task for each of the 28 ends: `one` on one thread, `many` on a thread for each processor;
-//! each message is compared with the one that is due. `cargo bench --bench sessions` prints a line for messages of
-//! 4 to 16 bytes, of 1 KiB and of 60 KiB.
+//! The throughput of two sessions over one TCP connection on the loopback, in both directions on all seven channels,
+//! through rings of 256 KiB, with a task for each of the 28 handles: `one` on one thread, `many` on a thread for each
+//! processor; each message is compared with the expected one. `cargo bench --bench sessions` prints a line for
+//! messages of 4 to 16 bytes, of 1 KiB and of 60 KiB.
 #[path = "../../rust/benches/common/load.rs"]
 mod load;
 
-use lcmux::{Channel, Closed, Config, Mux, Receiver, Sender};
+use lcmux::{Channel, Closed, Config, Mux, Receiver, Sender, CHANNELS};
 use lcmux_tokio::connect;
 use load::{print_figures, Load};
 use std::error::Error;
@@ -20,7 +20,7 @@ type Session = (Mux, JoinHandle<Result<(), Closed>>);
 
 fn session(stream: TcpStream) -> Result<Session, Box<dyn Error>> {
     stream.set_nodelay(true)?;
-    Ok(connect(stream, Config::new([RING; 7], SLOTS))?)
+    Ok(connect(stream, Config::new([RING; CHANNELS], SLOTS))?)
 }
 
 async fn sessions() -> Result<[Session; 2], Box<dyn Error>> {

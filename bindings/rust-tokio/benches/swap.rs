@@ -1,10 +1,10 @@
-//! What messages of 16, 1,024 or 61,440 bytes cost that go both ways at once on all seven channels, through
-//! rings of 256 KiB, between two sessions on one thread: `memory` over `tokio::io::duplex`, `tcp` over TCP.
-//! `cargo bench --bench swap` prints a line `name value unit` for each. With BENCH_FIXED=COUNT nothing is
-//! timed, and each figure has that many messages on each channel and way; an argument is what the names of the
-//! figures begin with that are taken.
+//! The cost of messages of 16, 1,024 or 61,440 bytes in both directions at once on all seven channels, through rings
+//! of 256 KiB, between two sessions on one thread: `memory` over `tokio::io::duplex`, `tcp` over TCP. `cargo bench
+//! --bench swap` prints a line `name value unit` for each. With BENCH_FIXED=COUNT nothing is timed, and each
+//! measurement has that many messages on each channel and way. An argument selects the measurements whose names begin
+//! with it.
 use lcmux_tokio::connect;
-use lcmux_tokio::lcmux::{Channel, Config, Mux, Receiver, Sender};
+use lcmux_tokio::lcmux::{Channel, Config, Mux, Receiver, Sender, CHANNELS};
 use std::error::Error;
 use std::hint::black_box;
 use std::time::{Duration, Instant};
@@ -14,7 +14,7 @@ use tokio::runtime::Builder;
 
 const RING: u32 = 262_144;
 
-/// How long a figure is taken at least.
+/// The least time of a measurement.
 const TARGET: Duration = Duration::from_millis(500);
 
 /// The lanes of two sessions.
@@ -30,7 +30,7 @@ async fn tcp() -> io::Result<[TcpStream; 2]> {
 }
 
 async fn sessions(over: &str) -> Result<[Mux; 2], Box<dyn Error>> {
-    let config = Config::new([RING; 7], 64);
+    let config = Config::new([RING; CHANNELS], 64);
     if over == "tcp" {
         let [here, there] = tcp().await?;
         return Ok([connect(here, config)?.0, connect(there, config)?.0]);
@@ -55,7 +55,7 @@ async fn take(mut receiver: Receiver, count: usize) {
     assert_eq!(taken, count);
 }
 
-// So many messages on each lane.
+// This many messages on each lane.
 async fn swap(over: &str, len: usize, count: usize) -> Result<Duration, Box<dyn Error>> {
     let mut sessions = sessions(over).await?;
     let start = Instant::now();
@@ -73,7 +73,7 @@ async fn swap(over: &str, len: usize, count: usize) -> Result<Duration, Box<dyn 
     Ok(start.elapsed())
 }
 
-// Messages a second.
+// Messages per second.
 async fn rate(over: &str, len: usize) -> Result<f64, Box<dyn Error>> {
     let mut count = 16;
     loop {

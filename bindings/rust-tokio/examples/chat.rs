@@ -1,10 +1,10 @@
-//! A chat of two channels over TCP: what is typed goes on one, and on the other how much of it was read.
+//! A chat over two channels on TCP: typed lines are sent on one channel, and read receipts on the other.
 //!
-//! `chat listen ADDRESS` in one terminal, and `chat connect ADDRESS` in another. Each line of standard input
-//! is a message, and its end is the end of what this side says.
+//! Run `chat listen ADDRESS` in one terminal, and `chat connect ADDRESS` in another. Each line of standard input is a
+//! message, and the end of the input ends the channel.
 use lcmux_tokio::connect;
 use lcmux_tokio::lcmux::Channel::{Data, StaticToken};
-use lcmux_tokio::lcmux::{Config, Receiver, Sender};
+use lcmux_tokio::lcmux::{Config, Receiver, Sender, CHANNELS};
 use std::{env, error::Error};
 use tokio::io::{stdin, AsyncBufReadExt, BufReader};
 use tokio::net::{TcpListener, TcpStream};
@@ -24,7 +24,7 @@ async fn open() -> Result<TcpStream, Box<dyn Error>> {
     }
 }
 
-// The sender is dropped at the end of the input, which ends the channel.
+// The sender is dropped at the end of the input, which finishes the channel.
 async fn say(lines: Sender) -> Done {
     let mut input = BufReader::new(stdin()).lines();
     while let Some(line) = input.next_line().await? {
@@ -58,7 +58,7 @@ async fn note(mut receipts: Receiver) -> Done {
 async fn main() -> Done {
     let stream = open().await?;
     stream.set_nodelay(true)?;
-    let (mut mux, run) = connect(stream, Config::new([65_536; 7], 64))?;
+    let (mut mux, run) = connect(stream, Config::new([65_536; CHANNELS], 64))?;
     let (lines, receipts) = (mux.sender(Data).unwrap(), mux.sender(StaticToken).unwrap());
     tokio::try_join!(
         say(lines),

@@ -1,7 +1,7 @@
-//! Many sessions in one process, over pipes in memory, with messages both ways on each, and what they cost:
-//! `cargo run --release --example many -- COUNT [RING [THREADS]]`, by default with rings of 64 KiB on one thread.
+//! Many sessions in one process, over pipes in memory, with messages in both directions, and their cost: `cargo run
+//! --release --example many -- COUNT [RING [THREADS]]`, by default with rings of 64 KiB on one thread.
 use lcmux_tokio::lcmux::Channel::Data;
-use lcmux_tokio::lcmux::{Closed, Config, Mux, MuxFault, Receiver, Sender};
+use lcmux_tokio::lcmux::{Closed, Config, Mux, MuxFault, Receiver, Sender, CHANNELS};
 use lcmux_tokio::{connect, SessionConfig};
 use std::{env, error::Error, fs, io};
 use tokio::io::DuplexStream;
@@ -10,7 +10,7 @@ use tokio::runtime::Builder;
 const MESSAGES: u8 = 10;
 const LENGTH: usize = 1000;
 
-/// What the process takes up: kibibytes that are resident, mappings, and milliseconds of processor time.
+/// The cost of the process: resident kibibytes, mappings, and milliseconds of processor time.
 struct Use {
     resident: u64,
     mappings: usize,
@@ -60,7 +60,7 @@ async fn take(mut receiver: Receiver) -> usize {
     count
 }
 
-/// One side of a session, with the ends of one channel.
+/// One side of a session, with the handles of one channel.
 struct Side {
     mux: Mux,
     sender: Sender,
@@ -77,14 +77,14 @@ impl Side {
         })
     }
 
-    // Gives the session back, and how many messages were taken.
+    // Returns the session, and how many messages it received.
     async fn swap(self) -> (Mux, usize) {
         let ((), taken) = tokio::join!(send(self.sender), take(self.receiver));
         (self.mux, taken)
     }
 }
 
-// Both sides of a session, once each has the other's first guarantees.
+// Both sides of a session, once each has the peer's first guarantees.
 async fn pair(config: SessionConfig) -> Result<[Side; 2], Box<dyn Error>> {
     let (here, there) = tokio::io::duplex(4096);
     let sides = [Side::new(here, config)?, Side::new(there, config)?];
@@ -118,7 +118,7 @@ async fn many(count: usize, config: SessionConfig) -> Result<usize, Box<dyn Erro
         taken += first + second;
     }
     Use::now()?.print("after messages", count);
-    // Every other one, so that what is left lies between holes.
+    // Every other session, so that the rest is fragmented.
     let mut at = 0;
     let (gone, left): (Vec<_>, Vec<_>) = sessions.into_iter().partition(|_| {
         at += 1;
@@ -148,7 +148,7 @@ fn main() -> Result<(), Box<dyn Error>> {
         .worker_threads(threads as usize)
         .enable_time()
         .build()?;
-    let config = Config::new([ring; 7], 64).into();
+    let config = Config::new([ring; CHANNELS], 64).into();
     let taken = runtime.block_on(many(count as usize, config))?;
     println!("{count} sessions took {taken} messages");
     Ok(())

@@ -4,10 +4,10 @@ use std::task::{Context, Poll};
 use std::time::Duration;
 use tokio::time::{sleep_until, Instant, Sleep};
 
-/// What no timeout needs to be above.
+/// The longest timeout: a longer one is cut to it.
 const LONGEST: Duration = Duration::from_secs(365 * 24 * 60 * 60);
 
-/// A deadline that is put off often and seldom reached: its timer is set anew only when it fires.
+/// A deadline that is often postponed and seldom reached: its timer is set again only when it fires.
 pub(crate) struct Alarm {
     after: Duration,
     deadline: Instant,
@@ -25,12 +25,12 @@ impl Alarm {
         }
     }
 
-    /// The time begins anew.
+    /// Restarts the timeout.
     pub fn restart(&mut self) {
         self.deadline = Instant::now() + self.after;
     }
 
-    /// Whether the time is over; if not, the task is woken once it may be.
+    /// Returns whether the timeout expired. If not, it registers the task's waker.
     pub fn is_over(&mut self, cx: &mut Context<'_>) -> bool {
         while let Poll::Ready(()) = self.timer.as_mut().poll(cx) {
             if self.deadline <= Instant::now() {

@@ -1,52 +1,59 @@
-//! Sessions of [`lcmux`] on tokio: seven logical channels each way over any stream that is [`AsyncRead`] and
-//! [`AsyncWrite`].
+//! Sessions of [`lcmux`] on tokio: seven logical channels each way, with credit-based flow control for each, over any
+//! stream that is [`AsyncRead`] and [`AsyncWrite`].
 //!
-//! [`connect`] makes a session and spawns a task that moves its bytes. What it answers is the [`Mux`] of
-//! [`lcmux`], whose calls are futures of no runtime in particular: `sender.send(&message).await?` and
-//! `receiver.recv().await?`.
+//! [`connect`] makes a session and spawns a task that moves its bytes. It returns the [`Mux`] of [`lcmux`], whose
+//! calls are futures that need no particular runtime: `sender.send(&message).await?` and `receiver.recv().await?`.
 //!
 //! ```no_run
-//! use lcmux_tokio::{connect, lcmux::{Channel::Data, Config}};
+//! use lcmux_tokio::{connect, lcmux::{Channel::Data, Config, CHANNELS}};
 //! use std::error::Error;
 //! use tokio::net::TcpStream;
 //!
 //! async fn echo(stream: TcpStream) -> Result<(), Box<dyn Error>> {
 //!     stream.set_nodelay(true)?;
-//!     let (mut mux, run) = connect(stream, Config::new([65_536; 7], 64))?;
+//!     let (mut mux, run) = connect(stream, Config::new([65_536; CHANNELS], 64))?;
 //!
 //!     let (sender, mut receiver) = (mux.sender(Data).unwrap(), mux.receiver(Data).unwrap());
 //!     while let Some(message) = receiver.recv().await? {
-//!         sender.send(&message).await?; // which waits until the other side has room
+//!         sender.send(&message).await?; // waits until the peer has issued enough guarantees
 //!     }
-//!     drop(sender); // the channel has ended: this way, too
+//!     drop(sender); // finishes this direction of the channel
 //!     mux.close();
 //!     run.await??;
 //!     Ok(())
 //! }
 //! ```
 //!
+//! [`Writer`] and [`Reader`] make a stream of bytes of a channel, for `tokio::io::copy` and everything else that is
+//! written for [`AsyncWrite`] and [`AsyncRead`].
+//!
 //! # How a session ends
 //!
-//! - By [`Mux::close`], or the drop of the `Mux` and all its handles: what was accepted is written, every channel is
-//!   finished, the stream is flushed and shut down for writing, and then it is read until the peer has ended its own, as
-//!   long as [`Timeouts::grace`] allows. The task answers `Ok`.
-//! - By [`Mux::abort`], by a stream that fails or is [cut](Closed::Cut), and by a peer that breaks the rules or is silent
-//!   for longer than [`Timeouts::idle`]: the task drops the stream and answers why, as do all calls that wait.
-//! - A task that is aborted, and a runtime that is dropped with it, abort the session:
-//!   [`Closed::Aborted`]. A [`JoinHandle`] that is dropped ends nothing: the task
-//!   goes on until the session is over.
+//! - By [`Mux::close`], or by dropping the `Mux` and all its handles: the task writes all accepted messages, finishes
+//!   every channel, flushes the stream and shuts it down for writing. Then it reads until the peer has ended its own
+//!   direction, for at most [`Timeouts::grace`], and returns `Ok`.
+//! - By [`Mux::abort`], by a stream that fails or is [cut](Closed::Cut), by a peer that breaks the framing or a rule,
+//!   and by a timeout: the task drops the stream and returns the reason, as do all waiting calls.
+//! - By aborting the task, or by dropping the runtime: the session is [aborted](Closed::Aborted). Dropping the
+//!   [`JoinHandle`] ends nothing: the task runs until the session is over.
 //!
-//! Each future of [`lcmux`] says what one that is dropped before it is ready leaves undone, so all may stand
-//! in a `select!` or a task that is aborted.
+//! # Cancel safety
+//!
+//! The futures of [`lcmux`] document what happens if they are dropped before they complete. All calls of the handles
+//! are cancel safe, so they may be used in a `select!` or in a task that is aborted. [`run`] is not: dropping it
+//! aborts the session.
 #![warn(missing_docs)]
 #![forbid(unsafe_code)]
 
 mod alarm;
 mod link;
+mod stream;
 
 pub use lcmux;
 
 pub use lcmux::Timeouts;
+pub use stream::{Reader, Writer};
+
 use lcmux::{Closed, Driver, Mux, MuxConfig, MuxFault};
 use link::Link;
 use std::future::poll_fn;
@@ -54,22 +61,23 @@ use std::pin::pin;
 use tokio::io::{AsyncRead, AsyncWrite};
 use tokio::task::JoinHandle;
 
-/// What a session is made of. A [`lcmux::Config`] and a [`MuxConfig`] are one, with the default timeouts.
+/// The configuration of a session. A [`lcmux::Config`] and a [`MuxConfig`] convert into one, with the default
+/// timeouts.
 ///
 /// ```
-/// use lcmux_tokio::{lcmux::Config, SessionConfig};
+/// use lcmux_tokio::{lcmux::{Config, CHANNELS}, SessionConfig};
 /// use std::time::Duration;
 ///
-/// let mut config = SessionConfig::from(Config::new([65_536; 7], 64));
+/// let mut config = SessionConfig::from(Config::new([65_536; CHANNELS], 64));
 /// config.timeouts.idle = Some(Duration::from_secs(60));
 /// ```
 #[derive(Clone, Copy, Debug, PartialEq, Eq)]
 #[non_exhaustive]
 pub struct SessionConfig {
-    /// Its rings and slots, and what each channel does by itself.
+    /// The version, the rings, the slots and the policies of the session.
     pub mux: MuxConfig,
-    /// How long it waits for its peer. Where one of them is set, the runtime's timers have to be enabled, or the
-    /// session's task panics.
+    /// The timeouts of the session. If one of them is set, as the grace is by default, the timers of the runtime must
+    /// be enabled, or the session's task panics.
     pub timeouts: Timeouts,
 }
 
@@ -82,21 +90,29 @@ impl<C: Into<MuxConfig>> From<C> for SessionConfig {
     }
 }
 
-/// Makes a session over a stream, and spawns the task that moves its bytes on the runtime in whose context
-/// this is called; outside of one it panics, as [`tokio::spawn`] does. The task is ready once both directions
-/// ended or the session failed, and has dropped the stream then.
+/// Makes a session over a stream, and spawns the task that moves its bytes. The task completes once both directions
+/// ended or the session failed, and has dropped the stream by then.
 ///
-/// Messages are written in large pieces already, so for a `TcpStream` set `TCP_NODELAY`, and put no buffer
-/// around any stream.
+/// The driver already writes large chunks: set `TCP_NODELAY` on a `TcpStream`, and wrap no stream in a buffer.
+///
+/// # Errors
+///
+/// Those of [`Mux::new`].
+///
+/// # Panics
+///
+/// Outside the context of a runtime, as [`tokio::spawn`] does.
+///
+/// # Examples
 ///
 /// ```
-/// use lcmux_tokio::{connect, lcmux::{Channel::Data, Config}};
+/// use lcmux_tokio::{connect, lcmux::{Channel::Data, Config, CHANNELS}};
 ///
 /// # #[tokio::main(flavor = "current_thread")]
 /// # async fn main() -> Result<(), Box<dyn std::error::Error>> {
 /// let (here, there) = tokio::io::duplex(4096);
-/// let (mut alice, run) = connect(here, Config::new([1024; 7], 16))?;
-/// let (mut bob, _) = connect(there, Config::new([1024; 7], 16))?;
+/// let (mut alice, run) = connect(here, Config::new([1024; CHANNELS], 16))?;
+/// let (mut bob, _) = connect(there, Config::new([1024; CHANNELS], 16))?;
 ///
 /// alice.sender(Data).unwrap().send(b"hello").await?;
 /// let mut receiver = bob.receiver(Data).unwrap();
@@ -119,17 +135,27 @@ where
     Ok((mux, tokio::spawn(run(driver, stream, timeouts))))
 }
 
-/// Runs a session over a stream, for who spawns it otherwise, or has the driver call
-/// [on each frame](Driver::on_frame). A future of it that is dropped before it is ready aborts the session.
+/// Runs a session over a stream as a future, for applications that spawn it themselves or register a [hook for each
+/// frame](Driver::on_frame).
+///
+/// # Cancel safety
+///
+/// This function is not cancel safe: a future that is dropped before it completes aborts the session.
+///
+/// # Errors
+///
+/// The reason why the session failed.
+///
+/// # Examples
 ///
 /// ```
-/// use lcmux_tokio::{lcmux::{Config, Mux}, run, Timeouts};
+/// use lcmux_tokio::{lcmux::{Config, Mux, CHANNELS}, run, Timeouts};
 ///
 /// # #[tokio::main(flavor = "current_thread")]
 /// # async fn main() -> Result<(), Box<dyn std::error::Error>> {
 /// let (here, there) = tokio::io::duplex(4096);
-/// let (alice, driver) = Mux::new(Config::new([1024; 7], 16))?;
-/// let (bob, other) = Mux::new(Config::new([1024; 7], 16))?;
+/// let (alice, driver) = Mux::new(Config::new([1024; CHANNELS], 16))?;
+/// let (bob, other) = Mux::new(Config::new([1024; CHANNELS], 16))?;
 /// alice.close();
 /// bob.close();
 /// tokio::try_join!(
@@ -148,7 +174,7 @@ where
     poll_fn(|cx| link.poll(cx, &mut driver)).await
 }
 
-/// The example of the README is run.
+/// Runs the example of the README.
 #[cfg(doctest)]
 #[doc = include_str!("../README.md")]
 struct Readme;

@@ -5,28 +5,28 @@ use std::pin::Pin;
 use std::task::{Context, Poll};
 use tokio::io::{AsyncRead, AsyncWrite, ReadBuf};
 
-/// A stream with its timeouts. One task reads and writes it in turn, so it is not split.
+/// A stream with its timeouts. One task reads and writes it alternately, so it is not split.
 pub(crate) struct Link<'a, S> {
     stream: Pin<&'a mut S>,
-    /// Since something came.
+    /// The time since the last inbound byte.
     silence: Option<Alarm>,
-    /// Since something was taken of what waits to be written.
+    /// The time since the stream last accepted pending bytes.
     stall: Option<Alarm>,
     is_stalled: bool,
-    /// Since something was written.
+    /// The time since the last write.
     keep_alive: Option<Alarm>,
-    /// Since the session was closed, or something was written after that.
+    /// The time since the session was closed, or since the last write after that.
     end: Option<Alarm>,
     phase: Phase,
 }
 
-/// How far this direction is.
+/// The state of the outbound direction.
 #[derive(PartialEq, Eq)]
 enum Phase {
     Open,
-    /// The session is closed, and what was accepted is written out.
+    /// The session is closed, and the accepted messages are being written.
     Closing,
-    /// The other side's direction is read to its end.
+    /// This direction has ended, and the peer's is read to its end.
     Ended,
 }
 
@@ -44,6 +44,7 @@ fn timed_out<T>(why: &str) -> Poll<io::Result<T>> {
 
 impl<'a, S: AsyncRead + AsyncWrite> Link<'a, S> {
     pub fn new(stream: Pin<&'a mut S>, timeouts: Timeouts) -> Link<'a, S> {
+        let timeouts = timeouts.kept();
         Link {
             stream,
             silence: timeouts.idle.map(Alarm::new),
@@ -55,17 +56,17 @@ impl<'a, S: AsyncRead + AsyncWrite> Link<'a, S> {
         }
     }
 
-    /// Moves what can be moved. It is ready once both directions ended, or the session failed.
+    /// Moves the bytes that can be moved. It is ready once both directions ended, or the session failed.
     ///
-    /// It writes first: what is read wakes this task once more, and by then those who take it may have put
-    /// more to be written.
+    /// It writes first: inbound messages wake this task once more, and by then their receivers may have sent more
+    /// messages.
     pub fn poll(&mut self, cx: &mut Context<'_>, driver: &mut Driver) -> Poll<Result<(), Closed>> {
         while is_over(&mut self.keep_alive, cx) {
             driver.keep_alive();
             restart(&mut self.keep_alive);
         }
         let over = self.poll_halves(cx, driver);
-        // From here on who closes the session wakes this task.
+        // From here on a close of the session wakes this task.
         if over.is_ready() || self.phase != Phase::Open || !driver.is_closing() {
             return over;
         }
@@ -87,12 +88,12 @@ impl<'a, S: AsyncRead + AsyncWrite> Link<'a, S> {
         }
     }
 
-    // Whether this phase of the end takes too long.
+    // Whether this phase of the end exceeds its timeout.
     fn is_past(&mut self, phase: Phase, cx: &mut Context<'_>) -> bool {
         self.phase == phase && is_over(&mut self.end, cx)
     }
 
-    // What a call of the writing half answered.
+    // Records the result of a call of the writing half, and fails it if a timeout expired.
     fn wrote<T>(
         &mut self,
         cx: &mut Context<'_>,
@@ -158,7 +159,7 @@ impl<S: AsyncRead + AsyncWrite> PollWrite for Link<'_, S> {
 
     fn poll_close(&mut self, cx: &mut Context<'_>) -> Poll<io::Result<()>> {
         let answer = match self.stream.as_mut().poll_shutdown(cx) {
-            // A connection that the other side is done with too is ended already.
+            // A connection that the peer has closed, too, is ended already.
             Poll::Ready(Err(error)) if error.kind() == ErrorKind::NotConnected => {
                 Poll::Ready(Ok(()))
             }

@@ -1,4 +1,4 @@
-//! A connection over a distance: a relay between two sockets of the loopback that holds back what it carries.
+//! A connection over a distance: a relay between two sockets of the loopback that delays its bytes.
 use std::io;
 use std::net::SocketAddr;
 use std::time::Duration;
@@ -8,29 +8,29 @@ use tokio::net::{TcpListener, TcpStream};
 use tokio::sync::mpsc::{unbounded_channel, UnboundedReceiver, UnboundedSender};
 use tokio::time::{sleep_until, Instant};
 
-/// The bytes that go over the line in one piece at most.
+/// The largest chunk on the line.
 const PIECE: usize = 16_384;
 
-/// How far the line may be ahead of the clock, whose steps are of a millisecond.
+/// How far the line may be ahead of the clock, whose resolution is one millisecond.
 const AHEAD: Duration = Duration::from_millis(2);
 
-/// What lies between two sockets, each way.
+/// The line between two sockets, in each direction.
 #[derive(Clone, Copy, Debug)]
 pub struct Distance {
-    /// How long a byte is on its way.
+    /// The delay of a byte.
     pub delay: Duration,
-    /// The bytes of a second.
+    /// The bytes per second.
     pub rate: f64,
 }
 
-/// Bytes, and when they arrive.
+/// Bytes, and the time of their arrival.
 struct Arrival {
     due: Instant,
     bytes: Vec<u8>,
 }
 
 impl Distance {
-    /// A relay that joins each connection that it accepts to the next one: who wants a pair connects twice.
+    /// A relay that joins each accepted connection to the next one: connect twice for a pair.
     pub async fn relay(self) -> io::Result<SocketAddr> {
         let listener = TcpListener::bind("127.0.0.1:0").await?;
         let address = listener.local_addr()?;
@@ -61,7 +61,7 @@ impl Distance {
         tokio::spawn(receive(arrivals, writer));
     }
 
-    /// Puts on the line what comes, no faster than the line takes it, until it ends.
+    /// Sends inbound bytes over the line, no faster than its rate, until they end.
     async fn send(
         self,
         mut reader: OwnedReadHalf,
@@ -84,7 +84,7 @@ impl Distance {
     }
 }
 
-/// Hands on what arrives when it is due, and then the end.
+/// Forwards bytes when they are due, and then the end.
 async fn receive(
     mut arrivals: UnboundedReceiver<Arrival>,
     mut writer: OwnedWriteHalf,

@@ -21,7 +21,7 @@ mod serve;
 use errors::Failures;
 use fetch::Fetch;
 use lcmux_tokio::lcmux::Channel::{Data, PayloadRequest, Reconciliation};
-use lcmux_tokio::lcmux::{Channel, Config, Mux, Receiver, Sender};
+use lcmux_tokio::lcmux::{Channel, Config, Mux, Receiver, Sender, CHANNELS};
 use lcmux_tokio::{connect, SessionConfig};
 use listing::Listing;
 use partial::Partials;
@@ -59,7 +59,7 @@ impl Handles {
 }
 
 fn config() -> SessionConfig {
-    let mut config = SessionConfig::from(Config::new([65_536; 7], 64));
+    let mut config = SessionConfig::from(Config::new([65_536; CHANNELS], 64));
     config.timeouts.idle = Some(Duration::from_secs(60));
     config.timeouts.keep_alive = Some(Duration::from_secs(20));
     config

@@ -49,7 +49,7 @@ impl Partials {
         })
     }
 
-    /// Opens a new partial file for so many bytes.
+    /// Opens a new partial file for a file of `length` bytes.
     pub async fn create(&self, length: u64) -> Result<Partial, FileError> {
         match fs::create_dir(&self.folder).await {
             Err(error) if error.kind() != ErrorKind::AlreadyExists => return Err(error.into()),

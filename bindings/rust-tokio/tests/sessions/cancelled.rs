@@ -1,4 +1,4 @@
-//! Tasks that are given up at each of their awaits.
+//! Tasks that are cancelled at each of their awaits.
 use crate::*;
 use lcmux_tokio::lcmux::Channel::Data;
 use lcmux_tokio::lcmux::{Receiver, Sender};
@@ -8,7 +8,7 @@ use std::sync::atomic::{AtomicU8, Ordering};
 use std::sync::Arc;
 use tokio::sync::Mutex;
 
-/// Runs a future until it had to wait so many times, and then drops it: `None`.
+/// Polls a future until it was pending this many times, and then drops it: `None`.
 async fn cut<F: Future>(future: F, waits: usize) -> Option<F::Output> {
     let mut future = pin!(future);
     let mut left = waits;
@@ -23,8 +23,8 @@ async fn cut<F: Future>(future: F, waits: usize) -> Option<F::Output> {
     .await
 }
 
-/// A side that sends messages 0 to 19 and takes as many, and may be given up and begun again at any time: what
-/// it has done is kept.
+/// A side that sends messages 0 to 19 and receives as many. It may be cancelled and restarted at any time, and keeps
+/// its progress.
 struct Side {
     sender: Sender,
     receiver: Mutex<Receiver>,
@@ -34,7 +34,7 @@ struct Side {
 
 const COUNT: u8 = 20;
 
-/// Message k, of which few fit a ring of 16 bytes.
+/// Message k, few of which fit a ring of 16 bytes.
 fn message(number: u8) -> Vec<u8> {
     vec![number; 5 + usize::from(number % 7)]
 }
@@ -49,7 +49,7 @@ impl Side {
         })
     }
 
-    // By each of the calls that wait in turn; nothing stands between the call and the count.
+    // Uses each waiting call in turn; no await separates a call from its count.
     async fn send(&self) {
         while self.sent.load(Ordering::Relaxed) < COUNT {
             let number = self.sent.load(Ordering::Relaxed);
@@ -84,7 +84,7 @@ impl Side {
         }
     }
 
-    // Whether all guarantees are held again, those of the other side too.
+    // Whether all guarantees are held again, those of the peer, too.
     async fn has_all_back(&self) -> bool {
         let (sent, taken) = (self.sender.book(), self.receiver.lock().await.book());
         (sent.held, taken.outstanding, taken.buffered) == (16, 16, 0)
@@ -95,7 +95,7 @@ impl Side {
     }
 }
 
-/// Whatever is given up, no message is lost, doubled or out of order, and no guarantee either.
+/// Whichever call is cancelled, no message is lost, duplicated or out of order, and no guarantee is lost.
 #[test]
 fn a_task_that_is_given_up_at_any_await_has_done_all_or_nothing() {
     on_each("a task that is given up", || async {
@@ -114,7 +114,7 @@ fn a_task_that_is_given_up_at_any_await_has_done_all_or_nothing() {
             }
             close(sides).await;
             if whole.is_some() {
-                // It yields ten times to the others in each direction.
+                // The task yields ten times to the others in each direction.
                 assert!(waits > 9, "{waits} waits");
                 return;
             }
@@ -122,8 +122,8 @@ fn a_task_that_is_given_up_at_any_await_has_done_all_or_nothing() {
     });
 }
 
-/// The task that moves the bytes is given up: all calls of both sides end, and what was taken by then is the
-/// beginning of what was sent.
+/// The task that moves the bytes is cancelled: all calls of both sides end, and the messages that were received are a
+/// prefix of those that were sent.
 #[test]
 fn a_session_whose_task_is_given_up_at_any_await_ends() {
     on_each("a session that is given up", || async {
@@ -136,7 +136,7 @@ fn a_session_whose_task_is_given_up_at_any_await_ends() {
             let run = lcmux_tokio::run(driver, here, Default::default());
             let [mut one, another] =
                 [&alice, &bob].map(|side| tokio::spawn(Arc::clone(side).work()));
-            // Behind the last message nothing wakes the session's task, however few its waits were.
+            // After the last message nothing wakes the session's task, however few its waits were.
             let was_done = tokio::select! {
                 ended = cut(run, waits) => {
                     assert_eq!(ended, None, "no one closes the session");

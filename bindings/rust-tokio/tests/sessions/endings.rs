@@ -1,7 +1,7 @@
-//! How a session ends, and what of it is told to whom.
+//! How a session ends, and the results of its calls.
 use crate::*;
 use lcmux_tokio::lcmux::Channel::{Data, Overlap};
-use lcmux_tokio::lcmux::{MuxFault, SendError, Violation};
+use lcmux_tokio::lcmux::{MuxFault, SendError, Violation, CHANNELS};
 use lcmux_tokio::run;
 use std::io::{self, IoSlice};
 use std::marker::PhantomPinned;
@@ -10,11 +10,11 @@ use std::sync::{Arc, Mutex};
 use std::task::{Context, Poll};
 use tokio::io::{AsyncReadExt, AsyncWriteExt, ReadBuf};
 
-/// What was done to a stream, a letter each, but for what had to wait: `w` and `v` for a write of one slice and of
-/// several, `f` for a flush, `s` for a shutdown, `r` for a read and `e` for its end.
+/// The calls of a stream that completed, a letter each: `w` and `v` for a write of one slice and of several, `f` for
+/// a flush, `s` for a shutdown, `r` for a read and `e` for its end.
 type Log = Arc<Mutex<String>>;
 
-/// A stream that tells what is done to it, and may not be moved.
+/// A stream that records its calls, and that may not be moved.
 struct Told {
     stream: DuplexStream,
     log: Log,
@@ -34,7 +34,7 @@ impl Told {
         (told, log)
     }
 
-    // The stream is not pinned with what holds it: it may be moved.
+    // The stream is not pinned together with its owner, so the owner may be moved.
     fn call<T>(
         self: Pin<&mut Self>,
         name: char,
@@ -91,7 +91,7 @@ impl AsyncWrite for Told {
         self.call('f', |stream| stream.poll_flush(cx))
     }
 
-    // As a socket tells it whose other side is done with it, too.
+    // As a socket whose peer has closed, too, reports it.
     fn poll_shutdown(self: Pin<&mut Self>, cx: &mut Context<'_>) -> Poll<io::Result<()>> {
         self.call('s', |stream| match stream.poll_shutdown(cx) {
             Poll::Ready(Ok(())) => Poll::Ready(Err(io::ErrorKind::NotConnected.into())),
@@ -100,7 +100,7 @@ impl AsyncWrite for Told {
     }
 }
 
-/// All is written and flushed, the stream is shut down, and then it is read until the other side ends.
+/// All bytes are written and flushed, the stream is shut down, and then it is read until the peer ends.
 #[test]
 fn the_end_comes_in_its_order() {
     on_each("an end in order", || async {
@@ -142,7 +142,7 @@ fn the_end_comes_in_its_order() {
     });
 }
 
-/// To a stream that takes several slices at once a long message is one of them.
+/// A stream that accepts several slices at once gets a long message as one of them.
 #[test]
 fn a_long_message_is_a_slice_where_several_are_taken() {
     on_each("a message as a slice", || async {
@@ -164,7 +164,7 @@ fn a_long_message_is_a_slice_where_several_are_taken() {
     });
 }
 
-/// Messages that were accepted arrive when the session and all its ends are dropped.
+/// Accepted messages arrive after the session and all its handles are dropped.
 #[test]
 fn what_was_accepted_arrives_when_all_is_dropped() {
     on_each("a drop", || async {
@@ -186,7 +186,7 @@ fn what_was_accepted_arrives_when_all_is_dropped() {
     });
 }
 
-/// Calls that wait, of a session whose other side says nothing.
+/// Waiting calls of a session whose peer is silent.
 fn that_wait(mux: &mut Mux) -> JoinHandle<(SendError, Closed)> {
     let (sender, mut receiver) = (mux.sender(Data).unwrap(), mux.receiver(Data).unwrap());
     tokio::spawn(async move {
@@ -243,7 +243,7 @@ fn a_join_handle_that_is_dropped_ends_nothing() {
     });
 }
 
-/// A thread that waits on a session whose runtime is dropped meanwhile.
+/// A thread that blocks on a session whose runtime is dropped meanwhile.
 #[test]
 fn a_runtime_that_is_dropped_ends_its_sessions() {
     for runtime in [current_thread(), multi_thread()] {
@@ -278,12 +278,12 @@ fn a_hook_that_panics_ends_the_session() {
     });
 }
 
-/// A message without a guarantee, and one that is cut.
+/// A message without a guarantee, and one that is incomplete.
 #[test]
 fn a_peer_that_breaks_off_is_told() {
     on_each("a peer that breaks the rules", || async {
         let mut by_caller = rings(64);
-        by_caller.mux.issue = [lcmux_tokio::lcmux::IssuePolicy::ByCaller; 7];
+        by_caller.mux.issue = [lcmux_tokio::lcmux::IssuePolicy::ByCaller; CHANNELS];
         let (mut mux, run, mut there) = by_hand(by_caller, 4096);
         let waiting = that_wait(&mut mux);
         there.write_all(b"\x11\0\x02hi").await.unwrap();
@@ -307,7 +307,7 @@ fn a_peer_that_breaks_off_is_told() {
     });
 }
 
-/// The other side ends its direction, and this one goes on to send.
+/// The peer ends its direction, and this side continues to send.
 #[test]
 fn each_direction_ends_by_itself() {
     on_each("half an end", || async {
@@ -331,6 +331,6 @@ fn a_configuration_is_judged_at_once() {
     let runtime = current_thread();
     let _inside = runtime.enter();
     let (here, _there) = tokio::io::duplex(64);
-    let refused = connect(here, Config::new([64; 7], 13)).err();
-    assert_eq!(refused, Some(MuxFault::TooFewSlots));
+    let refused = connect(here, Config::new([64; CHANNELS], 13)).err();
+    assert_eq!(refused, Some(MuxFault::TooFewSlots { slots: 13 }));
 }

@@ -1,11 +1,11 @@
-//! How the peer's stream ends over TCP, before and after this side's own close, and what each call answers then.
+//! How the peer's stream ends over TCP, before and after this side's close, and the result of each call then.
 use crate::*;
 use lcmux_tokio::lcmux::Channel::Data;
 use lcmux_tokio::lcmux::{Fault, SendError, Violation};
 use std::time::Duration;
 use tokio::io::AsyncWriteExt;
 
-/// What the peer does last.
+/// The last operation of the peer.
 #[derive(Clone, Copy, Debug, PartialEq)]
 enum End {
     InOrder,
@@ -32,7 +32,7 @@ async fn end(end: End, mut stream: TcpStream) {
     };
     stream.write_all(last).await.unwrap();
     match end {
-        // It goes on to read, as a peer does whose own direction alone has ended.
+        // The peer continues to read, as after a half-close.
         End::Reset => drop(stream.set_linger(Some(Duration::ZERO))),
         _ => {
             stream.shutdown().await.unwrap();

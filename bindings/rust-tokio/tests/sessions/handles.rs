@@ -1,10 +1,10 @@
-//! Handles that are dropped: clones, early returns, aborted tasks and panics, as the peer learns of them.
+//! Dropped handles: clones, early returns, aborted tasks and panics, as the peer observes them.
 use crate::*;
 use lcmux_tokio::lcmux::Channel::Data;
 use lcmux_tokio::lcmux::{Receiver, SendError, Sender};
 use std::future::pending;
 
-/// What a receiver gets until it ends.
+/// Receives messages until the channel ends.
 async fn all(mut receiver: Receiver) -> (usize, Option<Closed>) {
     let mut count = 0;
     loop {
@@ -74,7 +74,7 @@ fn a_clone_that_a_panic_drops_aborts_the_session() {
     });
 }
 
-/// A task that is aborted drops its sender as one that is done does; a clone that is kept tells the two apart.
+/// An aborted task drops its sender just as a task that is done; a kept clone distinguishes the two.
 #[test]
 fn an_aborted_task_looks_like_an_end_unless_a_clone_is_kept() {
     on_each("an aborted task", || async {

@@ -7,7 +7,7 @@ use std::time::Duration;
 
 const ADDRESS: &str = "LCMUX_TEST_ADDRESS";
 
-/// The other process, and no test: it sends until it is killed.
+/// The other process, which is no test: it sends until it is killed.
 #[test]
 #[ignore]
 fn other_side() {
@@ -20,14 +20,14 @@ fn other_side() {
     });
 }
 
-/// A process that is ended with the test.
+/// A process that is killed at the end of the test.
 struct Other(Child);
 
 impl Other {
     fn new(address: String) -> Other {
         let mut command = Command::new(env::current_exe().unwrap());
         command.args(["--ignored", "--exact", "killed::other_side"]);
-        // It keeps no pipe of this one open.
+        // The process keeps no pipe of this one open.
         command.stdout(Stdio::null()).stderr(Stdio::null());
         Other(command.env(ADDRESS, address).spawn().unwrap())
     }
@@ -46,7 +46,7 @@ impl Drop for Other {
     }
 }
 
-/// A session with such a process, of which some messages came.
+/// A session with such a process, after some messages arrived.
 async fn with_other(config: SessionConfig) -> (Mux, Run, Other) {
     let listener = TcpListener::bind("127.0.0.1:0").await.unwrap();
     let other = Other::new(listener.local_addr().unwrap().to_string());
@@ -54,7 +54,7 @@ async fn with_other(config: SessionConfig) -> (Mux, Run, Other) {
     (mux, run, other)
 }
 
-/// What came is taken, and then there is an error and no end of the channel.
+/// The messages that arrived are received, and then an error and no end of the channel.
 #[test]
 fn a_side_that_is_killed_is_no_end_of_its_channels() {
     on_each("a side that is killed", || async {
@@ -78,7 +78,7 @@ fn a_side_that_is_killed_is_no_end_of_its_channels() {
     });
 }
 
-/// The system takes bytes for it, so nothing fails; but it is silent.
+/// The system buffers bytes for the stopped process, so no call fails; but the process is silent.
 #[test]
 fn a_side_that_is_stopped_is_given_up() {
     on_each("a side that is stopped", || async {
@@ -89,7 +89,7 @@ fn a_side_that_is_stopped_is_given_up() {
         assert_eq!(receiver.recv().await, Ok(Some(vec![7; 10_000])));
         other.signal("-STOP");
         while receiver.recv().await.is_ok() {}
-        let silent = Err(timed_out("the peer sent nothing in time"));
+        let silent = Err(timed_out("the peer sent nothing within the timeout"));
         assert_eq!(run.await.unwrap(), silent);
         assert_eq!(mux.closed().await, silent);
     });

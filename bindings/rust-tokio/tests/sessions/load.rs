@@ -1,17 +1,17 @@
-//! Much, both ways at once, on all channels.
+//! High load, in both directions at once, on all channels.
 use crate::*;
 use lcmux_tokio::lcmux::{Receiver, Sender};
 
-/// What goes each way.
+/// The bytes in each direction.
 const BYTES: usize = 100_000_000;
 
-/// Message k of a channel, of 1 to so many bytes.
+/// Message k of a channel, of 1 to `most` bytes.
 fn message(channel: Channel, number: usize, most: usize) -> Vec<u8> {
     let length = 1 + (number * 7919 + 4999) % most;
     vec![(number as u8).wrapping_mul(7) ^ channel.number(); length]
 }
 
-/// Sends at least so many bytes, and says in how many messages.
+/// Sends at least this many bytes, and returns in how many messages.
 async fn send(sender: Sender, bytes: usize, most: usize) -> usize {
     let (mut number, mut sent) = (0, 0);
     while sent < bytes {
@@ -23,7 +23,7 @@ async fn send(sender: Sender, bytes: usize, most: usize) -> usize {
     number
 }
 
-/// Compares all that come, and says how many did.
+/// Compares all messages that arrive, and returns how many these are.
 async fn take(mut receiver: Receiver, most: usize) -> usize {
     let (channel, mut number) = (receiver.channel(), 0);
     while let Some(taken) = receiver.recv_ref().await.unwrap() {
@@ -36,7 +36,7 @@ async fn take(mut receiver: Receiver, most: usize) -> usize {
 
 async fn swap(sides: [(Mux, Run); 2], most: usize) {
     let mut sides = sides;
-    let bytes = BYTES / 7;
+    let bytes = BYTES / CHANNELS;
     let mut tasks = Vec::new();
     for channel in Channel::ALL {
         for (from, to) in [(0, 1), (1, 0)] {

@@ -2,16 +2,18 @@
 #[path = "../../../rust/tests/common/watchdog.rs"]
 mod watchdog;
 
+mod bytes;
 mod cancelled;
 mod endings;
 mod ends;
 mod handles;
 mod killed;
 mod load;
+mod polled;
 mod stalled;
 mod timeouts;
 
-use lcmux_tokio::lcmux::{Channel, Closed, Config, Mux, Version};
+use lcmux_tokio::lcmux::{Channel, Closed, Config, Mux, Version, CHANNELS};
 use lcmux_tokio::{connect, SessionConfig};
 use std::future::Future;
 use std::io::ErrorKind;
@@ -34,7 +36,7 @@ fn multi_thread() -> Runtime {
     builder.worker_threads(3).enable_all().build().unwrap()
 }
 
-/// The test on each runtime, in a task of its own.
+/// Runs the test on each runtime, in a task of its own.
 fn on_each<F>(what: &str, test: impl Fn() -> F)
 where
     F: Future<Output = ()> + Send + 'static,
@@ -45,14 +47,14 @@ where
     }
 }
 
-/// Version Two, with rings of so many bytes.
+/// Version Two, with rings of this size.
 fn rings(capacity: u32) -> SessionConfig {
-    let mut config = Config::new([capacity; 7], 64);
+    let mut config = Config::new([capacity; CHANNELS], 64);
     config.version = Version::Two;
     config.into()
 }
 
-/// Two sessions over the ends of one stream, each with its task.
+/// Two sessions over the two ends of one stream, each with its task.
 fn both<S>(streams: (S, S), config: SessionConfig) -> [(Mux, Run); 2]
 where
     S: AsyncRead + AsyncWrite + Send + 'static,
@@ -74,7 +76,7 @@ async fn tcp_pair() -> (TcpStream, TcpStream) {
     pair
 }
 
-/// A session, and the other end of its stream, to be read and written by hand.
+/// A session, and the other end of its stream for the test.
 fn by_hand(config: SessionConfig, room: usize) -> (Mux, Run, DuplexStream) {
     let (here, there) = tokio::io::duplex(room);
     let (mux, run) = connect(here, config).unwrap();
@@ -96,19 +98,19 @@ fn timed_out(why: &str) -> Closed {
 
 const GREETING: [u8; 4] = *b"\x4c\x43\x4d\x02";
 
-/// What a session of version Two with rings of 64 bytes writes first.
+/// The first bytes of a session of version Two with rings of 64 bytes.
 fn first_bytes() -> Vec<u8> {
     let issues = (0..7).map(|channel| [0x20 + channel, 0, 0, 0, 64]);
     GREETING.into_iter().chain(issues.flatten()).collect()
 }
 
 /// The end of all channels.
-const FINISHES: [u8; 7] = *b"\x70\x71\x72\x73\x74\x75\x76";
+const FINISHES: [u8; CHANNELS] = *b"\x70\x71\x72\x73\x74\x75\x76";
 
-/// An issue of so much room on channel 1.
+/// An issue of this many guarantees on channel 1.
 fn issue(amount: u32) -> Vec<u8> {
     [&[0x21][..], &amount.to_be_bytes()].concat()
 }
 
-/// The most that a limit may be, on channel 0: what a frame says that changes nothing.
+/// The largest limit, on channel 0: a frame that changes nothing.
 const KEEP_ALIVE: [u8; 9] = [0x60, 0x40, 0, 0, 0, 0, 0, 0, 0];

@@ -1,7 +1,7 @@
-//! Tasks that stop polling a send: they hold up no other channel.
+//! Tasks that stop polling a send: they delay no other channel.
 use crate::*;
 use lcmux_tokio::lcmux::Channel::{Data, Overlap};
-use lcmux_tokio::lcmux::{Receiver, Sender};
+use lcmux_tokio::lcmux::{Receiver, Sender, CHANNELS};
 use std::future::poll_fn;
 use std::io;
 use std::mem;
@@ -12,6 +12,7 @@ use std::thread;
 use std::time::{Duration, Instant};
 use tokio::io::ReadBuf;
 use tokio::select;
+use tokio::sync::oneshot;
 use tokio::time::{sleep, timeout};
 
 async fn echo(sender: Sender, mut receiver: Receiver) {
@@ -30,7 +31,7 @@ async fn count(mut receiver: Receiver) -> usize {
     count
 }
 
-// Asks, and waits for the answer, again and again.
+// Sends a request and waits for the answer, repeatedly.
 async fn ask(sender: Sender, mut receiver: Receiver, count: u32) {
     for number in 0..count {
         sender.send(&number.to_be_bytes()).await.unwrap();
@@ -39,7 +40,7 @@ async fn ask(sender: Sender, mut receiver: Receiver, count: u32) {
     }
 }
 
-// One task pins each upload, and answers requests on another channel in the branch of a `select!` meanwhile.
+// One task pins each upload, and answers requests on another channel in a branch of a `select!` meanwhile.
 async fn upload_and_answer(mux: &mut Mux, uploads: usize, len: usize) {
     let (data, answers) = (mux.sender(Data).unwrap(), mux.sender(Overlap).unwrap());
     let mut requests = mux.receiver(Overlap).unwrap();
@@ -66,7 +67,7 @@ async fn upload_and_answer(mux: &mut Mux, uploads: usize, len: usize) {
 fn a_select_loop_answers_while_its_upload_is_not_polled() {
     for (slots, len) in [(14, 16), (64, 16), (14, 1_000), (64, 1_000), (14, 65_536)] {
         on_each("a select loop", move || async move {
-            let mut config = Config::new([65_536; 7], slots);
+            let mut config = Config::new([65_536; CHANNELS], slots);
             config.version = Version::Two;
             let [(mut here, run), (mut there, other)] = in_memory(config.into());
             let uploads = tokio::spawn(count(there.receiver(Data).unwrap()));
@@ -100,7 +101,7 @@ async fn longest_ping(sender: &Sender, receiver: &mut Receiver, until: Instant) 
     longest
 }
 
-/// A send is tried for a while, and then its task works without an await: pings on another channel go on.
+/// A send is polled for a while, and then its task works without an await: pings on another channel continue.
 #[test]
 fn a_timeout_beside_disk_work_holds_up_no_other_channel() {
     for len in [9, 60_000] {
@@ -114,7 +115,7 @@ fn a_timeout_beside_disk_work_holds_up_no_other_channel() {
             );
             tokio::spawn(back);
             let (data, mut uploads) = (here.sender(Data).unwrap(), there.receiver(Data).unwrap());
-            let begin = Instant::now();
+            let (stuck, is_stuck) = oneshot::channel();
             let work = tokio::spawn(async move {
                 let body = vec![7; len];
                 for _ in 0..65_536 / len {
@@ -122,11 +123,13 @@ fn a_timeout_beside_disk_work_holds_up_no_other_channel() {
                 }
                 let mut send = pin!(data.send(&body));
                 assert!(timeout(Duration::from_millis(50), &mut send).await.is_err());
+                stuck.send(()).unwrap();
                 thread::sleep(Duration::from_millis(1_500));
                 send.await.unwrap();
             });
+            is_stuck.await.unwrap();
+            let until = Instant::now() + Duration::from_millis(1_200);
             let taking = tokio::spawn(async move {
-                sleep(Duration::from_millis(200)).await;
                 for _ in 0..=65_536 / len {
                     uploads.recv().await.unwrap().unwrap();
                 }
@@ -135,16 +138,15 @@ fn a_timeout_beside_disk_work_holds_up_no_other_channel() {
                 here.sender(Overlap).unwrap(),
                 here.receiver(Overlap).unwrap(),
             );
-            let longest =
-                longest_ping(&ping, &mut pong, begin + Duration::from_millis(1_300)).await;
-            assert!(longest < Duration::from_millis(700), "{longest:?}");
+            let longest = longest_ping(&ping, &mut pong, until).await;
+            assert!(longest < Duration::from_millis(1_000), "{longest:?}");
             work.await.unwrap();
             taking.await.unwrap();
         });
     }
 }
 
-/// Futures of six channels are forgotten once they were polled, and permits: the seventh goes on.
+/// Futures of six channels are leaked once they were polled, and permits, too: the seventh channel still works.
 #[test]
 fn forgotten_futures_hold_up_no_other_channel() {
     for len in [1, 1_000, 60_000] {
@@ -186,7 +188,7 @@ fn forgotten_futures_hold_up_no_other_channel() {
     }
 }
 
-/// A stream that keeps what is written until it is flushed, as one with compression does.
+/// A stream that buffers all bytes until it is flushed, as one with compression does.
 struct Buffering {
     stream: DuplexStream,
     held: Vec<u8>,
@@ -261,7 +263,7 @@ fn what_is_written_is_flushed_before_the_session_waits() {
     });
 }
 
-/// Beside a loop of calls that are always ready, another task of the same thread gets its turn.
+/// Beside a loop of calls that are always ready, another task of the same thread still runs.
 #[test]
 fn a_loop_that_is_always_ready_lets_other_tasks_run() {
     let runtime = current_thread();

@@ -1,4 +1,4 @@
-//! Timeouts, by a clock that stands still while any task has something to do, and then jumps to the next timer.
+//! Timeouts, on a clock that is paused while any task can run, and then jumps to the next timer.
 use crate::*;
 use lcmux_tokio::lcmux::Channel::Data;
 use lcmux_tokio::lcmux::SendError;
@@ -18,7 +18,7 @@ fn on_paused(what: &str, test: impl Future<Output = ()>) {
     runtime.block_on(test);
 }
 
-/// The session's task ends with this, so many seconds after the instant.
+/// Checks that the session's task ends with this result, this many seconds after the instant.
 async fn ends(run: Run, since: Instant, after: u64, with: Result<(), Closed>) {
     assert_eq!(run.await.unwrap(), with);
     let over = since.elapsed();
@@ -44,7 +44,7 @@ fn grace(count: Option<u64>) -> SessionConfig {
     config
 }
 
-/// All that is there to be read.
+/// Reads all available bytes.
 async fn read_now(stream: &mut DuplexStream) -> Vec<u8> {
     let mut bytes = vec![0; 4096];
     let count = timeout(Duration::from_millis(1), stream.read(&mut bytes)).await;
@@ -59,12 +59,12 @@ fn a_side_that_is_silent_is_given_up() {
         let begin = Instant::now();
         let mut receiver = mux.receiver(Data).unwrap();
         let waits = tokio::spawn(async move { receiver.recv().await });
-        // A byte is enough, also one that makes no frame whole.
+        // One byte is enough, even if it completes no frame.
         for byte in GREETING {
             sleep(seconds(50)).await;
             there.write_all(&[byte]).await.unwrap();
         }
-        let silent = timed_out("the peer sent nothing in time");
+        let silent = timed_out("the peer sent nothing within the timeout");
         ends(run, begin, 4 * 50 + 60, Err(silent.clone())).await;
         assert_eq!(waits.await.unwrap(), Err(silent.clone()));
         assert_eq!(mux.closed().await, Err(silent));
@@ -97,7 +97,7 @@ fn a_side_that_ended_its_direction_is_not_silent() {
     });
 }
 
-/// It is not silent, and takes nothing: a message that fills the stream, and then one byte too many.
+/// The peer is not silent, but reads nothing: a message fills the stream, and then one byte too many.
 #[test]
 fn a_side_that_stops_reading_is_given_up() {
     on_paused("a side that stops reading", async {
@@ -118,14 +118,14 @@ fn a_side_that_stops_reading_is_given_up() {
                 sleep(seconds(5)).await;
             }
         });
-        let stalled = timed_out("the peer took nothing in time");
+        let stalled = timed_out("the transport accepted no bytes within the timeout");
         ends(run, begin, 60, Err(stalled.clone())).await;
         let sent = sender.send(b"x").await;
         assert_eq!(sent, Err(SendError::Closed(stalled)));
     });
 }
 
-/// A slow reader is none that stopped.
+/// A slow reader does not expire the timeout.
 #[test]
 fn a_side_that_reads_slowly_is_borne() {
     on_paused("a slow reader", async {
@@ -165,7 +165,7 @@ fn a_frame_that_changes_nothing_goes_where_nothing_else_does() {
         sleep(seconds(72)).await;
         assert_eq!(read_now(&mut there).await, KEEP_ALIVE.repeat(4), "after 91");
         sleep(seconds(4)).await;
-        mux.sender(Data).unwrap().send(b"hello").await.unwrap(); // and is dropped: after 95
+        mux.sender(Data).unwrap().send(b"hello").await.unwrap(); // and is dropped after 95 seconds
         sleep(seconds(19)).await;
         assert_eq!(read_now(&mut there).await, b"\x11\0\0\0\x05hello\x71");
         sleep(seconds(2)).await;
@@ -177,7 +177,7 @@ fn a_frame_that_changes_nothing_goes_where_nothing_else_does() {
     });
 }
 
-/// What a limit leaves is what is said, on the first channel where something may be.
+/// A keep-alive repeats what a limit allows, on the first channel where a frame may be sent.
 #[test]
 fn a_keep_alive_leaves_limits_as_they_are() {
     on_paused("keep-alives and limits", async {
@@ -216,7 +216,20 @@ fn two_sides_keep_each_other_alive() {
     });
 }
 
-/// It takes all and does not end, but goes on to send.
+/// A keep-alive without a pause is one each millisecond at most.
+#[test]
+fn keep_alives_leave_time_for_messages() {
+    on_paused("keep-alives without a pause", async {
+        let mut sides = in_memory(keep_alive(0));
+        let sender = sides[0].0.sender(Data).unwrap();
+        let mut receiver = sides[1].0.receiver(Data).unwrap();
+        sender.send(b"hi").await.unwrap();
+        assert_eq!(receiver.recv().await.unwrap(), Some(b"hi".to_vec()));
+        close(sides).await;
+    });
+}
+
+/// The peer reads all bytes and does not end its stream, but continues to send.
 #[test]
 fn the_end_waits_for_the_other_side_as_long_as_it_may() {
     on_paused("an end that is waited for", async {
@@ -234,7 +247,7 @@ fn the_end_waits_for_the_other_side_as_long_as_it_may() {
                     sleep(seconds(1)).await;
                 }
             });
-            let late = timed_out("the peer did not end its stream in time");
+            let late = timed_out("the peer did not end its stream within the timeout");
             ends(run, begin, after, Err(late)).await;
         }
         let (mux, run, mut there) = by_hand(grace(None), 4096);
@@ -249,7 +262,7 @@ fn the_end_waits_for_the_other_side_as_long_as_it_may() {
     });
 }
 
-/// Who closes while the other side takes nothing waits no longer, either; and each byte that it takes counts.
+/// A close while the peer reads nothing waits no longer, either; each byte that it reads restarts the time.
 #[test]
 fn the_end_does_not_wait_for_who_takes_nothing() {
     on_paused("an end that is not written", async {
@@ -261,7 +274,7 @@ fn the_end_does_not_wait_for_who_takes_nothing() {
             there.read_u8().await.unwrap();
         }
         let begin = Instant::now();
-        let stalled = timed_out("the peer took nothing in time");
+        let stalled = timed_out("the transport accepted no bytes within the timeout");
         ends(run, begin, 7, Err(stalled)).await;
     });
 }

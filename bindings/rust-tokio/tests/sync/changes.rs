@@ -11,12 +11,12 @@ use std::path::Path;
 use std::thread;
 use std::time::Duration;
 
-/// Longer than the file system's clock takes to go on.
+/// Longer than the resolution of the file system's clock.
 const TICK: Duration = Duration::from_millis(20);
 
 const CHANGED: &str = "the file changed after it was offered";
 
-/// What happens to a file, for which there is a folder outside of its own.
+/// A change of a file, with a folder outside of the offered one.
 type Change = fn(&Path, &Path);
 
 fn append(path: &Path) {

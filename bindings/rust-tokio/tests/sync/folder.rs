@@ -1,4 +1,4 @@
-//! Folders of a test, and all that lies in one.
+//! The folders of a test, and their contents.
 use std::collections::BTreeMap;
 use std::env;
 use std::ffi::OsString;
@@ -59,7 +59,7 @@ impl Folder {
         tree_of(&self.0)
     }
 
-    /// That it has these entries and no others.
+    /// Checks that the folder has these entries and no others.
     #[track_caller]
     pub fn has(&self, wanted: &Tree) {
         let found = self.tree();

@@ -1,4 +1,4 @@
-//! Sessions of two processes that stop in the middle of a file.
+//! Sessions of two processes that are interrupted in the middle of a file.
 use super::folder::{bytes, files, Folder, Tree};
 use super::relay::{Relay, Then};
 use super::{both, connect, example, listen, sync, Ended, Running, Watchdog, PARTIAL};
@@ -41,14 +41,14 @@ impl Halfway {
         Halfway { children, relay }
     }
 
-    /// Goes on, or not, and sees both sides end.
+    /// Continues or not, and waits until both sides end.
     fn then(self, then: Then) -> [Ended; 2] {
         self.relay.then(then);
         self.children.map(Ended::of)
     }
 }
 
-/// Whether bytes of the file lie anywhere in the folder.
+/// Returns whether bytes of the file are anywhere in the folder.
 fn has_part(folder: &Folder) -> bool {
     let inside = |path| fs::read_dir(path).into_iter().flatten().map(Result::unwrap);
     let mut entries = inside(folder.path().into()).chain(inside(folder.join(PARTIAL)));
@@ -58,7 +58,7 @@ fn has_part(folder: &Folder) -> bool {
     })
 }
 
-/// The other side, whose stream the relay cuts, fails, and has nothing that looks whole. A second run gets all.
+/// The side whose stream the relay cuts fails, and has no file that looks whole. A second run gets all files.
 #[test]
 fn a_killed_run_leaves_nothing_that_looks_whole() {
     let _watchdog = Watchdog::new("the killed sync");
@@ -111,8 +111,8 @@ fn a_file_that_comes_meanwhile_stays() {
     folders[1].has(&both(there(), meanwhile));
 }
 
-/// The second run takes the first one's partial file for a leftover. The first then has nothing to place, least of
-/// all what the second has of the file so far.
+/// The second run removes the partial file of the first run as a leftover. The first run then has no file to link,
+/// and does not link what the second run has of the file so far.
 #[test]
 fn two_runs_on_a_folder_place_whole_files_alone() {
     let _watchdog = Watchdog::new("two syncs of a folder");

@@ -1,4 +1,4 @@
-//! The folder sync: what it makes, what it leaves alone, and what it says.
+//! The folder sync: the files that it creates, those that it leaves alone, and its output.
 mod changes;
 mod folder;
 mod interrupted;
@@ -16,10 +16,10 @@ use std::os::unix::fs::{chown, MetadataExt, PermissionsExt};
 use std::os::unix::process::CommandExt;
 use std::process::{Child, Command, Stdio};
 
-/// Where partial files lie.
+/// The folder of partial files.
 const PARTIAL: &str = ".sync-partial";
 
-/// What a run said, and whether its status is 0.
+/// The output of a run, and whether its status is 0.
 struct Ended {
     printed: String,
     said: String,
@@ -52,14 +52,14 @@ impl Ended {
         }
     }
 
-    /// That all went well, and so many files came.
+    /// Checks that the run succeeded, and that this many files arrived.
     #[track_caller]
     fn got(&self, count: u32) {
         assert_eq!((self.said.as_str(), self.success), ("", true));
         assert_eq!(self.printed, format!("got {count} files\n"));
     }
 
-    /// That so many files came, and one failed: which, and why.
+    /// Checks that this many files arrived and that one failed: which one, and why.
     #[track_caller]
     fn failed(&self, count: u32, name: &str, why: &str) {
         let said = format!("sync: {name:?}: {why}\nsync: 1 files failed\n");
@@ -67,7 +67,7 @@ impl Ended {
         assert_eq!(self.printed, format!("got {count} files\n"));
     }
 
-    /// That the session failed.
+    /// Checks that the session failed.
     #[track_caller]
     fn broke(&self, why: &str) {
         assert!(self.said.contains(why), "{}", self.said);
@@ -127,7 +127,7 @@ fn both_folders_get_all_files() {
     folders.iter().for_each(|folder| folder.has(&all));
 }
 
-/// More names, requests and files than rings and queues hold, both ways at once.
+/// More names, requests and files than rings and queues hold, in both directions at once.
 #[test]
 fn many_files_hold_up_none() {
     let _watchdog = Watchdog::new("the sync of many files");
@@ -168,7 +168,7 @@ fn the_longest_name_is_a_name_like_others() {
     folders.iter().for_each(|folder| folder.has(&here));
 }
 
-/// Links to a file outside and to nothing, one of which has a name that looks partial.
+/// Links to a file outside and to nothing, one of them with a name that looks partial.
 #[test]
 fn links_are_neither_offered_nor_followed() {
     let _watchdog = Watchdog::new("the sync with links");
@@ -228,11 +228,11 @@ fn a_name_that_is_no_text_fails_alone() {
     folders[1].has(&files([("text", "file")]));
 }
 
-/// A command of a user who may not read all files, and whose the folder is.
+/// A command of a user who may not read all files, and who owns the folder.
 fn of_plain_user(folder: &Folder, programs: &Folder) -> Command {
     const NOBODY: u32 = 65_534;
-    // Where cargo builds may be closed to others. This process does not write the program itself: a child that
-    // another test starts meanwhile would have the file open to be written, and then it cannot be executed.
+    // Other users may have no access to cargo's folder. This process does not write the copy itself: a child that another
+    // test starts meanwhile would keep the file open for writing, and it could not be executed.
     copy(&[], &built("sync"), programs.path());
     let mut command = Command::new(programs.join("sync"));
     if fs::metadata(folder.path()).unwrap().uid() == 0 {
@@ -293,7 +293,7 @@ fn files_that_find_no_room_fail_alone() {
     }
 }
 
-/// It says so before it connects.
+/// The error is reported before the connection.
 #[test]
 fn a_file_or_link_named_as_the_partial_folder_stays() {
     let _watchdog = Watchdog::new("the sync with a file named as the partial folder");

@@ -4,13 +4,13 @@ use std::net::{Shutdown, TcpListener, TcpStream};
 use std::sync::mpsc::{channel, Receiver, Sender};
 use std::thread;
 
-/// What a relay that stalls does next.
+/// The next step of a relay that stalls.
 pub enum Then {
     GoOn,
     Cut,
 }
 
-/// It passes so many bytes of those that the listening side sends, and then waits to be told.
+/// It forwards this many bytes of the listening side, and then waits for a command.
 pub struct Relay {
     pub address: String,
     stalled: Receiver<()>,
@@ -39,7 +39,7 @@ impl Relay {
         }
     }
 
-    /// Waits until the bytes were passed.
+    /// Waits until the bytes were forwarded.
     pub fn stalled(&self) {
         self.stalled.recv().unwrap();
     }
@@ -49,7 +49,7 @@ impl Relay {
     }
 }
 
-/// Passes all that comes, and then the end. Where one side is gone, so is the other.
+/// Forwards all bytes, and then the end. If one side is gone, so is the other.
 fn pass(mut from: TcpStream, mut to: TcpStream) {
     let end = match io::copy(&mut from, &mut to) {
         Ok(_) => Shutdown::Write,

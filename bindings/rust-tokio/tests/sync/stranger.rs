@@ -1,12 +1,12 @@
-//! A peer of the example that keeps to the rules of a session, and to those of the example as a test wants it.
+//! A peer of the example that keeps the rules of a session, and those of the example as far as a test wants it.
 use super::folder::Folder;
 use super::{listen, Ended, Running};
 use lcmux_tokio::lcmux::Channel::{Data, PayloadRequest, Reconciliation};
-use lcmux_tokio::lcmux::{Closed, Config, Mux, Receiver, Sender};
+use lcmux_tokio::lcmux::{Closed, Config, Mux, Receiver, Sender, CHANNELS};
 use std::net::TcpStream;
 use std::thread::{self, JoinHandle};
 
-/// The messages behind the last chunk of a file.
+/// The messages after the last chunk of a file.
 pub const WHOLE: &[u8] = &[1];
 pub const FAILED: &[u8] = &[2];
 
@@ -20,11 +20,11 @@ pub struct Stranger {
 }
 
 impl Stranger {
-    /// Meets the example, which listens for a folder.
+    /// Connects to the example, which listens for a folder.
     pub fn meet(folder: &Folder) -> Stranger {
         let (example, address) = listen(folder);
         let stream = TcpStream::connect(address).unwrap();
-        let (mut mux, driver) = Mux::new(Config::new([65_536; 7], 64)).unwrap();
+        let (mut mux, driver) = Mux::new(Config::new([65_536; CHANNELS], 64)).unwrap();
         let run = thread::spawn(move || driver.run_blocking(stream.try_clone()?, stream));
         let [offers, requests, contents] = [Reconciliation, PayloadRequest, Data]
             .map(|channel| (mux.sender(channel).unwrap(), mux.receiver(channel).unwrap()));
@@ -43,7 +43,7 @@ impl Stranger {
         self.offers.0.send_blocking(&offer).unwrap();
     }
 
-    /// The names that the example offers, once it offered all.
+    /// Returns the names that the example offers, once it offered all.
     pub fn offered(&mut self) -> Vec<String> {
         let mut names = Vec::new();
         while let Some(offer) = self.offers.1.recv_blocking().unwrap() {
@@ -56,12 +56,12 @@ impl Stranger {
         self.requests.0.send_blocking(name).unwrap();
     }
 
-    /// The next message of contents.
+    /// Receives the next message of contents.
     pub fn piece(&mut self) -> Vec<u8> {
         self.contents.1.recv_blocking().unwrap().unwrap()
     }
 
-    /// The contents of a file, as far as they come, and the message behind them.
+    /// Receives the contents of a file, as far as they arrive, and the message after them.
     pub fn contents(&mut self) -> (Vec<u8>, Vec<u8>) {
         let mut contents = Vec::new();
         loop {
@@ -72,7 +72,7 @@ impl Stranger {
         }
     }
 
-    /// That the next contents are these, and this message is behind them.
+    /// Checks that the next contents are these, followed by this message.
     #[track_caller]
     pub fn gets(&mut self, contents: &[u8], end: &[u8]) {
         assert!(self.contents() == (contents.into(), end.into()));
@@ -86,7 +86,7 @@ impl Stranger {
         self.contents.0.send_blocking(piece).unwrap();
     }
 
-    /// Sends nothing more, and sees the session end in order on both sides.
+    /// Finishes its channels, and checks that the session ends in order on both sides.
     pub fn finish(self) -> Ended {
         for sender in [&self.offers.0, &self.requests.0, &self.contents.0] {
             sender.finish().unwrap();
@@ -97,7 +97,7 @@ impl Stranger {
         ended
     }
 
-    /// Sees the example give the session up: it ends neither its requests nor its contents in order.
+    /// Checks that the example aborts the session: it ends neither its requests nor its contents in order.
     pub fn given_up(mut self) -> Ended {
         for receiver in [&mut self.contents.1, &mut self.requests.1] {
             let channel = receiver.channel();
