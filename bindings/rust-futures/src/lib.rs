@@ -1,0 +1,92 @@
+//! The channels of [`lcmux`] with the traits of the crate `futures`, on any runtime: messages as streams and sinks, and
+//! streams of bytes.
+//!
+//! [`ReceiverStream`] is a [`Stream`](futures_core::Stream) over a [`Receiver`](lcmux::Receiver), and [`SenderSink`] a
+//! [`Sink`](futures_sink::Sink) over a [`Sender`](lcmux::Sender). So the combinators of `StreamExt` and `SinkExt` work
+//! on the messages of a channel. [`Writer`] is [`AsyncWrite`](futures_io::AsyncWrite), and [`Reader`]
+//! [`AsyncRead`](futures_io::AsyncRead) and [`AsyncBufRead`](futures_io::AsyncBufRead): a stream of bytes over a channel.
+//! On tokio, `lcmux-tokio` has both with the traits of tokio. The crate depends on the traits alone, `futures-core`,
+//! `futures-sink` and `futures-io`: it needs no runtime. It is beside `lcmux` and no feature of it, so that `lcmux` has no
+//! dependencies and builds without an index of crates.
+//!
+//! ```
+//! use futures_util::{SinkExt, StreamExt, TryStreamExt};
+//! use lcmux_futures::lcmux::{Receiver, Sender};
+//! use lcmux_futures::{ReceiverStream, SenderSink};
+//! use std::error::Error;
+//!
+//! /// Sends each message back in capitals until the peer finishes its channel, and then finishes this side's.
+//! async fn shout(receiver: Receiver, sender: Sender) -> Result<(), Box<dyn Error>> {
+//!     let messages = ReceiverStream::new(receiver).err_into::<Box<dyn Error>>();
+//!     let sink = SenderSink::new(sender).sink_err_into();
+//!     messages.map_ok(|message| message.to_ascii_uppercase()).forward(sink).await
+//! }
+//! # use lcmux::{Channel::Data, Config, Mux, CHANNELS};
+//! # use std::{os::unix::net::UnixStream, thread};
+//! # let (here, there) = UnixStream::pair()?;
+//! # let (mut alice, driver) = Mux::new(Config::new([64; CHANNELS], 16))?;
+//! # thread::spawn(move || driver.run_blocking(here.try_clone()?, here));
+//! # let (mut bob, driver) = Mux::new(Config::new([64; CHANNELS], 16))?;
+//! # thread::spawn(move || driver.run_blocking(there.try_clone()?, there));
+//! # let (sender, mut receiver) = (alice.sender(Data).unwrap(), alice.receiver(Data).unwrap());
+//! # sender.send_blocking(b"hello")?;
+//! # drop(sender);
+//! # tokio::runtime::Builder::new_current_thread().build()?
+//! #     .block_on(shout(bob.receiver(Data).unwrap(), bob.sender(Data).unwrap()))?;
+//! # assert_eq!(receiver.recv_blocking()?, Some(b"HELLO".to_vec()));
+//! # assert_eq!(receiver.recv_blocking()?, None);
+//! # Ok::<(), Box<dyn Error>>(())
+//! ```
+//!
+//! A stream of bytes:
+//!
+//! ```
+//! use futures_util::{AsyncReadExt, AsyncWriteExt};
+//! use lcmux::{Channel::Data, Config, Mux, CHANNELS};
+//! use lcmux_futures::{Reader, Writer};
+//! # use std::{future::Future, os::unix::net::UnixStream, pin::pin, sync::Arc, thread};
+//! # use std::task::{Context, Poll, Wake};
+//! # struct Unpark(thread::Thread);
+//! # impl Wake for Unpark {
+//! #     fn wake(self: Arc<Unpark>) { self.0.unpark(); }
+//! # }
+//! # fn block_on<F: Future>(future: F) -> F::Output {
+//! #     let mut future = pin!(future);
+//! #     let waker = Arc::new(Unpark(thread::current())).into();
+//! #     loop {
+//! #         match future.as_mut().poll(&mut Context::from_waker(&waker)) {
+//! #             Poll::Ready(output) => return output,
+//! #             Poll::Pending => thread::park(),
+//! #         }
+//! #     }
+//! # }
+//!
+//! # let (here, there) = UnixStream::pair()?;
+//! let (mut alice, driver) = Mux::new(Config::new([64; CHANNELS], 16))?;
+//! # thread::spawn(move || driver.run_blocking(here.try_clone()?, here));
+//! # let (mut bob, driver) = Mux::new(Config::new([64; CHANNELS], 16))?;
+//! # thread::spawn(move || driver.run_blocking(there.try_clone()?, there));
+//! let mut writer = Writer::new(alice.sender(Data).unwrap());
+//! let mut reader = Reader::new(bob.receiver(Data).unwrap());
+//! # thread::spawn(move || block_on(async {
+//! writer.write_all(&[b'.'; 1_000]).await?; // through a ring of 64 bytes
+//! writer.close().await?;
+//! # std::io::Result::Ok(()) }));
+//! # block_on(async {
+//! let mut text = String::new();
+//! reader.read_to_string(&mut text).await?;
+//! assert_eq!(text, ".".repeat(1_000));
+//! # std::io::Result::Ok(()) })?;
+//! # Ok::<(), Box<dyn std::error::Error>>(())
+//! ```
+#![warn(missing_docs)]
+#![forbid(unsafe_code)]
+
+mod bytes;
+mod sink;
+mod stream;
+
+pub use bytes::{Reader, Writer};
+pub use lcmux;
+pub use sink::SenderSink;
+pub use stream::ReceiverStream;
