@@ -1,4 +1,7 @@
-/** The logical channels. Each runs in both directions, independently. What goes on which is the caller's choice. */
+/**
+ * The numbers of the logical channels by their names. Each channel runs in both directions, and the two directions
+ * are independent. The application chooses what it sends on which channel.
+ */
 export declare const Channel: {
   readonly Reconciliation: 0;
   readonly Data: 1;
@@ -11,89 +14,123 @@ export declare const Channel: {
 /** The number of a logical channel. */
 export type Channel = (typeof Channel)[keyof typeof Channel];
 
-/** All channels, in the order of their numbers. */
+/** All seven channels, in the order of their numbers. */
 export declare const CHANNELS: readonly Channel[];
 
-/** The version of the package, and of the module that it takes. */
+/** The version of the package, and of the module that it accepts. */
 export declare const VERSION: string;
 
-/** The numbers of the codes, by their names. */
+/** The numbers of the codes by their names: refusals of calls, violations of rules and faults of the framing. */
 export declare const Code: {
-  /** A message has at least 1 byte. */
+  // codes: begin codes
+  /** Refusal 1. The message is empty: a message has at least 1 byte. */
   readonly EmptyBody: 1;
-  /** A message has at most 65,535 bytes in version 1, 1,048,576 in version 2. */
+  /** Refusal 2. The message is too long: a message has at most 65,535 bytes in version 1 and 1,048,576 in version 2. */
   readonly BodyTooLong: 2;
-  /** The message is longer than what the own limit on sending leaves, which is the error's number. */
+  /**
+   * Refusal 3. The message is longer than this side's limit on sending allows. The error's number is what the limit
+   * still allows.
+   */
   readonly PastSendLimit: 3;
-  /** The message is longer than the guarantees that are held, whose number is the error's. */
+  /**
+   * Refusal 4. The message is longer than the guarantees that this side holds. The error's number is the held
+   * guarantees.
+   */
   readonly NoGuarantee: 4;
-  /** At least 1 guarantee is issued or absolved. */
+  /** Refusal 5. The amount is zero: at least 1 guarantee is issued or absolved. */
   readonly ZeroAmount: 5;
-  /** More would be absolved than is held, which is the error's number. */
+  /**
+   * Refusal 6. The call would absolve more guarantees than this side holds. The error's number is the held guarantees.
+   */
   readonly NotHeld: 6;
-  /** A limit is at most 2^62. */
+  /** Refusal 7. The bound of a limit is above 2^62. */
   readonly BoundTooLarge: 7;
-  /** A limit is at most what the one before it leaves, which is the error's number. */
+  /**
+   * Refusal 8. The bound is above what an earlier limit allows: a limit is only ever lowered. The error's number is
+   * what the earlier limit still allows.
+   */
   readonly LimitRaised: 8;
-  /** More would be issued than what the own limit on receiving leaves, which is the error's number. */
+  /**
+   * Refusal 9. The call would issue more than this side's limit on receiving allows. The error's number is what the
+   * limit still allows.
+   */
   readonly PastReceiveLimit: 9;
-  /** More would be issued than is neither buffered nor promised, which is the error's number. */
+  /**
+   * Refusal 10. The call would issue more guarantees than the ring buffer has free bytes that are not yet issued. The
+   * error's number is what may be issued now.
+   */
   readonly NoRoom: 10;
-  /** A plead names less than what is outstanding, which is the error's number. */
+  /**
+   * Refusal 11. The target of the plead is not below the outstanding guarantees. The error's number is the outstanding
+   * guarantees.
+   */
   readonly NothingToAsk: 11;
-  /** At most 2^62 guarantees are issued on a channel. */
+  /** Refusal 12. The guarantees of the channel would exceed 2^62 in total. */
   readonly TotalReached: 12;
-  /** As many frames wait to go out as may: write some first. */
+  /** Refusal 13. The outbound queue is full: write some of its frames first. */
   readonly QueueFull: 13;
-  /** Memory was refused. The same call may be made again. */
+  /** Refusal 14. An allocation failed. The same call may be made again. */
   readonly OutOfMemory: 14;
-  /** The channel's client finished it. */
+  /** Refusal 15. The sender has finished the channel. */
   readonly ChannelFinished: 15;
-  /** The buffer is shorter than the message, whose length is the error's number. */
+  /** Refusal 16. The buffer is too short. The error's number is the length that is needed. */
   readonly BufferTooSmall: 16;
-  /** In version 1 no channel is finished. */
+  /** Refusal 17. Version 1 of the wire format has no frame that finishes a channel. */
   readonly WrongVersion: 17;
   /** The peer was freed. */
   readonly NoPeer: 32;
+  /** The handle has a peer already. The package never makes such a call. */
   readonly HasPeer: 33;
+  /** There is no such channel. The package throws a RangeError before. */
   readonly NoChannel: 34;
   /** The version is neither 1 nor 2. */
   readonly BadVersion: 35;
-  /** The ring of the channel of the error's number would not have 1 to 2^24 bytes. */
+  /** The size of a ring buffer is not in 1 to 2^24. The error's number is the first such channel. */
   readonly BadCapacity: 36;
-  /** Not 1 to 65,536 frames might wait. */
+  /** The slots are not in 1 to 65,536. */
   readonly BadSlots: 37;
+  /** {@link Library.text} of a number that is no code. */
   readonly NoCode: 38;
+  /**
+   * The size in a struct of C is too small: no call of this package returns it. The error's number is the size that it
+   * needs.
+   */
+  readonly BadSize: 39;
+  /** No message is available now. Takes return null instead. */
   readonly Empty: 48;
+  /** No message will arrive. Takes return {@link ENDED} instead. */
   readonly Ended: 49;
-  /** The message can never be sent. */
+  /** The message can never be sent. {@link Peer.needs} returns `never` instead. */
   readonly Never: 50;
-  /** V1. The message is longer than what is outstanding. */
+  /** Violation V1. The message is longer than the outstanding guarantees. */
   readonly NotGuaranteed: 101;
-  /** V2. The message is longer than what the client's limit leaves. */
+  /** Violation V2. The message is longer than the sender's limit allows. */
   readonly SentPastLimit: 102;
-  /** V3. More is absolved than is outstanding. */
+  /** Violation V3. The frame absolves more guarantees than are outstanding. */
   readonly AbsolvedTooMuch: 103;
-  /** V4. The client's limit is above what the one before it leaves. */
+  /** Violation V4. The sender's limit is above what an earlier limit allows. */
   readonly SendLimitRaised: 104;
-  /** V5. More is issued than what the server's limit leaves. */
+  /** Violation V5. The frame issues more guarantees than the receiver's limit allows. */
   readonly IssuedPastLimit: 105;
-  /** V6. More than 2^24 guarantees would be held. */
+  /** Violation V6. The sender would hold more than 2^24 guarantees. */
   readonly TooManyGuarantees: 106;
-  /** V7. The server's limit is above what the one before it leaves. */
+  /** Violation V7. The receiver's limit is above what an earlier limit allows. */
   readonly ReceiveLimitRaised: 107;
-  /** V8. More than 2^62 guarantees would be received. */
+  /** Violation V8. The sender would receive more than 2^62 guarantees in total. */
   readonly TotalPassed: 108;
-  /** V9. A frame of the client comes behind its Finish. */
+  /** Violation V9. A frame of the sender follows its Finish. */
   readonly AfterFinish: 109;
-  /** F1. The first byte names no kind of frame or no channel, or a byte differs from the greeting. */
+  /** Fault F1. The first byte names no kind of frame or no channel, or a byte differs from the preface of version 2. */
   readonly BadTag: 201;
-  /** F2. The length of a message is 0. */
+  /** Fault F2. The length of a message is 0. */
   readonly ZeroLength: 202;
-  /** F3. A number is out of its range. */
+  /** Fault F3. A number is out of its range. */
   readonly BadNumber: 203;
-  /** F4. The stream ends within a frame or a greeting. */
+  /**
+   * Fault F4. The stream ends within a frame or within the preface of version 2. Only the end of the stream shows it.
+   */
   readonly Truncated: 204;
+  // codes: end
 };
 /** The name of a code. */
 export type Kind = keyof typeof Code;
@@ -101,9 +138,9 @@ export type Kind = keyof typeof Code;
 export type Code = (typeof Code)[Kind];
 
 /**
- * Why a call was refused, which then changed nothing (1 to 17), why there is no peer (14, 32 to 37), or why a stream
- * was given up (violations from 101 and faults from 201 on). A value of a wrong type or range is a TypeError or
- * RangeError.
+ * The error of a refused call, which changed nothing (codes 1 to 17), of a configuration or a freed peer (14, 32 to
+ * 37), or of a protocol error of the peer (violations from 101 on, faults from 201 on). An argument of a wrong type
+ * or range throws a TypeError or a RangeError instead.
  */
 export declare class LcmuxError extends Error {
   constructor(code: Code, number?: number | bigint);
@@ -111,24 +148,24 @@ export declare class LcmuxError extends Error {
   readonly code: Code;
   /** The name of the code. */
   readonly kind: Kind;
-  /** What it says, without its number. */
+  /** The sentence of the code, without the number. */
   readonly sentence: string;
-  /** The number that the code carries. What a limit leaves is a bigint, since it may be above 2^53. */
+  /** The number that belongs to the code. What a limit allows is a bigint, since it may exceed 2^53. */
   readonly number: number | bigint | undefined;
-  /** Whether the stream was given up: what came breaks the rules, or is no frame. The session is over then. */
+  /** Whether the error is a protocol error: the peer's stream broke the framing or a rule, and the session is over. */
   readonly isStop: boolean;
-  /** Of {@link Peer.deliver}: how many bytes were taken before it stopped. */
+  /** With {@link Peer.deliver}: how many bytes were consumed before the protocol error. */
   readonly taken?: number;
-  /** Of {@link Peer.deliver}: how many frames arrived before it stopped. */
+  /** With {@link Peer.deliver}: how many frames arrived before the protocol error. */
   readonly frames?: number;
   /**
-   * The error as JSON has it, with its `name` and `message` beside its other members. JSON has no bigint: a number
-   * that is one is a decimal string.
+   * Returns the error for `JSON.stringify`, with its `name` and `message`. JSON has no bigint: such a number becomes
+   * a decimal string.
    */
   toJSON(): LcmuxErrorJson;
 }
 
-/** What `JSON.stringify` writes of an {@link LcmuxError}. */
+/** The members of an {@link LcmuxError} that `JSON.stringify` writes. */
 export interface LcmuxErrorJson {
   readonly name: string;
   readonly message: string;
@@ -142,401 +179,521 @@ export interface LcmuxErrorJson {
 }
 
 /**
- * The bounds of a peer. A key that is undefined is one that is left out, here and in all options. A key that there is
- * not is a TypeError that names it.
+ * The configuration of a peer. A key whose value is undefined counts as omitted, here and in all options. An unknown
+ * key throws a TypeError that names it.
  */
 export interface Config {
-  /** The version of the format that goes out, 1 where it is left out. Either may come. */
+  /** The version of the outbound stream, 1 by default. The inbound stream may have either version. */
   readonly version?: 1 | 2 | undefined;
-  /** How many frames may wait to go out, 1 to 65,536; 16 where it is left out. */
+  /** The slots of the outbound queue, 1 to 65,536: the most frames that it holds. 16 by default. */
   readonly slots?: number | undefined;
   /**
-   * The bytes of each channel's receiving ring, 1 to 2^24: one number for all, or seven; 65,536 where it is left out.
+   * The size of each channel's receive ring buffer in bytes, 1 to 2^24: one number for all channels, or seven. 65,536
+   * by default.
    */
   readonly capacities?: number | readonly number[] | undefined;
 }
 
-/** In place of a message: none waits, and none will come. */
+/** The result of a take if no message is available and none will arrive. */
 export declare const ENDED: unique symbol;
 
-/** What a take answers: what was taken, null where no message waits, {@link ENDED} where none will come either. */
+/** The result of a take: the message, null if none is available now, {@link ENDED} if none will arrive either. */
 export type Take<T> = T | null | typeof ENDED;
 
-/** What a message needs before it can be sent. */
+/** The condition that a message needs before it can be sent. */
 export type Needs =
-  /** Nothing more: a send of it may want memory, and is not refused else. */
+  /** Nothing: a send can fail only if an allocation does. */
   | { readonly kind: 'nothing' }
-  /** So many guarantees more: deliver what comes. */
+  /** More guarantees, `missing` of them: deliver inbound bytes. */
   | { readonly kind: 'guarantees'; readonly missing: number }
-  /** A place among the frames that wait to go out: write. */
+  /** A slot in the outbound queue: write pending frames. */
   | { readonly kind: 'slot' }
   /**
-   * What never comes: it is empty, too long for the version or a limit of either side, or the channel is finished.
+   * The message can never be sent: it is empty, it is longer than the version or a limit of either side allows, or
+   * the channel is finished.
    */
   | { readonly kind: 'never' };
 
-/** What there is to do on a channel. */
+/** The state of a channel that the application can act on. */
 export interface Ready {
-  /** A message waits to be taken. */
+  /** A message is available. */
   readonly message: boolean;
-  /** No message waits, and none will come. */
+  /** No message is available, and none will arrive. */
   readonly ended: boolean;
-  /** A plead is kept, to be honoured or not. */
+  /** A plead of the receiver is pending. */
   readonly plead: boolean;
-  /** This side finished the channel. */
+  /** This side finished its direction of the channel. */
   readonly finished: boolean;
-  /** The other side finished the channel. */
+  /** The peer finished its direction of the channel. */
   readonly finishedThere: boolean;
 }
 
-/** The balances of a channel as client, the side that sends. All count bytes of messages. */
+/**
+ * The sender's ledger of a channel: the credit of this side as the one that sends. All fields count bytes of
+ * messages.
+ */
 export interface ClientBook {
-  /** Guarantees that may be used up now, 0 to 2^24. */
+  /** The guarantees that messages may use now, 0 to 2^24: the send credit. */
   readonly held: number;
-  /** All guarantees that arrived: held, spent, absolved and waived together. */
+  /** All guarantees that arrived: the sum of `held`, `spent`, `absolved` and `waived`. */
   readonly received: bigint;
-  /** The guarantees that messages used up. */
+  /** The guarantees that messages used. */
   readonly spent: bigint;
-  /** The guarantees that were given up. */
+  /** The guarantees that this side gave back to the receiver. */
   readonly absolved: bigint;
-  /** The guarantees that finishing gave up, then and since. */
+  /** The guarantees that this side waived by finishing the channel, then and since. */
   readonly waived: bigint;
-  /** What may still be sent; null without a limit. */
+  /** The bytes that this side's limit still allows, or null without a limit. */
   readonly sendLeft: bigint | null;
-  /** What the other side may still issue; null without a limit. */
+  /** The guarantees that the receiver may still issue, or null without a limit. */
   readonly receiveLeft: bigint | null;
-  /** The target of the plead that is kept, else null. */
+  /** The target of the pending plead, or null if none is pending. */
   readonly asked: number | null;
   /** Whether this side finished the channel. */
   readonly finished: boolean;
 }
 
-/** The balances of a channel as server, the side that receives. All count bytes of messages. */
+/**
+ * The receiver's ledger of a channel: the credit that this side issued as the one that receives. All fields count
+ * bytes of messages.
+ */
 export interface ServerBook {
-  /** The bytes of the ring: outstanding, buffered and room together. */
+  /** The size of the ring buffer: the sum of `outstanding`, `buffered` and `room`. */
   readonly capacity: number;
-  /** All guarantees that were issued. */
+  /** All guarantees that this side issued: the sum of `outstanding`, `received`, `absolved` and `waived`. */
   readonly issued: bigint;
-  /** Issued, and neither used up, absolved nor waived as far as is known. */
+  /** All bytes of messages that arrived: the sum of `taken` and `buffered`. */
+  readonly received: bigint;
+  /** The bytes of messages that were taken. */
+  readonly taken: bigint;
+  /** The guarantees that the sender gave back. */
+  readonly absolved: bigint;
+  /**
+   * The guarantees that the sender may still use: issued, and not used, absolved or waived as far as this side knows.
+   */
   readonly outstanding: number;
-  /** Arrived, and not taken. */
+  /** The bytes of messages that arrived and were not taken. */
   readonly buffered: number;
-  /** The most that may be issued now. */
+  /** The most guarantees that may be issued now. */
   readonly room: number;
-  /** The guarantees that the other side's Finish gave up. */
+  /** The guarantees that the sender's Finish waived. */
   readonly waived: bigint;
-  /** What the other side may still send; null without a limit. */
+  /** The bytes that the sender may still send, or null without a limit. */
   readonly sendLeft: bigint | null;
-  /** What may still be issued; null without a limit. */
+  /** The guarantees that this side's limit still allows, or null without a limit. */
   readonly receiveLeft: bigint | null;
-  /** Whether the other side's Finish arrived. */
+  /** Whether the sender's Finish arrived. */
   readonly finished: boolean;
 }
 
 /**
- * One side of a session. It is fed the bytes that come and asked for the bytes that go out; the transport is the
- * caller's. A call that is refused throws an {@link LcmuxError}, and has then changed nothing.
+ * One side of a session as a state machine: the application passes inbound bytes to it and fetches outbound bytes
+ * from it. The transport belongs to the application. A refused call throws an {@link LcmuxError} and changes nothing.
  */
 export declare class Peer {
   private constructor();
-  /** The version of the format that goes out. */
+  /** The version of the outbound stream. */
   readonly version: 1 | 2;
 
   /**
-   * A copy of 1 to 65,535 bytes is sent as one message, in version 2 of 1 to 1,048,576. Refused by 15, 1, 2, 3, 4, 14
-   * and 13, in this order.
+   * Enqueues a copy of the body as one message: 1 to 65,535 bytes, in version 2 1 to 1,048,576.
+   *
+   * @throws {LcmuxError} The first of these that applies: `ChannelFinished`, `EmptyBody`, `BodyTooLong`,
+   *   `PastSendLimit`, `NoGuarantee`, `OutOfMemory`, `QueueFull`.
    */
   send(channel: Channel, body: Uint8Array): void;
-  /** `amount` guarantees are issued. Refused by 15, 5, 9, 10, 12 and 13, in this order. */
+  /**
+   * Issues `amount` guarantees: the sender may send that many bytes more.
+   *
+   * @throws {LcmuxError} The first of these that applies: `ChannelFinished`, `ZeroAmount`, `PastReceiveLimit`,
+   *   `NoRoom`, `TotalReached`, `QueueFull`.
+   */
   issue(channel: Channel, amount: number): void;
-  /** `amount` guarantees are given up. Refused by 15, 5, 6 and 13, in this order. */
+  /**
+   * Absolves: gives `amount` guarantees back to the receiver.
+   *
+   * @throws {LcmuxError} The first of these that applies: `ChannelFinished`, `ZeroAmount`, `NotHeld`, `QueueFull`.
+   */
   absolve(channel: Channel, amount: number): void;
-  /** The other side is asked to absolve until it holds at most `target`. Refused by 15, 11 and 13, in this order. */
+  /**
+   * Pleads: asks the sender to absolve guarantees until it holds at most `target`.
+   *
+   * @throws {LcmuxError} The first of these that applies: `ChannelFinished`, `NothingToAsk`, `QueueFull`.
+   */
   plead(channel: Channel, target: number): void;
   /**
-   * The plead that is kept is honoured and forgotten: what is held above its target is absolved, which is the answer,
-   * 0 where there is nothing. Refused by 15, and by 13, which keeps the plead.
+   * Honours the pending plead: absolves the guarantees above its target and returns how many these are. The plead is
+   * no longer pending.
+   *
+   * @throws {LcmuxError} The first of these that applies: `ChannelFinished`, `QueueFull`. The latter leaves the plead
+   *   pending.
    */
   honour(channel: Channel): number;
-  /** At most `bound` bytes are sent from here on; 0 ends the channel. Refused by 15, 7, 8 and 13, in this order. */
+  /**
+   * Limits sending to at most `bound` bytes from here on; 0 ends the channel.
+   *
+   * @throws {LcmuxError} The first of these that applies: `ChannelFinished`, `BoundTooLarge`, `LimitRaised`,
+   *   `QueueFull`.
+   */
   limitSending(channel: Channel, bound: number | bigint): void;
-  /** At most `bound` guarantees are issued from here on. Refused by 15, 7, 8 and 13, in this order. */
+  /**
+   * Limits issuing to at most `bound` guarantees from here on.
+   *
+   * @throws {LcmuxError} The first of these that applies: `ChannelFinished`, `BoundTooLarge`, `LimitRaised`,
+   *   `QueueFull`.
+   */
   limitReceiving(channel: Channel, bound: number | bigint): void;
   /**
-   * Nothing more is sent, and all guarantees that are held or still come are given up; the other side learns that the
-   * channel has ended. For version 2. Refused by 17, 15 and 13, in this order.
+   * Finishes the channel: this side sends nothing more on it and waives all guarantees that it holds or that still
+   * arrive. The receiver observes the end of the channel. Version 1 has no such frame; there, `limitSending(channel,
+   * 0)` ends a channel.
+   *
+   * @throws {LcmuxError} The first of these that applies: `WrongVersion`, `ChannelFinished`, `QueueFull`.
    */
   finish(channel: Channel): void;
 
   /**
-   * The refusal that a {@link send} of so many bytes would answer, but for want of memory, or null: so a body need
-   * not be made before it may go. These questions change nothing, and are judged as the calls are.
+   * Returns the error that a {@link send} of `length` bytes would throw, apart from `OutOfMemory`, or null. So the
+   * application need not build a body before it can be sent. These queries change nothing and apply the same rules as
+   * the calls.
    */
   wouldSend(channel: Channel, length: number): LcmuxError | null;
-  /** The refusal that {@link issue} would answer, or null. */
+  /** Returns the error that {@link issue} would throw, or null. */
   wouldIssue(channel: Channel, amount: number): LcmuxError | null;
-  /** The refusal that {@link absolve} would answer, or null. */
+  /** Returns the error that {@link absolve} would throw, or null. */
   wouldAbsolve(channel: Channel, amount: number): LcmuxError | null;
-  /** The refusal that {@link plead} would answer, or null. */
+  /** Returns the error that {@link plead} would throw, or null. */
   wouldPlead(channel: Channel, target: number): LcmuxError | null;
-  /** What {@link honour} would answer, a refusal or a number. */
+  /** Returns what {@link honour} would return, or the error that it would throw. */
   wouldHonour(channel: Channel): LcmuxError | number;
-  /** The refusal that {@link limitSending} would answer, or null. */
+  /** Returns the error that {@link limitSending} would throw, or null. */
   wouldLimitSending(channel: Channel, bound: number | bigint): LcmuxError | null;
-  /** The refusal that {@link limitReceiving} would answer, or null. */
+  /** Returns the error that {@link limitReceiving} would throw, or null. */
   wouldLimitReceiving(channel: Channel, bound: number | bigint): LcmuxError | null;
-  /** The refusal that {@link finish} would answer, or null. */
+  /** Returns the error that {@link finish} would throw, or null. */
   wouldFinish(channel: Channel): LcmuxError | null;
   /**
-   * What a message of so many bytes needs before it can be sent. A client knows nothing of the other side's ring: a
-   * message longer than that is told to need guarantees for good.
+   * Returns the condition that a message of `length` bytes needs before it can be sent. A sender does not know the
+   * size of the receiver's ring buffer: a message longer than the ring needs guarantees that never arrive.
    */
   needs(channel: Channel, length: number): Needs;
-  /** How many frames more may wait to go out. */
+  /** Returns how many slots of the outbound queue are free. */
   slotsLeft(): number;
-  /** Whether there is anything to write: the greeting, the rest of a frame that was begun, or a frame that waits. */
+  /** Returns whether any outbound bytes are pending: the preface, the rest of a frame, or a whole frame. */
   wantsWrite(): boolean;
-  /** What there is to do on each channel, by their numbers. */
+  /** Returns the state of each channel, indexed by the channel's number. */
   ready(): Ready[];
 
   /**
-   * The next bytes of the stream that comes, cut anywhere. Whole frames arrive, whose count is the answer, and part
-   * of one is kept. A violation or a fault is thrown: the stream is given up, the frames before it have arrived, each
-   * further call throws the same, and all other calls still work.
+   * Processes the next chunk of the inbound stream, which may be cut anywhere, and returns how many frames arrived.
+   * The beginning of an incomplete frame is kept.
+   *
+   * @throws {LcmuxError} A violation or a fault. The frames before it have arrived, each further call throws the same
+   *   error, and all other calls still work.
    */
   deliver(bytes: Uint8Array): number;
   /**
-   * What it means that the stream ends here: nothing between two frames, else it throws {@link Code.Truncated}, or
-   * what the delivery that stopped threw.
+   * Checks that the inbound stream may end here. It changes nothing.
+   *
+   * @throws {LcmuxError} {@link Code.Truncated} inside a frame or inside the preface; the protocol error of an
+   *   earlier {@link deliver} if there was one.
    */
   end(): void;
-  /** The next bytes that go out, in an array of their own: all, or at most so many. They count as sent. */
+  /** Returns the next outbound bytes as a new array: all pending bytes, or at most `most`. The bytes count as sent. */
   write(most?: number): Uint8Array;
   /**
-   * The next bytes that go out, to the front of `buffer`: as many as there are and have room, which is the answer. A
-   * frame that does not fit goes on in the next call.
+   * Copies the next outbound bytes to the front of `buffer` and returns how many they are. A frame that does not fit
+   * continues in the next call. The bytes count as sent.
    */
   writeInto(buffer: Uint8Array): number;
   /**
-   * The next bytes that go out, at most 16,384; none where nothing waits. They stay the next until {@link advance}
-   * says how many of them went out: so a write that is given up loses nothing.
+   * Returns the next outbound bytes, at most 16,384; an empty array if none are pending. The bytes stay pending until
+   * {@link advance} reports how many of them were written. So an abandoned write loses nothing.
    */
   chunk(): Uint8Array;
-  /** So many bytes of the {@link chunk} went out. More than it has are a RangeError that changes nothing. */
+  /**
+   * Marks the first `count` bytes of the {@link chunk} as written.
+   *
+   * @throws {RangeError} If `count` is above the length of the chunk; nothing changes then.
+   */
   advance(count: number): void;
-  /** How many bytes are to go out. It looks at each frame that waits. */
+  /** Returns how many outbound bytes are pending. It visits each frame of the outbound queue. */
   pending(): number;
 
-  /** The length of the first message, which stays. */
+  /** Returns the length of the first message, which stays. */
   frontLength(channel: Channel): Take<number>;
   /**
-   * The first message where it lies, without a copy; it stays. It is the bytes of the one array and then those of the
-   * other, which is empty unless the message goes round the end of its ring. Both are views of the module's memory:
-   * they are only to be read, and right until the next call of any peer of the same `load`.
+   * Borrows the first message without copying it; the message stays. It is the bytes of the first array followed by
+   * those of the second one, which is empty unless the message crosses the wrap point of its ring buffer. Both arrays
+   * are views of the module's memory: read them only, and only until the next call of any peer of the same `load`.
    */
   front(channel: Channel): Take<readonly [Uint8Array, Uint8Array]>;
-  /** Drops the first message, and answers its length; its bytes are room of the ring again. */
+  /** Drops the first message and returns its length. Its bytes become free in the ring buffer. */
   pop(channel: Channel): Take<number>;
-  /** Takes the first message, into an array of its own; its bytes are room of the ring again. */
+  /** Takes the first message as a new array. Its bytes become free in the ring buffer. */
   take(channel: Channel): Take<Uint8Array>;
   /**
-   * Takes the first message, to the front of `buffer`, and answers its length. Refused by 16 alone, where the buffer
-   * is shorter than the message, and then takes nothing.
+   * Copies the first message to the front of `buffer`, drops it and returns its length.
+   *
+   * @throws {LcmuxError} {@link Code.BufferTooSmall} if the buffer is shorter than the message; the message stays
+   *   then.
    */
   takeInto(channel: Channel, buffer: Uint8Array): Take<number>;
 
-  /** The balances of a channel as client. */
+  /** Returns the sender's ledger of a channel. */
   client(channel: Channel): ClientBook;
-  /** The balances of a channel as server. */
+  /** Returns the receiver's ledger of a channel. */
   server(channel: Channel): ServerBook;
 
   /**
-   * Gives its memory back. Each later call throws {@link Code.NoPeer}. A peer that nothing holds is freed some time.
+   * Frees the memory of the peer. Each later call throws {@link Code.NoPeer}. A peer that is unreachable is freed
+   * eventually.
    */
   free(): void;
 }
 
-/** Two streams of bytes: what comes, and where goes what goes out. */
+/** The two byte streams of a session: the inbound and the outbound one. */
 export interface Streams {
+  /** The inbound stream. */
   readonly readable: ReadableStream<Uint8Array>;
+  /** The outbound stream. */
   readonly writable: WritableStream<Uint8Array>;
 }
 
-/** The module with a memory of its own, which its peers share. After a trap none of its calls is answered. */
+/** An instance of the module with its own memory, which its peers share. After a trap each of its calls throws. */
 export interface Library {
-  /** The version of the module: 65,536 times its first number, 256 times its second, and its third. */
+  /** The version of the module: 65,536 times its first number, plus 256 times its second, plus its third. */
   readonly version: number;
   /** Whether a call trapped. */
   readonly hasTrapped: boolean;
-  /** The sentence of a code of the module. */
+  /** Returns the sentence of a code. */
   text(code: number): string;
-  /** A peer on which nothing has happened. Refused by 35, 36, 37 and 14, in this order. */
+  /**
+   * Makes a peer on which nothing has happened.
+   *
+   * @throws {LcmuxError} The first of these that applies: `BadVersion`, `BadCapacity`, `BadSlots`, `OutOfMemory`.
+   */
   peer(config?: Config): Peer;
-  /** As {@link open}, with a peer of this module. */
+  /**
+   * Opens a session as {@link open} does, with a peer of this module.
+   *
+   * @throws {RangeError} If the slots are below 14, or a low-water mark is not in 1 to the size of its ring buffer.
+   */
   open(streams: Streams, config?: SessionConfig): Session;
 }
 
-/** Where the module comes from: a place, its bytes, a response that has them, or what was compiled of them. */
+/** The source of the module: a URL, its bytes, a response with its bytes, or a compiled module. */
 export type Source = URL | BufferSource | Response | (WebAssembly.Module & object);
 
-/** Compiles the module and gives it a memory. Without a source it is the package's own file. */
+/** Compiles and instantiates the module, by default from the package's own file. */
 export declare function load(source?: Source | PromiseLike<Source>): Promise<Library>;
 
 /**
- * When a channel's room is issued: the whole ring at the beginning, and what is free as soon as it is; the same once
- * less than `lowWater` guarantees are outstanding, in fewer frames, each with more; or only what the caller issues. A
- * message longer than the mark may wait for ever, so the mark is at least the longest message, and the ring best twice
- * that.
+ * When a channel issues the free bytes of its ring buffer as guarantees. `'at once'`: the whole ring at the
+ * beginning, and all free bytes as soon as they are free. `{ lowWater }`: the whole ring at the beginning, and all
+ * free bytes once fewer than `lowWater` guarantees are outstanding, in fewer frames. `'by caller'`: only what {@link
+ * SessionChannel.issue} issues. A message longer than the mark may wait forever: set the mark to at least the longest
+ * message, and the ring to twice the mark.
  */
 export type IssuePolicy = 'at once' | { readonly lowWater: number } | 'by caller';
 
-/** When a channel's pleads of the other side are honoured: as soon as one comes, or when the caller says so. */
+/**
+ * When a channel honours the receiver's pleads: as soon as one arrives, or when the application calls {@link
+ * SessionChannel.honour}.
+ */
 export type PleadPolicy = 'at once' | 'by caller';
 
-/** The bounds of a session's peer, and what each channel does by itself: one policy for all, or seven. */
+/** The configuration of a session: that of its peer, and the policies of its channels, one for all or seven. */
 export interface SessionConfig extends Config {
   /**
-   * How many frames may wait to go out, 14 to 65,536; 64 where it is left out. Seven are for control frames, seven are
-   * one of its own for each channel, and the others are shared by the messages of all.
+   * The slots of the outbound queue, 14 to 65,536; 64 by default. Seven are reserved for control frames, one belongs
+   * to each channel, and the others are shared by the messages of all channels.
    */
   readonly slots?: number | undefined;
-  /** When room is issued, at once where it is left out. A low-water mark is 1 to the ring's bytes, else a RangeError. */
+  /**
+   * When guarantees are issued, `'at once'` by default. A low-water mark is in 1 to the size of the ring buffer, else
+   * a RangeError is thrown.
+   */
   readonly issue?: IssuePolicy | readonly IssuePolicy[] | undefined;
-  /** When pleads are honoured, at once where it is left out. */
+  /** When pleads are honoured, `'at once'` by default. */
   readonly plead?: PleadPolicy | readonly PleadPolicy[] | undefined;
 }
 
-/** A session over two streams, which are its own from here on. Less than 14 slots are a RangeError. */
+/**
+ * Opens a session over two streams, which belong to the session from here on.
+ *
+ * @throws {LcmuxError} The errors of {@link Library.peer}.
+ * @throws {RangeError} If the slots are below 14, or a low-water mark is not in 1 to the size of its ring buffer.
+ */
 export declare function open(streams: Streams, config?: SessionConfig): Promise<Session>;
 
 /**
- * How a session ended. `Local`: this side closed it. `Remote`: the other side did, in order, so what this side holds
- * guarantees for may still be sent. `Cut`: the other side's stream ended while channels of it were unfinished.
- * `Aborted`: this side gave up. `Transport`: a stream failed, by the error's cause. `Stopped`: the other side's stream
- * broke the framing or a rule, as the cause says, which is an {@link LcmuxError}.
+ * The reason why a session ended. `Local`: this side closed it. `Remote`: the peer closed it in order; this side may
+ * still send what it holds guarantees for. `Cut`: the peer's stream ended while channels of it were unfinished.
+ * `Aborted`: this side aborted it. `Transport`: a stream failed; the error is the cause. `Stopped`: the peer's stream
+ * broke the framing or a rule; the cause is an {@link LcmuxError}.
  */
 export type SessionEnd = 'Local' | 'Remote' | 'Cut' | 'Aborted' | 'Transport' | 'Stopped';
 
-/** Why a call can't go on: the session, or its part that the call needs, has ended. */
+/** The error of a call that cannot proceed: the session, or the part of it that the call needs, has ended. */
 export declare class SessionClosed extends Error {
   constructor(kind: SessionEnd, cause?: unknown);
   readonly name: 'SessionClosed';
+  /** The reason of the end. */
   readonly kind: SessionEnd;
-  /** By what the session ended: the error of a stream, that of the protocol, or what {@link Session.abort} was given. */
+  /** The cause of the end: the error of a stream, a protocol error, or the argument of {@link Session.abort}. */
   readonly cause?: unknown;
 }
 
-/** For a wait that may be given up: it then rejects with the signal's reason, and has done nothing. */
+/** Options of a call that waits. If the signal aborts, the call rejects with the signal's reason and has no effect. */
 export interface WaitOptions {
+  /** Cancels the wait. */
   readonly signal?: AbortSignal | undefined;
 }
 
-/** What a channel did so far, in both directions. */
+/** The statistics of a channel, in both directions. */
 export interface Stats {
-  /** Messages that were accepted to be sent. */
+  /** The messages that were accepted to be sent. */
   readonly messagesSent: number;
-  /** Their bytes. */
+  /** The bytes of these messages. */
   readonly bytesSent: number;
-  /** Messages that were received. */
+  /** The messages that were received. */
   readonly messagesReceived: number;
-  /** Their bytes. */
+  /** The bytes of these messages. */
   readonly bytesReceived: number;
-  /** The most bytes of messages that were in the ring at once. */
+  /** The most bytes of messages that the ring buffer held at once. */
   readonly mostBuffered: number;
-  /** How long the first send that waited did so for guarantees, in milliseconds, also one that still does. */
+  /** The time in which the first waiting send lacked guarantees, in milliseconds. A send that still waits counts. */
   readonly waitedForGuarantees: number;
-  /** How long it waited for a place in the queue, or for its turn, in milliseconds. */
+  /**
+   * The time in which that send had its guarantees and waited for the outbound queue, in milliseconds: for a slot, or
+   * for its bytes.
+   */
   readonly waitedForSlots: number;
 }
 
 /** This side of a session over two streams. */
 export declare class Session {
   private constructor();
-  /** The channel of this number. */
+  /** Returns the channel with this number. */
   channel(channel: Channel): SessionChannel;
-  /** What the channel did so far. */
+  /** Returns the statistics of the channel. */
   stats(channel: Channel): Stats;
-  /** Why the session is over, the first reason there was; null while it is not. Each wait ends by it. */
+  /** The first reason why the session is over, or null while it is not. All waiting calls reject with it. */
   readonly reason: SessionClosed | null;
   /**
-   * Resolves once the session has ended in order: both sides have finished all their channels and ended their streams.
-   * Rejects with the reason, at once, where it ends by anything else.
+   * Resolves once the session has ended in order: both sides have finished all their channels and ended their
+   * streams. Rejects with the reason, at once, if the session ends by anything else.
    */
   readonly closed: Promise<void>;
   /**
-   * Refuses the sends that wait, writes what was accepted, finishes every open channel, and ends this side's stream.
-   * What the other side sends meanwhile can be received; nothing more is issued. The answer is {@link closed}: it waits
-   * until the other side has closed, too.
+   * Closes the session in order: rejects the waiting sends, writes all accepted messages, finishes every open
+   * channel, and ends this side's stream. Messages of the peer can still be received, but no more guarantees are
+   * issued. Returns {@link closed}, which waits until the peer has closed, too.
    */
   close(): Promise<void>;
   /**
-   * Ends the session at once. What was not written is lost, of what was written all that the other side has not read
-   * yet may be, and nothing more is received here.
+   * Ends the session at once. Messages that were not written are lost, and so may be written ones that the peer has
+   * not read yet. Nothing more is received here.
    */
   abort(cause?: unknown): void;
 }
 
 /**
- * A channel of a session. Its messages are received by iterating over it.
+ * A channel of a session. Iterate over it to receive its messages.
  *
- * Calls that do not wait are refused by an {@link LcmuxError} as those of {@link Peer} are, but for want of a slot: what
- * finds none stays pending as one amount for each channel and kind, and precedes messages. Once this side is closed or
- * the session is over, they throw a {@link SessionClosed}.
+ * Calls that do not wait throw an {@link LcmuxError} as those of {@link Peer} do, but never for want of a slot: a
+ * control frame that finds no slot stays pending, as one amount for each channel and kind, and precedes messages.
+ * Once this side is closed or the session is over, they throw a {@link SessionClosed}.
  */
 export declare class SessionChannel implements AsyncIterable<Uint8Array> {
   private constructor();
   /**
-   * Sends a message once there are guarantees and a slot for it, its bytes fit, and it is its turn, behind those that
-   * wait on this channel. A body that has to wait is copied. One that can never be sent is refused by an
-   * {@link LcmuxError}, and one longer than the other side's ring waits for good. It rejects with a
-   * {@link SessionClosed} once the session is closed or over, or where guarantees are missing and the other side closed.
+   * Sends a message. It waits for guarantees and for a slot in the outbound queue, behind the sends that already wait
+   * on this channel. A body that has to wait is copied. A message longer than the peer's ring buffer waits until the
+   * session ends.
+   *
+   * @throws {LcmuxError} `ChannelFinished`, `EmptyBody`, `BodyTooLong` or `PastSendLimit` if the call is not allowed;
+   *   `Never` if the receiver will not issue enough guarantees; `OutOfMemory` if an allocation failed.
+   * @throws {SessionClosed} Once the session is closed or over, or if guarantees are missing and the peer closed the
+   *   session.
    */
   send(body: Uint8Array, options?: WaitOptions): Promise<void>;
   /**
-   * Ends the channel: nothing more is sent, all guarantees are given up, and the other side's iteration ends, in
-   * version 1 by a limit of 0. It does not wait: sends that do already go before it, and later ones are refused.
+   * Finishes the channel: this side sends nothing more on it and waives its guarantees, and the peer's iteration
+   * ends. In version 1 a limit of 0 ends the channel. It does not wait: sends that already wait precede it, and later
+   * sends are refused.
+   *
+   * @throws {LcmuxError} `ChannelFinished` if the channel is finished already.
    */
   finish(): void;
   /**
-   * At most `bound` bytes are sent from here on; 0 ends the channel. It does not wait: sends that do already go before
-   * it, and a later one that is longer is refused. Refused by 15, 7 and 8, in this order.
+   * Limits sending to at most `bound` bytes from here on; 0 ends the channel. It does not wait: sends that already
+   * wait precede it, and a later send of more bytes is refused.
+   *
+   * @throws {LcmuxError} The first of these that applies: `ChannelFinished`, `BoundTooLarge`, `LimitRaised`.
    */
   limitSending(bound: number | bigint): void;
-  /** `amount` guarantees are given up, also such as a send waits for. Refused by 15, 5 and 6, in this order. */
+  /**
+   * Absolves: gives `amount` guarantees back to the receiver, also guarantees that a send waits to use.
+   *
+   * @throws {LcmuxError} The first of these that applies: `ChannelFinished`, `ZeroAmount`, `NotHeld`.
+   */
   absolve(amount: number): void;
   /** The guarantees that sends may use; 0 once the session is over. */
   readonly held: number;
-  /** The target of the other side's last plead, to hold at most so much; null once it was honoured. */
+  /**
+   * The target of the receiver's last plead: the most guarantees that this side should hold. Null once the plead was
+   * honoured.
+   */
   readonly pleaded: number | null;
   /**
-   * Honours the other side's last plead, where the policy leaves that to the caller: what is held above its target is
-   * given up, which is the answer. Refused by 15.
+   * Honours the receiver's last plead, if the policy leaves that to the application. It absolves the guarantees above
+   * the target and returns how many these are.
+   *
+   * @throws {LcmuxError} `ChannelFinished` if the channel is finished.
    */
   honour(): number;
 
   /**
-   * The next message, once there is one; null where none will come. Once the session is over it rejects with the
-   * reason, behind the messages that had arrived, but for an abort, which drops these.
+   * Receives the next message, and waits for it. Returns null once the channel has ended.
+   *
+   * @throws {SessionClosed} Once the session is over and all messages that arrived were received. After an abort at
+   *   once: the messages that arrived are dropped.
    */
   receive(options?: WaitOptions): Promise<Uint8Array | null>;
-  /** The messages, until none will come. What {@link receive} rejects with is thrown. */
+  /** Iterates over the messages until the channel ends. It throws what {@link receive} rejects with. */
   [Symbol.asyncIterator](): AsyncIterableIterator<Uint8Array>;
-  /** The room of the ring that was not issued yet; 0 once the session is over. */
+  /** The free bytes of the ring buffer that may be issued now; 0 once the session is over. */
   readonly room: number;
-  /** `amount` guarantees are issued, beside what the policy does. Refused by 15, 5, 9, 10 and 12, in this order. */
+  /**
+   * Issues `amount` guarantees, beside those that the policy issues.
+   *
+   * @throws {LcmuxError} `ChannelFinished`, `ZeroAmount`, `PastReceiveLimit`, `NoRoom` or `TotalReached`.
+   */
   issue(amount: number): void;
-  /** Room is issued by this policy from here on, also what an earlier plead kept back. */
+  /**
+   * Sets the issue policy from here on. It also issues what an earlier plead kept back.
+   *
+   * @throws {RangeError} If a low-water mark is not in 1 to the size of the ring buffer.
+   */
   setIssuePolicy(policy: IssuePolicy): void;
   /**
-   * The other side is asked to hold at most `target` guarantees. From here on the policy issues no more than that many,
-   * until it is set anew. Refused by 15 and 11, in this order.
+   * Pleads: asks the sender to hold at most `target` guarantees and to absolve the others. From here on the policy
+   * issues no more than `target`, until the policy is set again.
+   *
+   * @throws {LcmuxError} The first of these that applies: `ChannelFinished`, `NothingToAsk`.
    */
   plead(target: number): void;
-  /** At most `bound` guarantees are issued from here on. Refused by 15, 7 and 8, in this order. */
+  /**
+   * Limits issuing to at most `bound` guarantees from here on.
+   *
+   * @throws {LcmuxError} The first of these that applies: `ChannelFinished`, `BoundTooLarge`, `LimitRaised`.
+   */
   limitReceiving(bound: number | bigint): void;
 }
 
-/** What {@link fromWebSocket} needs of a WebSocket. */
+/** The members of a WebSocket that {@link fromWebSocket} uses. */
 export interface WebSocketLike {
   binaryType: string;
   readonly readyState: number;
@@ -548,12 +705,16 @@ export interface WebSocketLike {
 }
 
 /**
- * The two streams of a WebSocket, once it is open. It has no end of one direction alone, so a message of no bytes says
- * that a side writes no more. A write waits while the WebSocket has more than 2^20 bytes to send, and fails where the
- * WebSocket is closing, which would drop its bytes without a word.
+ * Makes the two streams of a WebSocket, and waits until it is open. A WebSocket has no half-close, so an empty
+ * message means that its sender writes no more: use this function on both sides.
  *
- * A message that is no bytes, such as a text, fails both streams and closes the WebSocket, by the code 1003, or 4003
- * in a browser, where a page may not name 1003. A message that arrives before this call is lost: in a server make the
- * call where the connection is told, before anything is awaited.
+ * A write waits while the WebSocket has more than 2^20 bytes to send, and fails if the WebSocket is closing, which
+ * would drop its bytes silently.
+ *
+ * A message that is no bytes, such as a text, fails both streams and closes the WebSocket with the code 1003, or 4003
+ * in a browser, where a page may not use 1003. A message that arrives before this call is lost: in a server, call it
+ * in the handler of the new connection, before any await.
+ *
+ * @throws {Error} If the WebSocket is closed, or closes before it is open.
  */
 export declare function fromWebSocket(socket: WebSocketLike): Promise<Streams>;

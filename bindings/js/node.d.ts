@@ -1,16 +1,18 @@
 import type { Streams } from './lcmux.js';
 
 /**
- * The two streams of a socket of `node:net` or `node:tls`, without the delay of small writes. The socket is theirs from
- * here on.
+ * Makes the two streams of a socket of `node:net` or `node:tls`, and disables the delay of small writes. The socket
+ * belongs to the streams from here on.
  *
- * Each direction has an end of its own, so the socket becomes one with `allowHalfOpen: true`, whatever it was made
- * with: else Node ends this side's direction as soon as the other side ended its own, and what was still to be written
- * is lost. Node lets a program set this until the other side's end was told. A socket that is destroyed, or of which
- * either direction has ended, is an Error, as is one that decodes what comes, by `setEncoding`.
+ * The socket is set to `allowHalfOpen: true`, however it was made: else Node ends this side's direction as soon as
+ * the peer has ended its own, and pending bytes are lost. Node accepts this setting until it has reported the end of
+ * the peer's direction.
  *
- * A socket that closes or fails before the other side's end fails both streams: that is never told as an end. Where a
- * stream is cancelled or aborted, so is the socket, and over TCP the other side gets a reset. TLS and Unix sockets have
- * none: what is cut off there looks to the other side like the end of the stream, which its session tells as cut.
+ * A socket that closes or fails before the end of the peer's direction fails both streams, and is never reported as
+ * an end. If a stream is cancelled or aborted, the socket is destroyed, and over TCP the peer gets a reset. TLS and
+ * Unix sockets have no reset: there the peer observes the end of the stream, which its session reports as `Cut`.
+ *
+ * @throws {Error} If the socket is destroyed, if either direction has ended, or if it decodes its bytes, by
+ *   `setEncoding`.
  */
 export declare function fromSocket(socket: object): Streams;

@@ -1,6 +1,6 @@
-// What a round of two peers on one thread costs through this package: a message of 16, 1,024 or 61,440 bytes there,
-// and its guarantees back, as `pieces` of the crate for Rust. `node benches/rounds.js` prints a line `name value
-// unit` for each, of the processor's time and not the clock's.
+// Measures a round of two peers on one thread through this package: a message of 16, 1,024 or 61,440 bytes, and its
+// guarantees back, like `pieces` of the crate for Rust. `node benches/rounds.js` prints a line `name value unit` for
+// each, in processor time.
 import { Channel, load } from 'lcmux';
 
 const { Data } = Channel;
@@ -12,7 +12,7 @@ function carry(from, to) {
   to.deliver(wire.subarray(0, count));
 }
 
-/** A message goes from the client to the server, over a wire in memory. */
+/** Sends a message from the sender to the receiver, over a wire in memory. */
 class Exchange {
   #client;
   #server;

@@ -24,7 +24,7 @@ async function serve(request, response) {
   }
 }
 
-// What comes from one goes to the other. While that has much to send, no more is read.
+// Forwards the bytes of one WebSocket to the other. While the other has many pending bytes, no more are read.
 function forward(from, to) {
   from.on('message', (bytes, binary) => {
     from.pause();
@@ -33,7 +33,7 @@ function forward(from, to) {
   from.on('close', () => to.close());
 }
 
-// One who waits for another, and what it sent meanwhile.
+// The WebSocket that waits for a partner, and the messages that it sent meanwhile.
 class Waiting {
   #socket;
   #held = [];

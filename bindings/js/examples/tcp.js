@@ -1,5 +1,5 @@
 // Two sides in two processes, over one TCP connection: `node examples/tcp.js`. The program starts itself a second
-// time as the other side.
+// time as its peer.
 import { spawn } from 'node:child_process';
 import { once } from 'node:events';
 import { connect, createServer } from 'node:net';
@@ -16,7 +16,7 @@ async function sendAll(port) {
   for (let k = 0; k < MESSAGES; k += 1) {
     await data.send(Uint8Array.of(k >> 8, k));
   }
-  await session.close(); // finishes the channel, which ends the other side's iteration
+  await session.close(); // finishes the channel, which ends the peer's iteration
 }
 
 async function takeAll(socket) {

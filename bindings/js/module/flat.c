@@ -1,5 +1,5 @@
-/* The calls of lcmux.h for a host whose numbers have 32 bits. An address is a u32, since the memory stays
- * below 4 GiB; the result is a code, and what goes with it lies at answered(). */
+/* The calls of lcmux.h for a host with 32-bit numbers. An address is a u32, since the memory stays below 4 GiB. The
+ * return value is a code, and the rest of the result is at answered(). */
 #include "lcmux.h"
 #include "lcmux_heap.h"
 
@@ -9,7 +9,7 @@ typedef uint64_t u64;
 #define EXPORT(name) __attribute__((export_name(#name))) name
 #define AT(address) ((void *)(size_t)(address))
 
-/* What goes with the last code. Of a delivery the number is how many bytes were taken. */
+/* The rest of the last result. For a delivery, the number is how many bytes were consumed. */
 static struct {
     u64 number;
     u64 frames;
@@ -22,7 +22,7 @@ static struct {
     };
 } last;
 
-/* Where bytes go in and out: room for the longest message. */
+/* The buffer for inbound and outbound bytes: it holds the longest message. */
 static uint8_t place[1 << 20];
 
 static u32 answer(lcmux_answer it) {
@@ -34,7 +34,7 @@ u32 EXPORT(answered)(void) { return (u32)(size_t)&last; }
 u32 EXPORT(place_at)(void) { return (u32)(size_t)place; }
 u32 EXPORT(place_len)(void) { return sizeof place; }
 
-/* A handle, or 0 where there is no memory. */
+/* Makes a handle, or returns 0 if the allocation fails. */
 u32 EXPORT(handle_new)(void) {
     struct lcmux_tried tried = lcmux_alloc(sizeof(lcmux_peer), _Alignof(lcmux_peer));
     if (!tried.ok)
@@ -45,10 +45,10 @@ u32 EXPORT(handle_new)(void) {
 
 void EXPORT(handle_free)(u32 peer) { lcmux_dealloc(AT(peer)); }
 
-/* The configuration lies in the place. */
+/* The configuration is in the buffer. */
 u32 EXPORT(peer_new)(u32 peer) { return answer(lcmux_peer_new((const lcmux_config *)(void *)place, AT(peer))); }
 
-/* The calls on a peer, by what they take beside it. */
+/* The calls on a peer, by their other arguments. */
 #define OF_PEER(name) \
     u32 EXPORT(peer_##name)(u32 peer) { return answer(lcmux_peer_##name(AT(peer))); }
 #define OF_CHANNEL(name) \
@@ -83,7 +83,7 @@ OF_BOUND(would_limit_sending)
 OF_BOUND(would_limit_receiving)
 OF_BOUND(needs)
 
-/* Those whose bytes go through the place: `len` is at most its length. */
+/* The calls whose bytes pass through the buffer: `len` is at most its length. */
 u32 EXPORT(peer_send)(u32 peer, u32 channel, u32 len) { return answer(lcmux_peer_send(AT(peer), channel, place, len)); }
 u32 EXPORT(peer_take)(u32 peer, u32 channel, u32 len) { return answer(lcmux_peer_take(AT(peer), channel, place, len)); }
 u32 EXPORT(peer_write)(u32 peer, u32 len) { return answer(lcmux_peer_write(AT(peer), place, len)); }
@@ -95,10 +95,22 @@ u32 EXPORT(peer_deliver)(u32 peer, u32 len) {
     return delivery.code;
 }
 
-/* Those that answer more than a number. */
-u32 EXPORT(peer_client)(u32 peer, u32 channel) { return answer(lcmux_peer_client(AT(peer), channel, &last.client)); }
-u32 EXPORT(peer_server)(u32 peer, u32 channel) { return answer(lcmux_peer_server(AT(peer), channel, &last.server)); }
-u32 EXPORT(peer_ready)(u32 peer) { return answer(lcmux_peer_ready(AT(peer), &last.ready)); }
+/* The calls that return more than a number: the first three in a struct whose first field is its size. */
+u32 EXPORT(peer_client)(u32 peer, u32 channel) {
+    last.client.size = sizeof last.client;
+    return answer(lcmux_peer_client(AT(peer), channel, &last.client));
+}
+
+u32 EXPORT(peer_server)(u32 peer, u32 channel) {
+    last.server.size = sizeof last.server;
+    return answer(lcmux_peer_server(AT(peer), channel, &last.server));
+}
+
+u32 EXPORT(peer_ready)(u32 peer) {
+    last.ready.size = sizeof last.ready;
+    return answer(lcmux_peer_ready(AT(peer), &last.ready));
+}
+
 u32 EXPORT(peer_next)(u32 peer) { return answer(lcmux_peer_next(AT(peer), &last.next)); }
 u32 EXPORT(peer_front)(u32 peer, u32 channel) { return answer(lcmux_peer_front(AT(peer), channel, &last.front)); }
 

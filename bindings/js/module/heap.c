@@ -1,21 +1,21 @@
-/* The functions by which the library asks for memory, over the module's own, which only grows.
- * Blocks lie one behind the other from the end of the data on. Each begins with its length, that of the
- * block before it and whether it is free; of two neighbours at most one is. The last is a mark of length
- * 0 that is never free. A search begins where the last one ended. For one thread. */
+/* The functions by which the library allocates from the module's memory, which only grows. The blocks are adjacent,
+ * from the end of the data on. Each begins with its length, the length of the block before it, and whether it is
+ * free; no two neighbours are free. The last block is a mark of length 0 that is never free. A search begins where
+ * the last one ended. For one thread. */
 #include "lcmux_heap.h"
 
 #include <stdint.h>
 
 struct block {
-    size_t len;    /* with this head; 0 for the mark at the end */
+    size_t len;    /* including this head; 0 for the mark at the end */
     size_t before; /* the length of the block before it; 0 for the first */
     size_t is_free;
-    size_t unused; /* so that what lies behind a head is aligned to 16, as the head is */
+    size_t unused; /* pads the head to a multiple of 16, so that the block is aligned */
 };
 
 enum { HEAD = sizeof(struct block), GRAIN = 16, PAGE = 65536 };
 
-/* More than the memory may have. */
+/* More than the memory may grow to. */
 static const size_t MOST = (size_t)1 << 32;
 
 extern unsigned char __heap_base;
@@ -27,7 +27,7 @@ static struct block *head_of(void *at) { return (struct block *)((char *)at - HE
 
 static size_t rounded(size_t size, size_t grain) { return (size + grain - 1) / grain * grain; }
 
-/* A block takes in the free one behind it. */
+/* Merges a block with the free block after it. */
 static void join(struct block *it) {
     struct block *other = behind(it);
     if (!it->is_free || !other->is_free)
@@ -45,11 +45,11 @@ static void release(struct block *it) {
         join(in_front(it));
 }
 
-/* A free block of at least so many bytes is put last. */
+/* Grows the memory and appends a free block of at least this size. */
 static bool grow(size_t len) {
     size_t pages = rounded(len + 2 * HEAD, PAGE) / PAGE;
     size_t old = __builtin_wasm_memory_grow(0, pages);
-    if (old >= MOST / PAGE) /* -1: there is no more */
+    if (old >= MOST / PAGE) /* -1: the memory cannot grow */
         return false;
     struct block *it = mark ? mark : (struct block *)rounded((size_t)&__heap_base, GRAIN);
     struct block *end = (struct block *)((old + pages) * PAGE - HEAD);
@@ -62,7 +62,7 @@ static bool grow(size_t len) {
     return true;
 }
 
-/* A free block of at least so many bytes, or NULL. */
+/* Returns a free block of at least this size, or NULL. */
 static struct block *find(size_t len) {
     struct block *it = next;
     if (!it)
@@ -75,7 +75,7 @@ static struct block *find(size_t len) {
     return NULL;
 }
 
-/* Takes the front of a free block; the rest, if it is worth a head, stays free. */
+/* Takes the front of a free block; the rest stays free if it is large enough for a head. */
 static void *take(struct block *it, size_t len) {
     size_t rest = it->len - len;
     if (rest >= HEAD + GRAIN) {

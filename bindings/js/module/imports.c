@@ -1,7 +1,7 @@
-/* What the proved library asks of the module that it is linked into: its heap, and leave for each call. */
+/* The functions that the proved library imports from its module: its heap, and a check around each call. */
 #include "lcmux_heap.h"
 
-/* The name that the library has for a function which it imports from the module lcmux. */
+/* The name of a function that the library imports from the module lcmux. */
 #define IMPORT(name) __asm__("import " #name " from lcmux")
 
 struct lcmux_tried heap_alloc(size_t size, size_t align) IMPORT(heap_alloc);
@@ -9,12 +9,12 @@ void heap_dealloc(void *at, size_t size, size_t align) IMPORT(heap_dealloc);
 
 struct lcmux_tried heap_alloc(size_t size, size_t align) { return lcmux_alloc(size, align); }
 void heap_dealloc(void *at, size_t size, size_t align) {
-    (void)size, (void)align; /* a block knows its length */
+    (void)size, (void)align; /* the head of a block has its length */
     lcmux_dealloc(at);
 }
 
-/* Each export of the library enters and leaves. One that is entered while another has not left traps: that
- * other one called back, or trapped itself. */
+/* Each export of the library enters and leaves. Entering one while another has not left traps: that other call called
+ * back, or trapped. */
 int __rattle_enter(void);
 void __rattle_leave(void);
 _Noreturn void __rattle_trap(void);

@@ -1,5 +1,5 @@
-/* For the tests: a heap that counts its requests and its blocks, and refuses the request that one chooses.
- * The linker puts it before heap.c. */
+/* For the tests: a heap that counts its requests and its blocks, and refuses a chosen request. The linker puts it
+ * before heap.c. */
 #include "lcmux_heap.h"
 
 #include <stdint.h>
@@ -14,7 +14,7 @@ static char nothing;
 
 static bool is_refused(void) { return ++made == refused; }
 
-/* Of the requests from here on the one of this number is refused; 0: none. */
+/* The number of the request that is refused, counted from here on; 0 for none. */
 void EXPORT(refuse)(uint32_t number) {
     made = 0;
     refused = number;
@@ -36,7 +36,7 @@ void __wrap_lcmux_dealloc(void *at) {
     __real_lcmux_dealloc(at);
 }
 
-/* The heap's calls, with numbers of 32 bits: an address, or 0 where there is no memory. */
+/* The calls of the heap with 32-bit numbers: an address, or 0 if the allocation failed. */
 static uint32_t address(struct lcmux_tried tried) { return tried.ok ? (uint32_t)(size_t)tried.at : 0; }
 uint32_t EXPORT(heap_alloc)(uint32_t size, uint32_t align) { return address(lcmux_alloc(size, align)); }
 void EXPORT(heap_free)(uint32_t at) { lcmux_dealloc((void *)(size_t)at); }

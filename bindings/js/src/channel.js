@@ -1,4 +1,4 @@
-/** The logical channels. Each runs in both directions, independently. */
+/** The logical channels. Each runs in both directions, and these are independent. */
 export const Channel = Object.freeze({
   Reconciliation: 0,
   Data: 1,

@@ -1,16 +1,16 @@
 import { LcmuxError } from './codes.js';
 
-/** What each kind of end says. */
+/** The sentence of each kind of end. */
 const SENTENCES = {
   Local: 'the session is closed',
   Remote: 'the peer closed the session',
-  Cut: "the peer's stream ended before its channels did",
+  Cut: "the peer's stream ended while its channels were unfinished",
   Aborted: 'the session was aborted',
   Transport: 'the transport failed',
-  Stopped: "the peer's stream was given up",
+  Stopped: "the peer's stream broke the protocol",
 };
 
-/** Why a call can't go on: the session, or its part that the call needs, has ended. */
+/** The error of a call that cannot proceed: the session, or the part of it that the call needs, has ended. */
 export class SessionClosed extends Error {
   constructor(kind, cause) {
     const sentence = SENTENCES[kind];
@@ -20,10 +20,10 @@ export class SessionClosed extends Error {
 }
 Object.defineProperty(SessionClosed.prototype, 'name', { value: 'SessionClosed', configurable: true, writable: true });
 
-/** Whether an error is the answer of one call. Any other says that the module trapped, or is wrong. */
+/** Returns whether an error belongs to one call. Any other error means that the module trapped, or has a bug. */
 export const isAnswer = error => error instanceof LcmuxError || error instanceof SessionClosed;
 
-/** The reason of a session that ends where the peer refused a delivery, or could not make it. */
+/** Returns the reason of a session that ends because a delivery failed. */
 export function stopOf(error) {
   if (error instanceof LcmuxError && error.isStop) {
     return new SessionClosed('Stopped', error);

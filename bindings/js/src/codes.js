@@ -1,6 +1,7 @@
-// The codes of lcmux.h: number, name, sentence, and what the number says that goes with some of them.
-// scripts/codes compares the table with the library's own, and a test with what the module says.
+// The codes of lcmux.h: number, name, sentence, and the name of the number that belongs to some of them. A test compares
+// the sentences with those of the module.
 const TABLE = [
+  // codes: begin codes
   [1, 'EmptyBody', 'the message is empty'],
   [2, 'BodyTooLong', 'the message is too long'],
   [3, 'PastSendLimit', 'the message is longer than the limit on sending leaves', 'left'],
@@ -26,6 +27,7 @@ const TABLE = [
   [36, 'BadCapacity', 'a capacity is not 1 to 2^24', 'channel'],
   [37, 'BadSlots', 'the slots are not 1 to 65,536'],
   [38, 'NoCode', 'there is no such code'],
+  [39, 'BadSize', 'a struct is shorter than its size has to be', 'needed'],
   [48, 'Empty', 'no message waits'],
   [49, 'Ended', 'no message waits, and none will come'],
   [50, 'Never', 'the message can never be sent'],
@@ -44,6 +46,7 @@ const TABLE = [
   [202, 'ZeroLength', 'a message has length 0'],
   [203, 'BadNumber', 'a number in a frame is out of its range'],
   [204, 'Truncated', 'the stream ends within a frame or a greeting'],
+  // codes: end
 ];
 
 const ROWS = new Map(TABLE.map(([code, kind, sentence, says]) => [code, { kind, sentence, says }]));
@@ -51,10 +54,10 @@ const ROWS = new Map(TABLE.map(([code, kind, sentence, says]) => [code, { kind, 
 /** The numbers of the codes, by their names. */
 export const Code = Object.freeze(Object.fromEntries(TABLE.map(([code, kind]) => [kind, code])));
 
-/** Violations and faults begin here. */
+/** The first code of a protocol error. */
 const FIRST_STOP = 101;
 
-/** Why a call was refused, why there is no peer, or why a stream was given up. */
+/** The error of a refused call, of a configuration or a freed peer, or of a protocol error. */
 export class LcmuxError extends Error {
   constructor(code, number) {
     const { kind, sentence, says } = ROWS.get(code);
@@ -65,12 +68,12 @@ export class LcmuxError extends Error {
     this.number = says ? number : undefined;
   }
 
-  /** Whether the stream was given up: what came breaks the rules or is no frame. */
+  /** Whether this is a protocol error: the peer's stream broke the framing or a rule. */
   get isStop() {
     return this.code >= FIRST_STOP;
   }
 
-  /** For JSON, which has no bigint: the number is then a decimal string. */
+  /** The members for JSON, which has no bigint: such a number becomes a decimal string. */
   toJSON() {
     const number = typeof this.number === 'bigint' ? String(this.number) : this.number;
     return { name: this.name, message: this.message, ...this, number };
@@ -78,7 +81,7 @@ export class LcmuxError extends Error {
 }
 Object.defineProperty(LcmuxError.prototype, 'name', { value: 'LcmuxError', configurable: true, writable: true });
 
-/** The error of a code and the u64 that came with it: what a limit leaves may be above 2^53, and stays a BigInt. */
+/** Makes the error of a code and its u64. What a limit allows may exceed 2^53, and stays a BigInt. */
 export function errorOf(code, long) {
   return new LcmuxError(code, ROWS.get(code).says === 'left' ? long : Number(long));
 }

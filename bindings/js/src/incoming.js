@@ -1,7 +1,7 @@
 import { Code, LcmuxError } from './codes.js';
 import { List } from './list.js';
 import { judge } from './outgoing.js';
-import { ENDED } from './peer.js';
+import { ENDED, RING } from './peer.js';
 import { AT_ONCE, BY_CALLER } from './policy.js';
 import { Waits } from './waits.js';
 
@@ -13,21 +13,23 @@ const isMessage = taken => taken instanceof Uint8Array;
 /** A channel in the direction in which this side receives. */
 export class Incoming {
   channel;
-  /** The bytes of the channel's ring. */
+  /** The size of the channel's ring buffer. */
   capacity;
   #link;
   #peer;
   #policy;
   #stats;
   #calls = new Waits(() => {});
-  // The target of the last plead, above which no policy issues.
+  // The target of the last plead: no policy issues above it.
   #most = null;
-  // What is owed, in the order in which it goes. A later issue is counted off a limit, and onto a plead, that still
-  // wait: so they leave what they would have left.
+  // The pending control frames, in the order in which they are enqueued. A later issue is subtracted from a pending limit
+  // and added to the target of a pending plead: the effect is that of the order of the calls.
   #issued = 0;
   #limited = null;
   #pleaded = null;
-  // Once the session is over: the messages that were there to be taken, and whether more were to come.
+  // Whether a limit was enqueued.
+  #isLimited = false;
+  // Once the session is over: the messages that had arrived, and whether more would have followed.
   #left = new List();
   #hasEnded = false;
 
@@ -40,7 +42,7 @@ export class Incoming {
     this.#stats = stats;
   }
 
-  /** The next message, null where none will come, or a promise of it. */
+  /** Returns the next message, null if none will arrive, or a promise of it. */
   receive(signal) {
     if (this.#link.reason !== null) {
       return this.#afterwards();
@@ -49,15 +51,15 @@ export class Incoming {
     return taken === null ? this.#calls.join({}, signal) : this.#answer(taken);
   }
 
-  /** Whether the other side sends nothing more: by a Finish, or by a limit that is used up. */
+  /** Whether the peer sends nothing more: it finished the channel, or used up its limit on sending. */
   get isFinishedThere() {
     const { finished, sendLeft } = this.#peer.server(this.channel);
     return finished || sendLeft === 0n;
   }
 
-  /** Frames came: who waits has what is there, and what was given up there is room again. */
+  /** Records that frames arrived: waiting calls get the messages, and absolved bytes are free again. */
   arrived() {
-    const { buffered, room } = this.#peer.server(this.channel);
+    const { buffered, room } = this.#peer[RING](this.channel);
     this.#stats.buffered(buffered);
     if (room > 0) {
       this.#link.owes(this);
@@ -67,9 +69,9 @@ export class Incoming {
     }
   }
 
-  /** What may be issued beside what is owed. */
+  /** The bytes that may be issued beside the pending issue. */
   get room() {
-    return this.#peer.server(this.channel).room - this.#issued;
+    return this.#peer[RING](this.channel).room - this.#issued;
   }
 
   issue(amount) {
@@ -103,7 +105,7 @@ export class Incoming {
     this.#link.owes(this);
   }
 
-  /** Room is issued by this policy from here on, whatever was pleaded for. */
+  /** Sets the issue policy, and drops the target of earlier pleads. */
   setPolicy(policy) {
     this.#link.mayGoOut();
     this.#policy = policy;
@@ -111,12 +113,12 @@ export class Incoming {
     this.#link.owes(this);
   }
 
-  /** Enqueues what is owed, and what the policy issues. Whether all of it found a slot. */
+  /** Enqueues the pending control frames, and the issue of the policy. Returns whether all of them found a slot. */
   flush() {
     return this.#flushIssued() && this.#flushLimited() && this.#flushPleaded() && this.#issueByPolicy();
   }
 
-  /** The session is over: what is there can still be received, where `isKept`. */
+  /** Records that the session is over: the messages that arrived can still be received if `isKept`. */
   close(isKept) {
     let taken = null;
     while (isKept && isMessage((taken = this.#peer.take(this.channel)))) {
@@ -125,7 +127,7 @@ export class Incoming {
     this.#hasEnded = taken === ENDED;
   }
 
-  /** Answers those who wait for a message. */
+  /** Resolves the calls that wait for a message. */
   release() {
     for (let wait; (wait = this.#calls.shift()) !== undefined; ) {
       try {
@@ -160,7 +162,7 @@ export class Incoming {
     return this.#answer(left);
   }
 
-  // The refusal of an issue that comes after one that is owed.
+  // The refusal of an issue that follows a pending one.
   #judgeIssue(amount) {
     const refusal = this.#peer.wouldIssue(this.channel, amount === 0 ? 0 : Math.min(amount + this.#issued, MAX_U32));
     switch (refusal?.code) {
@@ -173,7 +175,7 @@ export class Incoming {
     }
   }
 
-  // What limits leave once all is issued that is owed.
+  // What the limits allow once the pending issue is sent.
   get #leftToIssue() {
     const { receiveLeft } = this.#peer.server(this.channel);
     return this.#limited ?? (receiveLeft === null ? null : receiveLeft - BigInt(this.#issued));
@@ -197,11 +199,12 @@ export class Incoming {
       }
       this.#link.enqueue(() => this.#peer.limitReceiving(this.channel, this.#limited));
       this.#limited = null;
+      this.#isLimited = true;
     }
     return true;
   }
 
-  // The other side may have used meanwhile what it was to give up.
+  // The peer may have used the guarantees meanwhile.
   #flushPleaded() {
     if (this.#pleaded !== null) {
       if (!this.#link.hasSlot) {
@@ -224,15 +227,21 @@ export class Incoming {
     return true;
   }
 
+  // As much of an amount as the limit leaves.
+  #within(amount) {
+    const { receiveLeft } = this.#peer.server(this.channel);
+    return receiveLeft > BigInt(amount) ? amount : Number(receiveLeft);
+  }
+
   get #due() {
     if (this.#policy === BY_CALLER || this.#link.isClosing) {
       return 0;
     }
-    const { finished, outstanding, room, receiveLeft } = this.#peer.server(this.channel);
+    const { finished, outstanding, room } = this.#peer[RING](this.channel);
     if (finished || (this.#policy !== AT_ONCE && outstanding >= this.#policy.lowWater)) {
       return 0;
     }
     const amount = Math.min(room, Math.max(0, (this.#most ?? this.capacity) - outstanding));
-    return receiveLeft === null || receiveLeft > BigInt(amount) ? amount : Number(receiveLeft);
+    return amount > 0 && this.#isLimited ? this.#within(amount) : amount;
   }
 }

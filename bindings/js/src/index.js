@@ -1,4 +1,5 @@
-// Seven logical channels each way between two peers, over one ordered byte stream each way.
+// Seven logical channels each way between two peers, over one ordered byte stream each way, with credit-based flow
+// control for each channel.
 export { CHANNELS, Channel } from './channel.js';
 export { Code, LcmuxError } from './codes.js';
 export { load, open } from './library.js';

@@ -3,10 +3,10 @@ import { Module } from './module.js';
 import { Peer } from './peer.js';
 import { startSession } from './session.js';
 
-/** Where the package has the module. */
+/** The module of the package. */
 const OWN = new URL('../out/lcmux.wasm', import.meta.url);
 
-/** An instance of the module: its peers share a memory, and end together where one of its calls traps. */
+/** An instance of the module. Its peers share a memory, and all end if one of its calls traps. */
 class Library {
   #module;
 
@@ -35,12 +35,12 @@ class Library {
   }
 }
 
-/** The module is compiled and has its memory. */
+/** Compiles the module and makes its memory. */
 export async function load(source = OWN) {
   return new Library(await Module.from(source));
 }
 
-// What `open` uses, loaded by its first call, and anew where that failed or a call trapped.
+// The library of `open`, loaded by its first call, and again if that failed or a call trapped.
 let shared = null;
 
 async function sharedLibrary() {
@@ -52,7 +52,7 @@ async function sharedLibrary() {
   return shared;
 }
 
-/** A session over two streams of bytes, with the package's own module. */
+/** Opens a session over two byte streams, with the package's own module. */
 export async function open(streams, config) {
   return (await sharedLibrary()).open(streams, config);
 }

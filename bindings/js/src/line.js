@@ -1,19 +1,19 @@
 import { Code, LcmuxError } from './codes.js';
 import { Waits } from './waits.js';
 
-/** In the place of a limit. */
+/** The entry of a finish. */
 const FINISH = Object.freeze({});
 
 const isCall = place => place?.resolve !== undefined;
 
-/** The line of a sender: the calls that wait, and the limits and the finish behind them, in their order. */
+/** The wait queue of a sender: the waiting calls, and the limits and the finish behind them, in their order. */
 export class Line {
   #places;
-  // The last limit, which leaves the least, while it stands in line, and whether nothing stands behind it.
+  // The last limit in the queue, which allows the least, and whether it is the last entry.
   #limit = null;
   #isLimitLast = false;
 
-  /** `left` is called once calls have left by their signal. */
+  /** `left` is called once calls were cancelled by their signal. */
   constructor(left) {
     this.#places = new Waits(left);
   }
@@ -22,18 +22,18 @@ export class Line {
     return this.#places.first === undefined;
   }
 
-  /** The call that goes next, null where a limit or a finish does, or nothing. */
+  /** The first call, null if a limit or a finish precedes it, or if there is none. */
   get call() {
     const { first } = this.#places;
     return isCall(first) ? first : null;
   }
 
-  /** What the last limit in line leaves, null where there is none. */
+  /** What the last limit in the queue allows, null if there is none. */
   get left() {
     return this.#limit?.bound ?? null;
   }
 
-  /** Throws where the limits in line allow no message of so many bytes. */
+  /** Throws if the limits in the queue do not allow a message of this length. */
   judge(length) {
     if (this.#limit !== null && BigInt(length) > this.#limit.bound) {
       throw new LcmuxError(Code.PastSendLimit, this.#limit.bound);
@@ -45,7 +45,7 @@ export class Line {
     return this.#places.join(call, signal);
   }
 
-  /** A limit takes the place of one that nothing stands behind. */
+  /** Appends a limit. It replaces a limit that is the last entry. */
   limit(bound) {
     if (this.#limit !== null && this.#isLimitLast) {
       this.#limit.bound = bound;
@@ -61,12 +61,15 @@ export class Line {
     this.#places.push(FINISH);
   }
 
-  /** Takes the first call out. */
+  /** Removes the first call. */
   shift() {
     return this.#places.shift();
   }
 
-  /** Does what goes next, up to the first call: limits by `limit`, a finish by `finish`, while there are slots. */
+  /**
+   * Enqueues the entries before the first call, limits by `limit` and a finish by `finish`, while there are slots.
+   * Returns whether all of them found a slot.
+   */
   flush({ hasSlot, limit, finish }) {
     for (let place; (place = this.#places.first) !== undefined && !isCall(place); ) {
       if (!hasSlot()) {
@@ -83,7 +86,7 @@ export class Line {
     return true;
   }
 
-  /** Refuses all calls. Limits and a finish stay. */
+  /** Rejects all calls. Limits and a finish stay. */
   refuse(reason) {
     const kept = [];
     for (let place; (place = this.#places.shift()) !== undefined; ) {

@@ -1,23 +1,26 @@
 import { CHANNELS } from './channel.js';
 import { SessionClosed, isAnswer, stopOf } from './closed.js';
 import { Code, LcmuxError } from './codes.js';
+import { Copies } from './copies.js';
 import { Incoming } from './incoming.js';
 import { Outgoing } from './outgoing.js';
+import { PLEADED } from './peer.js';
 import { Slots } from './slots.js';
 import { Stats } from './stats.js';
 
-/** The bytes that a write gives to the stream, at most. */
+/** The most bytes of one write of the stream. */
 const PIECE = 65_536;
 
 /**
- * A peer and its two streams. Each change of it ends with `settle`: pending control frames are enqueued, and the calls
- * of senders that can proceed are completed. So none of these waits without need between two changes.
+ * A peer and its two streams. Each change ends with `settle`, the scheduler: it enqueues pending control frames and
+ * completes the sends that can proceed. So no call waits needlessly between two changes.
  */
 export class Link {
-  /** Why the session is over, null while it is not. */
+  /** The reason why the session is over, null while it is not. */
   reason = null;
-  /** Whether this side is closed: what was accepted is still written, and nothing more is. */
+  /** Whether this side is closed: accepted messages are still written, and no more are accepted. */
   isClosing = false;
+  copies = new Copies();
   #peer;
   #reader;
   #writer;
@@ -25,15 +28,15 @@ export class Link {
   #stats = CHANNELS.map(() => new Stats());
   #senders;
   #receivers;
-  // Directions of channels that may owe control frames, in the order in which they came to.
+  // The directions of channels that may have pending control frames, in the order in which they got them.
   #owing = new Set();
   #isStirred = false;
-  // How many messages there were so far.
+  // The number of messages so far.
   #turns = 0;
-  // Whether the writing half waits for a frame, and what wakes it.
+  // Whether the writing half waits for a frame, and the function that wakes it.
   #isIdle = false;
   #wake = () => {};
-  // Whether the other side ended its stream, having finished all its channels, and whether this side's was ended.
+  // Whether the peer ended its stream in order, with all its channels finished; and whether this side's stream has ended.
   #hasHeardAll = false;
   #hasSaidAll = false;
   #settleEnd;
@@ -50,7 +53,7 @@ export class Link {
     this.ended = new Promise((resolve, reject) => {
       this.#settleEnd = () => (this.reason === this.#local ? resolve() : reject(this.reason));
     });
-    this.ended.catch(() => {}); // who does not ask is told by the waits
+    this.ended.catch(() => {}); // an unobserved end is no unhandled rejection: waiting calls report it
   }
 
   sender(channel) {
@@ -74,11 +77,14 @@ export class Link {
     this.#writer.closed.catch(fail);
   }
 
-  /** What was accepted is written, every channel is finished, and then this side's stream ends. */
+  /**
+   * Closes the session in order: accepted messages are written, every channel is finished, and then this side's
+   * stream ends.
+   */
   close() {
     if (!this.isClosing && this.reason === null) {
       this.change(() => {
-        this.#flush(); // from here on nothing is issued
+        this.#flush(); // no guarantees are issued after this
         this.#senders.forEach(it => it.finishOnce());
         this.isClosing = true;
         this.#senders.forEach(it => it.refuse(this.#local));
@@ -88,7 +94,7 @@ export class Link {
     return this.ended;
   }
 
-  /** Ends the session, unless it is over: each wait ends by the reason. */
+  /** Ends the session, unless it is over: each waiting call ends with the reason. */
   end(reason) {
     if (this.reason !== null) {
       return;
@@ -104,21 +110,21 @@ export class Link {
     this.#settleEnd();
   }
 
-  /** Throws where nothing more goes out. */
+  /** Throws if no frame may be sent any more. */
   mayGoOut() {
     if (this.reason !== null || this.isClosing) {
       throw this.reason ?? this.#local;
     }
   }
 
-  /** Throws where no more guarantees come. */
+  /** Throws if no more guarantees will arrive. */
   mayHear() {
     if (this.#hasHeardAll) {
       throw this.#remote;
     }
   }
 
-  /** Makes a change, and does what can be done then. */
+  /** Makes a change, and runs the scheduler. */
   change(call) {
     try {
       return this.#guard(call);
@@ -127,7 +133,10 @@ export class Link {
     }
   }
 
-  /** A change that only frees room: a writing half that is on its way finds it there, so all of it is one issue. */
+  /**
+   * Makes a change that only frees bytes of a ring. An active writing half issues at its next write all bytes that
+   * are free by then, in one frame.
+   */
   take(call) {
     try {
       return this.#guard(call);
@@ -138,7 +147,7 @@ export class Link {
     }
   }
 
-  /** A call that does not wait. It finds enqueued what may be. */
+  /** Makes a call that does not wait, after pending control frames were enqueued. */
   control(call) {
     return this.change(() => {
       this.#flush();
@@ -146,7 +155,7 @@ export class Link {
     });
   }
 
-  /** A direction of a channel has control frames that are to be enqueued, or may have. */
+  /** Records that a direction of a channel has, or may have, pending control frames. */
   owes(end) {
     this.#owing.add(end);
     this.#isStirred = true;
@@ -158,8 +167,8 @@ export class Link {
   }
 
   /**
-   * Enqueues a control frame that was judged when it was asked for. By now it may not apply any more: the channel may
-   * be finished, or the frame be refused by a code that means as much.
+   * Enqueues a control frame that was validated when its call was made. It may no longer apply: the channel may be
+   * finished, or an equivalent refusal may apply by now.
    */
   enqueue(call, stale) {
     try {
@@ -173,22 +182,22 @@ export class Link {
   }
 
   /**
-   * Whether a message of so many bytes, for which the guarantees are there, may enter the queue now: there is a slot,
-   * its bytes fit, and they are no other channel's, which waits for bytes and sent less recently.
+   * Returns whether a message of this length that has its guarantees may enter the queue now: there is a slot, its
+   * bytes fit, and no channel that sent less recently waits for these bytes.
    */
   fits(sender, length) {
     const isBefore = other => other.went < sender.went && other.isAble && this.#slots.hasFor(other.channel);
     return this.#slots.hasFor(sender.channel) && this.#slots.hasBytes(length) && !this.#senders.some(isBefore);
   }
 
-  /** A message of so many bytes entered the queue. */
+  /** Counts a message of this length that entered the queue. */
   sent(sender, length) {
     this.#slots.enter(sender.channel, length);
     this.#turns += 1;
     sender.went = this.#turns;
   }
 
-  /** Enqueues pending control frames, and completes the calls that can proceed. */
+  /** The scheduler: enqueues pending control frames, and completes the sends that can proceed. */
   settle() {
     try {
       while (this.reason === null && this.#goOn());
@@ -200,7 +209,7 @@ export class Link {
     }
   }
 
-  // What is no answer ends the session: the module trapped.
+  // An error that belongs to no call ends the session: the module trapped.
   #guard(call) {
     try {
       return call();
@@ -213,7 +222,7 @@ export class Link {
     }
   }
 
-  // One more step. Whether there may be others.
+  // Makes one step. Returns whether there may be others.
   #goOn() {
     this.#isStirred = false;
     this.#flush();
@@ -222,7 +231,7 @@ export class Link {
     return next !== null || this.#isStirred;
   }
 
-  // Control frames of each that owes some, as long as there are slots.
+  // Enqueues the pending control frames of each direction, as long as there are slots.
   #flush() {
     if (this.reason !== null || !this.hasSlot) {
       return;
@@ -235,15 +244,15 @@ export class Link {
     }
   }
 
-  // The sender whose first call proceeds next: of those that have guarantees and a slot the one that sent least
-  // recently. Where its bytes don't fit, no later one's are taken, but of one that never sent as well.
+  // The sender whose first call proceeds next: of those with guarantees and a slot, the one that sent least recently.
+  // If its bytes do not fit, no later one overtakes it, except one that never sent, if the first never sent either.
   #next() {
     const able = this.#senders.filter(it => it.isAble && this.#slots.hasFor(it.channel));
     const went = Math.min(...able.map(it => it.went));
     return able.find(it => it.went === went && this.#slots.hasBytes(it.length)) ?? null;
   }
 
-  // What arrived can still be received, unless the peer can't be asked any more.
+  // Messages that arrived can still be received, unless the module trapped.
   #keep(isKept) {
     try {
       this.#receivers.forEach(it => it.close(isKept));
@@ -268,7 +277,7 @@ export class Link {
       this.#peer.deliver(bytes);
     } catch (error) {
       if (error instanceof LcmuxError) {
-        this.#arrived(); // the frames before it
+        this.#arrived(); // the frames before the protocol error
         this.settle();
       }
       this.end(stopOf(error));
@@ -277,13 +286,15 @@ export class Link {
     this.#arrived();
   }
 
-  // What frames that came let go on.
+  // Notifies the calls that inbound frames let proceed.
   #arrived() {
     this.#receivers.forEach(it => it.arrived());
-    this.#peer.ready().forEach(({ plead }, channel) => this.#senders[channel].arrived(plead));
+    this.#senders.forEach(it => it.arrived());
+    this.#peer[PLEADED]().forEach(channel => this.owes(this.#senders[channel]));
   }
 
-  // The other side ended its stream: in order, where it had finished all its channels, and else it was cut.
+  // Records the end of the peer's stream: in order if the peer had finished all its channels, else the stream was
+  // cut.
   #hearEnd() {
     try {
       this.#peer.end();
@@ -296,10 +307,10 @@ export class Link {
       return;
     }
     this.#hasHeardAll = true;
-    this.#senders.forEach(it => it.arrived(false));
+    this.#senders.forEach(it => it.arrived());
   }
 
-  // No more is taken from the peer than the stream has room for.
+  // No more bytes are fetched from the peer than the stream accepts.
   async #writeAll() {
     while (this.reason === null) {
       const piece = this.change(() => this.#pull());

@@ -1,25 +1,25 @@
-/** A list, first in, first out. Each of its steps costs the same, however long it is. */
+/** A list, first in, first out. Each operation takes constant time. */
 export class List {
-  // A node before the first and behind the last.
+  // A sentinel before the first node and after the last one.
   #ends = {};
 
   constructor() {
     this.#ends.next = this.#ends.previous = this.#ends;
   }
 
-  /** The first value, undefined where there is none. */
+  /** The first value, undefined if there is none. */
   get first() {
     return this.#ends.next.value;
   }
 
-  /** A value goes behind all others. The answer is its node. */
+  /** Appends a value and returns its node. */
   push(value) {
     const node = { value, previous: this.#ends.previous, next: this.#ends };
     node.previous.next = node.next.previous = node;
     return node;
   }
 
-  /** Takes the first value, undefined where there is none. */
+  /** Removes the first value and returns it, undefined if there is none. */
   shift() {
     const node = this.#ends.next;
     if (node !== this.#ends) {
@@ -28,11 +28,11 @@ export class List {
     return node.value;
   }
 
-  /** Takes a node out, wherever it stands. */
+  /** Removes a node, anywhere in the list. */
   remove(node) {
     node.previous.next = node.next;
     node.next.previous = node.previous;
-    // A node that is out would otherwise keep the garbage collector from those behind it.
+    // A removed node would otherwise keep the nodes after it alive.
     node.previous = node.next = null;
   }
 }

@@ -1,12 +1,12 @@
 import { copyTo, part, sizeOf } from './bytes.js';
 import { Code, LcmuxError, errorOf } from './codes.js';
 
-/** The version of the package, and of the module that it takes. */
+/** The version of the package, and of the module that it accepts. */
 export const VERSION = '0.1.0';
 
 const numberOf = version => version.split('.').reduce((number, part) => number * 256 + Number(part), 0);
 
-/** The bytes of the module, or a Response with them, where the package or the caller has it. */
+/** Fetches the bytes of the module, or a Response with them. */
 async function fetched(source) {
   if (!(source instanceof URL)) {
     return source;
@@ -30,7 +30,7 @@ async function compiled(source) {
   return WebAssembly.compile(isResponse ? await it.arrayBuffer() : it);
 }
 
-/** An instance of the module, with a memory of its own. */
+/** An instance of the module, with its own memory. */
 export class Module {
   #calls;
   #memory;
@@ -54,7 +54,7 @@ export class Module {
     const { exports } = await WebAssembly.instantiate(await compiled(source));
     const module = new Module(exports);
     if (module.version !== numberOf(VERSION)) {
-      throw new Error(`the module has version 0x${module.version.toString(16)}, and the package ${VERSION}`);
+      throw new Error(`the module must have version ${VERSION}, got 0x${module.version.toString(16)}`);
     }
     return module;
   }
@@ -68,7 +68,7 @@ export class Module {
     return this.#run(this.#calls.version);
   }
 
-  // A memory that grew has another buffer, and the old one has no bytes.
+  // A memory that grew has a new buffer, and the old one is empty.
   #look() {
     if (this.#bytes.length === 0) {
       this.#bytes = new Uint8Array(this.#memory.buffer);
@@ -77,10 +77,10 @@ export class Module {
     }
   }
 
-  // After a trap the memory may be half written, so no further call is made.
+  // After a trap the memory may be inconsistent, so no further call is made.
   #run(call, a, b, c) {
     if (this.#trap !== null) {
-      throw new Error('a call of the module trapped before, and it answers none since', { cause: this.#trap });
+      throw new Error('an earlier call of the module trapped, so no further call is made', { cause: this.#trap });
     }
     try {
       return call(a, b, c) >>> 0;
@@ -92,12 +92,12 @@ export class Module {
     }
   }
 
-  /** The code that the call of this name answers. */
+  /** Makes the call of this name and returns its code. */
   call(name, a, b, c) {
     return this.#run(this.#calls[name], a, b, c);
   }
 
-  /** The call, whose every code but 0 is thrown. */
+  /** Makes the call of this name and throws every code but 0. */
   done(name, a, b, c) {
     const code = this.call(name, a, b, c);
     if (code !== 0) {
@@ -105,17 +105,17 @@ export class Module {
     }
   }
 
-  /** The u64 at a place of what went with the last code, 0 being its number. */
+  /** Returns the u64 at an index of the last result, 0 being its number. */
   long(at) {
     return this.#longs[this.#answered + at];
   }
 
-  /** The same where it is below 2^32, as each length, count and address is. */
+  /** Returns the same for a number below 2^32, such as each length, count and address. */
   short(at) {
     return this.#words[2 * (this.#answered + at)];
   }
 
-  /** The number that went with the last code, where it is below 2^32. */
+  /** The number of the last result, if it is below 2^32. */
   get number() {
     return this.short(0);
   }
@@ -124,38 +124,38 @@ export class Module {
     return errorOf(code, this.long(0));
   }
 
-  /** Bytes go to the place, which has room for them. The answer is how many they are. */
+  /** Copies bytes to the module's buffer and returns how many they are. */
   put(bytes) {
     const size = sizeOf(bytes);
     if (size > this.room) {
-      throw new RangeError(`the place has ${this.room} bytes, and not ${size}`);
+      throw new RangeError(`the buffer of the module has ${this.room} bytes, got ${size}`);
     }
     copyTo(this.#bytes, this.place, bytes);
     return size;
   }
 
-  /** The bytes at an address, until the next call. */
+  /** Returns a view of the bytes at an address, valid until the next call. */
   view(at, length) {
     return part(this.#bytes, at, at + length);
   }
 
-  /** The first bytes of the place, until the next call. */
+  /** Returns a view of the first bytes of the module's buffer, valid until the next call. */
   lent(length) {
     return this.view(this.place, length);
   }
 
-  /** Numbers of 32 bits go to the place. */
+  /** Copies numbers of 32 bits to the module's buffer. */
   putWords(words) {
     new Uint32Array(this.#memory.buffer, this.place, words.length).set(words);
   }
 
-  /** The sentence of a code. */
+  /** Returns the sentence of a code. */
   text(code) {
     this.done('text', code);
     return String.fromCharCode(...this.lent(this.number));
   }
 
-  /** A handle for an object, which is freed at the latest once nothing holds the object. */
+  /** Makes a handle for an object. It is freed at the latest once the object is unreachable. */
   handleFor(owner, make) {
     const handle = this.call('handle_new');
     if (handle === 0) {
@@ -171,7 +171,7 @@ export class Module {
     return handle;
   }
 
-  /** The handle of an object that is not used again is freed. */
+  /** Frees the handle of an object that is not used again. */
   free(owner, handle) {
     this.#lost.unregister(owner);
     this.drop(handle);

@@ -1,12 +1,12 @@
-// For Node alone: the streams of a TCP socket. Node's own Duplex.toWeb tells the end of what comes only once this
-// side has ended, too, so that the one who closes last would never know.
+// For Node alone: the streams of a TCP socket. Node's own Duplex.toWeb reports the end of the inbound direction only
+// once this side has ended, too, so the side that closes last would never observe it.
 import { bytesOf, part } from './bytes.js';
 
 const gone = () => new Error('the socket closed');
 
 /**
- * Ends both directions at once. Where the system lets a program do so, the other side gets a reset: without one, what
- * is cut off looks to it like the end of the stream.
+ * Ends both directions at once, with a reset if the system allows it: without a reset, the peer takes the cut for the
+ * end of the stream.
  */
 function giveUp(socket) {
   if (!socket.connecting && !socket.writableEnded) {
@@ -19,7 +19,7 @@ function giveUp(socket) {
   socket.destroy();
 }
 
-/** What comes, until the other side ends its direction. The socket is read no faster than the stream. */
+/** The inbound direction, until the peer ends it. The socket is read no faster than the stream. */
 class Incoming {
   #socket;
   #isOver = false;
@@ -44,8 +44,9 @@ class Incoming {
     this.#socket.pause();
   }
 
-  // Where libuv reads the last bytes and a reset at once, it tells the reset as an end. A write then fails at once, one
-  // of no bytes too, and those that are under way fail by themselves: so the end is believed a turn later.
+  // If libuv reads the last bytes and a reset at once, it reports the reset as an end. A write then fails at once,
+  // even an empty one, and writes under way fail by themselves: so the end is reported one turn of the event loop
+  // later.
   #ended(controller) {
     if (!this.#socket.writableEnded && this.#socket.writableLength === 0) {
       this.#socket.write(new Uint8Array(0));
@@ -53,13 +54,13 @@ class Incoming {
     setImmediate(() => this.#end(() => controller.close()));
   }
 
-  // A socket that was told to decode what comes has texts, of which the bytes can't be had any more.
+  // A socket that was set to decode its bytes yields texts, from which the bytes cannot be recovered.
   #receive(chunk, controller, fail) {
     if (this.#isOver) {
       return;
     }
     try {
-      controller.enqueue(part(bytesOf(chunk, 'what a socket reads'), 0, Infinity));
+      controller.enqueue(part(bytesOf(chunk, 'the data of a socket'), 0, Infinity));
       this.#socket.pause();
     } catch (error) {
       fail(error);
@@ -76,7 +77,7 @@ class Incoming {
   }
 }
 
-/** What goes out: a write is done once the system has taken its bytes. */
+/** The outbound direction: a write completes once the system has accepted its bytes. */
 class Outgoing {
   #socket;
 
@@ -87,14 +88,14 @@ class Outgoing {
   start(controller) {
     this.#socket.on('error', error => controller.error(error));
     this.#socket.once('close', () => controller.error(gone()));
-    // The stream's `abort` waits for the write that is under way, and its signal does not.
+    // The stream's `abort` waits for the write under way, its signal does not.
     controller.signal.addEventListener('abort', () => giveUp(this.#socket));
   }
 
   write(bytes) {
-    const given = bytesOf(bytes, 'what is written');
+    const given = bytesOf(bytes, 'the written chunk');
     return new Promise((resolve, reject) => {
-      // Of a socket that was destroyed Node says that each write is done.
+      // Node reports each write of a destroyed socket as done.
       const done = error => (error || this.#socket.destroyed ? reject(error ?? gone()) : resolve());
       this.#socket.write(given, done);
     });
@@ -105,26 +106,26 @@ class Outgoing {
   }
 }
 
-/** Throws where a direction of a socket is over already: its end was told, and would not be told again. */
+/** Throws if a direction of a socket is over: its end was reported, and would not be reported again. */
 function judgeWhole(socket) {
   if (socket.destroyed) {
     throw new Error('the socket was destroyed');
   }
   if (socket.readableEnded) {
-    throw new Error('the other side ended its direction of the socket before');
+    throw new Error('the peer has ended its direction of the socket');
   }
   if (socket.writableEnded) {
-    throw new Error('this side ended its direction of the socket before');
+    throw new Error('this side has ended its direction of the socket');
   }
   if (socket.readableEncoding) {
-    throw new Error(`the socket decodes what comes as ${socket.readableEncoding}, and has no bytes`);
+    throw new Error(`the socket must not decode its bytes, but its encoding is ${socket.readableEncoding}`);
   }
 }
 
 /**
- * The two streams of a socket. It becomes one with `allowHalfOpen`, which Node lets a program set until the other
- * side's end was told: else Node would end this side's direction as soon as the other side ended its own, and what was
- * still to be written would be lost.
+ * Returns the two streams of a socket. It sets `allowHalfOpen`, which Node accepts until it has reported the end of
+ * the peer's direction: else Node would end this side's direction as soon as the peer has ended its own, and pending
+ * bytes would be lost.
  */
 export function fromSocket(socket) {
   judgeWhole(socket);

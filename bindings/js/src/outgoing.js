@@ -1,10 +1,10 @@
-import { copyOf, sizeOf } from './bytes.js';
+import { sizeOf } from './bytes.js';
 import { isAnswer } from './closed.js';
 import { Code, LcmuxError } from './codes.js';
 import { Line } from './line.js';
 import { AT_ONCE } from './policy.js';
 
-/** A call that may be made once there is a slot is allowed. */
+/** Throws a refusal, unless only a slot is missing: then the control frame stays pending. */
 export function judge(refusal) {
   if (refusal !== null && refusal.code !== Code.QueueFull) {
     throw refusal;
@@ -15,7 +15,7 @@ const least = (a, b) => (a < b ? a : b);
 
 /** A channel in the direction in which this side sends. */
 export class Outgoing {
-  /** When the channel sent last, counted in messages of all; 0 before. */
+  /** When the channel sent last, counted in messages of all channels; 0 before its first. */
   went = 0;
   channel;
   #link;
@@ -23,13 +23,13 @@ export class Outgoing {
   #policy;
   #stats;
   #line = new Line(() => this.#link.change(() => this.#mayGoOn()));
-  // Whether the first call may have changed, so that nothing is known of it; and whether it has its guarantees.
+  // Whether the first call may have changed and is evaluated again; and whether it has its guarantees.
   #isStale = false;
   #isAble = false;
-  // Guarantees that are to be given up, and whether a plead is to be honoured by a call.
+  // The guarantees of a pending absolve, and whether a call asked to honour the plead.
   #absolved = 0;
   #honours = false;
-  // Whether a finish was asked for: in version One it is a limit.
+  // Whether this side finished the channel: in version One by a limit.
   #isFinished = false;
 
   constructor(link, peer, channel, policy, stats) {
@@ -40,7 +40,7 @@ export class Outgoing {
     this.#stats = stats;
   }
 
-  /** Sends a message, or answers a promise of it that waits in line. A body that waits is copied. */
+  /** Sends a message, or returns a promise that waits in the queue. The body of a waiting send is copied. */
   send(bytes, signal) {
     this.#link.mayGoOut();
     if (this.#isFinished) {
@@ -53,7 +53,7 @@ export class Outgoing {
       return this.#put(bytes);
     }
     this.#isStale ||= this.#line.isEmpty;
-    return this.#line.join({ length, body: copyOf(bytes) }, signal);
+    return this.#line.join({ length, body: this.#link.copies.of(bytes) }, signal);
   }
 
   /** The guarantees that a message may use. */
@@ -61,7 +61,7 @@ export class Outgoing {
     return this.#peer.client(this.channel).held - this.#absolved;
   }
 
-  /** The target of the plead that is kept, else null. */
+  /** The target of the pending plead, null if there is none. */
   get pleaded() {
     return this.#peer.client(this.channel).asked;
   }
@@ -77,7 +77,7 @@ export class Outgoing {
     this.#link.owes(this);
   }
 
-  /** The answer is how much is given up. */
+  /** Returns how many guarantees are absolved. */
   honour() {
     this.#mayGoOut();
     const target = this.pleaded;
@@ -98,7 +98,7 @@ export class Outgoing {
     this.#link.owes(this);
   }
 
-  /** Version One has no Finish: a limit of 0 ends the channel there as well. */
+  /** Finishes the channel: in version One, which has no Finish, by a limit of 0. */
   finish() {
     this.#mayGoOut();
     if (this.#peer.version !== 1) {
@@ -113,7 +113,7 @@ export class Outgoing {
     this.#link.owes(this);
   }
 
-  /** Ends the channel, unless it is finished. */
+  /** Finishes the channel, unless it is finished. */
   finishOnce() {
     try {
       this.finish();
@@ -124,21 +124,21 @@ export class Outgoing {
     }
   }
 
-  /** Refuses all calls that wait. */
+  /** Rejects all waiting calls. */
   refuse(reason) {
     this.#line.refuse(reason);
     this.#mayGoOn();
   }
 
-  /** Frames came, or the other side's end: more guarantees may be there, or none any more, and a plead. */
-  arrived(isPleaded) {
+  /** Records that frames arrived, or the end of the peer's stream: guarantees may have arrived, or none may follow. */
+  arrived() {
     this.#isStale = true;
-    if (isPleaded) {
-      this.#link.owes(this);
-    }
   }
 
-  /** Whether the first call has its guarantees. One that will never go is refused, and the next one is looked at. */
+  /**
+   * Whether the first call has its guarantees. A call that can never proceed is rejected, and the next one is
+   * evaluated.
+   */
   get isAble() {
     while (this.#isStale) {
       this.#isStale = false;
@@ -148,28 +148,30 @@ export class Outgoing {
     return this.#isAble;
   }
 
-  /** How many bytes the first call has. */
+  /** The length of the first call's message. */
   get length() {
     return this.#line.call.length;
   }
 
-  /** Does the first call, which can proceed. */
+  /** Completes the first call, which can proceed. */
   complete() {
+    const { body } = this.#line.call;
     try {
-      this.#put(this.#line.call.body);
+      this.#put(body);
+      this.#link.copies.free(body);
       this.#leave().resolve();
     } catch (error) {
       this.#reject(error);
     }
   }
 
-  /** Enqueues what is owed. Whether all of it found a slot. */
+  /** Enqueues the pending control frames. Returns whether all of them found a slot. */
   flush() {
     this.#isStale = true;
     return this.#flushAbsolved() && this.#flushHonoured() && this.#line.flush(this.#steps);
   }
 
-  // A control frame may go behind the limit of 0 that ends a channel in version One, and none behind a Finish.
+  // A control frame may follow the limit of 0 that ends a channel in version One, but not a Finish.
   #mayGoOut() {
     this.#link.mayGoOut();
     if (this.#isFinished && this.#peer.version !== 1) {
@@ -177,7 +179,7 @@ export class Outgoing {
     }
   }
 
-  // What a message of so many bytes lacks at most: 'guarantees', or 'slots'. What will not be by waiting is thrown.
+  // Returns what a message of this length lacks at most: 'guarantees', or 'slots'. Throws if it can never be sent.
   #lacks(length) {
     const { kind } = this.#peer.needs(this.channel, length);
     if (kind === 'never') {
@@ -190,13 +192,13 @@ export class Outgoing {
     return this.#absolved > 0 && length > this.#free ? 'guarantees' : 'slots';
   }
 
-  // Guarantees that come no more, since the other side limited what it issues, are no refusal of a send.
+  // The peer refuses no send for guarantees that a limit of the receiver rules out, so these are a code of their own.
   #never(length) {
     const refusal = this.#peer.wouldSend(this.channel, length);
     return refusal === null || refusal.code === Code.NoGuarantee ? new LcmuxError(Code.Never) : refusal;
   }
 
-  // What a message may use of what is held, within the limit on sending.
+  // The guarantees that a message may use: held, within the limit on sending, and not to be absolved.
   get #free() {
     const { held, sendLeft } = this.#peer.client(this.channel);
     return Math.max(0, (sendLeft === null ? held : Number(least(BigInt(held), sendLeft))) - this.#absolved);
@@ -222,7 +224,7 @@ export class Outgoing {
     }
   }
 
-  // Refuses the first call. What is no answer of it ends the session, and then all of them.
+  // Rejects the first call. An error that does not belong to it ends the session, and with it all calls.
   #reject(error) {
     if (!isAnswer(error)) {
       throw error;
@@ -236,7 +238,7 @@ export class Outgoing {
     return call;
   }
 
-  // Another place is first in line.
+  // The first entry of the wait queue changed.
   #mayGoOn() {
     this.#isStale = true;
     if (this.#line.call === null) {
@@ -256,7 +258,7 @@ export class Outgoing {
     return true;
   }
 
-  // The peer forgets the plead, also where nothing is given up.
+  // The plead is no longer pending, even if nothing is absolved.
   #flushHonoured() {
     const isDue = this.#honours || (this.#policy === AT_ONCE && !this.#link.isClosing);
     if (isDue) {
@@ -269,7 +271,7 @@ export class Outgoing {
     return true;
   }
 
-  // Messages before a limit may have left less of an earlier one.
+  // Messages before a limit may have used more of an earlier one.
   #steps = {
     hasSlot: () => this.#link.hasSlot,
     limit: bound => this.#link.enqueue(() => this.#peer.limitSending(this.channel, bound), Code.LimitRaised),

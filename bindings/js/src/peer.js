@@ -3,21 +3,35 @@ import { CHANNELS } from './channel.js';
 import { Code, LcmuxError } from './codes.js';
 import { boundOf, channelOf, lengthOf, optionsOf, u32 } from './judge.js';
 
-/** In place of a message: none waits, and none will come. */
+/** The result of a take if no message is available and none will arrive. */
 export const ENDED = Symbol('ended');
 
-/** The bytes that go in or out by one call of the module. */
+/** The most bytes that one call of the module moves. */
 const PIECE = 65_536;
 
-/** The bytes of a chunk, at most. */
+/** The most bytes of a chunk. */
 const CHUNK = 16_384;
 
-/** In place of a limit, or of the target of a plead, where there is none. */
+/** Stands for a limit that is not set, and for the target of a plead if none is pending. */
 const NONE = 2n ** 64n - 1n;
 
-/** Where the struct begins behind what goes with a code, and how long one of a channel's `ready` is. */
+/**
+ * Names the balances of a channel's ring that a session asks for after each delivery: `peer[RING](channel)`. None of
+ * them has to be a BigInt.
+ */
+export const RING = Symbol('ring');
+
+/** Names the channels on which a plead is pending: `peer[PLEADED]()`. */
+export const PLEADED = Symbol('pleaded');
+
+/** The index of the struct in a result, that behind the size with which some begin, and the length of one channel's
+ * `ready`. */
 const STRUCT = 2;
+const SIZED = STRUCT + 1;
 const READY = 5;
+
+/** Where the plead is in that. */
+const PLEAD = 2;
 
 const DEFAULTS = { version: 1, slots: 16, capacities: 65_536 };
 
@@ -29,42 +43,58 @@ const NEEDS = {
 
 const unlessNone = long => (long === NONE ? null : long);
 
-/** A configuration with a value for each key. */
+/** Returns a configuration with a value for each key. */
 function configOf(given) {
-  return { ...DEFAULTS, ...optionsOf(given, Object.keys(DEFAULTS), 'the bounds of a peer') };
+  return { ...DEFAULTS, ...optionsOf(given, Object.keys(DEFAULTS), 'the options of a peer') };
 }
 
-/** A capacity for each channel. Whatever an array says of itself, so many are read. */
+/** Returns a capacity for each channel. An array is read by index, whatever its iterator yields. */
 function ringsOf(capacities) {
   const isOne = !Array.isArray(capacities);
   if (!isOne && capacities.length !== CHANNELS.length) {
-    throw new RangeError(`there are ${CHANNELS.length} capacities, and not ${capacities.length}`);
+    throw new RangeError(`there must be one capacity or ${CHANNELS.length}, got ${capacities.length}`);
   }
   return CHANNELS.map(channel => u32(isOne ? capacities : capacities[channel], 'a capacity'));
 }
 
-/** The words of an lcmux_config. */
+/** Returns the words of an lcmux_config. */
 function wordsOf(config) {
   const { version, slots, capacities } = configOf(config);
   return [u32(version, 'the version'), u32(slots, 'slots'), ...ringsOf(capacities)];
 }
 
-/** One side of a session: bytes in by `deliver`, bytes out by `write`. A call that is refused throws. */
+/** Names the refused value of a configuration in the message of the error. */
+function named(error, [version, slots, ...capacities]) {
+  const { code, number } = error;
+  if (code === Code.BadVersion) {
+    error.message = `the version must be 1 or 2, got ${version}`;
+  } else if (code === Code.BadCapacity) {
+    error.message = `the capacity of channel ${number} must be in 1..=16777216, got ${capacities[number]}`;
+  } else if (code === Code.BadSlots) {
+    error.message = `slots must be in 1..=65536, got ${slots}`;
+  }
+  return error;
+}
+
+/** One side of a session: bytes in by `deliver`, bytes out by `write`. A refused call throws. */
 export class Peer {
   #module;
   #handle;
   #version;
-  // What was written out as a chunk and not advanced over yet.
+  // The bytes that were fetched as a chunk and not yet advanced over.
   #unsent = new Uint8Array(0);
 
-  /** Made by `peer` of what `load` gives. */
+  /** Called by `Library.peer`. */
   constructor(module, config) {
     const words = wordsOf(config);
     this.#module = module;
     this.#version = words[0];
     this.#handle = module.handleFor(this, handle => {
       module.putWords(words);
-      module.done('peer_new', handle);
+      const code = module.call('peer_new', handle);
+      if (code !== 0) {
+        throw named(module.error(code), words);
+      }
     });
   }
 
@@ -79,7 +109,7 @@ export class Peer {
     return this.#handle;
   }
 
-  // The code of a call that is made on this peer.
+  // Makes a call on this peer and returns its code.
   #ask(name, a, b) {
     return this.#module.call(name, this.#there, a, b);
   }
@@ -198,12 +228,12 @@ export class Peer {
     this.#do('peer_ready');
     return CHANNELS.map(channel => {
       const isTrue = at => this.#short(READY * channel + at) !== 0;
-      return { message: isTrue(0), ended: isTrue(1), plead: isTrue(2), finished: isTrue(3), finishedThere: isTrue(4) };
+      return { message: isTrue(0), ended: isTrue(1), plead: isTrue(PLEAD), finished: isTrue(3), finishedThere: isTrue(4) };
     });
   }
 
   deliver(bytes) {
-    const whole = bytesOf(bytes, 'what is delivered');
+    const whole = bytesOf(bytes, 'the delivered chunk');
     const size = sizeOf(whole);
     let [taken, frames] = [0, 0];
     do {
@@ -261,7 +291,7 @@ export class Peer {
   advance(count) {
     const offered = this.#there && this.#unsent.length;
     if (u32(count, 'the count') > offered) {
-      throw new RangeError(`${count} bytes went out, and ${offered} were offered`);
+      throw new RangeError(`${count} bytes claimed, but only ${offered} offered`);
     }
     this.#unsent = this.#unsent.subarray(count);
   }
@@ -274,7 +304,7 @@ export class Peer {
     return this.#took(this.#ask('peer_front', channelOf(channel)), () => [this.#piece(0), this.#piece(2)]);
   }
 
-  // A piece of the message that the last call lent: its address and its length.
+  // A view of one piece of the borrowed message, from its address and its length.
   #piece(from) {
     return this.#module.view(this.#module.short(STRUCT + from), this.#module.short(STRUCT + from + 1));
   }
@@ -298,7 +328,7 @@ export class Peer {
     });
   }
 
-  // What a take answers.
+  // Converts the code of a take.
   #took(code, answer) {
     switch (code) {
       case 0:
@@ -312,13 +342,13 @@ export class Peer {
     }
   }
 
-  // A u64 of the struct that went with the last call, and one that is below 2^32.
+  // A u64 of the struct of the last result, behind its size, and one that is below 2^32.
   #long(at) {
-    return this.#module.long(STRUCT + at);
+    return this.#module.long(SIZED + at);
   }
 
   #short(at) {
-    return this.#module.short(STRUCT + at);
+    return this.#module.short(SIZED + at);
   }
 
   client(channel) {
@@ -341,14 +371,32 @@ export class Peer {
     return {
       capacity: this.#short(0),
       issued: this.#long(1),
-      outstanding: this.#short(2),
-      buffered: this.#short(3),
-      room: this.#short(4),
-      waived: this.#long(5),
-      sendLeft: unlessNone(this.#long(6)),
-      receiveLeft: unlessNone(this.#long(7)),
-      finished: this.#short(8) !== 0,
+      received: this.#long(2),
+      taken: this.#long(3),
+      absolved: this.#long(4),
+      outstanding: this.#short(5),
+      buffered: this.#short(6),
+      room: this.#short(7),
+      waived: this.#long(8),
+      sendLeft: unlessNone(this.#long(9)),
+      receiveLeft: unlessNone(this.#long(10)),
+      finished: this.#short(11) !== 0,
     };
+  }
+
+  [RING](channel) {
+    this.#do('peer_server', channel);
+    return {
+      outstanding: this.#short(5),
+      buffered: this.#short(6),
+      room: this.#short(7),
+      finished: this.#short(11) !== 0,
+    };
+  }
+
+  [PLEADED]() {
+    this.#do('peer_ready');
+    return CHANNELS.filter(channel => this.#short(READY * channel + PLEAD) !== 0);
   }
 
   free() {

@@ -1,4 +1,4 @@
-// What a session does by itself on each channel: when its room is issued, and when pleads are honoured.
+// The policies of a session's channels: when the free bytes of a ring are issued, and when pleads are honoured.
 import { CHANNELS } from './channel.js';
 import { optionsOf, u32 } from './judge.js';
 
@@ -9,13 +9,13 @@ const isNamed = policy => policy === AT_ONCE || policy === BY_CALLER;
 
 function refuse(policy, what) {
   const given = typeof policy === 'string' ? `'${policy}'` : typeof policy;
-  throw new TypeError(`${what} is '${AT_ONCE}' or '${BY_CALLER}', and not ${given}`);
+  throw new TypeError(`${what} must be '${AT_ONCE}' or '${BY_CALLER}', got ${given}`);
 }
 
-/** When pleads are honoured. */
+/** Validates a plead policy. */
 const pleadPolicyOf = policy => (isNamed(policy) ? policy : refuse(policy, 'a plead policy'));
 
-/** When the room of a ring of so many bytes is issued: by a name, or by a mark that is in the ring. */
+/** Validates the issue policy of a ring of this size: a name, or a low-water mark within the ring. */
 export function issuePolicyOf(policy, capacity) {
   if (isNamed(policy)) {
     return policy;
@@ -23,25 +23,25 @@ export function issuePolicyOf(policy, capacity) {
   if (typeof policy !== 'object' || policy === null) {
     return refuse(policy, 'an issue policy without a mark');
   }
-  const lowWater = u32(optionsOf(policy, ['lowWater'], 'the marks').lowWater, 'a low-water mark');
+  const lowWater = u32(optionsOf(policy, ['lowWater'], 'the marks').lowWater, 'the low-water mark');
   if (lowWater < 1 || lowWater > capacity) {
-    throw new RangeError(`a low-water mark is 1 to ${capacity}, as the ring has, and not ${lowWater}`);
+    throw new RangeError(`the low-water mark must be in 1..=${capacity}, got ${lowWater}`);
   }
   return { lowWater };
 }
 
-// One policy for all channels, or one for each.
+// Returns one policy for each channel, from one for all or one for each.
 function eachOf(given = AT_ONCE) {
   if (!Array.isArray(given)) {
     return CHANNELS.map(() => given);
   }
   if (given.length !== CHANNELS.length) {
-    throw new RangeError(`there are ${CHANNELS.length} policies, and not ${given.length}`);
+    throw new RangeError(`there must be one policy or ${CHANNELS.length}, got ${given.length}`);
   }
   return CHANNELS.map(channel => given[channel]);
 }
 
-/** The policies of each channel of a peer. */
+/** Returns the policies of each channel of a peer. */
 export function policiesOf({ issue, plead }, peer) {
   return {
     issue: eachOf(issue).map((policy, channel) => issuePolicyOf(policy, peer.server(channel).capacity)),

@@ -9,7 +9,7 @@ import { LEAST_SLOTS } from './slots.js';
 const OPTIONS = ['version', 'slots', 'capacities', 'issue', 'plead'];
 const SLOTS = 64;
 
-/** The signal by which a wait may be given up, undefined where there is none. */
+/** Returns the signal that cancels a wait, undefined if there is none. */
 function signalOf(options) {
   const signal = optionsOf(options, ['signal'], 'the options').signal ?? undefined;
   signal?.throwIfAborted();
@@ -101,7 +101,7 @@ export class SessionChannel {
   }
 }
 
-/** Two peers over one ordered stream of bytes each way: this side. */
+/** This side of a session over one ordered byte stream each way. */
 export class Session {
   #link;
   #channels;
@@ -136,17 +136,17 @@ export class Session {
   }
 }
 
-/** The bounds of a session's peer, and its policies. */
+/** Returns the options of a session's peer, and its policies. */
 function configOf(config) {
-  const { issue, plead, ...bounds } = optionsOf(config, OPTIONS, 'the bounds of a session');
+  const { issue, plead, ...bounds } = optionsOf(config, OPTIONS, 'the options of a session');
   const slots = u32(bounds.slots ?? SLOTS, 'slots');
   if (slots < LEAST_SLOTS) {
-    throw new RangeError(`a session has ${LEAST_SLOTS} slots or more, and not ${slots}`);
+    throw new RangeError(`slots must be in ${LEAST_SLOTS}..=65536, got ${slots}`);
   }
   return [{ ...bounds, slots }, { issue, plead }];
 }
 
-/** A session of a peer that `make` makes. The streams are its own from here on. */
+/** Starts a session with a peer that `make` makes. The streams belong to the session from here on. */
 export function startSession(make, { readable, writable }, config) {
   const [bounds, given] = configOf(config);
   const peer = make(bounds);

@@ -1,46 +1,46 @@
-// The slots of the outbound queue: how many frames may wait in it, and whose they are.
+// The slots of the outbound queue: how many frames it may hold, and which calls may use them.
 //
-// Seven are reserved for control frames, one is each channel's own, for its first message that is under way, and the
+// Seven are reserved for control frames, one belongs to each channel, for its first message that is under way, and the
 // rest is shared by the messages of all channels. No other channel takes a channel's own slot, so a message whose
 // channel has nothing under way always finds one.
 //
-// The queue is first in, first out, so its frames are told apart by numbers: the n-th frame that ever entered is still
-// queued while fewer than n ever left.
+// The queue is first in, first out, so its frames are identified by numbers: the n-th frame that ever entered is still
+// queued while fewer than n have left.
 import { CHANNELS } from './channel.js';
 import { List } from './list.js';
 
 const CONTROL = CHANNELS.length;
 const OWN = CHANNELS.length;
 
-/** As many slots a session has at least. */
+/** The least number of slots of a session. */
 export const LEAST_SLOTS = CONTROL + OWN;
 
-/** The most bytes of messages in the queue, where there is more than one: a short message is written behind them. */
+/** The most bytes of messages in the queue, if it holds more than one: a short message is written after all of them. */
 const MOST_QUEUED = 65_536;
 
 export class Slots {
   #total;
-  // How many frames wait in the queue, and how many ever left it.
+  // The number of frames in the queue, and of those that ever left it.
   #queued = 0;
   #left = 0;
-  // By channel: the number of the frame that took the channel's own slot last.
+  // By channel: the number of the frame that last took the channel's own slot.
   #own = CHANNELS.map(() => 0);
-  // The messages in the queue, by number and length, and their bytes.
+  // The messages in the queue, by number and length, and the sum of their bytes.
   #messages = new List();
   #bytes = 0;
-  // The same with the rest of a message that is written in part, or somewhat less.
+  // The bytes that are not written, including the rest of a message that is written in part, or a lower bound of them.
   #unwritten = 0;
 
   constructor(total) {
     this.#total = total;
   }
 
-  /** Follows the queue, which has so many places left: control frames entered it. */
+  /** Updates the slots after control frames entered the queue. */
   follow(placesLeft) {
     this.#queued = this.#total - placesLeft;
   }
 
-  /** A message entered the queue, into its channel's own slot where that is free. */
+  /** Counts a message that entered the queue, into its channel's own slot if that is free. */
   enter(channel, length) {
     this.#queued += 1;
     const number = this.#left + this.#queued;
@@ -52,7 +52,7 @@ export class Slots {
     this.#unwritten += length;
   }
 
-  /** So many bytes were taken to be written, and the queue has so many places left. */
+  /** Counts `count` bytes that were taken to be written. */
   leave(count, placesLeft) {
     const queued = this.#total - placesLeft;
     this.#left += this.#queued - queued;
@@ -64,17 +64,17 @@ export class Slots {
     this.#unwritten = Math.max(this.#bytes, this.#unwritten - count);
   }
 
-  /** Whether a control frame may enter the queue. */
+  /** Returns whether a control frame may enter the queue. */
   get hasControl() {
     return this.#free > this.#kept;
   }
 
-  /** Whether a message of the channel may: into the channel's own slot, or a shared one. */
+  /** Returns whether a message of the channel may enter the queue: into the channel's own slot, or a shared one. */
   hasFor(channel) {
     return this.#isOwnFree(channel) || this.#free > CONTROL + this.#kept;
   }
 
-  /** Whether so many bytes more fit. */
+  /** Returns whether a message of this length fits. */
   hasBytes(length) {
     return this.#unwritten === 0 || this.#unwritten + length <= MOST_QUEUED;
   }
@@ -87,7 +87,7 @@ export class Slots {
     return this.#own[channel] <= this.#left;
   }
 
-  // The own slots that are free: their owners alone take them.
+  // The free own slots, which only their channels may take.
   get #kept() {
     let kept = 0;
     for (const number of this.#own) {

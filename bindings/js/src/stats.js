@@ -1,8 +1,8 @@
-/** What a channel did so far, in both directions. */
+/** The statistics of a channel, in both directions. */
 export class Stats {
   #counted = { messagesSent: 0, bytesSent: 0, messagesReceived: 0, bytesReceived: 0, mostBuffered: 0 };
   #waited = { guarantees: 0, slots: 0 };
-  // What the first call that waits lacks, null where none does, and since when.
+  // What the first waiting call lacks, null if none waits, and since when.
   #lack = null;
   #since = 0;
 
@@ -20,7 +20,7 @@ export class Stats {
     this.#counted.mostBuffered = Math.max(this.#counted.mostBuffered, length);
   }
 
-  /** What the first call that waits lacks from now on: 'guarantees', 'slots', or null where none waits. */
+  /** Records what the first waiting call lacks from now on: 'guarantees', 'slots', or null if none waits. */
   lacks(lack) {
     if (lack === this.#lack) {
       return;
@@ -33,7 +33,7 @@ export class Stats {
     this.#since = now;
   }
 
-  /** Up to now, also of what is lacked still. */
+  /** Returns the statistics up to now, including the time of a call that still waits. */
   get() {
     const waited = { ...this.#waited };
     if (this.#lack !== null) {

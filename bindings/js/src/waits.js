@@ -1,28 +1,28 @@
 import { List } from './list.js';
 
-/** What waits in its order. A promise whose signal aborts leaves, wherever it stands. */
+/** A queue of waiting promises. A promise whose signal aborts leaves it, from any position. */
 export class Waits {
   #places = new List();
-  // Of each signal the waits and the listener: a signal compares each new listener with all that it has.
+  // The waits and the one listener of each signal: a signal compares each new listener with all that it has.
   #watched = new Map();
   #left;
 
-  /** `left` is called once waits have left by their signal. */
+  /** `left` is called once waits were cancelled by their signal. */
   constructor(left) {
     this.#left = left;
   }
 
-  /** The first place, undefined where there is none. */
+  /** The first entry, undefined if there is none. */
   get first() {
     return this.#places.first;
   }
 
-  /** A place that waits for nobody. */
+  /** Appends an entry that is no promise. */
   push(place) {
     this.#places.push(place);
   }
 
-  // What waits goes on by `resolve` or `reject`, once it was shifted.
+  // Appends a promise. Once it was shifted, its `resolve` or `reject` settles it.
   join(wait, signal) {
     return new Promise((resolve, reject) => {
       Object.assign(wait, { resolve, reject, signal });

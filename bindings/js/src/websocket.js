@@ -1,21 +1,21 @@
 import { bytesOf, isArrayBuffer, sizeOf } from './bytes.js';
 
-/** So many bytes may wait in a WebSocket before the next write has to. */
+/** The most bytes that may be pending in a WebSocket before the next write waits. */
 const HIGH = 1 << 20;
 
-/** How often a WebSocket that is full is looked at, in milliseconds: it tells nobody that it has room. */
+/** How often a full WebSocket is polled, in milliseconds: it has no event for free space. */
 const LOOK = 10;
 
 const OPEN = 1;
 const NORMAL = 1000;
 
-/** The code of RFC 6455 for a message of a kind that is not taken, and the one in its place where a page closes. */
+/** The code of RFC 6455 for a message of an unsupported kind, and its substitute in a page. */
 const UNSUPPORTED = 1003;
 const UNSUPPORTED_FOR_PAGE = 4003;
 
 const gone = ({ code, reason }) => new Error(`the WebSocket closed (${code}${reason && ` ${reason}`})`);
 
-// What went out is answered by what comes, which a browser tells a tab in the background sooner than the time.
+// A browser delivers a message to a background tab sooner than a timer, and outbound messages are usually answered.
 function later(socket) {
   return new Promise(resolve => {
     const look = () => {
@@ -28,7 +28,7 @@ function later(socket) {
   });
 }
 
-// A page may name 1000 and 3000 to 4999 alone.
+// A page may use only the codes 1000 and 3000 to 4999.
 function closeUnsupported(socket) {
   try {
     socket.close(UNSUPPORTED);
@@ -37,10 +37,10 @@ function closeUnsupported(socket) {
   }
 }
 
-/** The two directions of a WebSocket, each with an end of its own. */
+/** The two directions of a WebSocket, each with its own end. */
 class Directions {
   #socket;
-  // The controllers of the streams, null once a direction is over: a stream that ended or failed takes no more calls.
+  // The controllers of the streams, null once a direction is over: a stream that ended or failed accepts no more calls.
   #incoming = null;
   #outgoing = null;
 
@@ -61,16 +61,16 @@ class Directions {
     });
     socket.addEventListener('message', ({ data }) => this.#receive(data));
     socket.addEventListener('close', event => this.#fail(gone(event)), { once: true });
-    socket.addEventListener('error', () => {}); // a close follows, and says it
+    socket.addEventListener('error', () => {}); // a close event follows
   }
 
-  // A WebSocket message is a part of the stream, or its end where it has no bytes.
+  // A WebSocket message is a part of the stream, or its end if it is empty.
   #receive(data) {
     if (this.#incoming === null) {
       return;
     }
     if (!isArrayBuffer(data)) {
-      this.#fail(new TypeError(`a WebSocket message is bytes, and not a ${typeof data}`));
+      this.#fail(new TypeError(`a WebSocket message must be bytes, got ${typeof data}`));
       closeUnsupported(this.#socket);
       return;
     }
@@ -84,7 +84,7 @@ class Directions {
     }
   }
 
-  // The stream's `abort` waits for the write that is under way, and its signal, which old browsers lack, does not.
+  // The stream's `abort` waits for the write under way. Its signal, which old browsers lack, does not.
   #startWriting(controller) {
     this.#outgoing = controller;
     controller.signal?.addEventListener('abort', () => this.#giveUp());
@@ -96,9 +96,9 @@ class Directions {
   }
 
   async #write(bytes) {
-    const given = bytesOf(bytes, 'what is written');
+    const given = bytesOf(bytes, 'the written chunk');
     if (sizeOf(given) === 0) {
-      return; // it would be the end
+      return; // an empty message would be the end
     }
     this.#send(given);
     while (this.#socket.bufferedAmount > HIGH && this.#socket.readyState === OPEN) {
@@ -112,10 +112,10 @@ class Directions {
     this.#closeIfBoth();
   }
 
-  // A WebSocket that is closing drops what it is given, and says nothing of it.
+  // A closing WebSocket drops its bytes silently.
   #send(bytes) {
     if (this.#socket.readyState !== OPEN) {
-      throw new Error('the WebSocket is closing, and sends nothing more');
+      throw new Error('the WebSocket is closing and sends nothing more');
     }
     this.#socket.send(bytes);
   }
@@ -134,8 +134,8 @@ class Directions {
 }
 
 /**
- * The two streams of a WebSocket. It has no end of one direction alone, so a message of no bytes says that this side
- * writes no more; the other side has to read it so, as this function does.
+ * Returns the two streams of a WebSocket. It has no half-close, so an empty message means that its sender writes no
+ * more: the peer has to use this function, too.
  */
 export async function fromWebSocket(socket) {
   if (socket.readyState > OPEN) {

@@ -47,7 +47,7 @@ const write = (tab, text) =>
     text,
   );
 
-// So many lines are there, once they are.
+// Waits until there are this many lines.
 const heard = (tab, count) =>
   call(
     tab,
@@ -115,7 +115,7 @@ test('10 MB each way at once between two tabs', async () => {
 test('a text fails the session of a tab and closes its WebSocket, without an error that nobody catches', async () => {
   const other = new WebSocket(relay.socket);
   await once(other, 'open');
-  // The relay keeps them for the tab.
+  // The relay keeps the bytes for the tab.
   ['text', Uint8Array.of(1), new Uint8Array(0)].forEach(it => other.send(it));
   const tab = await chromium.tab(new URL('/none', relay.page).href);
   const lose = async address => {
@@ -129,6 +129,6 @@ test('a text fails the session of a tab and closes its WebSocket, without an err
     const reason = await session.closed.catch(error => String(error));
     return { reason, code: await closed, uncaught };
   };
-  const reason = 'SessionClosed: the transport failed: a WebSocket message is bytes, and not a string';
+  const reason = 'SessionClosed: the transport failed: a WebSocket message must be bytes, got string';
   assert.deepEqual(await call(tab, lose, relay.socket), { reason, code: 4003, uncaught: [] });
 });

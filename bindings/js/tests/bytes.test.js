@@ -1,4 +1,4 @@
-// Arrays that say another length than they have, or that lose their bytes: the intrinsics alone are asked.
+// Arrays that claim a wrong length, or that lose their bytes: only the intrinsics are used.
 import assert from 'node:assert/strict';
 import { test } from 'node:test';
 import { runInNewContext } from 'node:vm';
@@ -14,13 +14,13 @@ const bufferOf = array => Object.getOwnPropertyDescriptor(typedArray, 'buffer').
 const counted = length => Uint8Array.from({ length }, (_, at) => at);
 const issued = (...amounts) => Uint8Array.from(amounts.flatMap(amount => [0x21, 0, 0, 0, amount]));
 
-/** A peer that holds so many guarantees. */
+/** A peer that holds this many guarantees. */
 function holding(amount, peer = lcmux.peer()) {
   peer.deliver(issued(amount));
   return peer;
 }
 
-/** An array whose every property and method is that of another, or a failure of the test. */
+/** An array whose every property and method is that of another array, or fails the test. */
 class Liar extends Uint8Array {
   static lie = 0;
   static get [Symbol.species]() {
@@ -49,7 +49,7 @@ const subclass = (array, length) => {
   return Object.setPrototypeOf(array, Liar.prototype);
 };
 
-/** All calls while the getter of each typed array's length is another. */
+/** Makes all calls while the getter of each typed array's length is replaced. */
 function patched(length, run) {
   const [was, subarray] = ['length', 'subarray'].map(name => Object.getOwnPropertyDescriptor(typedArray, name));
   Object.defineProperty(typedArray, 'length', { get: () => length, configurable: true });
@@ -141,7 +141,7 @@ test('an array that lost its bytes is no empty one', async () => {
   const peer = holding(100);
   for (const lost of [transferred, shrunk]) {
     for (const call of [() => peer.send(Data, lost), () => peer.deliver(lost), () => peer.writeInto(lost), () => peer.takeInto(Data, lost)]) {
-      assert.throws(call, /^TypeError: .* whose buffer was transferred or has shrunk$/);
+      assert.throws(call, /^TypeError: .* must not be detached: its buffer was transferred or has shrunk$/);
     }
     const { session } = await alone();
     await assert.rejects(session.channel(Data).send(lost), TypeError);

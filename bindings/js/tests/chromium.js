@@ -1,4 +1,4 @@
-// A browser without a window, driven by the pipe that Chromium has for its developer tools.
+// A headless browser, driven over the pipe of Chromium's developer tools.
 import { spawn } from 'node:child_process';
 import { once } from 'node:events';
 import { mkdtemp, rm } from 'node:fs/promises';
@@ -7,7 +7,7 @@ import { join } from 'node:path';
 
 const FLAGS = ['--headless=new', '--no-sandbox', '--disable-gpu', '--disable-dev-shm-usage', '--no-first-run', '--remote-debugging-pipe'];
 
-/** A tab, on which functions can be called. */
+/** A tab in which functions can be called. */
 class Tab {
   #browser;
   #target;
@@ -19,7 +19,7 @@ class Tab {
     this.#session = session;
   }
 
-  /** What an expression is, once the promise that it may be has its value. */
+  /** Returns the value of an expression; a promise is awaited. */
   async evaluate(expression) {
     const words = { expression, awaitPromise: true, returnByValue: true };
     const { result, exceptionDetails } = await this.#browser.ask('Runtime.evaluate', words, this.#session);
@@ -29,7 +29,7 @@ class Tab {
     return result.value;
   }
 
-  /** The page at an address is there. */
+  /** Loads the page at an address. */
   async go(url) {
     await this.#browser.ask('Page.enable', {}, this.#session);
     const loaded = this.#browser.told('Page.loadEventFired', this.#session);
@@ -65,7 +65,7 @@ export class Chromium {
     return new Chromium(process, folder);
   }
 
-  // Messages are JSON, each with a zero byte behind it.
+  // Messages are JSON, each followed by a zero byte.
   #hear(bytes) {
     this.#rest = Buffer.concat([this.#rest, bytes]);
     for (let end; (end = this.#rest.indexOf(0)) >= 0; ) {

@@ -1,4 +1,4 @@
-// Issues, limits, pleads and absolves of a session: what policies do, and what is left to the caller.
+// Issues, limits, pleads and absolves of a session: those of policies, and those of the caller.
 import assert from 'node:assert/strict';
 import { test } from 'node:test';
 import { Channel, Code, open } from 'lcmux';
@@ -13,7 +13,7 @@ const later = () => {
   return it;
 };
 
-/** A session, its Data channel, and what its side wrote since the last look. */
+/** A session, its Data channel, and the frames that it wrote since the last check. */
 async function begin(config, otherConfig) {
   const there = await alone({ capacities: 64, ...config }, otherConfig);
   const { put, other } = there;
@@ -47,7 +47,7 @@ test('room is issued at once, by a low-water mark, or by the caller', async () =
   await put();
   assert.deepEqual(await written(), []);
   await Promise.all([atOnce.receive(), low.receive(), byCaller.receive()]);
-  // 24 are outstanding on the second, which is not below its mark.
+  // 24 guarantees are outstanding on the second channel, which is not below its mark.
   assert.deepEqual([await written(), low.room, byCaller.room], [['issue 0 30'], 30, 54]);
   other.send(1, bytes(5));
   await put();
@@ -136,7 +136,7 @@ test('guarantees that are given up are no message\'s', async () => {
   await put();
   assert.throws(() => data.absolve(0), { code: Code.ZeroAmount });
   assert.throws(() => data.absolve(51), { code: Code.NotHeld, number: 50 });
-  // No slot is left for the absolve, which counts all the same.
+  // No slot is free for the absolve, which counts nevertheless.
   for (let k = 0; k < 7; k += 1) {
     session.channel(Overlap).issue(1);
   }
@@ -177,14 +177,14 @@ test('what stands in line goes in its order', async () => {
   data.limitSending(20);
   sends.push(data.send(bytes(15)));
   data.limitSending(8);
-  data.limitSending(5); // in the place of the one before, which nothing stands behind
+  data.limitSending(5); // replaces the one before, which is the last entry
   sends.push(data.send(bytes(5)));
   data.finish();
   other.issue(Data, 25);
   await put();
   await Promise.all(sends);
   await settled();
-  // The limit of 5 is met by then: 5 of 20 are left.
+  // The limit of 5 is reached by then: 5 of 20 are left.
   const expected = ['send 1 5', 'limit-sending 1 20', 'send 1 15', 'limit-sending 1 5', 'send 1 5', 'finish 1'];
   assert.deepEqual(framesOf(writes, 2), expected);
   assert.equal(session.reason, null);
@@ -255,8 +255,8 @@ test('policies are judged', async () => {
     await refused({ plead }, TypeError);
   }
   const { data } = await begin({ issue: { lowWater: 64 } });
-  assert.throws(() => data.setIssuePolicy({ lowWater: 65 }), { name: 'RangeError', message: /1 to 64/ });
-  assert.throws(() => data.setIssuePolicy('never'), { name: 'TypeError', message: /'at once' or 'by caller', and not 'never'/ });
+  assert.throws(() => data.setIssuePolicy({ lowWater: 65 }), { name: 'RangeError', message: 'the low-water mark must be in 1..=64, got 65' });
+  assert.throws(() => data.setIssuePolicy('never'), { name: 'TypeError', message: /'at once' or 'by caller', got 'never'/ });
   data.setIssuePolicy({ lowWater: 64 });
 });
 
@@ -285,7 +285,7 @@ test('statistics count messages, their bytes and what calls waited for', async (
   other.send(Data, bytes(10));
   await put();
   await first;
-  // Its own slot is taken by the second, so the third waits for one.
+  // The second message has the own slot, so the third waits for a slot.
   const rest = [data.send(bytes(6)), data.send(bytes(7))];
   await Promise.all(rest);
   await data.receive();
@@ -305,7 +305,7 @@ test('a call that waits for a slot is counted so', async () => {
   there.other.issue(Data, 100);
   there.put();
   await settled();
-  // The driver writes the first, and no more until it may.
+  // The driver writes the first message, and no more until the test releases it.
   const { promise, resolve } = later();
   there.hold = promise;
   const send = () => there.session.channel(Data).send(bytes(1));

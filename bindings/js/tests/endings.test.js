@@ -1,4 +1,4 @@
-// How sessions end, by docs/sessions.md: its table of what each call answers is read here, each cell of it.
+// How sessions end. Each cell of the table in docs/reference/sessions.md is checked.
 import assert from 'node:assert/strict';
 import { readFile } from 'node:fs/promises';
 import { test } from 'node:test';
@@ -10,9 +10,9 @@ const { Data, Overlap, Capability } = Channel;
 const bytes = length => new Uint8Array(length);
 const isClosed = (error, kind) => error instanceof SessionClosed && error.kind === kind;
 
-const page = await readFile(new URL('../../../docs/sessions.md', import.meta.url), 'utf8');
+const page = await readFile(new URL('../../../docs/reference/sessions.md', import.meta.url), 'utf8');
 
-/** The rows of the table behind a title, each with its cells. */
+/** Returns the rows of the table after a title, each with its cells. */
 function tableOf(title) {
   const lines = page.slice(page.indexOf(title)).split('\n');
   const first = lines.findIndex(it => it.startsWith('|'));
@@ -23,8 +23,8 @@ function tableOf(title) {
 const broken = new Error('the cable is cut');
 
 /**
- * A session before its end. On Data 5 guarantees are held and two messages have arrived; on Overlap there is nothing;
- * Capability the other side has finished.
+ * A session before its end. On Data 5 guarantees are held and two messages have arrived; Overlap is unused; the peer
+ * has finished Capability.
  */
 async function begin() {
   const there = await alone({ version: 2, issue: 'by caller', plead: 'by caller' }, { version: 2 });
@@ -48,7 +48,7 @@ async function end(there) {
   await settled();
 }
 
-// The states that the columns name, each with the kind of the reason that it has, or none.
+// The states of the columns, each with the kind of its reason, or none.
 const STATES = {
   open: { '': [() => {}, null] },
   "after this side's `close`": { '': [({ session }) => void session.close(), null] },
@@ -73,7 +73,7 @@ const STATES = {
   aborted: { '': [({ session }) => session.abort(broken), 'Aborted'] },
 };
 
-// Those of the receiver come first.
+// The calls of the receiver are first.
 const controls = channel => [
   () => channel.issue(1),
   () => channel.limitReceiving(5),
@@ -84,7 +84,7 @@ const controls = channel => [
   () => channel.finish(),
 ];
 
-// Each call: what is begun before the state comes, and what becomes of the calls in it.
+// Each call: the calls before the state, and the results of the calls in it.
 const CALLS = {
   '`send`, `reserve`: new or waiting': {
     before: ({ session }) => session.channel(Overlap).send(bytes(1)),
@@ -114,7 +114,7 @@ const isDone = it => it !== null && 'value' in it;
 const rejects = kind => it => it !== null && isClosed(it.reason, kind);
 const each = judge => fates => fates.every(judge);
 
-// What a cell says of the fates of its calls.
+// The cell for the results of its calls.
 function judgeOf(cell, kind) {
   switch (cell) {
     case '-':
@@ -138,13 +138,13 @@ function judgeOf(cell, kind) {
   }
 }
 
-// Sends on a channel without guarantees, and then one on a channel with some.
+// Sends on a channel without guarantees, and then on a channel with some.
 const SENDS = {
   '-': fates => fates.slice(0, 2).every(isWaiting) && isDone(fates[2]),
   '- where guarantees are held, else closed by the peer': fates => fates.slice(0, 2).every(rejects('Remote')) && isDone(fates[2]),
 };
 
-// Calls go on, and those of a receiver are refused as such where its channel is finished.
+// Calls proceed, and those of a receiver are refused if its channel is finished.
 const isRefused = it => it?.reason.code === Code.ChannelFinished;
 const CONTROLS = {
   open: each(isDone),
@@ -153,7 +153,7 @@ const CONTROLS = {
 
 const [[, ...columns], ...rows] = tableOf('### What each call answers');
 
-test('the table of docs/sessions.md has the calls and the states that are tried', () => {
+test('the table of docs/reference/sessions.md has the calls and the states that are tried', () => {
   assert.deepEqual(columns, Object.keys(STATES));
   assert.deepEqual(rows.map(([call]) => call), [...Object.keys(CALLS).slice(0, 1), "a permit's `send`", ...Object.keys(CALLS).slice(1)]);
 });
@@ -162,7 +162,7 @@ for (const [call, ...cells] of rows.filter(([name]) => name in CALLS)) {
   for (const [at, cell] of cells.entries()) {
     for (const [name, [reach, kind]] of Object.entries(STATES[columns[at]])) {
       if (cell === '') {
-        continue; // there is no such state: where the peer closed in order its channels are finished
+        continue; // no such state: a peer that closed in order has finished its channels
       }
       test(`${call}; ${columns[at]}${name && `, by ${name}`}: ${cell}`, async () => {
         const there = await begin();
@@ -188,7 +188,7 @@ test('the table of reasons names the kinds', () => {
   assert.deepEqual(kinds, ['Local', 'Remote', 'Cut', 'Aborted', 'Transport', 'Stopped']);
 });
 
-// How the other side's stream ends, once it has sent a message, and the kind of the reason.
+// How the peer's stream ends, after it has sent a message, and the kind of the reason.
 const ENDS = {
   'an end in order': [end, null],
   'an end at a frame boundary': [({ comes }) => comes.close(), 'Cut'],
@@ -233,7 +233,7 @@ for (const [name, [reach, kind]] of Object.entries(ENDS)) {
       assert.equal(session.reason.kind, kind ?? 'Local');
       const closed = await fate(session.closed);
       assert.ok(isInOrder ? isDone(closed) : closed.reason === session.reason);
-      // What was accepted is written, and then every channel is finished.
+      // Accepted messages are written, and then every channel is finished.
       const frames = ['send 1 3', ...CHANNELS.map(it => `finish ${it}`)];
       const written = framesOf(there.writes, 2);
       assert.deepEqual(written, isInOrder || isAfter ? frames : frames.slice(0, 1));
@@ -386,7 +386,7 @@ test('two sessions that are closed at once end in order, and messages on their w
 test('what a delivery brings before it breaks the rules has arrived', async () => {
   const { session, comes } = await begin();
   const [sent, waits] = [session.channel(Overlap).send(bytes(3)), session.channel(Overlap).send(bytes(1))];
-  // Room for 3 bytes on Overlap, a message of 4 there, and then no frame.
+  // An issue of 3 bytes on Overlap, a message of 4 there, and then no frame.
   comes.enqueue(Uint8Array.of(0x22, 0, 0, 0, 3, 0x12, 0, 0, 0, 4, 1, 2, 3, 4, 0xff));
   await sent;
   await assert.rejects(waits, it => isClosed(it, 'Stopped'));

@@ -1,8 +1,10 @@
-// What went out, frame by frame, as docs/formats.md has it.
+// Parses outbound bytes frame by frame, as docs/reference/wire-format.md has it.
 
+// codes: begin kinds
 /** How many bytes the number behind the tag has, by the kind and the version. */
 const NUMBERS = { 1: [2, 4], 2: [4, 4], 3: [4, 4], 4: [4, 4], 5: [8, 8], 6: [8, 8], 7: [0, 0] };
 const NAMES = [, 'send', 'issue', 'absolve', 'plead', 'limit-sending', 'limit-receiving', 'finish'];
+// codes: end
 
 /** Texts such as `send 1 5`: the kind, the channel, and the number, which is a message's length. */
 export function framesOf(writes, version = 1) {

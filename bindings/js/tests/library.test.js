@@ -12,7 +12,7 @@ async function counted(module) {
   return instance;
 }
 
-// In place of WebAssembly.instantiate. A module of Node's own, which may be made meanwhile, has imports.
+// Replaces WebAssembly.instantiate. A module of Node itself, which may be made meanwhile, has imports.
 const forOurs = answer => (module, imports) => (imports ? instantiate(module, imports) : answer(module));
 
 // Two sessions over one pair of pipes, and a message between them.

@@ -9,7 +9,7 @@ const { Data } = Channel;
 const hello = new TextEncoder().encode('hello');
 const guarantees = Uint8Array.of(0x21, 0, 0, 0, 5);
 
-// Where the request is refused: in making the peer, in the send, or nowhere.
+// The place of the refused request: in making the peer, in the send, or nowhere.
 function refusedIn({ exports, peer }, request) {
   exports.refuse(request);
   let made;
@@ -42,7 +42,7 @@ test('each request for memory is refused in turn', async () => {
   for (let request = 1; where.at(-1) !== 'nowhere'; request += 1) {
     where.push(refusedIn(refusing, request));
   }
-  // Beside the 18 of a new peer and the one of a message a handle.
+  // The 18 requests of a new peer, the one of a message, and a handle.
   assert.deepEqual(where, [...Array(19).fill('peer'), 'send', 'nowhere']);
   assert.equal(refusing.exports.requests(), 20);
 });
@@ -109,8 +109,8 @@ test('a module that ran out of memory goes on', async () => {
       peers.push(lcmux.peer(most));
     }
   }, { code: Code.OutOfMemory });
-  // Of 2^31 bytes, where each of seven rings takes 2^24 for its bytes, and more for the messages' lengths.
-  assert.equal(peers.length, 3);
+  // Of 2^31 bytes, each of seven rings takes 2^24 for its bytes, 2^20 for one message, and 2^24 for the lengths.
+  assert.equal(peers.length, 8);
   for (const peer of peers) {
     peer.issue(Data, 5);
     assert.equal(peer.write().length, 5);
@@ -186,13 +186,13 @@ test('the heap gives each block bytes of its own, and joins what is free', async
   }
   blocks.freeAll();
   assert.equal(exports.blocks(), 0);
-  // All is one free block again: nearly the whole memory can be had at once, without any more of it.
+  // All blocks are merged again: nearly the whole memory can be allocated at once, and it does not grow.
   const size = exports.memory.buffer.byteLength;
   const data = 2 ** 20 + 2 ** 17;
   const at = exports.heap_alloc(size - data - 2 ** 16, 16);
   assert.ok(at > 0);
   assert.equal(exports.memory.buffer.byteLength, size);
-  // What the memory never has, and a wider alignment than a block's.
+  // A size that the memory never has, and a wider alignment than a block's.
   assert.deepEqual([[2 ** 31, 1], [2 ** 32 - 1, 1], [1, 32]].map(it => exports.heap_alloc(...it)), [0, 0, 0]);
   exports.heap_free(at);
   assert.equal(exports.blocks(), 0);

@@ -1,4 +1,4 @@
-// The module whose heap refuses a request, with its calls at hand, for peers of it.
+// The module whose heap refuses a request, with its raw calls.
 import { readFile } from 'node:fs/promises';
 import { Module } from '../src/module.js';
 import { Peer } from '../src/peer.js';
@@ -27,7 +27,7 @@ export async function refusingModule() {
   return { exports, told, module, peer: config => new Peer(module, config) };
 }
 
-/** Lets a handle of the module point nowhere, so that the next call on it traps. */
+/** Makes a handle of the module invalid, so that the next call on it traps. */
 export function breakHandle({ exports, told }, at) {
   new BigUint64Array(exports.memory.buffer)[told.handles[at] / 8 + 1] = 0xf000_0000n;
 }

@@ -10,7 +10,7 @@ const bytes = text => new TextEncoder().encode(text);
 const hex = text => Uint8Array.from(text.match(/../g), byte => parseInt(byte, 16));
 const fileOf = path => new URL(`../${path}`, import.meta.url);
 
-/** What a refusal has, in this order: code, name, number, message. */
+/** The expected members of a refusal, in this order: code, name, number, message. */
 function refusedBy(code, kind, number, message) {
   return error => {
     assert.ok(error instanceof LcmuxError && error instanceof Error);
@@ -27,7 +27,6 @@ test('the channels are those of the formats', () => {
 
 test('a code has the sentence that the module says, and no other number has one', () => {
   const known = new Map(Object.entries(Code).map(([kind, code]) => [code, kind]));
-  assert.equal(known.size, 40);
   for (let code = 1; code < 1000; code += 1) {
     if (known.has(code)) {
       const error = new LcmuxError(code, 7);
@@ -40,10 +39,9 @@ test('a code has the sentence that the module says, and no other number has one'
 });
 
 test('violations and faults are stops, and refusals are none', () => {
-  assert.deepEqual(
-    Object.values(Code).filter(code => new LcmuxError(code).isStop),
-    [101, 102, 103, 104, 105, 106, 107, 108, 109, 201, 202, 203, 204],
-  );
+  for (const code of Object.values(Code)) {
+    assert.equal(new LcmuxError(code).isStop, code > 100);
+  }
 });
 
 test('one version', async () => {
@@ -54,7 +52,7 @@ test('one version', async () => {
 });
 
 test('a module of another version is refused', async () => {
-  // The exports version, answered, place_at and place_len, each of which answers 256 times 2, and a memory.
+  // The exports version, answered, place_at and place_len, each of which returns 256 times 2, and a memory.
   const names = ['version', 'answered', 'place_at', 'place_len'];
   const entries = names.flatMap((name, at) => [name.length, ...bytes(name), 0, at]);
   const section = (id, ...content) => [id, content.length, ...content];
@@ -67,7 +65,7 @@ test('a module of another version is refused', async () => {
     ...section(7, 5, 6, ...bytes('memory'), 2, 0, ...entries),
     ...section(10, 4, ...[0, 1, 2, 3].flatMap(() => [code.length - 1, ...code.slice(1)])),
   );
-  await assert.rejects(load(wasm), /0x200, and the package 0\.1\.0/);
+  await assert.rejects(load(wasm), /must have version 0\.1\.0, got 0x200/);
 });
 
 test('the module is taken from each source', async () => {
@@ -124,7 +122,7 @@ test('a message is lent where it lies, in two pieces where it goes round its rin
   assert.deepEqual([bob.front(Data), bob.pop(Data)], [ENDED, ENDED]);
 });
 
-// What is no number at all, and what is none from 0 to most.
+// Values that are no numbers, and numbers that are not in 0 to most.
 const OTHERS = [undefined, null, '1', true, {}, [1], 1n, () => 1];
 const outside = most => [-1, -0.5, 0.5, NaN, Infinity, -Infinity, most + 1, 2 ** 53];
 
@@ -166,13 +164,16 @@ test('what is passed is judged before it reaches the module', () => {
 });
 
 test('a configuration is judged, in this order', () => {
-  const refuses = (config, code, number) => assert.throws(() => lcmux.peer(config), { name: 'LcmuxError', code, number });
-  refuses({ version: 3, slots: 0, capacities: 0 }, Code.BadVersion, undefined);
-  refuses({ version: 0 }, Code.BadVersion, undefined);
-  refuses({ slots: 0, capacities: [8, 8, 0, 8, 8, 0, 8] }, Code.BadCapacity, 2);
-  refuses({ capacities: 2 ** 24 + 1 }, Code.BadCapacity, 0);
-  refuses({ slots: 0 }, Code.BadSlots, undefined);
-  refuses({ slots: 65_537 }, Code.BadSlots, undefined);
+  const refuses = (config, code, number, message) => assert.throws(() => lcmux.peer(config), { name: 'LcmuxError', code, number, message });
+  const ofVersion = version => `the version must be 1 or 2, got ${version}`;
+  const ofRing = (channel, capacity) => `the capacity of channel ${channel} must be in 1..=16777216, got ${capacity}`;
+  const ofSlots = slots => `slots must be in 1..=65536, got ${slots}`;
+  refuses({ version: 3, slots: 0, capacities: 0 }, Code.BadVersion, undefined, ofVersion(3));
+  refuses({ version: 0 }, Code.BadVersion, undefined, ofVersion(0));
+  refuses({ slots: 0, capacities: [8, 8, 0, 8, 8, 0, 8] }, Code.BadCapacity, 2, ofRing(2, 0));
+  refuses({ capacities: 2 ** 24 + 1 }, Code.BadCapacity, 0, ofRing(0, 16_777_217));
+  refuses({ slots: 0 }, Code.BadSlots, undefined, ofSlots(0));
+  refuses({ slots: 65_537 }, Code.BadSlots, undefined, ofSlots(65_537));
   for (const name of ['version', 'slots', 'capacities']) {
     for (const [values, kind] of [[['1', 1n, null, {}], TypeError], [[-1, 1.5, NaN, 2 ** 32, 2 ** 32 + 1], RangeError]]) {
       values.forEach(it => assert.throws(() => lcmux.peer({ [name]: it }), kind, `${name} ${String(it)}`));
@@ -257,7 +258,7 @@ test('the balances', () => {
   bob.plead(Data, 30);
   alice.deliver(bob.write());
   const client = { held: 41, received: 50n, spent: 5n, absolved: 4n, waived: 0n, sendLeft: null, receiveLeft: null, asked: 30, finished: false };
-  const server = { capacity: 100, issued: 50n, outstanding: 41, buffered: 5, room: 54, waived: 0n, sendLeft: null, receiveLeft: null, finished: false };
+  const server = { capacity: 100, issued: 50n, received: 5n, taken: 0n, absolved: 4n, outstanding: 41, buffered: 5, room: 54, waived: 0n, sendLeft: null, receiveLeft: null, finished: false };
   assert.deepEqual([alice.client(Data), bob.server(Data)], [client, server]);
   const flags = { message: false, ended: false, plead: false, finished: false, finishedThere: false };
   assert.deepEqual(alice.ready()[Data], { ...flags, plead: true });
@@ -266,7 +267,7 @@ test('the balances', () => {
   alice.finish(Data);
   bob.deliver(alice.write());
   assert.deepEqual(alice.client(Data), { ...client, held: 0, absolved: 15n, waived: 30n, asked: null, finished: true });
-  assert.deepEqual(bob.server(Data), { ...server, outstanding: 0, room: 95, waived: 30n, finished: true });
+  assert.deepEqual(bob.server(Data), { ...server, absolved: 15n, outstanding: 0, room: 95, waived: 30n, finished: true });
   assert.deepEqual([alice.ready()[Data].finished, bob.ready()[Data].finishedThere, bob.ready()[Data].ended], [true, true, false]);
   assert.equal(alice.wouldHonour(Data).code, Code.ChannelFinished);
 });
@@ -274,7 +275,7 @@ test('the balances', () => {
 test('a stop says how far it came, and is answered for good', () => {
   const peer = lcmux.peer();
   peer.issue(Data, 5);
-  // An issue, then a message that is longer than what is outstanding, then more.
+  // An issue, then a message that is longer than the outstanding guarantees, then more.
   const wire = hex('2100000005' + '110006616161616161' + '2100000001');
   const stop = refusedBy(101, 'NotGuaranteed', undefined, 'a message longer than the guarantees outstanding');
   assert.throws(() => peer.deliver(wire), error => stop(error) && error.frames === 1 && error.taken === 14);
@@ -371,7 +372,7 @@ test('after a trap no call is answered', async () => {
   breakHandle(refusing, 1);
   assert.throws(() => second.issue(Data, 1), WebAssembly.RuntimeError);
   const { calls } = refusing.told;
-  const refused = error => /trapped before/.test(error.message) && error.cause instanceof WebAssembly.RuntimeError;
+  const refused = error => /an earlier call of the module trapped/.test(error.message) && error.cause instanceof WebAssembly.RuntimeError;
   for (const call of [() => first.pending(), () => second.issue(Data, 1), () => refusing.peer(), () => refusing.module.text(1)]) {
     assert.throws(call, refused);
   }
@@ -407,7 +408,7 @@ test('what the types say of the codes is so', async () => {
   const types = await readFile(fileOf('lcmux.d.ts'), 'utf8');
   const said = types.slice(types.indexOf('const Code:'), types.indexOf('export type Kind'));
   assert.deepEqual(Object.fromEntries([...said.matchAll(/readonly (\w+): (\d+);/g)].map(([, kind, code]) => [kind, Number(code)])), { ...Code });
-  const members = types.slice(types.indexOf('class Peer '), types.indexOf('/** Two streams'));
+  const members = types.slice(types.indexOf('class Peer '), types.indexOf('export interface Streams'));
   const named = [...members.matchAll(/^  (?:readonly )?(\w+)[(:]/gm)].map(([, name]) => name).filter(name => name !== 'private');
   assert.deepEqual(named.sort(), Object.getOwnPropertyNames(Peer.prototype).filter(name => name !== 'constructor').sort());
 });

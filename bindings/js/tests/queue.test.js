@@ -1,9 +1,9 @@
-// What waits costs the same for each, however many wait: counted in steps.
-// The first import counts how often the blocks of those behind it run.
+// The cost of a waiting call is constant, however many calls wait: counted in steps.
+// The first import counts how often the blocks of the later ones run.
 import { stepsOf } from './steps.js';
 import assert from 'node:assert/strict';
 import { test } from 'node:test';
-import { Channel } from 'lcmux';
+import { CHANNELS, Channel } from 'lcmux';
 import { List } from '../src/list.js';
 import { alone, settled } from './streams.js';
 
@@ -11,7 +11,7 @@ const { Data } = Channel;
 const one = Uint8Array.of(0x61);
 const times = (count, make) => Array.from({ length: count }, (_, at) => make(at));
 
-/** A signal with the listeners' cost of a real one: each that comes is compared with all that are there. */
+/** A signal whose listeners cost as much as those of a real one: each new listener is compared with all others. */
 class CountedSignal {
   static compared = 0;
   #listeners = new Set();
@@ -40,7 +40,7 @@ class CountedSignal {
   }
 }
 
-// Each makes a session in which nothing can go out yet, and answers what is to be counted, for so many waits.
+// Each makes a session in which no message can be sent yet, and returns the function to be counted, for this many waits.
 const COUNTED = {
   'sends that are not awaited': async count => {
     const { session, other, put } = await alone({}, { capacities: 2 ** 24 });
@@ -96,7 +96,7 @@ const COUNTED = {
   'sends on channels that all wait': async count => {
     const { session } = await alone();
     return async () => {
-      const sends = times(count, at => session.channel(at % 7).send(one));
+      const sends = times(count, at => session.channel(at % CHANNELS.length).send(one));
       session.close();
       assert.ok((await Promise.allSettled(sends)).every(({ reason }) => reason.kind === 'Local'));
     };

@@ -4,7 +4,7 @@ import { ENDED, LcmuxError } from '../src/index.js';
 const hex = bytes => Array.from(bytes, byte => byte.toString(16).padStart(2, '0')).join('') || '-';
 const unhex = text => Uint8Array.from(text === '-' ? [] : text.match(/../g), byte => parseInt(byte, 16));
 
-// The names of the numbers that refusals carry, by docs/formats.md.
+// The names of the numbers that refusals carry, by docs/reference/errors.md.
 const CARRIED = { 3: 'left', 4: 'held', 6: 'held', 8: 'left', 9: 'left', 10: 'room', 11: 'outstanding', 16: 'need' };
 
 function said(error) {
@@ -81,7 +81,7 @@ function take(peer, channel, room) {
   return taken(peer.takeInto(channel, buffer), length => `took ${hex(buffer.subarray(0, length))}`);
 }
 
-// The length of the first message; what lies there is as long.
+// The length of the first message, which equals that of the borrowed one.
 function front(peer, channel) {
   const pieces = peer.front(channel);
   const length = peer.frontLength(channel);
@@ -127,7 +127,7 @@ const CALLS = {
   server: ({ peer }, _, __, channel) => server(peer.server(Number(channel))),
 };
 
-// A call of the side `me`, in words.
+// Makes a call of the side `me`, given as words.
 function answer(me, other, piece, [word, ...words]) {
   try {
     return CALLS[word](me, other, piece, ...words);
@@ -138,14 +138,15 @@ function answer(me, other, piece, [word, ...words]) {
 
 const NOTHING = new Uint8Array(0);
 
-// Two new peers, and the bytes of each that did not arrive yet.
+// Two new peers, and the bytes of each that have not arrived.
 function sidesOf(lcmux, [capacities, slots, version = '1']) {
   const config = { capacities: Number(capacities), slots: Number(slots), version: Number(version) };
   return { A: { peer: lcmux.peer(config), wire: NOTHING }, B: { peer: lcmux.peer(config), wire: NOTHING } };
 }
 
 /**
- * Runs the rows, whose bytes are delivered in pieces: how many cases and answers there were, and which were wrong.
+ * Runs the rows, whose bytes are delivered in chunks. Returns how many cases and answers there were, and which were
+ * wrong.
  */
 export function runRows(lcmux, rows, piece) {
   const told = { cases: 0, answers: 0, wrong: [] };

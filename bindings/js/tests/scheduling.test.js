@@ -1,4 +1,4 @@
-// The rules of docs/sessions.md for what is written next. A write that does not end keeps the queue as it is.
+// The rules of docs/reference/sessions.md for scheduling. A write that does not complete keeps the queue unchanged.
 import assert from 'node:assert/strict';
 import { test } from 'node:test';
 import { CHANNELS, Channel } from 'lcmux';
@@ -11,8 +11,8 @@ const bytes = length => new Uint8Array(length);
 const times = (count, make) => Array.from({ length: count }, (_, at) => make(at));
 
 /**
- * A session that has all guarantees, and whose driver writes the first message of StaticToken until `step`, by which it
- * writes one piece more and then stays there, or `release`, by which it writes on.
+ * A session that has all guarantees, and whose driver writes the first message of StaticToken until `step`, by which
+ * it writes one chunk more and then stops again, or `release`, by which it writes on.
  */
 async function held(config) {
   const there = await alone({ issue: 'by caller', ...config }, { capacities: 2 ** 21, slots: 1000 });
@@ -40,10 +40,10 @@ async function held(config) {
   return { ...there, send, step, release };
 }
 
-// Which of these sends are accepted.
+// Returns which of these sends are accepted.
 const accepted = async sends => (await Promise.all(sends.map(fate))).map(it => it !== null);
 
-test('the example of docs/sessions.md, by the slots', () => {
+test('the example of docs/reference/sessions.md, by the slots', () => {
   const slots = new Slots(16);
   let places = 16;
   const enters = channel => {
@@ -65,7 +65,7 @@ test('the example of docs/sessions.md, by the slots', () => {
   assert.deepEqual([slots.hasFor(Data), slots.hasFor(Overlap)], [true, true]);
 });
 
-test('the example of docs/sessions.md, by a session: no call is forgotten', async () => {
+test('the example of docs/reference/sessions.md, by a session: no call is forgotten', async () => {
   const { send, release } = await held({ slots: 16 });
   const data = times(4, () => send(Data));
   assert.deepEqual(await accepted(data), [true, true, true, false]);
@@ -137,7 +137,7 @@ test('what is pending of one kind is one frame for each channel, in the order in
   one.issue(5);
   two.absolve(2);
   one.limitReceiving(100);
-  one.issue(10); // counted off the limit
+  one.issue(10); // subtracted from the limit
   two.limitSending(50);
   two.limitSending(40);
   const expected = [...Array(7).fill('issue 1 1'), 'absolve 2 3', 'limit-sending 2 40', 'issue 1 15', 'limit-receiving 1 90'];
@@ -160,7 +160,7 @@ test('headers do not count, and what was not taken counts in whole', async () =>
   const { send, step, release } = await held({ slots: 65_536 });
   const short = times(30_000, () => send(Data));
   await Promise.all(short);
-  await step(); // a piece of 65,536 bytes has 16,384 of them
+  await step(); // a chunk of 65,536 bytes has 16,384 of them
   const fits = 65_536 - (30_000 - 16_384);
   const more = [send(Overlap, fits + 1), send(Capability, fits)];
   assert.deepEqual(await accepted(more), [false, true]);
@@ -247,7 +247,7 @@ test('of several that can proceed the channel that sent least recently comes fir
   times(3, () => send(Capability)); // C1
   times(3, () => send(Data)); // D1
   times(1, () => send(Reconciliation)); // R1
-  // Then all is taken: Overlap sent least recently, and once each has its own, one more of the same.
+  // Then all frames are taken. Overlap sent least recently; once each channel has its own slot, Overlap also gets the shared one.
   const expected = [
     ...['2', '2', '3', '1', '0'], // O1 O2 C1 D1 R1
     ...['2', '3', '1', '2'], // O3 C2 D2, and O4 in the shared slot
@@ -264,7 +264,7 @@ test('a shared slot goes to the channel that sent least recently, and not to the
   const sends = [send(Overlap), send(Overlap), send(Overlap), send(Data), send(Data), send(Data)];
   assert.deepEqual(await accepted(sends), Array(6).fill(false));
   const frames = await release();
-  // Data's last is older: D2 O3 in their own, D3 in the shared one; then O4, D4, O5.
+  // Data sent less recently: D2 O3 in their own slots, D3 in the shared one; then O4, D4, O5.
   assert.deepEqual(frames, ['1', '2', '2', '1', '2', '1', '2', '1', '2'].map(channel => `send ${channel} 1`));
 });
 
@@ -282,7 +282,7 @@ for (const slots of [14, 16, 40]) {
     there.put();
     await settled();
     const all = [];
-    // Data has two calls at once, so that one always waits; the others have fifty.
+    // Data has two calls at once, so that one always waits; the other channels have fifty.
     const keep = async (channel, count, rounds) => {
       for (let k = 0; k < rounds; k += 1) {
         await Promise.all(times(count, () => there.session.channel(channel).send(bytes(1))));

@@ -226,7 +226,7 @@ test('a slow writer holds back what is taken from the peer', async () => {
   await settled();
   const sends = Array.from({ length: 20 }, () => session.channel(Data).send(bytes(10_000)));
   const done = async () => (await Promise.all(sends.map(fate))).filter(it => it !== null).length;
-  // Four are on their way, one has the channel's own slot, and three have the shared ones.
+  // Four messages are in flight, one has the channel's own slot, and three have the shared ones.
   assert.equal(await done(), 8);
   assert.deepEqual(writes.map(it => it.length), [4 * 10_005]);
   there.hold = undefined;
@@ -247,7 +247,7 @@ test('a stream that nobody reads holds back', async () => {
   comes.writable.getWriter().write(other.write());
   const sends = [1, 2, 3].map(length => session.channel(Data).send(bytes(length)));
   assert.deepEqual(await Promise.all(sends.map(fate)), [{ value: undefined }, { value: undefined }, null]);
-  // Seven promises, and the two messages that had a slot.
+  // Seven issues, and the two messages that had a slot.
   const reader = readable.getReader();
   const [promises, messages] = [await reader.read(), await reader.read()];
   assert.deepEqual([promises.value.length, messages.value.length], [7 * 5, 3 + 1 + 3 + 2]);
@@ -275,7 +275,7 @@ test('promises of room do not wait for a slot behind messages', async () => {
   hold.resolve();
   await Promise.all(sends);
   await settled();
-  // The first message was being written, and the second had the slot; then come the seven promises.
+  // The first message was being written, and the second had the slot; the seven issues follow.
   const order = [];
   for (let rest = tagsOf(writes); rest.length > 0; rest = rest.slice(rest[0] >> 4 === 1 ? 3 + rest[2] : 5)) {
     order.push(rest[0] >> 4);
@@ -314,7 +314,7 @@ test('each channel has its turn', async () => {
   assert.ok(tags.indexOf('18 0 1 97') < tags.indexOf('17 0 1 97 17 0 1 97 17 0 1 97'), tags);
 });
 
-// How a session can be lost, of which kind its reason is, and by what it was caused.
+// How a session can fail, the kind of its reason, and its cause.
 const broken = new Error('the cable is cut');
 const isBroken = it => it === broken;
 const LOSSES = {
@@ -513,7 +513,7 @@ test('a configuration is judged, and the streams are let go', async () => {
     await assert.rejects(open(streams, { slots }), slots === '1' ? TypeError : RangeError);
   }
   for (const slots of [0, 13]) {
-    await assert.rejects(open(streams, { slots }), { name: 'RangeError', message: `a session has 14 slots or more, and not ${slots}` });
+    await assert.rejects(open(streams, { slots }), { name: 'RangeError', message: `slots must be in 14..=65536, got ${slots}` });
   }
   const writer = streams.writable.getWriter();
   await assert.rejects(open(streams), TypeError);
@@ -541,8 +541,8 @@ test('options are judged, and those that are undefined are absent', async () => 
   const named = key => ({ name: 'TypeError', message: new RegExp(`no key '${key}'`) });
   for (const call of [options => channel.send(bytes(1), options), options => channel.receive(options)]) {
     await assert.rejects(call({ singal: signal }), named('singal'));
-    // A signal stands in options.
-    await assert.rejects(call(signal), { name: 'TypeError', message: /no key '\w+', but signal/ });
+    // A signal belongs into options.
+    await assert.rejects(call(signal), { name: 'TypeError', message: /no key '\w+', only signal/ });
     await assert.rejects(call({ signal: 5 }), TypeError);
     await assert.rejects(call(5), TypeError);
   }

@@ -12,14 +12,14 @@ export function pipes() {
   ];
 }
 
-/** All that can go on without more from outside does. */
+/** Runs until no promise can make progress by itself. */
 export async function settled() {
   for (let turn = 0; turn < 10; turn += 1) {
     await new Promise(resolve => setImmediate(resolve));
   }
 }
 
-/** What becomes of a promise: its value, its reason, or null while it waits. */
+/** Observes a promise: its value, its reason, or null while it is pending. */
 export async function fate(promise) {
   let told = null;
   promise.then(
@@ -31,8 +31,8 @@ export async function fate(promise) {
 }
 
 /**
- * A session whose other side is a bare peer, by which the test writes what comes and reads what went. While `hold` is
- * a promise, a write waits for it.
+ * A session whose peer is a bare `Peer`, with which the test writes inbound bytes and reads outbound ones. While
+ * `hold` is a promise, a write waits for it.
  */
 export async function alone(config, otherConfig) {
   const { module, exports, told, peer } = await refusingModule();

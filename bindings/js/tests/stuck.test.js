@@ -1,5 +1,5 @@
-// Six channels that are stuck, and a seventh that carries a thousand messages, by a random schedule over pipes that cut
-// the streams anywhere. What is stuck never holds up the seventh, and what goes on holds to the rules.
+// Six channels are stuck, and a seventh carries a thousand messages, by a random schedule over pipes that cut the streams
+// anywhere. The stuck channels never block the seventh, and all frames keep the rules.
 import assert from 'node:assert/strict';
 import { test } from 'node:test';
 import { CHANNELS, Channel, load } from 'lcmux';
@@ -17,7 +17,7 @@ function randomOf(seed) {
   };
 }
 
-/** A pipe that cuts what is written into pieces, and now and then makes the writer wait. */
+/** A pipe that cuts its bytes into chunks, and occasionally makes the writer wait. */
 function cutPipe(random) {
   let controller;
   const readable = new ReadableStream({ start: it => void (controller = it) });
@@ -60,11 +60,11 @@ const STUCK = {
   'by sends that wait for guarantees': (alice, random, others) => {
     others.forEach(it => Array.from({ length: 50 }, () => alice.channel(it).send(new Uint8Array(200 + random(100)))).forEach(sent => sent.catch(() => {})));
   },
-  // No room is ever issued.
+  // No guarantees are ever issued.
   'without guarantees': (alice, _, others) => {
     others.forEach(it => alice.channel(it).send(new Uint8Array(1)).catch(() => {}));
   },
-  // Limits, absolves and a finish stand behind sends.
+  // Limits, absolves and a finish follow waiting sends.
   'by what stands in line': (alice, _, others) => {
     for (const it of others) {
       const channel = alice.channel(it);
@@ -108,7 +108,7 @@ for (const [name, stick] of Object.entries(STUCK)) {
       assert.equal(alice.reason, null);
       await Promise.all([alice.close(), bob.close()]);
       assert.deepEqual([alice.reason.kind, bob.reason.kind], ['Local', 'Local']);
-      // What was accepted on the others has arrived, and then they end.
+      // Accepted messages of the other channels have arrived, and then these end.
       for (const it of others) {
         let count = 0;
         for await (const message of bob.channel(it)) {

@@ -87,7 +87,9 @@ for (const [name, kind, lose] of [['destroyed', 'Stopped', socket => socket.dest
     const session = await open(fromSocket(socket));
     const waits = [session.channel(Data).send(message(1, 5)), session.channel(Data).receive(), session.closed];
     other.write(Uint8Array.of(0x21, 0));
-    await new Promise(resolve => setTimeout(resolve, 20));
+    do {
+      await new Promise(resolve => setTimeout(resolve, 20));
+    } while (other.bytesRead === 0); // a socket that is closed with bytes unread is reset
     lose(other);
     for (const wait of waits) {
       await assert.rejects(wait, error => error instanceof SessionClosed && error.kind === kind && error === session.reason);
@@ -95,7 +97,7 @@ for (const [name, kind, lose] of [['destroyed', 'Stopped', socket => socket.dest
   });
 }
 
-/** A connection whose sockets are as Node makes them, without `allowHalfOpen`: of the client, and of the server. */
+/** A connection whose sockets are as Node makes them, without `allowHalfOpen`: the client's, and the server's. */
 async function plainSockets(context, serve = createServer, dial = connect, accepts = 'connection', dials = 'connect', how = {}) {
   const plain = serve(how);
   await once(plain.listen(0, '127.0.0.1'), 'listening');
@@ -106,7 +108,7 @@ async function plainSockets(context, serve = createServer, dial = connect, accep
   return [socket, other];
 }
 
-// A key that both sides have: no certificate is needed.
+// A pre-shared key: no certificate is needed.
 const psk = Buffer.alloc(16, 7);
 const SECURE = { ciphers: 'PSK', maxVersion: 'TLSv1.2', checkServerIdentity: () => undefined };
 const secureSockets = context =>
@@ -123,7 +125,7 @@ for (const [name, make] of [['TCP', plainSockets], ['TLS', secureSockets]]) {
   test(`all of 1,000,000 bytes arrive over ${name} after the other side closed, though its sockets are not half-open`, async context => {
     const sockets = await make(context);
     assert.deepEqual(sockets.map(it => it.allowHalfOpen), [false, false]);
-    // All is guaranteed before the close, behind which no more is.
+    // All guarantees are issued before the close, after which none are.
     const [alice, bob] = await Promise.all(sockets.map(socket => open(fromSocket(socket), { capacities: 2 ** 20 })));
     const closed = bob.close();
     assert.equal(await alice.channel(Data).receive(), null);
@@ -147,13 +149,13 @@ test('a socket of which a direction has ended is refused', async context => {
   ended.allowHalfOpen = true;
   there.end();
   await once(ended.resume(), 'end');
-  refused(ended, /the other side ended its direction/);
-  refused(there, /this side ended its direction/);
+  refused(ended, /the peer has ended its direction/);
+  refused(there, /this side has ended its direction/);
   const [destroyed] = await plainSockets(context);
   destroyed.destroy();
   refused(destroyed, /destroyed/);
   const [decoding] = await plainSockets(context);
-  refused(decoding.setEncoding('utf8'), /decodes what comes as utf8/);
+  refused(decoding.setEncoding('utf8'), /its encoding is utf8/);
 });
 
 test('an end that has arrived and was not told yet is told', async context => {
@@ -170,12 +172,12 @@ test('a socket that begins to decode fails its streams', async context => {
   const { readable, writable } = fromSocket(socket);
   socket.setEncoding('latin1');
   other.on('error', () => {}).write(message(1, 5));
-  await assert.rejects(readable.getReader().read(), { name: 'TypeError', message: /what a socket reads is a Uint8Array/ });
+  await assert.rejects(readable.getReader().read(), { name: 'TypeError', message: /the data of a socket must be a Uint8Array, got string/ });
   await assert.rejects(writable.getWriter().closed);
   assert.equal(socket.destroyed, true);
 });
 
-// How a socket is lost, there or here. At none of them does the stream end in order.
+// How a socket is lost, on either side. The stream never ends in order.
 const LOST = {
   'a reset there': (_, other) => other.resetAndDestroy(),
   'a destroy here': socket => socket.destroy(),
@@ -265,7 +267,7 @@ test('a socket is read no faster than its stream', async () => {
   const [socket, other] = await bothSockets();
   const { readable } = fromSocket(socket);
   const gone = new Promise(resolve => other.write(new Uint8Array(2 ** 25), resolve));
-  // Until no more is read.
+  // Until no more bytes are read.
   for (let before = 0; before === 0 || before < socket.bytesRead; ) {
     before = socket.bytesRead;
     await new Promise(resolve => setTimeout(resolve, 300));

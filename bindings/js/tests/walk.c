@@ -1,12 +1,12 @@
-/* A random walk of two peers, with bytes among theirs that are no frames: a hash of each answer and byte, at each
- * 100,000th step. walk.js makes the same steps over the module, and prints the same. */
+/* A random walk of two peers, with bytes that are no frames among theirs. Prints a hash of all answers and bytes at
+ * each 100,000th step. walk.js makes the same steps over the module, and prints the same. */
 #include "lcmux.h"
 
 #include <stdio.h>
 #include <stdlib.h>
 #include <string.h>
 
-enum { BOOKS = 9, FLAGS = 35, WIRE = 1 << 22 };
+enum { CLIENT = 9, SERVER = 12, FLAGS = 35, WIRE = 1 << 22 };
 
 static uint32_t seed = 2463534242u, hash = 2166136261u;
 static lcmux_peer peers[2] = {LCMUX_PEER_EMPTY, LCMUX_PEER_EMPTY};
@@ -41,7 +41,7 @@ static void answer(lcmux_answer it) {
 
 static void anew(void) {
     lcmux_config config = {1 + below(2), 1 + below(40), {0}};
-    for (int channel = 0; channel < 7; channel++)
+    for (int channel = 0; channel < LCMUX_CHANNELS; channel++)
         config.capacities[channel] = 1 + below(300);
     for (int side = 0; side < 2; side++) {
         lcmux_peer_free(&peers[side]);
@@ -81,13 +81,13 @@ static void own(lcmux_peer *peer, uint32_t kind, uint32_t channel, uint32_t amou
 }
 
 static void look(lcmux_peer *peer, uint32_t kind, uint32_t channel) {
-    lcmux_client client;
-    lcmux_server server;
-    lcmux_ready ready;
+    lcmux_client client = LCMUX_CLIENT_INIT;
+    lcmux_server server = LCMUX_SERVER_INIT;
+    lcmux_ready ready = LCMUX_READY_INIT;
     switch (kind) {
-    case 0: answer(lcmux_peer_client(peer, channel, &client)); mix_longs(&client, BOOKS); break;
-    case 1: answer(lcmux_peer_server(peer, channel, &server)); mix_longs(&server, BOOKS); break;
-    case 2: answer(lcmux_peer_ready(peer, &ready)); mix_longs(&ready, FLAGS); break;
+    case 0: answer(lcmux_peer_client(peer, channel, &client)); mix_longs(&client.held, CLIENT); break;
+    case 1: answer(lcmux_peer_server(peer, channel, &server)); mix_longs(&server.capacity, SERVER); break;
+    case 2: answer(lcmux_peer_ready(peer, &ready)); mix_longs(ready.channels, FLAGS); break;
     case 3: answer(lcmux_peer_pending(peer)); break;
     case 4: answer(lcmux_peer_slots_left(peer)); break;
     case 5: answer(lcmux_peer_wants_write(peer)); break;
@@ -122,13 +122,13 @@ static void carry(uint32_t side, uint32_t is_write, uint32_t len) {
     deliver(&peers[side], wires[other] + from[other], there < len ? there : len, &from[other]);
 }
 
-/* Bytes of no sense, or behind a tag that has some. */
+/* Random bytes, some of them after a valid tag. */
 static void noise(uint32_t side, uint32_t len) {
     size_t none = 0;
     for (uint32_t at = 0; at < len; at++)
         buffer[at] = (uint8_t)below(256);
     if (below(4)) {
-        uint32_t kind = 1 + below(7), channel = below(7), high = below(2), low = below(256);
+        uint32_t kind = 1 + below(7), channel = below(LCMUX_CHANNELS), high = below(2), low = below(256);
         const uint8_t frame[9] = {(uint8_t)(16 * kind + channel), 0, (uint8_t)high, 0, (uint8_t)low, 0, 0, 0, 1};
         memcpy(buffer, frame, sizeof frame);
     }
@@ -140,7 +140,7 @@ int main(int count, char **words) {
     for (uint32_t step = 0; step < steps; step++) {
         if (step % 2000 == 0)
             anew();
-        uint32_t side = below(2), act = below(100), channel = below(7), len = below(80), kind = below(64);
+        uint32_t side = below(2), act = below(100), channel = below(LCMUX_CHANNELS), len = below(80), kind = below(64);
         if (act < 35)
             send_or_take(&peers[side], act < 22, channel, len, step);
         else if (act < 52)

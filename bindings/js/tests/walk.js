@@ -1,5 +1,5 @@
 // The walk of walk.c over the module: `node tests/walk.js STEPS` prints the same.
-import { ENDED, LcmuxError, load } from 'lcmux';
+import { CHANNELS, ENDED, LcmuxError, load } from 'lcmux';
 import { pathToFileURL } from 'node:url';
 
 const NONE = 2n ** 64n - 1n;
@@ -7,14 +7,14 @@ const EMPTY = [48, 0n];
 const IS_ENDED = [49, 0n];
 const NEEDS = { nothing: [0, 0n], slot: [13, 0n], never: [50, 0n] };
 
-/** A walk: `step` makes one, and the hash is of all answers and bytes. */
+/** A walk: `step` makes one step, and the hash covers all answers and bytes. */
 class Walk {
   #lcmux;
   #seed = 2463534242 | 0;
   #hash = 2166136261 | 0;
   #peers = [];
   #wires = [];
-  /** How often each code was answered. */
+  /** How often each code was returned. */
   codes = new Map();
 
   constructor(lcmux) {
@@ -47,7 +47,7 @@ class Walk {
     this.#mixLong(BigInt(number));
   }
 
-  // What a call answers, or by what it is refused.
+  // Returns the result of a call, or its refusal.
   #asked(call) {
     try {
       const answer = call();
@@ -62,7 +62,7 @@ class Walk {
 
   #anew() {
     const [version, slots] = [1 + this.#below(2), 1 + this.#below(40)];
-    const capacities = Array.from({ length: 7 }, () => 1 + this.#below(300));
+    const capacities = CHANNELS.map(() => 1 + this.#below(300));
     for (const side of [0, 1]) {
       this.#peers[side]?.free();
       this.#peers[side] = this.#lcmux.peer({ version, slots, capacities });
@@ -167,7 +167,7 @@ class Walk {
   #noise(side, length) {
     const bytes = Uint8Array.from({ length: 512 }, (_, at) => (at < length ? this.#below(256) : 0));
     if (this.#below(4) !== 0) {
-      const tag = 16 * (1 + this.#below(7)) + this.#below(7);
+      const tag = 16 * (1 + this.#below(7)) + this.#below(CHANNELS.length);
       bytes.set([tag, 0, this.#below(2), 0, this.#below(256), 0, 0, 0, 1]);
     }
     this.#deliver(this.#peers[side], bytes.subarray(0, length));
@@ -177,7 +177,7 @@ class Walk {
     if (step % 2000 === 0) {
       this.#anew();
     }
-    const [side, act, channel, length, kind] = [2, 100, 7, 80, 64].map(most => this.#below(most));
+    const [side, act, channel, length, kind] = [2, 100, CHANNELS.length, 80, 64].map(most => this.#below(most));
     const peer = this.#peers[side];
     if (act < 22) {
       this.#send(peer, channel, length, step);
@@ -199,7 +199,7 @@ class Walk {
   }
 }
 
-/** So many steps: the lines, and how often each code was answered. */
+/** Makes this many steps: the lines, and how often each code was returned. */
 export function walk(lcmux, steps) {
   const it = new Walk(lcmux);
   const lines = [];

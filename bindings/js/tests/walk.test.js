@@ -13,7 +13,7 @@ test('a random walk has the native hash', async () => {
   const { lines, codes } = walk(await load(), STEPS);
   assert.deepEqual(lines, stdout.trim().split('\n'));
   assert.equal(lines.length, STEPS / 100_000);
-  // It came to refusals, takes, violations and faults.
+  // The walk reached refusals, takes, violations and faults.
   for (const code of [0, 1, 3, 4, 5, 6, 8, 9, 10, 11, 13, 15, 16, 17, 48, 49, 50, 101, 103, 104, 107, 109, 201, 202, 203, 204]) {
     assert.ok(codes.get(code) > 0, `code ${code}`);
   }

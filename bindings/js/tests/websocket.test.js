@@ -88,13 +88,13 @@ for (const side of ['a server', 'a client']) {
       const [socket, other] = side === 'a server' ? sockets : sockets.reverse();
       const { readable, writable } = await fromWebSocket(socket);
       const [closed, closedThere] = [once(socket, 'close'), once(other, 'close')];
-      // What one part of TCP brings is told at once, without a turn between.
+      // The messages of one TCP segment are reported at once, without a turn of the event loop in between.
       other._socket.cork();
       [bytes(2, 7), 'text', next].forEach(it => other.send(it));
       other._socket.uncork();
       const reader = readable.getReader();
       assert.deepEqual((await reader.read()).value, bytes(2, 7));
-      const isReason = { name: 'TypeError', message: 'a WebSocket message is bytes, and not a string' };
+      const isReason = { name: 'TypeError', message: 'a WebSocket message must be bytes, got string' };
       await assert.rejects(reader.read(), isReason);
       await assert.rejects(writable.getWriter().closed, isReason);
       assert.deepEqual([(await closedThere)[0], (await closed)[0]], [1003, 1003]);
@@ -142,12 +142,12 @@ test('a server goes on with its other clients, whatever some of them send', { ti
     await session.close();
   });
   await Promise.all([...good, ...bad]);
-  // The bad ones that sent an end first had finished no channel.
+  // The bad streams that sent an end first had finished no channel.
   const all = await Promise.all(served);
   assert.deepEqual(['in order', 'lost'].map(how => all.filter(it => it === how).length), [10, 28]);
 });
 
-/** A WebSocket in which bytes stay until the test lets them go. */
+/** A WebSocket that buffers bytes until the test releases them. */
 class Stuck extends EventTarget {
   readyState = 1;
   bufferedAmount = 0;
@@ -158,7 +158,7 @@ class Stuck extends EventTarget {
     this.bufferedAmount += message.length;
   }
 
-  // As in a page, which may name few codes.
+  // As in a page, which may use few codes.
   close(code = 1005) {
     if (code !== 1005 && code !== 1000 && !(code >= 3000 && code <= 4999)) {
       throw new Error(`the code ${code} is none for a page`);
@@ -181,7 +181,7 @@ for (const data of ['text', '', { size: 3 }, bytes(3, 1), null]) {
     socket.receive(new ArrayBuffer(3));
     socket.receive(new ArrayBuffer(0));
     assert.deepEqual([socket.readyState, socket.code], [3, 4003]);
-    const isReason = { name: 'TypeError', message: /^a WebSocket message is bytes/ };
+    const isReason = { name: 'TypeError', message: /^a WebSocket message must be bytes/ };
     await assert.rejects(readable.getReader().read(), isReason);
     await assert.rejects(writable.getWriter().write(bytes(1, 1)), isReason);
     assert.deepEqual(socket.sent, []);
@@ -214,7 +214,7 @@ test('a send is an error where the WebSocket closes meanwhile', async context =>
   await alice.channel(Data).send(bytes(1, 1));
   await bob.channel(Data).receive();
   sockets[0].close();
-  // It has its place before it is known that nothing is sent any more; the session then says so.
+  // The send has its slot before the WebSocket is found closing; the session then reports it.
   await alice.channel(Data).send(bytes(1, 2));
   await assert.rejects(alice.closed, /the WebSocket is closing/);
   await assert.rejects(alice.channel(Data).send(bytes(1, 3)), /the WebSocket is closing/);

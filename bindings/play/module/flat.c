@@ -1,5 +1,5 @@
-/* The calls of lcmux_play.h for a host whose numbers have 32 bits. An address is a u32, since the memory stays below
- * 4 GiB; the result is the status, and the two lengths lie at answered(). */
+/* The calls of lcmux_play.h for a host with 32-bit numbers. An address is a u32, since the memory stays below 4 GiB.
+ * The return value is the status, and the two lengths are at answered(). */
 #include "lcmux_heap.h"
 #include "lcmux_play.h"
 
@@ -21,7 +21,7 @@ static u32 answer(lcmux_played it) {
 
 u32 EXPORT(answered)(void) { return (u32)(size_t)&last; }
 
-/* An address, or 0 where there is no memory. */
+/* Returns an address, or 0 if the allocation fails. */
 u32 EXPORT(alloc)(u32 size) {
     struct lcmux_tried tried = lcmux_alloc(size, 16);
     return tried.ok ? (u32)(size_t)tried.at : 0;
@@ -29,7 +29,7 @@ u32 EXPORT(alloc)(u32 size) {
 
 void EXPORT(dealloc)(u32 at) { lcmux_dealloc(AT(at)); }
 
-/* The calls, by what goes in: a script with its peers, or the bytes of a stream. */
+/* The calls, by their input: a script with its peers, or the bytes of a stream. */
 #define OF_SCRIPT(name) \
     u32 EXPORT(name)(u32 capacity, u32 version, u32 script, u32 len, u32 out, u32 room) { \
         return answer(lcmux_play_##name(capacity, version, AT(script), len, AT(out), room)); \

@@ -1,11 +1,11 @@
-// The channels: of each, both directions, with the calls of either side.
+// The channels: both directions of each, with the calls of either side.
 
 import { element, numberOf, say } from './dom.js';
 import { RingBar } from './rings.js';
 import { bodyOf, otherSide } from './script.js';
 import { CHANNELS } from './words.js';
 
-// Each call: its word in a script, what its button says, and what it takes.
+// Each call: its word in a script, the label of its button, and its argument.
 const OF_SENDER = [
   ['send', 'Send', 'message'],
   ['honour', 'Honour the plead', null],
@@ -21,7 +21,7 @@ const OF_RECEIVER = [
 ];
 const MOST = { issue: 4294967295, absolve: 4294967295, plead: 4294967295 };
 
-/** The field beside a call's button, for a message or a number; null where the call takes neither. */
+/** The field beside a call's button, for a message or a number; null if the call has no argument. */
 function fieldOf(side, channel, [act, title, takes]) {
   if (takes === null) {
     return null;
@@ -33,12 +33,13 @@ function fieldOf(side, channel, [act, title, takes]) {
   return element('input', { type: 'number', min: 0, max: most, value: takes, required: true, 'aria-label': `${title}: bytes, ${side}, channel ${channel}` });
 }
 
-/** A button that appends a line, beside the field that the line takes. */
+/** A button that appends a line, beside the field of the line's argument. */
 function callRow(side, channel, call, append) {
   const [act, title] = call;
   const field = fieldOf(side, channel, call);
   const button = element('button', { type: 'button', 'aria-label': `${title}, ${side}, channel ${channel}` }, title);
-  // How its line begins, the line, or null where the field has no lawful number, and what fills the field for a line.
+  // The beginning of its line; the line, or null if the field has no valid number; and a function that fills the
+  // field from a line.
   button.act = `${side} ${act} ${channel}`;
   button.line = () => {
     if (field === null) {
@@ -65,7 +66,7 @@ function callRow(side, channel, call, append) {
 
 const bound = (text, words) => (text === '-' ? [] : [words(text)]);
 
-/** What bounds a direction, a line for each. */
+/** The limits and the plead of a direction, a line for each. */
 function factsOf(ring, from, to) {
   return [
     ...(ring.asked === '-' ? [] : [`${to} pleads: hold at most ${ring.asked}. ${from} keeps the plead until it honours it.`]),
@@ -112,7 +113,7 @@ class Direction {
 
 const summaryOf = ({ held, wire, buffered, room }, from, to) => (held + wire + buffered === 0 ? '' : `${from} to ${to}: held ${held}, wire ${wire}, buffered ${buffered}, free ${room}`);
 
-/** The seven channels, of which one is open. */
+/** The seven channels, one of which is open. */
 export class Channels {
   #open = 1;
   #rows;
@@ -130,7 +131,7 @@ export class Channels {
     });
   }
 
-  /** Opens a channel, and closes the others. */
+  /** Opens a channel and closes the others. */
   open(channel) {
     this.#open = channel;
     this.#showAll();

@@ -2,7 +2,7 @@
 
 export const byId = id => document.getElementById(id);
 
-/** An element with these properties and children; those that begin with data- or aria- are attributes. */
+/** Makes an element with these properties and children. Names that begin with data- or aria- are attributes. */
 export function element(name, properties = {}, ...children) {
   const made = document.createElement(name);
   for (const [key, value] of Object.entries(properties)) {
@@ -16,20 +16,20 @@ export function element(name, properties = {}, ...children) {
   return made;
 }
 
-/** The text of an element, which is changed only where it is another: what is read aloud is read once. */
+/** Sets the text of an element only if it differs, so that a screen reader reads it once. */
 export function say(at, text) {
   if (at.textContent !== text) {
     at.textContent = text;
   }
 }
 
-/** A text that may be absent. */
+/** Shows a text that may be absent. */
 export function sayIf(at, text) {
   at.hidden = text === null;
   say(at, text ?? '');
 }
 
-/** So many children, each filled by its place. */
+/** Keeps this many children, each filled by its index. */
 export function fill(at, count, make, show) {
   while (at.childElementCount > count) {
     at.lastElementChild.remove();
@@ -40,7 +40,7 @@ export function fill(at, count, make, show) {
   Array.from(at.children).forEach(show);
 }
 
-/** The number that a field has, where it is a lawful one. */
+/** Returns the number in a field, if it is valid. */
 export function numberOf(field) {
   return field.checkValidity() && field.value !== '' ? Number(field.value) : null;
 }

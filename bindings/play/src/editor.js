@@ -10,13 +10,13 @@ export class Editor {
   #answers;
   #choose;
 
-  /** `changed` is called with the text that was written, and `choose` with the event whose answer was pressed. */
+  /** `changed` is called with a new text, `choose` with the event whose answer was pressed. */
   constructor(text, answers, changed, choose) {
     [this.#text, this.#answers, this.#choose] = [text, answers, choose];
     text.addEventListener('input', () => changed(text.value));
   }
 
-  /** Shows a script with its answers, of which so many events are seen; a line may be a bad one. */
+  /** Shows a script with its answers, of which the first `seen` events are visible; a line may be invalid. */
   show(script, answers, seen, badLine) {
     if (this.#text.value !== script) {
       this.#text.value = script;

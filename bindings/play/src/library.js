@@ -1,18 +1,18 @@
-// The proved library: texts in, texts out. Nothing is judged elsewhere.
+// The proved library: texts in, texts out. The page has no other rules.
 
 const SHORT = 3;
 
-/** The bytes of the buffers at first. */
+/** The initial sizes of the buffers. */
 const LEAST_IN = 1 << 12;
 const LEAST_OUT = 1 << 16;
 
 const utf8 = new TextEncoder();
 const latin1 = new TextDecoder('latin1');
 
-// An array of this page's own: its length is what it has room for, whatever another array says of itself.
+// Copies an array into a plain one, whose length is its own, whatever the given array claims.
 const encoded = input => (typeof input === 'string' ? utf8.encode(input) : new Uint8Array(input));
 
-/** A buffer in the module's memory, which has no room until it is widened. */
+/** A buffer in the module's memory, which is empty until it is widened. */
 class Room {
   #run;
   at = 0;
@@ -23,7 +23,7 @@ class Room {
     this.#run = run;
   }
 
-  // The old buffer goes first, and is forgotten before the request, which may be refused.
+  // The old buffer is freed and cleared before the allocation, which may fail.
   widen(size) {
     if (size <= this.size) {
       return;
@@ -35,14 +35,14 @@ class Room {
     }
     const at = this.#run('alloc', [size]);
     if (at === 0) {
-      throw new Error('there is no memory for that');
+      throw new Error(`an allocation of ${size} bytes failed`);
     }
     this.at = at;
     this.size = size;
   }
 }
 
-/** The module's memory, and its calls. */
+/** The module's memory and its calls. */
 class Module {
   #calls;
   #trap = null;
@@ -53,10 +53,10 @@ class Module {
     this.#calls = calls;
   }
 
-  // After a trap the memory may be half written, so no further call is made.
+  // After a trap the memory may be inconsistent, so no further call is made.
   #run(name, words) {
     if (this.#trap !== null) {
-      throw new Error('a call of the module trapped before, and it answers none since', { cause: this.#trap });
+      throw new Error('an earlier call of the module trapped, so no further call is made', { cause: this.#trap });
     }
     try {
       return this.#calls[name](...words) >>> 0;
@@ -66,7 +66,7 @@ class Module {
     }
   }
 
-  /** What a call answers: its status, what it shows, and the line of a fault. */
+  /** Makes a call and returns its status, its output and the line of a fault. */
   call(name, words, input = []) {
     const bytes = encoded(input);
     this.#in.widen(Math.max(bytes.length, LEAST_IN));
@@ -86,7 +86,7 @@ class Module {
   }
 }
 
-/** The calls, each of which answers `{ status, shown, told }`. */
+/** The calls, each of which returns `{ status, shown, told }`. */
 export class Library {
   #module;
 
@@ -99,37 +99,37 @@ export class Library {
     return new Library(new Module(instance.exports));
   }
 
-  /** As `lcmux replay CAPACITY [2]`: the answer to each event. */
+  /** Like `lcmux replay CAPACITY [2]`: the answer to each event. */
   replay({ capacity, version, script }) {
     return this.#module.call('replay', [capacity, version], script);
   }
 
-  /** As `lcmux_chart CAPACITY [2]`. */
+  /** Like `lcmux_chart CAPACITY [2]`. */
   chart({ capacity, version, script }) {
     return this.#module.call('chart', [capacity, version], script);
   }
 
-  /** What stands at both peers once the script was replayed. */
+  /** The state of both peers after a script. */
   standing({ capacity, version, script }) {
     return this.#module.call('standing', [capacity, version], script);
   }
 
-  /** As `lcmux frames`. */
+  /** Like `lcmux frames`. */
   frames(bytes) {
     return this.#module.call('frames', [], bytes);
   }
 
-  /** The frames with their places. */
+  /** The frames with their offsets. */
   places(bytes) {
     return this.#module.call('places', [], bytes);
   }
 
-  /** As `lcmux_chart frames`. */
+  /** Like `lcmux_chart frames`. */
   stream(bytes) {
     return this.#module.call('stream', [], bytes);
   }
 
-  /** The sentence of a refusal's number, 100 more than a violation's, or 200 more than a fault's. */
+  /** The sentence of a refusal's number, of a violation's number plus 100, or of a fault's plus 200. */
   sentence(code) {
     return this.#module.call('text', [code]).shown;
   }
@@ -137,7 +137,7 @@ export class Library {
 
 const pairs = words => Object.fromEntries(words.flatMap((word, at) => (at % 2 === 0 ? [[word, words[at + 1]]] : [])));
 
-/** What stands, out of the lines that the library tells. Numbers that may be above 2^53 stay texts. */
+/** Parses the state of both peers from the lines of the library. Numbers that may exceed 2^53 stay texts. */
 export function standingOf(text) {
   const standing = { streams: {}, rings: {} };
   for (const line of text.split('\n').slice(0, -1)) {
@@ -166,7 +166,7 @@ const ringOf = it => ({
   isEnded: it.ended === '1',
 });
 
-/** A frame with its places, out of its line. */
+/** Parses a frame with its offsets from its line. */
 export function placeOf(line) {
   const [offset, end, ...words] = line.split(' ');
   return { offset: Number(offset), end: Number(end), line: words.join(' ') };

@@ -4,7 +4,7 @@ import { byId, sayIf } from './dom.js';
 import { SessionView } from './session.js';
 import { StreamView } from './stream.js';
 
-/** Tabs by the pattern of ARIA: the arrows go from one to the other. */
+/** Tabs by the pattern of ARIA: the arrow keys move between them. */
 function listenToTabs() {
   const tabs = [byId('tab-session'), byId('tab-stream')];
   const select = chosen =>

@@ -1,8 +1,8 @@
-// A picture that the library draws, and what it says in words.
+// A picture that the library draws, and its text.
 
 import { element } from './dom.js';
 
-// The words that the picture has for who does not see it, which have no mark of the format in them.
+// The alternative text of the picture, which contains no markup.
 function wordsOf(svg, name) {
   const found = new RegExp(`<${name} id="${name}">([^<]*)</${name}>`).exec(svg);
   return (found?.[1] ?? '').replaceAll('&lt;', '<').replaceAll('&gt;', '>').replaceAll('&amp;', '&').trim();
@@ -24,7 +24,7 @@ export class Picture {
     return this.#image.className === 'fit';
   }
 
-  /** Whether it is as wide as the page, and not as it was drawn. */
+  /** Whether the picture has the width of the page instead of its own. */
   set fits(value) {
     this.#image.className = value ? 'fit' : '';
   }

@@ -1,9 +1,9 @@
-// Where the bytes of a ring are, as a bar.
+// The bytes of a ring buffer as a bar.
 
 import { element, say } from './dom.js';
 import { bytesIn, counted } from './words.js';
 
-// The parts of a ring, by their names in what stands: what they are called, and what so many bytes of them are worth.
+// The parts of a ring by their names in `standing`: their labels, and an explanation of their bytes.
 const PARTS = [
   {
     name: 'held',
@@ -31,7 +31,7 @@ const PARTS = [
   },
 ];
 
-/** A bar of one direction, which tells what its parts are worth where one points at them or steps onto them. */
+/** A bar of one direction, which explains a part that one points at or moves the focus to. */
 export class RingBar {
   #parts;
   #sum = element('p', { className: 'sum' });

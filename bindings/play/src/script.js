@@ -1,11 +1,11 @@
 // Scripts as texts: their lines, and which of them are events.
 
-/** What a script means: its capacity, its version and its lines. */
+/** A script with its capacity and its version. */
 export const EMPTY = Object.freeze({ capacity: 8, version: 1, script: '' });
 
 export const isEvent = line => line !== '' && !line.startsWith('#');
 
-/** The lines of a script; one that ends in a line feed has no line behind it. */
+/** Returns the lines of a script; a line feed at its end begins no line. */
 export function linesOf(script) {
   const lines = script.split('\n');
   if (lines.at(-1) === '') {
@@ -18,7 +18,7 @@ export const eventsOf = script => linesOf(script).filter(isEvent);
 
 export const joined = lines => lines.map(line => `${line}\n`).join('');
 
-/** The lines up to and with so many events. */
+/** Returns the lines up to and including this many events. */
 export function prefixOf(script, count) {
   let left = count;
   const lines = linesOf(script);
@@ -26,10 +26,10 @@ export function prefixOf(script, count) {
   return joined(end < 0 ? lines : lines.slice(0, end));
 }
 
-/** The script with lines behind so many of its events; what stood there goes. */
+/** Returns the script with these lines after this many of its events; they replace the rest. */
 export const continuedBy = (script, count, lines) => prefixOf(script, count) + joined(lines);
 
-/** An event's fields; those that it lacks are undefined. */
+/** Returns the fields of an event; missing ones are undefined. */
 export function fieldsOf(line) {
   const [side, act, ...rest] = line.split(' ');
   const [channel, value] = act === 'deliver' ? [undefined, rest[0]] : rest;
@@ -42,16 +42,16 @@ const digits = byte => byte.toString(16).padStart(2, '0');
 
 export const hexOf = bytes => Array.from(bytes, digits).join('');
 
-/** How a script writes the body of a message. */
+/** Returns the body of a message as a script writes it. */
 export const bodyOf = text => hexOf(new TextEncoder().encode(text)) || '-';
 
-/** The bytes that a script's body or a text of digits writes. */
+/** Returns the bytes of a script's body, or of a text of digits. */
 export function bytesOf(hex) {
   const text = hex === '-' ? '' : hex;
   return Uint8Array.from(text.match(/../g) ?? [], pair => parseInt(pair, 16));
 }
 
-/** A body as people read it: its text, where it is one without control characters, or else its digits. */
+/** Returns a body for display: its text, if it is one without control characters, else its digits. */
 export function readable(hex) {
   const bytes = bytesOf(hex);
   const shown = bytes.subarray(0, 24);
@@ -62,15 +62,15 @@ export function readable(hex) {
       return `“${text}${more}”`;
     }
   } catch {
-    // Not UTF-8.
+    // The bytes are not UTF-8.
   }
   return hexOf(shown) + more;
 }
 
-/** The address of a page that shows this, behind its hash. */
+/** Returns the hash of the page that shows this. */
 export const linkOf = ({ capacity, version, script }) => new URLSearchParams({ c: capacity, v: version, s: script }).toString();
 
-/** What a hash says, or null where it says nothing. */
+/** Parses a hash; null if it is invalid. */
 export function ofLink(hash) {
   const given = new URLSearchParams(hash.replace(/^#/, ''));
   if (!given.has('s')) {

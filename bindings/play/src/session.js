@@ -1,4 +1,5 @@
-// The view of a session. Its state is a script, with the rings' capacity and the version, and how many events are seen.
+// The view of a session. Its state is a script, with the size of the rings, the version, and the number of visible
+// events.
 
 import { Channels } from './channels.js';
 import { byId, element, numberOf, say, sayIf } from './dom.js';
@@ -10,10 +11,10 @@ import { TOUR, TOUR_END, TOUR_SESSION, tourPlace, tourScript } from './tour.js';
 import { Wire } from './wire.js';
 import { allowing, sentenceOf } from './words.js';
 
-// A picture of more events takes the browser so long that it is drawn only where it is asked for.
+// A picture of more events is so slow in a browser that it is drawn only on request.
 const DRAWN_AT_ONCE = 150;
 
-// What is typed within so many milliseconds is undone at once.
+// Changes that are typed within this many milliseconds are undone together.
 const TYPING = 1000;
 
 export class SessionView {
@@ -69,21 +70,21 @@ export class SessionView {
     addEventListener('hashchange', () => this.#follow());
   }
 
-  // ---- what changes the state
+  // ---- changes of the state
 
-  /** Another session is shown, at its end. */
+  /** Shows another session, at its end. */
   change(state) {
     this.#undone.push(this.#state);
     this.#typed = 0;
     this.#become(state);
   }
 
-  /** Lines are put behind the events that are seen; what stood there goes. */
+  /** Inserts lines after the visible events; they replace the rest. */
   append(lines) {
     this.change({ ...this.#state, script: continuedBy(this.#state.script, this.#seen, lines) });
   }
 
-  /** So many events are seen. */
+  /** Shows this many events. */
   see(count) {
     this.#seen = Math.min(Math.max(count, 0), eventsOf(this.#state.script).length);
     this.#show();
@@ -168,7 +169,7 @@ export class SessionView {
     }
   }
 
-  // To where the step that has begun begins, or else to the one before.
+  // Goes to the beginning of the current step, or else of the one before.
   #backOnTour() {
     const place = tourPlace(this.#now());
     const hasBegun = place !== null && place.left.length > 0 && place.left.length < TOUR[place.step].lines.length;
@@ -211,9 +212,9 @@ export class SessionView {
     }
   }
 
-  // ---- what is shown
+  // ---- the display
 
-  // The session as far as it is seen.
+  // The visible part of the session.
   #now() {
     return { ...this.#state, script: prefixOf(this.#state.script, this.#seen) };
   }
@@ -269,13 +270,13 @@ export class SessionView {
     try {
       history.replaceState(null, '', hash);
     } catch {
-      // A page that may not name another address keeps its own; the link has it.
+      // A page that may not change its address keeps its own; the link has the new one.
     }
   }
 
   // ---- the picture
 
-  // It is drawn once the page has been shown, and only the last one that was planned.
+  // The picture is drawn after the page is shown, and only the last one that was scheduled.
   #planPicture() {
     cancelIdleCallback(this.#drawing);
     const isLong = this.#seen > DRAWN_AT_ONCE;
@@ -299,7 +300,7 @@ export class SessionView {
   }
 }
 
-/** The line of a fault, as a page says it. */
+/** Returns the line of a fault for the page. */
 export function faultInWords(told) {
   const text = told.trim().replace(/^lcmux(_chart)?: /, '');
   return text.startsWith('usage') ? 'A ring has 1 to 16,777,216 bytes.' : text.charAt(0).toUpperCase() + text.slice(1);

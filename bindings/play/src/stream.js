@@ -1,4 +1,4 @@
-// The view of a stream's bytes: its frames and its fault, with their places.
+// The view of a stream's bytes: its frames and its fault, with their offsets.
 
 import { byId, element, say } from './dom.js';
 import { placesOf } from './library.js';
@@ -20,13 +20,13 @@ const DRAWN_AT_ONCE_FRAMES = 300;
 const HEX_SHOWN = 4096;
 const MAX_BYTES = 16777216;
 
-/** The bytes that a text writes in hexadecimal, with spaces, commas and 0x as one likes; null where it is something else. */
+/** Parses bytes in hexadecimal, with spaces, commas and 0x anywhere between them; null if the text is invalid. */
 export function bytesOfHex(text) {
   const digits = text.replace(/0x/gi, '').replace(/[\s,;:]+/g, '');
   return /^(?:[0-9a-f]{2})*$/i.test(digits) ? bytesOf(digits) : null;
 }
 
-/** A fault's number and place, out of its line; null where it is another. */
+/** Parses the number and the offset of a fault from its line; null for another line. */
 export function faultOf(told) {
   const found = /F(\d) in the frame at byte (\d+)/.exec(told);
   return found && { number: Number(found[1]), offset: Number(found[2]) };
@@ -142,7 +142,7 @@ export class StreamView {
     say(byId('more'), `Show ${Math.min(left, ROWS)} of the ${left} frames left`);
   }
 
-  // A row of the table: its first cells, the bytes between two places, and what they say.
+  // A row of the table: its first cells, the bytes between two offsets, and their meaning.
   #row(className, texts, [offset, end], said) {
     const bytes = element('td', { className: 'bytes' }, this.#hexFrom(offset, end));
     return element('tr', { className }, ...texts.map(text => element('td', {}, text)), bytes, said);

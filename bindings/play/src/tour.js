@@ -1,4 +1,4 @@
-// A tour of the five ideas. It is a script, too: where the session's script is a front of it, one is on the tour.
+// A tour of the five ideas. It is a script, too: a session whose script is a prefix of it is on the tour.
 
 import { eventsOf, joined } from './script.js';
 
@@ -57,7 +57,7 @@ export const TOUR = Object.freeze([
   },
 ]);
 
-/** What is said behind its last step. */
+/** The text after the last step. */
 export const TOUR_END =
   'Held, on the wire, buffered and free: at every step they were the whole ring. There are six other channels, and B may ' +
   'send to A on each. Go on by yourself, or look at the examples.';
@@ -66,7 +66,10 @@ export const TOUR_LINES = Object.freeze(TOUR.flatMap(({ lines }) => lines));
 
 export const TOUR_SESSION = Object.freeze({ capacity: 8, version: 1 });
 
-/** Where on the tour a session is: the step, and which lines of it are left; null where it has left the tour. */
+/**
+ * Returns the position of a session on the tour: the step and its remaining lines; null if the session has left the
+ * tour.
+ */
 export function tourPlace({ capacity, version, script }) {
   const events = eventsOf(script);
   const isOn = capacity === TOUR_SESSION.capacity && version === TOUR_SESSION.version && events.length <= TOUR_LINES.length && events.every((line, at) => line === TOUR_LINES[at]);
@@ -83,5 +86,5 @@ export function tourPlace({ capacity, version, script }) {
   return { step: TOUR.length, left: [] };
 }
 
-/** The script of the tour up to a step. */
+/** Returns the script of the tour up to a step. */
 export const tourScript = step => joined(TOUR.slice(0, step).flatMap(({ lines }) => lines));

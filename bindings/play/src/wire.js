@@ -1,4 +1,4 @@
-// The two streams, with the frames that are on their way, as the library tells them.
+// The two streams, with their frames in flight, as the library reports them.
 
 import { element, fill, say } from './dom.js';
 import { otherSide } from './script.js';

@@ -1,5 +1,5 @@
-// Events and answers in words. What a refusal says is the library's sentence; what would have allowed it is looked
-// for among scripts, and only what the library then accepts is said.
+// Events and answers in words. The text of a refusal is the library's sentence. A change that would have allowed the
+// event is searched among candidates, and only one that the library accepts is shown.
 
 import { bytesOf, continuedBy, eventsOf, fieldsOf, otherSide, prefixOf, readable } from './script.js';
 
@@ -9,7 +9,7 @@ export const counted = (count, one, many = `${one}s`) => `${Number(count).toLoca
 
 export const bytesIn = count => counted(count, 'byte');
 
-/** What an act asks for, without its side. */
+/** Describes an act, without its side. */
 export function actInWords({ act, channel, value }) {
   const words = {
     send: () => `send ${readable(value)}`,
@@ -28,7 +28,7 @@ export function actInWords({ act, channel, value }) {
   return channel === undefined ? asked : `${asked} on channel ${channel}`;
 }
 
-/** A frame's line in a few words, and its channel, if it has one. */
+/** Describes a frame's line in a few words, with its channel, if it has one. */
 export function frameInWords(line) {
   const [kind, channel, value] = line.split(' ');
   const words = {
@@ -41,13 +41,13 @@ export function frameInWords(line) {
   return { channel: channel === undefined ? null : Number(channel), words: words === undefined ? rest : words() };
 }
 
-/** The number of a refusal, and what it was compared with; null for any other answer. */
+/** Parses the number of a refusal and the value that it carries; null for any other answer. */
 export function refusalOf(answer) {
   const found = /^refused (\d+)(?: (\w+) (\d+))?$/.exec(answer ?? '');
   return found && { number: Number(found[1]), name: found[2] ?? null, value: found[3] ?? null };
 }
 
-/** An event with its answer, in a sentence. */
+/** Describes an event with its answer, in a sentence. */
 export function sentenceOf(library, line, answer) {
   const event = fieldsOf(line);
   const asked = `${event.side}: ${actInWords(event)}`;
@@ -59,7 +59,7 @@ export function sentenceOf(library, line, answer) {
   return `${asked}. ${answerInWords(event, answer)}`;
 }
 
-// What it means that there was nothing, by the act.
+// The meaning of an empty result, by the act.
 const NOTHING = {
   honour: 'There is nothing to give back.',
   deliver: 'No byte is on the wire.',
@@ -90,12 +90,12 @@ function answerInWords({ side, act }, answer) {
   }
 }
 
-// All that is on its way to a side.
+// Lines that deliver all bytes in flight to a side.
 const allTo = side => `${side} deliver 4294967295`;
 
 const MAX_BOUND = '4611686018427387904';
 
-/** Lines before a refused event, and the event itself as it might be: those that could allow it, the likeliest first. */
+/** Candidates that could allow a refused event: lines before it, and a changed event, the most likely first. */
 function* ways(line, refusal) {
   const { side, act, channel, value } = fieldsOf(line);
   const other = otherSide(side);
@@ -151,7 +151,7 @@ function* ways(line, refusal) {
   }
 }
 
-/** What would have allowed the event behind so many others, as the library accepts it; null where nothing was found. */
+/** Returns the first candidate that the library accepts after this many events; null if there is none. */
 export function allowing(library, session, count) {
   const line = eventsOf(session.script)[count];
   const answerAt = (state, at) => library.replay(state).shown.split('\n')[at];

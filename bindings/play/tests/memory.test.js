@@ -1,4 +1,4 @@
-// The module's buffers, where memory is refused, a call traps, or an array lies about its length.
+// The module's buffers, when an allocation fails, a call traps, or an array claims a wrong length.
 import assert from 'node:assert/strict';
 import { readFile } from 'node:fs/promises';
 import { test } from 'node:test';
@@ -6,15 +6,15 @@ import { Library } from '../src/library.js';
 
 const wasm = await WebAssembly.compile(await readFile(new URL('../out/lcmux_play.wasm', import.meta.url)));
 
-// What shows more than the first buffer has room for, and what shows little.
+// Inputs with a longer output than the first buffer, and with a short one.
 const LONG = Uint8Array.from({ length: 50_000 }, (_, at) => [0x21, 0, 0, 0, 5][at % 5]);
 const SHORT = LONG.subarray(0, 5);
 const SHOWN = 'issue 1 5\n';
 
-/** The library over a heap that is watched: no call is given an address that is free, or more than a block has. */
+/** The library over an instrumented heap: no call gets a freed address, or more bytes than a block has. */
 class Watched {
   blocks = new Map();
-  /** Whether a request of so many bytes is refused. */
+  /** Whether a request of this size is refused. */
   refuses = () => false;
   /** The name of the call that traps. */
   traps = null;
@@ -68,7 +68,7 @@ class Watched {
     assert.ok(length <= (this.blocks.get(at) ?? -1), `${length} bytes at ${at}, which is no block of so many`);
   }
 
-  /** Whether a block that the library does not know of is as it was. */
+  /** Whether a block outside of the library is unchanged. */
   isKept(run) {
     const memory = () => new Uint8Array(this.#exports.memory.buffer);
     const at = this.#exports.alloc(64);
@@ -87,7 +87,7 @@ for (const [name, refuses] of [
     const watched = new Watched();
     const library = await watched.library();
     watched.refuses = refuses;
-    assert.throws(() => library.frames(LONG), /there is no memory for that/);
+    assert.throws(() => library.frames(LONG), /an allocation of \d+ bytes failed/);
     watched.refuses = () => false;
     assert.deepEqual(library.frames(SHORT), { status: 0, shown: SHOWN, told: '' });
     assert.equal(library.frames(LONG).shown, SHOWN.repeat(10_000));
@@ -100,7 +100,7 @@ test('a call that is refused memory again and again leaves no block behind', asy
   const library = await watched.library();
   for (let turn = 0; turn < 10; turn += 1) {
     watched.refuses = size => size > 1 << 16;
-    assert.throws(() => library.frames(LONG), /there is no memory for that/);
+    assert.throws(() => library.frames(LONG), /an allocation of \d+ bytes failed/);
     assert.ok(watched.blocks.size <= 2);
     watched.refuses = () => false;
     assert.equal(library.frames(SHORT).shown, SHOWN);
@@ -116,8 +116,8 @@ for (const trapping of ['frames', 'alloc', 'answered']) {
     assert.throws(() => library.frames(SHORT), WebAssembly.RuntimeError);
     watched.traps = null;
     const { length } = watched.calls;
-    assert.throws(() => library.frames(LONG), /trapped before/);
-    assert.throws(() => library.replay({ capacity: 8, version: 1, script: 'A arrive\n'.repeat(5000) }), /trapped before/);
+    assert.throws(() => library.frames(LONG), /an earlier call of the module trapped/);
+    assert.throws(() => library.replay({ capacity: 8, version: 1, script: 'A arrive\n'.repeat(5000) }), /an earlier call of the module trapped/);
     assert.equal(watched.calls.length, length);
   });
 }

@@ -1,8 +1,12 @@
-// The rules of docs/formats.md once more, by themselves, in numbers that are counted up event by event: what the
-// library's answers are compared with.
+// A second implementation of the rules of docs/reference/wire-format.md, with counters that are updated event by event. The
+// answers of the library are compared with it.
+
+import { CHANNELS } from '../src/words.js';
 
 const MAX_TOTAL = 1n << 62n;
+// codes: begin kinds
 const KINDS = { send: 1, issue: 2, absolve: 3, plead: 4, 'limit-sending': 5, 'limit-receiving': 6, finish: 7 };
+// codes: end
 
 const sizeOf = (version, { kind, body }) =>
   1 + { send: (version === 1 ? 2 : 4) + (body?.length ?? 0) / 2, issue: 4, absolve: 4, plead: 4, 'limit-sending': 8, 'limit-receiving': 8, finish: 0 }[kind];
@@ -19,7 +23,7 @@ const unless = (isRight, ...refusal) => {
   }
 };
 
-/** One direction of a channel, as its sender knows it and as its receiver does. */
+/** One direction of a channel, as its sender and its receiver know it. */
 class Direction {
   sender = { held: 0, left: null, asked: null, isFinished: false };
   receiver;
@@ -37,7 +41,7 @@ class Direction {
   }
 }
 
-/** Two peers, by the lines of a script. */
+/** Two peers, driven by the lines of a script. */
 export class Model {
   #version;
   #directions;
@@ -46,12 +50,12 @@ export class Model {
   constructor(capacity, version) {
     this.#version = version;
     const greeting = version === 2 ? 4 : 0;
-    const seven = () => Array.from({ length: 7 }, () => new Direction(capacity));
+    const seven = () => CHANNELS.map(() => new Direction(capacity));
     this.#directions = { A: seven(), B: seven() };
     this.#streams = { A: { end: greeting, delivered: 0, frames: [], greeting }, B: { end: greeting, delivered: 0, frames: [], greeting } };
   }
 
-  /** The answer to a line. */
+  /** Returns the answer to a line. */
   step(line) {
     const [side, act, ...words] = line.split(' ');
     const other = side === 'A' ? 'B' : 'A';
@@ -198,7 +202,7 @@ export class Model {
     return came.length;
   }
 
-  // Where a frame arrives that the other side put: what it puts as a receiver concerns this side as a sender.
+  // Applies an inbound frame: a frame of the peer's receiver concerns the sender of this side.
   #land({ kind, channel, value, body }, side, other) {
     const { sender } = this.#directions[side][channel];
     const { receiver } = this.#directions[other][channel];
@@ -218,7 +222,7 @@ export class Model {
     acts[kind]();
   }
 
-  /** What stands, as the library tells it. */
+  /** Returns the state of both peers, in the form of the library. */
   standing() {
     return ['A', 'B'].map(side => this.#streamOf(side)).join('') + ['A', 'B'].map(side => this.#directions[side].map((it, channel) => ringOf(side, channel, it)).join('')).join('');
   }
@@ -241,7 +245,7 @@ function ringOf(side, channel, { sender, receiver, buffered, room }) {
   return `ring ${side} ${channel} ${parts} ${bounds} finished ${Number(sender.isFinished)} ended ${Number(isEnded)}\n`;
 }
 
-/** The frames of a stream's bytes as lines with their places, and the line of the fault behind them. */
+/** Returns the frames of a stream as lines with their offsets, and the line of the fault after them. */
 export function framesOf(bytes) {
   const view = new DataView(bytes.buffer, bytes.byteOffset, bytes.length);
   const greeting = [0x4c, 0x43, 0x4d, 0x02];

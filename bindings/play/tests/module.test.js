@@ -1,5 +1,5 @@
-// The module's answers are byte for byte those of the programs, and what it tells beside them is what the rules, written
-// once more in model.js, make of the same events.
+// The answers of the module equal those of the programs byte for byte, and its other output equals that of model.js, a
+// second implementation of the rules, for the same events.
 import assert from 'node:assert/strict';
 import { readFile, readdir } from 'node:fs/promises';
 import { before, test } from 'node:test';
@@ -141,15 +141,11 @@ test('a bad script has no state', () => {
 });
 
 test('the sentences', async () => {
-  const formats = await readFile(new URL('../../../docs/formats.md', import.meta.url), 'utf8');
-  const rows = [...formats.matchAll(/^\| ([VF]?)(\d+)(?: `\w+`)? \| \w+ \| ([^|]*) \|(?:[^|]*\|[^|]*\|)?$/gm)];
-  assert.equal(rows.length, 17 + 9 + 4);
-  for (const [, mark, number, sentence] of rows) {
-    const code = { '': 0, V: 100, F: 200 }[mark] + Number(number);
-    assert.equal(library.sentence(code), sentence);
-  }
-  for (const code of [0, 18, 99, 100, 110, 199, 200, 205, 4294967295]) {
-    assert.equal(library.sentence(code), '');
+  const errors = await readFile(new URL('../../../docs/reference/errors.md', import.meta.url), 'utf8');
+  const rows = [...errors.matchAll(/^\| ([VF]?)(\d+)(?: `\w+`)? \| \w+ \| ([^|]*) \|/gm)];
+  const sentences = new Map(rows.map(([, mark, number, sentence]) => [{ '': 0, V: 100, F: 200 }[mark] + Number(number), sentence]));
+  for (const code of [...Array(400).keys(), 4294967295]) {
+    assert.equal(library.sentence(code), sentences.get(code) ?? '');
   }
 });
 

@@ -1,4 +1,4 @@
-// The page in a browser: a session is clicked together there, and its answers are those of lcmux.
+// The page in a browser: a session that is built there by clicks has the answers of lcmux.
 import assert from 'node:assert/strict';
 import { readFile, rm, writeFile } from 'node:fs/promises';
 import { tmpdir } from 'node:os';
@@ -25,7 +25,7 @@ async function open(url = PAGE, how = {}) {
   return tab;
 }
 
-// What the page shows.
+// The display of the page.
 const state = tab =>
   tab.run(() => {
     const text = id => document.getElementById(id).textContent;
@@ -463,7 +463,7 @@ test('a thousand events without a stall', async () => {
   const script = `${'B issue 1 1\nA arrive\nA send 1 61\nB arrive\nB take 1\n'.repeat(200)}`;
   const tab = await open(linked({ capacity: 8, version: 1, script }));
   assert.equal((await state(tab)).answers.length, 1000);
-  // Of each press the quickest of some, since a machine that does other things too is slow at times.
+  // The fastest of several runs of each press, since a busy machine is slow at times.
   const spans = await tab.run(() => {
     const press = id => {
       const began = performance.now();

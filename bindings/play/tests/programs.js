@@ -1,9 +1,9 @@
-// The programs, as what is to be answered.
+// The programs, whose output is expected.
 import { spawnSync } from 'node:child_process';
 
 const TOP = new URL('../../../', import.meta.url).pathname;
 
-/** What a program answers: its status and both texts. */
+/** Runs a program and returns its status and both texts. */
 function program(name, words, input) {
   const { status, stdout, stderr } = spawnSync(`${TOP}crates/${name}/out/${name}`, words, { input, maxBuffer: 1 << 28 });
   return { status, shown: stdout.toString('latin1'), told: stderr.toString('latin1') };

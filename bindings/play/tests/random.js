@@ -1,6 +1,8 @@
-// Scripts and streams by chance, the same for the same seed.
+// Random scripts and streams, the same for the same seed.
 
-/** Numbers below a bound, by a generator of xorshift. */
+import { CHANNELS } from '../src/words.js';
+
+/** Random numbers below a bound, by xorshift. */
 export function dice(seed) {
   let state = seed >>> 0 || 1;
   return bound => {
@@ -14,7 +16,7 @@ export function dice(seed) {
 
 const pick = (roll, items) => items[roll(items.length)];
 
-/** A line of a script. Few channels, so that much happens on each. */
+/** A line of a script. It uses few channels, so that much happens on each. */
 function line(roll) {
   const side = pick(roll, ['A', 'B']);
   const channel = pick(roll, [0, 1, 1, 1, 2, 6]);
@@ -41,13 +43,13 @@ function line(roll) {
   return `${side} ${pick(roll, acts)()}`;
 }
 
-/** A session: a script with so many lines at most, and its peers. */
+/** A session: a script with at most this many lines, and its peers. */
 export function someSession(roll, most = 120) {
   const lines = Array.from({ length: 1 + roll(most) }, () => (roll(30) ? line(roll) : pick(roll, ['', '# a comment', '#'])));
   return { capacity: pick(roll, [1, 4, 8, 8, 16, 40]), version: 1 + roll(2), script: lines.join('\n') + (roll(4) ? '\n' : '') };
 }
 
-/** A session whose script has one line that is none. */
+/** A session whose script has one invalid line. */
 export function someBadSession(roll) {
   const session = someSession(roll, 12);
   const bad = ['A', 'C arrive', 'A send 1 6', 'A send 1  61', 'A send 7 61', 'A issue 1 05', 'A issue 1 4294967296', 'B take', 'B take 1 ', ' B take 1', 'A deliver -1', 'A honour 1 2', 'A send 1 6g', 'A ünknown', 'A limit-sending 1 18446744073709551616', 'A send 1 -6', 'a arrive', 'A arrive\r'];
@@ -56,17 +58,17 @@ export function someBadSession(roll) {
   return { ...session, script: lines.join('\n') };
 }
 
-/** The bytes of a stream: frames of either version, and now and then something else. */
+/** The bytes of a stream: frames of either version, and occasionally other bytes. */
 export function someStream(roll) {
   const isTwo = roll(2) === 1;
   const frames = [
-    () => [0x10 + roll(7), ...(isTwo ? [0, 0] : []), 0, 2, 0x68, 0x69],
-    () => [0x20 + roll(7), 0, 0, 0, 1 + roll(200)],
-    () => [0x30 + roll(7), 0, 0, 1, roll(256)],
-    () => [0x40 + roll(7), 0, 0, 0, roll(256)],
-    () => [0x50 + roll(7), 0, 0, 0, 0, 0, 0, 0, roll(256)],
-    () => [0x60 + roll(7), 0x40 * roll(2), 0, 0, 0, 0, 0, 0, 0],
-    () => (isTwo ? [0x70 + roll(7)] : [0x21, 0, 0, 0, 9]),
+    () => [0x10 + roll(CHANNELS.length), ...(isTwo ? [0, 0] : []), 0, 2, 0x68, 0x69],
+    () => [0x20 + roll(CHANNELS.length), 0, 0, 0, 1 + roll(200)],
+    () => [0x30 + roll(CHANNELS.length), 0, 0, 1, roll(256)],
+    () => [0x40 + roll(CHANNELS.length), 0, 0, 0, roll(256)],
+    () => [0x50 + roll(CHANNELS.length), 0, 0, 0, 0, 0, 0, 0, roll(256)],
+    () => [0x60 + roll(CHANNELS.length), 0x40 * roll(2), 0, 0, 0, 0, 0, 0, 0],
+    () => (isTwo ? [0x70 + roll(CHANNELS.length)] : [0x21, 0, 0, 0, 9]),
     () => (roll(8) ? [0x21, 0, 0, 0, 9] : [roll(256), roll(256)]),
   ];
   const bytes = [...(isTwo ? [0x4c, 0x43, 0x4d, 0x02] : []), ...Array.from({ length: roll(12) }, () => pick(roll, frames)()).flat()];

@@ -1,4 +1,4 @@
-// A tab of a browser without a window, with a page in it, a size and a setting of light or dark.
+// A tab of a headless browser, with a page, a size and a light or dark color scheme.
 import { writeFile } from 'node:fs/promises';
 import { Chromium } from '../../js/tests/chromium.js';
 
@@ -37,7 +37,7 @@ export class Tab {
     await this.until(() => document.getElementById('tour-title').textContent !== '' || document.getElementById('tour').hidden || !document.getElementById('failure').hidden);
   }
 
-  /** What a function makes of these words in the page. */
+  /** Calls a function with these arguments in the page and returns its result. */
   async run(run, ...words) {
     const expression = `(${run})(...${JSON.stringify(words)})`;
     const { result, exceptionDetails } = await this.ask('Runtime.evaluate', { expression, awaitPromise: true, returnByValue: true, userGesture: true });
@@ -47,7 +47,7 @@ export class Tab {
     return result.value;
   }
 
-  /** The function answers something true in the page, some time within ten seconds. */
+  /** Waits until the function returns a true value in the page, for at most ten seconds. */
   async until(run, ...words) {
     for (let left = 400; left > 0; left -= 1) {
       if (await this.run(run, ...words)) {
@@ -58,7 +58,7 @@ export class Tab {
     throw new Error(`it did not come about: ${run}`);
   }
 
-  /** A key is pressed, as on a keyboard. */
+  /** Presses a key. */
   async press(key, { shift = false } = {}) {
     const codes = { Tab: 9, Enter: 13, ' ': 32, ArrowLeft: 37, ArrowRight: 39, Home: 36, End: 35 };
     const text = { Enter: '\r', ' ': ' ' }[key];
@@ -67,7 +67,7 @@ export class Tab {
     await this.ask('Input.dispatchKeyEvent', { type: 'keyUp', ...it });
   }
 
-  /** A picture of the whole page goes to a file. */
+  /** Writes a picture of the whole page to a file. */
   async shoot(file) {
     const { data } = await this.ask('Page.captureScreenshot', { format: 'png', captureBeyondViewport: true });
     await writeFile(file, Buffer.from(data, 'base64'));

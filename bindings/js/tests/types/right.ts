@@ -1,4 +1,4 @@
-// What a program may write, and what it then has.
+// Valid uses, and the types of their results.
 import { CHANNELS, Channel, Code, ENDED, LcmuxError, Peer, Session, SessionChannel, SessionClosed, VERSION, fromWebSocket, load, open } from 'lcmux';
 import type { ClientBook, Config, IssuePolicy, Kind, LcmuxErrorJson, Library, Needs, Ready, ServerBook, SessionConfig, SessionEnd, Stats, Streams, Take } from 'lcmux';
 import { fromSocket } from 'lcmux/node';

@@ -1,4 +1,4 @@
-// What does not compile. Under each line that says so an error has to be found.
+// Invalid uses. The compiler has to find an error below each line that expects one.
 import { Channel, ENDED, LcmuxError, Peer, Session, SessionClosed, load, open } from 'lcmux';
 import { fromSocket } from 'lcmux/node';
 
@@ -46,7 +46,7 @@ peer.client(Channel.Data).held = 5;
 // @ts-expect-error: a channel is a constant
 Channel.Data = 2;
 // @ts-expect-error: no such code
-new LcmuxError(18);
+new LcmuxError(31);
 // @ts-expect-error: a promise is no library
 load().peer();
 // @ts-expect-error: a path is no source

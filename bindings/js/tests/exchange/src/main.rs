@@ -1,6 +1,6 @@
-//! `exchange ADDRESS VERSION LENGTH COUNT`: sends so many messages of a length over a TCP connection, and takes as
-//! many at the same time. Message k has the bytes k, k + 1 and so on. It prints how many bytes it took.
-use lcmux::{Channel, Channel::Data, Config, Incoming, Needs, Peer, Refusal, Take, Version};
+//! `exchange ADDRESS VERSION LENGTH COUNT` sends COUNT messages of this length over a TCP connection, and receives as
+//! many at the same time. Message k has the bytes k, k + 1 and so on. It prints how many bytes it received.
+use lcmux::{Channel, Channel::Data, Config, Incoming, Needs, Peer, Refusal, Take, Version, CHANNELS};
 use std::env;
 use std::error::Error;
 use std::net::{Shutdown, TcpStream};
@@ -8,7 +8,7 @@ use std::time::Duration;
 
 const TIMEOUT: Duration = Duration::from_millis(5);
 
-// Bytes that count, of which each message is a part.
+// Counting bytes, of which each message is a part.
 fn counted(len: usize) -> Vec<u8> {
     (0..len + 256).map(|at| at as u8).collect()
 }
@@ -56,7 +56,7 @@ impl Exchange {
         Ok(())
     }
 
-    // Every channel ends before the stream does, or the other side takes that for cut.
+    // Every channel is finished before the stream ends, or the peer takes the stream for cut.
     fn finish_all(&mut self) -> Result<(), Refusal> {
         Channel::ALL
             .into_iter()
@@ -70,7 +70,7 @@ impl Exchange {
         self.sent + self.taken == 2 * self.count && !self.peer.wants_write()
     }
 
-    // Both at once, until all is there, and the other side has closed.
+    // Both directions at once, until all messages arrived and the peer has closed.
     fn run(&mut self) -> Result<(), Box<dyn Error>> {
         let (mut is_finished, mut is_shut) = (false, false);
         loop {
@@ -104,7 +104,7 @@ fn main() -> Result<(), Box<dyn Error>> {
     stream.set_nodelay(true)?;
     stream.set_read_timeout(Some(TIMEOUT))?;
     stream.set_write_timeout(Some(TIMEOUT))?;
-    let mut config = Config::new([4 << 20; 7], 16);
+    let mut config = Config::new([4 << 20; CHANNELS], 16);
     config.version = Version::from_number(version.parse()?).ok_or("a version is 1 or 2")?;
     let len = len.parse()?;
     let mut exchange = Exchange {
