@@ -1,9 +1,9 @@
-// Preloaded into a program, holds a thread at a wake from a sleep on a word of memory, one at a time. Where the
-// program ends, it says on standard error how often it held one.
+// Preloaded into a program, holds a thread when it wakes up from a sleep on a word of memory, one at a time. At the
+// end of the program it prints on standard error how often it held one.
 //
-// It holds the first thread that was woken, until the program makes a further thread. Where HOLD_WAKER is set
-// it holds the one that woke it, until what was woken sleeps on that word again, and 10 milliseconds at most:
-// whatever has to come before a wake and comes after it, comes too late then.
+// It holds the first woken thread, until the program makes another thread. If HOLD_WAKER is set, it holds the thread
+// that woke it, until the woken thread sleeps on that word again, and for at most 10 milliseconds: an operation that
+// has to precede a wake-up and follows it is then too late.
 #define _GNU_SOURCE
 #include <dlfcn.h>
 #include <linux/futex.h>

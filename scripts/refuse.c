@@ -1,8 +1,7 @@
-// Preloaded into a program, refuses it the request for memory whose number, from 1 on, is in REFUSED, and
-// the thread whose number is in REFUSED_THREAD. Where the program ends, it says on standard error how
-// many pieces of memory were not given back, of how many requests, how many threads were asked for, and
-// how often one of them yielded at most.
-// A program that starts threads gets some memory from the C library that this does not count.
+// Preloaded into a program, refuses the allocation whose number, from 1 on, is in REFUSED, and the thread whose
+// number is in REFUSED_THREAD. At the end of the program it prints on standard error how many blocks were not freed,
+// the number of allocations and of threads, and the most yields of one thread. A program that starts threads gets
+// some memory from the C library that this does not count.
 #define _GNU_SOURCE
 #include <dlfcn.h>
 #include <errno.h>

@@ -1,9 +1,9 @@
-// Preloaded into a program, makes those of its threads slow that say so by a sleep of a nanosecond.
+// Preloaded into a program, makes those threads slow that request it by a sleep of one nanosecond.
 //
-// Where SLOW is `held`, each is held when it comes out of its first sleep on a word of memory, until the program
-// makes a further thread, and 20 seconds at most. Where it is `stopped`, each is stopped wherever it is, 15 of each
-// 20 milliseconds. Where it is `crowded`, each runs at nice 19 on the processor of the number in CROWD alone.
-// Where the program ends, it says on standard error how many threads it made slow, and how often.
+// If SLOW is `held`, each is held after its first sleep on a word of memory, until the program makes another thread,
+// and for at most 20 seconds. If it is `stopped`, each is stopped for 15 of each 20 milliseconds. If it is `crowded`,
+// each runs at nice 19 on the processor with the number in CROWD alone. At the end of the program it prints on
+// standard error how many threads it made slow, and how often.
 #define _GNU_SOURCE
 #include <dlfcn.h>
 #include <linux/futex.h>
@@ -41,14 +41,16 @@ static void stop(int signal) {
     pause_for(15000);
 }
 
-// Stops all slow threads, again and again, until they have ended.
+// Stops all slow threads repeatedly, until they have ended: for the first time at most a millisecond after the first
+// of them became slow, since the whole program may take less than 20.
 static void *stop_each(void *none) {
     for (;;) {
         pthread_mutex_lock(&lock);
-        for (long at = 0; at < count; at++)
+        long found = count;
+        for (long at = 0; at < found; at++)
             if (slow[at]) pthread_kill(slow[at], SIGUSR1);
         pthread_mutex_unlock(&lock);
-        pause_for(20000);
+        pause_for(found ? 20000 : 1000);
     }
     return none;
 }

@@ -1,8 +1,8 @@
-// Preloaded into a program, stands in for what the system answers. CLOCK has the milliseconds that go by before
-// each look at the clock, in turn and from the first again behind the last. FAILS says what fails each time: a
-// write to a `pipe`, or a socket's word that it does not wait with short pieces, `nodelay`. TROUBLE has three numbers:
-// a standard stream, the call of it that fails, from 1 on, and its error, where 0 means that it gives or takes
-// nothing. PIECE has the most bytes that a call of a standard stream gives or takes.
+// Preloaded into a program, replaces results of the system. CLOCK has the milliseconds that pass before each reading
+// of the clock, in turn and repeated. FAILS names an operation that fails each time: a write to a `pipe`, or the
+// option of a socket that sends short chunks at once, `nodelay`. TROUBLE has three numbers: a standard stream, the
+// call of it that fails, from 1 on, and its error, where 0 means that it reads or writes nothing. PIECE has the most
+// bytes that a call of a standard stream reads or writes.
 #define _GNU_SOURCE
 #include <dlfcn.h>
 #include <errno.h>
@@ -40,7 +40,7 @@ static size_t length_of(int file, size_t length) {
     return file <= 2 && length > piece ? piece : length;
 }
 
-// Whether this call of a standard stream is the one that fails.
+// Whether this call of a standard stream is the failing one.
 static int is_in_trouble(int file) {
     return file == troubled && ++calls == last;
 }
