@@ -32,10 +32,15 @@ fn send_more<'a>(link: &mut Link, messages: &'a [String]) -> Result<&'a [String]
 }
 
 impl Client<'_> {
-    // Takes the echoes that have arrived, and issues credit for the room that they leave.
+    // Takes the echoes that have arrived, and issues credit for the room that they leave. It stops only where no
+    // slot is free, so that a write follows: a server that has finished gets no credit, and an echo that stayed
+    // in the ring behind its last frame would never be taken.
     fn take_echoes(&mut self, link: &mut Link) -> Result<(), Error> {
         let mut buffer = [0; RING as usize];
-        'echoes: for _ in 0..link.peer.slots_left() {
+        'echoes: for _ in 0..u64::MAX {
+            if link.peer.slots_left() == 0 {
+                break 'echoes;
+            }
             let Take::Took(len) = link.peer.take_into(CHANNEL, &mut buffer)? else {
                 break 'echoes;
             };
