@@ -18,7 +18,7 @@ length-text : (s : Side) → length (text s) ≡ length s.pending.bytes + length
 length-text s = length-append s.pending.bytes (flat_map (encoding s.peer.version) s.peer.waiting)
 
 -- the next frame is begun
-pub begins : (old : Side) (f : Frame) (next : PeerState) (begun : PendingState) → length old.pending.bytes ≤ 0 → Some f ≡ slice_get old.peer.waiting 0 → next ≡ without_next old.peer → begun.bytes ≡ encoding old.peer.version f → Begins old (record { peer = next; intake = old.intake; pending = begun })
+pub begins : (old : Side) (f : Frame) (next : PeerState) (begun : PendingState) → length old.pending.bytes ≤ 0 → Some f ≡ slice_get old.peer.waiting 0 → next ≡ without_next old.peer → begun.bytes ≡ encoding old.peer.version f → Begins old (record { peer = next; intake = old.intake; taken = old.taken; pending = begun })
 begins old f next begun none first gone is =
     let nothing : old.pending.bytes ≡ [] = nil_from_length old.pending.bytes (omega (arith, none)) in
     let there : flat_map (encoding old.peer.version) old.peer.waiting ≡ encoding old.peer.version f ++ flat_map (encoding old.peer.version) (drop 1 old.peer.waiting) = ap (λ (ws : List Frame). flat_map (encoding old.peer.version) ws) (first_of old.peer.waiting f first) ∙ flat_map-cons (encoding old.peer.version) f (drop 1 old.peer.waiting) in
@@ -36,6 +36,7 @@ begins old f next begun none first gone is =
       some = λ _. omega (arith, ap length is, some_bytes old.peer.version f);
       ready = λ e. absurd (omega (arith, ap length is, some_bytes old.peer.version f, ap length e));
       intake = refl;
+      taken = refl;
     }
 
 -- the bytes of the next frame, and then those behind it, where nothing is left of one before it
@@ -46,7 +47,7 @@ next_first old f nothing first =
     ∙ flat_map-cons (encoding old.peer.version) f (drop 1 old.peer.waiting)
 
 -- the next frame leaves the peer whole
-pub gives_whole : (n : ℕ) (old : Side) (f : Frame) (next : PeerState) → length old.pending.bytes ≤ 0 → Some f ≡ slice_get old.peer.waiting 0 → next ≡ without_next old.peer → n ≡ length (encoding old.peer.version f) → GivesOut n old (record { peer = next; intake = old.intake; pending = old.pending })
+pub gives_whole : (n : ℕ) (old : Side) (f : Frame) (next : PeerState) → length old.pending.bytes ≤ 0 → Some f ≡ slice_get old.peer.waiting 0 → next ≡ without_next old.peer → n ≡ length (encoding old.peer.version f) → GivesOut n old (record { peer = next; intake = old.intake; taken = old.taken; pending = old.pending })
 gives_whole n old f next none first gone is =
     let nothing : old.pending.bytes ≡ [] = nil_from_length old.pending.bytes (omega (arith, none)) in
     let behind : List ℕ = flat_map (encoding old.peer.version) (drop 1 old.peer.waiting) in
@@ -64,6 +65,7 @@ gives_whole n old f next none first gone is =
           let none_before : length (old.pending.bytes ++ flat_map (encoding old.peer.version) (take k old.peer.waiting)) ≡ length (old.pending.bytes ++ []) = ap (λ (i : ℕ). length (old.pending.bytes ++ flat_map (encoding old.peer.version) (take i old.peer.waiting))) zero in
           omega (arith, none_before, length-append old.pending.bytes [], none, some_bytes old.peer.version f, is);
       intake = refl;
+      taken = refl;
     }
 
 -- where nothing was given, there is nothing to give
@@ -105,6 +107,7 @@ gives_then {n} {m} {a} {b} {c} s t = record {
   peer = gone_then s.gone t.gone a.peer b.peer c.peer s.peer t.peer;
   begun = begun_then s t;
   intake = t.intake ∙ s.intake;
+  taken = t.taken ∙ s.taken;
 }
 
 -- more bytes are written after those that were

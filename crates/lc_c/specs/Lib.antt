@@ -9,4 +9,5 @@ pub mod Make
 pub mod Balances
 pub mod Asking
 pub mod Streams
+pub mod Errors
 pub mod Texts

@@ -32,7 +32,7 @@ config_in config version = record { version = version; capacities = config.capac
 
 -- nothing has happened, and no byte came or went: the greeting of the stream is to go out
 abbrev pub new_c_peer : Config → Side
-new_c_peer config = record { peer = new_peer config; intake = record { held = nothing_stored; kept = 0; stop = None; rings = config.capacities }; pending = record { bytes = greeting config.version } }
+new_c_peer config = record { peer = new_peer config; intake = record { held = nothing_stored; kept = 0; stop = None; rings = config.capacities }; taken = 0; pending = record { bytes = greeting config.version } }
 
 -- what the making of a peer answers, by what is wrong with its configuration
 abbrev pub fault_or_done : Option PeerFault → LcmuxAnswer

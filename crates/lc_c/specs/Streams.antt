@@ -1,5 +1,5 @@
 -- What goes out of a side and what comes to it. That a stream may be cut at any byte is this project's own to say.
-use Rattle.std.specs.Prelude.{◌≡◌, ℕ, ◌+◌, ◌<◌, ◌≤◌, ◌==◌, min, List, [], ◌++◌, length, take, drop, if◌then◌else◌, Option, Some, None}
+use Rattle.std.specs.Prelude.{◌≡◌, ℕ, ◌+◌, ◌-◌, ◌^◌, ◌<◌, ◌≤◌, ◌==◌, min, List, [], ◌++◌, length, take, drop, if◌then◌else◌, Option, Some, None}
 use Rattle.std.specs.List.{flat_map}
 use Rattle.lc_frame.specs.FrameFault.{fault_number}
 use Rattle.lc_frame.specs.Frame.{body_of}
@@ -27,6 +27,7 @@ pub record GivesOut (n : ℕ) (old new : Side) : Type 0 where
   pub peer : new.peer ≡ record old.peer { waiting = drop gone old.peer.waiting }
   pub begun : (k : ℕ) → k < gone → length (old.pending.bytes ++ flat_map (encoding old.peer.version) (take k old.peer.waiting)) < n
   pub intake : new.intake ≡ old.intake
+  pub taken : new.taken ≡ old.taken
 
 -- where nothing is left of a greeting or a frame, the next one is begun, if one waits
 pub record Begins (old new : Side) : Type 0 where
@@ -38,11 +39,17 @@ pub record Begins (old new : Side) : Type 0 where
   pub some : 0 < gone → 0 < length new.pending.bytes
   pub ready : new.pending.bytes ≡ [] → text new ≡ []
   pub intake : new.intake ≡ old.intake
+  pub taken : new.taken ≡ old.taken
+
+-- so many bytes more, up to the greatest number that is counted
+abbrev pub count_on : ℕ → ℕ → ℕ
+count_on more taken = min (taken + more) (2 ^ 64 - 1)
 
 -- a piece is delivered to a side whose stream was not given up
 pub record Brings (piece : List ℕ) (old new : Side) (d : Delivery) : Type 0 where
   pub delivers : Delivers old.peer old.intake.held piece new.peer new.intake.held d
   pub stop : new.intake.stop ≡ d.stop
+  pub taken : new.taken ≡ count_on d.taken old.taken
   pub pending : new.pending ≡ old.pending
 
 -- where its stream was given up nothing is taken, and the answer is the same for good

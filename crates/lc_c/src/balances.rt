@@ -58,7 +58,7 @@ pub struct LcmuxServer {
     pub finished: u64,
 }
 
-fn or_no_limit(left: Option<u64>) -> u64
+pub(crate) fn or_no_limit(left: Option<u64>) -> u64
     ensures { result ≡ or_no_limit left }
 {
     match left {

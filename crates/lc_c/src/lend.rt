@@ -43,9 +43,10 @@ impl LcmuxPiece {
 }
 
 impl LcmuxFront {
+    // Each piece is where its slice lies, and as long.
     fn of(first: &[u8], rest: &[u8]) -> LcmuxFront
-        ensures first { result.first.len ≡ length first.now }
-        ensures rest { result.rest.len ≡ length rest.now }
+        ensures first { (result.first.bytes ≡ block_ptr first.entry.ref_ptr.0 first.entry.ref_ptr.1) × (result.first.len ≡ length first.now) }
+        ensures rest { (result.rest.bytes ≡ block_ptr rest.entry.ref_ptr.0 rest.entry.ref_ptr.1) × (result.rest.len ≡ length rest.now) }
     {
         LcmuxFront {
             first: LcmuxPiece::of(first),

@@ -27,6 +27,7 @@ mod answer;
 mod asking;
 mod balances;
 mod c_peer;
+mod error;
 mod handle;
 mod lend;
 mod make;
@@ -50,6 +51,7 @@ pub use asking::{
 };
 pub use balances::{LcmuxClient, LcmuxServer, NO_LIMIT, lcmux_peer_client, lcmux_peer_server};
 pub use c_peer::CPeer;
+pub use error::{LcmuxError, lcmux_peer_error};
 pub use handle::Slot;
 pub use lend::{LcmuxFront, LcmuxPiece, lcmux_peer_front};
 pub use make::{LcmuxConfig, lcmux_peer_free, lcmux_peer_new};

@@ -68,6 +68,7 @@ fn new_c_peer(alloc: Global, config: Config) -> Result<Box<CPeer>, PeerFault>
     let side = CPeer {
         peer,
         intake,
+        taken: 0,
         pending,
     };
     match Box::new(alloc, side) {

@@ -20,7 +20,7 @@ pub struct LcmuxDelivery {
     pub frames: u64,
 }
 
-fn code_of(stop: Option<Stop>) -> u32
+pub(crate) fn code_of(stop: Option<Stop>) -> u32
     ensures { result ≡ stop_code stop }
 {
     match stop {
@@ -44,7 +44,9 @@ fn shown(delivery: Delivery) -> LcmuxDelivery
 fn deliver(side: &mut CPeer, piece: &[u8]) -> Delivery
     ensures { DeliversAt side.old.intake.stop piece.now side.old side.new result }
 {
-    side.intake.deliver(&mut side.peer, &(), piece)
+    let delivery = side.intake.deliver(&mut side.peer, &(), piece);
+    side.taken = side.taken.saturating_add(delivery.taken as u64);
+    delivery
 }
 
 /// The next bytes of the stream, of either version, arrive. Codes 101 to 109 for a violation, 201 to

@@ -1,8 +1,7 @@
 -- What a decoder remembers where more of a frame is missing than is asked for at once.
-use Rattle.std.proofs.Common.{◌≡◌, ℕ, ◌+◌, ◌<◌, ◌≤◌, List, [], ◌++◌, length, Some, None, refl, sym, ap, subst, ◌∙◌, arith}
+use Rattle.std.proofs.Common.{◌≡◌, ℕ, ◌+◌, ◌≤◌, List, [], length, Some, refl, sym, ap, subst, ◌∙◌, arith}
 use Rattle.std.proofs.lemmas.List.{append-nil, length-append}
 use Rattle.lc_frame.specs.declared.version.Version.{Version}
-use Rattle.lc_frame.specs.declared.frame.Frame.{Frame}
 use Rattle.lc_frame.specs.declared.scan.Scan.TheVariants as scans
 use Rattle.lc_frame.specs.declared.progress.Progress.{Progress}
 use Rattle.lc_frame.specs.declared.progress.Progress.TheVariants.{Wants, Whole, Fault, Greeted, Broken}

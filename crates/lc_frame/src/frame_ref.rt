@@ -95,8 +95,9 @@ impl<'a> FrameRef<'a> {
         kind.is_in(version) && kind.allows(version, self.field())
     }
 
+    /// What the frame does.
     #[inline]
-    pub(crate) fn kind(&self) -> Kind
+    pub fn kind(&self) -> Kind
         ensures { result ≡ kind_of (frame_of self.now) }
     {
         match *self {

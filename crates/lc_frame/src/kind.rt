@@ -7,8 +7,8 @@ use crate::frame_fault::FrameFault;
 use crate::version::Version;
 
 /// What a frame does.
-#[derive(Clone, Copy)]
-pub(crate) enum Kind {
+#[derive(Clone, Copy, Debug, PartialEq, Eq)]
+pub enum Kind {
     // codes: begin kinds
     Send,
     Issue,
@@ -23,7 +23,7 @@ pub(crate) enum Kind {
 impl Kind {
     /// The code of the kind in a frame's tag.
     #[inline]
-    pub(crate) fn code(self) -> u8
+    pub fn code(self) -> u8
         ensures { result ≡ code_of self }
     {
         match self {

@@ -36,6 +36,7 @@ pub use fill::{Fill, Filled};
 pub use frame::{Frame, MAX_AMOUNT, MAX_BODY, MAX_TOTAL};
 pub use frame_fault::FrameFault;
 pub use frame_ref::FrameRef;
+pub use kind::Kind;
 pub use lane::{LANES, Lane};
 pub use stream_decoder::StreamDecoder;
 pub use stream_encoder::StreamEncoder;

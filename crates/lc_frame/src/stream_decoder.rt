@@ -247,6 +247,14 @@ impl StreamDecoder {
         stored.len()
     }
 
+    /// The bytes that are stored.
+    #[inline]
+    pub fn bytes(&self) -> &[u8]
+        ensures { result.now ≡ self.now.bytes }
+    {
+        self.buffer.as_slice()
+    }
+
     /// The whole frame, `None` where there is none.
     #[inline]
     pub fn frame(&self) -> Option<FrameRef<'_>>

@@ -13,3 +13,4 @@ pub mod Intakes
 pub mod Gone
 pub mod Channels
 pub mod StreamsKept
+pub mod Offending

@@ -12,5 +12,6 @@ pub mod Intake
 pub mod Steps
 pub mod Longer
 pub mod RingIntake
+pub mod Offending
 pub mod Skips
 pub mod Rings

@@ -5,6 +5,7 @@
 mod channel_state;
 mod config;
 mod delivery;
+mod frame_head;
 mod inbox;
 mod intake;
 mod intake_for;
@@ -21,6 +22,7 @@ mod unkept;
 
 pub use config::{Config, PeerFault};
 pub use delivery::{Delivery, Stop, deliver_to};
+pub use frame_head::FrameHead;
 pub use inbox::{Inbox, Take};
 pub use intake::Intake;
 pub use intake_for::IntakeFor;

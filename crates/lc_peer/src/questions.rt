@@ -1,14 +1,19 @@
 //! What a peer would answer: questions that change nothing, judged as the calls judge.
-ghost use Rattle.std.specs.Prelude.{◌≡◌, ◌-◌, if◌then◌else◌, map, IfOk};
+ghost use Rattle.std.specs.Prelude.{◌≡◌, ◌-◌, if◌then◌else◌, map, Some, IfOk};
 ghost use Rattle.std.specs.Result.{result_err};
+ghost use Rattle.lc_frame.specs.declared.frame.Frame.{Frame};
 ghost use Rattle.lc_frame.specs.declared.frame.Frame.TheVariants.{Issue, Absolve, Plead, LimitSending, LimitReceiving, Finish};
+ghost use Rattle.lc_frame.specs.Frame.{channel_of};
 ghost use Rattle.lc_book.specs.Limit.{is_past};
+ghost use Rattle.lc_peer.specs.Arrivals.{violation_at};
+ghost use Rattle.lc_peer.specs.Offending.{allowed, Exceeds};
+ghost use Rattle.lc_peer.specs.Peer.{client, server};
 ghost use Rattle.lc_peer.specs.Calls.{refusal, due, honour_refusal};
 ghost use Rattle.lc_peer.specs.Questions.{send_refusal, needs, needs_more, ready_on};
 
 use crate::peer::{Peer, judge_spend};
-use lc_book::Refusal;
-use lc_frame::{CHANNELS, Channel};
+use lc_book::{ClientBook, Refusal, ServerBook, Violation};
+use lc_frame::{CHANNELS, Channel, MAX_AMOUNT, MAX_TOTAL};
 
 /// What a message needs before it can be sent.
 #[derive(Clone, Copy, Debug, PartialEq, Eq)]
@@ -46,6 +51,20 @@ fn needs_more(receive_left: Option<u64>, missing: u64) -> Needs
     match receive_left {
         Some(left) if left < missing => Needs::Never,
         _ => Needs::Guarantees(missing),
+    }
+}
+
+// How much a frame might carry that violates the rules so.
+fn allowed(client: &ClientBook, server: &ServerBook, violation: Violation) -> Option<u64>
+    ensures { result ≡ allowed client.now server.now violation }
+{
+    match violation {
+        Violation::NotGuaranteed | Violation::AbsolvedTooMuch => Some(server.outstanding()),
+        Violation::SentPastLimit | Violation::SendLimitRaised => server.send_left(),
+        Violation::IssuedPastLimit | Violation::ReceiveLimitRaised => client.receive_left(),
+        Violation::TooManyGuarantees => Some(u64::from(MAX_AMOUNT) - client.held()),
+        Violation::TotalPassed => Some(MAX_TOTAL - client.received()),
+        Violation::AfterFinish => None,
     }
 }
 
@@ -132,6 +151,20 @@ impl Peer {
             }
             Err(_) => Needs::Never,
         }
+    }
+
+    /// How much a frame of the channel may carry at most that violates the rules so: what is
+    /// outstanding, what a limit leaves, or how many guarantees fit; `None` behind a Finish. A frame
+    /// that violates changes nothing, so its violation may be asked about afterwards.
+    pub fn allowed(&self, channel: Channel, violation: Violation) -> Option<u64>
+        ensures value { result ≡ allowed (client self.now channel) (server self.now channel) violation }
+        ensures exceeded { (f : Frame) → channel_of f ≡ channel → violation_at self.now f ≡ Some violation → Exceeds f violation result }
+    {
+        allowed(
+            self.client_book(channel),
+            self.server_book(channel),
+            violation,
+        )
     }
 
     /// What there is to do on a channel.

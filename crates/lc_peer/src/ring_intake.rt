@@ -1,22 +1,27 @@
 //! The bytes of a stream on their way to a sink whose rings have known sizes.
-ghost use Rattle.std.specs.Prelude.{◌≡◌, ◌<◌, ℕ, List, [], Some, None, All, IfOk, IfSome, IsSome};
-ghost use Rattle.lc_frame.specs.Stored.{Stored, nothing_stored, IsUndecided, IsSettled};
+ghost use Rattle.std.specs.Prelude.{◌≡◌, ◌+◌, ◌<◌, ℕ, List, [], length, Some, None, All, IfOk, IfSome, IsSome};
+ghost use Rattle.lc_frame.specs.declared.frame_fault.FrameFault.TheVariants.{BadTag};
+ghost use Rattle.lc_frame.specs.declared.kind.Kind.TheVariants.{Send};
+ghost use Rattle.lc_frame.specs.Kind.{IsInRange};
+ghost use Rattle.lc_frame.specs.Stored.{Stored, nothing_stored, IsUndecided, IsSettled, HasFault};
 ghost use Rattle.lc_frame.specs.declared.fill.Filled.TheVariants.{Few};
 ghost use Rattle.lc_frame.specs.Fill.{FilledAs, LacksMore};
 ghost use Rattle.lc_peer.specs.Deliveries.{DeliversTo};
 ghost use Rattle.lc_peer.specs.Intake.{IntakeEnds, GivesUp};
 ghost use Rattle.lc_peer.specs.Longer.{FitsRings, KeepsFew};
+ghost use Rattle.lc_peer.specs.Offending.{ShowsHead, last_byte};
 ghost use Rattle.lc_peer.specs.Skips.{stop_by, Goes};
 ghost use Rattle.lc_peer.specs.RingIntake.{IsSkip, IsKept, KeepsWith, held_of};
 
 use crate::delivery::{Delivery, Reached, Stop, deliver_up_to};
+use crate::frame_head::FrameHead;
 use crate::outgrown::{Outgrown, head_len};
 use crate::ring_sink::RingSink;
 use crate::rings::Rings;
 use crate::skip::{Skip, Skipped, skip_on};
 use crate::unkept::Unkept;
 use lc_book::Violation;
-use lc_frame::{CHANNELS, Fill, Filled, FrameFault, StreamDecoder};
+use lc_frame::{CHANNELS, Fill, Filled, FrameFault, Kind, StreamDecoder};
 use std::alloc::{AllocError, Global};
 use std::fmt;
 use std::fmt::{Debug, Formatter};
@@ -165,6 +170,56 @@ fn fill_begun<R, F: Fill<R>>(decoder: &mut StreamDecoder, filler: &F, source: &m
     filled
 }
 
+// How many bytes came of a Send whose message is not kept.
+fn came_of(skip: &Skip) -> usize
+    requires in_range { IsInRange skip.now.version Send skip.now.len }
+    requires counted { skip.now.missing + length skip.now.body.bytes ≡ skip.now.len }
+    ensures { result ≡ length (held_of skip.now).bytes }
+{
+    let _most = skip.version.max_frame();
+    head_len(skip.version) + (skip.len - skip.missing)
+}
+
+// Its head, once it is whole.
+fn head_of_skip(skip: &Skip) -> Option<FrameHead>
+    requires in_range { IsInRange skip.now.version Send skip.now.len }
+    requires counted { skip.now.missing + length skip.now.body.bytes ≡ skip.now.len }
+    ensures { ShowsHead result (held_of skip.now) }
+{
+    if skip.missing > 0 {
+        return None;
+    }
+    Some(FrameHead {
+        kind: Kind::Send,
+        channel: skip.channel,
+        number: Some(skip.len as u64),
+    })
+}
+
+// The head of the frame that a decoder holds.
+fn head_of_held(decoder: &StreamDecoder) -> Option<FrameHead>
+    ensures { ShowsHead result decoder.now }
+{
+    match decoder.frame() {
+        Some(frame) => Some(FrameHead::of(frame)),
+        None => None,
+    }
+}
+
+// The byte that is no tag, or that differs from a greeting, where a decoder holds one.
+fn bad_byte_in(decoder: &StreamDecoder) -> Option<u8>
+    ensures bad { HasFault BadTag decoder.now → result ≡ last_byte decoder.now }
+    ensures none { ¬ HasFault BadTag decoder.now → result ≡ None }
+{
+    match decoder.fault()? {
+        FrameFault::BadTag => {
+            let held = decoder.bytes();
+            held.get(held.len().saturating_sub(1)).copied()
+        }
+        FrameFault::ZeroLength | FrameFault::BadNumber | FrameFault::Truncated => None,
+    }
+}
+
 impl Debug for RingIntake {
     fn fmt<W: fmt::Write>(&self, f: &mut Formatter<W>) -> fmt::Result {
         f.debug_struct("RingIntake").finish_non_exhaustive()
@@ -203,6 +258,39 @@ impl RingIntake {
         ensures little { IsKept self.now }
     {
         self.decoder.stored()
+    }
+
+    /// How many bytes of the stream came since the last whole frame, whether they are kept or not. A
+    /// caller that counts the bytes that [`deliver`](RingIntake::deliver) took has by it the offset of
+    /// the frame that broke the rules.
+    pub fn begun(&self) -> usize
+        ensures { result ≡ length self.now.held.bytes }
+    {
+        match &self.skip {
+            Some(skip) => came_of(skip),
+            None => self.decoder.stored(),
+        }
+    }
+
+    /// The frame that broke the rules, after a violation; `None` where no frame is held whole.
+    pub fn offending(&self) -> Option<FrameHead>
+        ensures { ShowsHead result self.now.held }
+    {
+        match &self.skip {
+            Some(skip) => head_of_skip(skip),
+            None => head_of_held(&self.decoder),
+        }
+    }
+
+    /// The byte that is no tag, or that differs from a greeting, after `FrameFault::BadTag`.
+    pub fn bad_byte(&self) -> Option<u8>
+        ensures bad { HasFault BadTag self.now.held → result ≡ last_byte self.now.held }
+        ensures none { ¬ HasFault BadTag self.now.held → result ≡ None }
+    {
+        match &self.skip {
+            Some(_) => None,
+            None => bad_byte_in(&self.decoder),
+        }
     }
 
     /// What it means that the stream ends here, as [`Intake::end`](crate::Intake::end) has it.

@@ -8,7 +8,7 @@ use Rattle.lc_c.proofs.streams.begin_next.Goals as goal
 pub returns-in-Some : goal.returns-in-Some
 returns-in-Some c =
     let is = c.begin.ensures ∙ ap (λ (v : Version). encoding v c.in-Some.frame) c.version-version.ensures in
-    let left : c.match-frame.side ≡ record { peer = c.next_out.new.self; intake = c.side.inside.intake; pending = c.begin.new.self } = elim c.match-frame.branch [
+    let left : c.match-frame.side ≡ record { peer = c.next_out.new.self; intake = c.side.inside.intake; taken = c.side.inside.taken; pending = c.begin.new.self } = elim c.match-frame.branch [
       | in-Send-1 w ↦ w.side-is
       | in-Issue-1 w ↦ w.side-is
     ] in
