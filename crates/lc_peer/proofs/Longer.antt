@@ -28,7 +28,7 @@ use Rattle.lc_frame.specs.declared.frame.Frame.TheVariants as frames
 use Rattle.lc_frame.specs.Kind.{IsInRange}
 use Rattle.lc_frame.proofs.Openings.{undecided_of}
 use Rattle.lc_peer.specs.declared.skip.Skip.{Skip}
-use Rattle.lc_peer.specs.Longer.{IsLonger, FitsRings, FitsGreatest}
+use Rattle.lc_peer.specs.Longer.{IsLonger, FitsRings}
 use Rattle.lc_frame.proofs.Bytes.{IsBytes}
 use Rattle.lc_peer.specs.declared.delivery.Stop.{Stop}
 use Rattle.lc_peer.specs.declared.delivery.Stop.TheVariants.{Violated}

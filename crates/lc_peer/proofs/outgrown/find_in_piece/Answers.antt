@@ -1,4 +1,3 @@
-use Rattle.std.proofs.Common.{◌≡◌}
 use Rattle.lc_peer.proofs.outgrown.find_in_piece.Goals as goal
 
 pub returns-in_err-begun-clause-none : goal.returns-in_err-begun-clause-none

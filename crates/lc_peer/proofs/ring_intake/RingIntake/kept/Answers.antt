@@ -1,5 +1,4 @@
 use Rattle.std.proofs.Common.{subst}
-use Rattle.lc_peer.specs.Intake.{IntakeState}
 use Rattle.lc_peer.specs.RingIntake.{IsKept}
 use Rattle.lc_peer.proofs.Longer.{is_kept}
 use Rattle.lc_peer.proofs.ring_intake.RingIntake.kept.Goals as goal
