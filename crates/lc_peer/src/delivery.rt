@@ -276,7 +276,7 @@ fn is_between(decoder: &StreamDecoder) -> bool
 }
 
 // The bytes come that the header lacks which is held, and with the rest of the piece one step.
-#[inline(never)]
+#[inline(always)]
 fn begin_by_head<C, S: FrameSink<C>>(
     sink: &mut S,
     context: &C,
