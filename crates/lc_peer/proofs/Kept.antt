@@ -3,7 +3,7 @@ use Rattle.std.proofs.Common.{◌≡◌, ℕ, ◌+◌, ◌<◌, ◌≤◌, Bool,
 use Rattle.std.specs.Prelude.{◌⊎◌, ◌==◌, slice_get, IsSomeAnd, All, IfNone, IfOk, Result, Ok, Err}
 use Rattle.std.proofs.lemmas.Bool.Decides.{nat_tests}
 use Rattle.std.proofs.lemmas.Bool.{cases_lt, true≢false}
-use Rattle.std.proofs.lemmas.List.{length-append, length-drop, length-take-le, nil_from_length, take-append-drop, take_all}
+use Rattle.std.proofs.lemmas.List.{length-append, length-take-le, nil_from_length, take-append-drop, take_all}
 use Rattle.lc_frame.specs.declared.version.Version.{Version}
 use Rattle.lc_frame.specs.declared.version.Version.TheVariants.{One, Two}
 use Rattle.lc_frame.specs.declared.channel.Channel.{Channel}
@@ -14,7 +14,7 @@ use Rattle.lc_frame.specs.Channel.{number_of}
 use Rattle.lc_frame.specs.Version.{version_of}
 use Rattle.lc_frame.specs.Kind.{header_len}
 use Rattle.lc_frame.specs.Encoding.{header, encoding}
-use Rattle.lc_frame.specs.Stored.{Stored, stored_in, fed, front, nothing_stored, opened, opened_as, IsSettled, IsValidIn, encoding_in, IsUndecided, IsDecided}
+use Rattle.lc_frame.specs.Stored.{Stored, stored_in, fed, before, front, nothing_stored, opened, opened_as, IsSettled, IsValidIn, encoding_in, IsUndecided, IsDecided}
 use Rattle.lc_frame.specs.Progress.{Feeds}
 use Rattle.lc_frame.specs.declared.fill.Filled.{Filled}
 use Rattle.lc_frame.specs.declared.fill.Filled.TheVariants.{Few, Failed, Took}
@@ -298,16 +298,27 @@ module _ (rings : List ℕ) (h1 : Stored) (rest : List ℕ) (fits : FitsRings ri
       record { fits = short; few = frame_few rings h2.version o.frame h2.bytes o.valid o.whole short }
   step_keeps arrives violates (Stopped (Fault fault) count) p p' h2 o = record { fits = part_fits h2 count o.grown; few = fault_few h2 count o.grown o.shortest }
 
+pub is_emptied : (h : Stored) (v : Version) → h.version ≡ Some v → h.bytes ≡ [] → h ≡ stored_in v []
+is_emptied h v e n = λ i. record { version = e i; bytes = n i }
+
 -- a frame that arrived leaves nothing
-pub arrived_ready : {T : Type 0} (arrives : T → Frame → T → Type 0) (rings : List ℕ) (p : T) (h1 : Stored) (rest : List ℕ) (p' : T) (h2 : Stored) (count : ℕ) (later : List ℕ) → FrameArrives arrives p h1 rest p' h2 count → IsReady rings h2 later
-arrived_ready arrives rings p h1 rest p' h2 count later a = record {
-  few = few_bytes rings (length h2.bytes) (omega (arith, ap length a.cleared));
-  fits = inl (version_emptied h2.version a.frame h2.bytes a.valid a.cleared);
-}
+pub arrived_between : {T : Type 0} (arrives : T → Frame → T → Type 0) (p : T) (h1 : Stored) (rest : List ℕ) (p' : T) (h2 : Stored) (count : ℕ) → FrameArrives arrives p h1 rest p' h2 count → (v : Version) × (h2 ≡ stored_in v [])
+arrived_between arrives p h1 rest p' h2 count a = emptied h2.version a.frame h2.bytes a.valid a.cleared
   where
-    version_emptied : (o : Option Version) (f : Frame) (bytes : List ℕ) → IsValidIn o f → bytes ≡ [] → (v : Version) × (record { version = o; bytes = bytes } ≡ stored_in v [])
-    version_emptied None f bytes valid none = absurd valid
-    version_emptied (Some v) f bytes valid none = (v, ap (stored_in v) none)
+    emptied : (o : Option Version) (f : Frame) (bytes : List ℕ) → IsValidIn o f → bytes ≡ [] → (v : Version) × (record { version = o; bytes = bytes } ≡ stored_in v [])
+    emptied None f bytes valid none = absurd valid
+    emptied (Some v) f bytes valid none = (v, ap (stored_in v) none)
+
+-- and so does one that arrived between two frames, in the same version
+pub arrived_in : {T : Type 0} (arrives : T → Frame → T → Type 0) (v : Version) (p : T) (h1 : Stored) (rest : List ℕ) (p' : T) (h2 : Stored) (count : ℕ) → h1 ≡ stored_in v [] → FrameArrives arrives p h1 rest p' h2 count → h2 ≡ stored_in v []
+arrived_in arrives v p h1 rest p' h2 count e a =
+    let known : Some v ≡ h2.version = ap (λ (h : Stored). h.version) (subst (λ (h : Stored). fed h (take count rest) ≡ before (a.frame ∷ []) h2) e a.whole) in
+    is_emptied h2 v (sym known) a.cleared
+
+-- a step between two frames keeps as little, where no longer Send is begun in the piece
+pub step_between : (rings : List ℕ) (v : Version) (h1 : Stored) (piece : List ℕ) → h1 ≡ stored_in v [] → FitsRings rings (stored_in v piece) → IsBytes piece → {T : Type 0} (arrives : T → Frame → T → Type 0) (violates : Violation → T → Frame → T → Type 0) (step : Step) (p p' : T) (h2 : Stored) → Steps arrives violates step p h1 piece p' h2 → KeepsFew rings h2
+step_between rings v h1 piece e fits bytes arrives violates step p p' h2 steps =
+    step_keeps rings (stored_in v []) piece fits (few_bytes rings 0 (omega arith)) refl (λ k d less. absurd (omega (arith, less))) bytes arrives violates step p p' h2 (subst (λ (h : Stored). Steps arrives violates step p h piece p' h2) e steps)
 
 -- ---- what leads up to a message
 
@@ -383,9 +394,6 @@ held_any_as rings most (Some v) bytes any within = any_fits rings most v bytes a
 held_any : (rings : List ℕ) (most : ℕ) (h : Stored) → FitsAny most rings → HasBegunAtMost most h → FitsRings rings h
 held_any rings most h any within = held_any_as rings most h.version h.bytes any within
 
-is_emptied : (h : Stored) (v : Version) → h.version ≡ Some v → h.bytes ≡ [] → h ≡ stored_in v []
-is_emptied h v e n = λ i. record { version = e i; bytes = n i }
-
 -- by how many bytes are held, the version being known
 pub ready_known : (rings : List ℕ) (h : Stored) (rest : List ℕ) (v : Version) → IsSettled h → h.version ≡ Some v → 0 < length rings → GoesFrom rings h rest → (length h.bytes ≡ header_len v Send → FitsRings rings (fed h rest)) → IsReady rings h rest
 ready_known rings h rest v settled known named g headed = record { few = g.kept.few; fits = by (length h.bytes) refl }
@@ -405,23 +413,16 @@ ready_known rings h rest v settled known named g headed = record { few = g.kept.
 pub ready_unknown : (rings : List ℕ) (h : Stored) (rest : List ℕ) → IsSettled h → h.version ≡ None → 0 < length rings → GoesFrom rings h rest → IsReady rings h rest
 ready_unknown rings h rest settled none named g = record { few = g.kept.few; fits = inr (fits_unknown rings h rest settled none named g) }
 
-goes_ready_as : (rings : List ℕ) (h : Stored) (rest : List ℕ) (o : Option Version) → h.version ≡ o → IsSettled h → 0 < length rings → GoesFrom rings h rest → FitsRings rings h → IsReady rings h rest
-goes_ready_as rings h rest None e settled named g fits = ready_unknown rings h rest settled e named g
-goes_ready_as rings h rest (Some v) e settled named g fits = ready_known rings h rest v settled e named g (λ all. fits_on rings h rest v e (omega (arith, all)) fits)
-
 -- few bytes were taken behind few, after which no long Send is begun
-module _ (rings : List ℕ) (most : ℕ) (old new : Stored) (piece : List ℕ) (count : ℕ) (feeds : Feeds old new piece count) (within : HasBegunAtMost most new) (settled : IsSettled old) (settled_new : IsSettled new) (bytes : All (λ b. b < 256) new.bytes) (any : FitsAny most rings) (named : 0 < length rings) (kept : KeepsFew rings old) where
+module _ (rings : List ℕ) (most : ℕ) (old new : Stored) (piece : List ℕ) (count : ℕ) (feeds : Feeds old new piece count) (within : HasBegunAtMost most new) (settled : IsSettled old) (settled_new : IsSettled new) (bytes : All (λ b. b < 256) new.bytes) (any : FitsAny most rings) (kept : KeepsFew rings old) where
   few_taken : (n : ℕ) → count ≡ n → FitsGreatest rings (length new.bytes)
   few_taken zero none =
       let still : new ≡ old = feeds.held ∙ ap (λ (i : ℕ). fed old (take i piece)) none ∙ fed_nothing old settled in
       subst (λ (h : Stored). FitsGreatest rings (length h.bytes)) (sym still) kept.few
   few_taken (suc n) some = last_few rings new (length new.bytes) (bytes_from new.bytes bytes) settled_new refl (shortest_fault old new piece count feeds (omega (arith, some))) (held_any rings most new any within)
 
-  pub led_ready : IsReady rings new (drop count piece)
-  led_ready = goes_ready_as rings new (drop count piece) new.version refl settled_new named (record {
-    kept = record { fits = λ v known long. held_any rings most new any within; few = few_taken count refl };
-    headed = λ some more. inl (feeds.stop (omega (arith, more, length-drop count piece)));
-  }) (held_any rings most new any within)
+  pub few_kept : KeepsFew rings new
+  few_kept = record { fits = held_any rings most new any within; few = few_taken count refl }
 
 -- nothing is missing of the header that is held
 pub lead_none : (rings : List ℕ) (h : Stored) (rest : List ℕ) (v : Version) (stored head : ℕ) → h.version ≡ Some v → stored ≡ length h.bytes → head ≡ header_len v Send → (0 < stored → head ≤ stored) → KeepsFew rings h → IsReady rings h rest

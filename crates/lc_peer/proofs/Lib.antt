@@ -6,6 +6,7 @@ pub mod Feeds
 pub mod Sinks
 pub mod Deliveries
 pub mod Kept
+pub mod Starts
 pub mod Longer
 pub mod Bounded
 pub mod Stops

@@ -9,9 +9,13 @@ use Rattle.lc_frame.specs.Stored.{Stored, stored_in, fed, front, IsUndecided, Is
 use Rattle.lc_book.specs.declared.fault.Violation.{Violation}
 use Rattle.lc_peer.specs.declared.outgrown.Outgrown.{Outgrown}
 use Rattle.lc_peer.specs.declared.delivery.Delivery.{Delivery}
+use Rattle.lc_peer.specs.declared.delivery.Step.{Step}
+use Rattle.lc_peer.specs.declared.delivery.Step.TheVariants.{Arrived, Open, Stopped}
+use Rattle.lc_peer.specs.declared.delivery.Start.{Start}
+use Rattle.lc_peer.specs.declared.delivery.Start.TheVariants.{GoesOn, Ended}
 use Rattle.lc_peer.specs.Steps.{SoFar}
 use Rattle.lc_peer.specs.Deliveries.{DeliversTo}
-use Rattle.lc_peer.specs.Longer.{IsLonger, FitsRings, FitsGreatest, KeepsFew}
+use Rattle.lc_peer.specs.Longer.{IsLonger, FitsRings, FitsAny, FitsGreatest, KeepsFew}
 
 -- with so many bytes of the rest, the tag and the length of a Send are held, and nothing else; before it no more bytes are
 pub record StartsSend (held : Stored) (rest : List ℕ) (o : Outgrown) : Type 0 where
@@ -66,6 +70,18 @@ StartsLonger rings held rest o = StartsSend held rest o × IsLonger rings o.chan
 abbrev pub KeepsBy : Option Outgrown → List ℕ → Stored → Type 0
 KeepsBy None rings h = KeepsFew rings h
 KeepsBy (Some o) rings h = length h.bytes ≤ header_len o.version Send
+
+-- what the first step makes of a piece of so many bytes, of which so many were taken before it
+abbrev pub StartsBy : Step → ℕ → ℕ → Start → Type 0
+StartsBy (Arrived count) before len (GoesOn taken frames) = (taken ≡ before + count) × (frames ≡ 1)
+StartsBy (Arrived count) before len (Ended reached) = (reached ≡ record { delivery = record { taken = before + count; frames = 1; stop = None }; outgrown = None }) × (len ≤ before + count)
+StartsBy (Open count) before len start = start ≡ Ended (record { delivery = record { taken = before + count; frames = 0; stop = None }; outgrown = None })
+StartsBy (Stopped stop count) before len start = start ≡ Ended (record { delivery = record { taken = before + count; frames = 0; stop = Some stop }; outgrown = None })
+
+-- how a delivery begins: it goes on between two frames, or it has ended, and where any Send of at most so many bytes fits its ring, little is kept then
+abbrev pub BeginsBy : {T : Type 0} → Start → (T → Frame → T → Type 0) → (Violation → T → Frame → T → Type 0) → List ℕ → ℕ → T → Stored → List ℕ → T → Stored → Type 0
+BeginsBy (GoesOn taken frames) arrives violates rings most p held piece p' held' = SoFar arrives p held piece p' held' taken frames × ((v : Version) × (held' ≡ stored_in v []))
+BeginsBy (Ended reached) arrives violates rings most p held piece p' held' = ReachesBy reached.outgrown arrives violates rings p held piece p' held' reached.delivery × (FitsAny most rings → KeepsFew rings held → KeepsBy reached.outgrown rings held')
 
 -- how many bytes are missing of a greeting, or of the tag and the length of a Send, where so many are held
 abbrev pub IsMissing : Option Version → ℕ → ℕ → Type 0

@@ -43,6 +43,12 @@ pub record FaultComes {T : Type 0} (fault : FrameFault) (p : T) (held : Stored) 
   pub known : HasFault fault held'
   pub shortest : 0 < taken → (k : ℕ) → k < length held'.bytes → IsUndecided (front k held')
 
+-- how many bytes a step took
+abbrev pub taken_by : Step → ℕ
+taken_by (Arrived taken) = taken
+taken_by (Open taken) = taken
+taken_by (Stopped stop taken) = taken
+
 -- what a step of a delivery does, by its answer
 abbrev pub Steps : {T : Type 0} → (T → Frame → T → Type 0) → (Violation → T → Frame → T → Type 0) → Step → T → Stored → List ℕ → T → Stored → Type 0
 Steps arrives violates (Arrived taken) p held piece p' held' = FrameArrives arrives p held piece p' held' taken

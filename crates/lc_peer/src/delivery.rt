@@ -1,12 +1,12 @@
 //! The bytes of a stream, delivered in pieces.
-ghost use Rattle.std.specs.Prelude.{◌≡◌, [], Some, None, IfSome, IfNone, IfOk, IfErr};
-ghost use Rattle.lc_frame.specs.Stored.{stored_in, fed};
+ghost use Rattle.std.specs.Prelude.{◌≡◌, ◌+◌, ◌≤◌, ℕ, List, [], length, IsTrue, false, Some, None, IfSome, IfNone, IfOk, IfErr};
+ghost use Rattle.lc_frame.specs.Stored.{Stored, stored_in, fed};
 ghost use Rattle.lc_frame.specs.Progress.{Feeds};
 ghost use Rattle.lc_frame.specs.Begun.{BeginsAtMost};
 ghost use Rattle.lc_peer.specs.Deliveries.{Delivers, DeliversTo};
-ghost use Rattle.lc_peer.specs.Steps.{Steps};
-ghost use Rattle.lc_peer.specs.Longer.{FitsRings, FitsAny, KeepsFew};
-ghost use Rattle.lc_peer.specs.Rings.{ReachesBy, StartsLonger, IsReady, KeepsBy};
+ghost use Rattle.lc_peer.specs.Steps.{Steps, taken_by};
+ghost use Rattle.lc_peer.specs.Longer.{FitsRings, FitsAny, FitsGreatest, KeepsFew};
+ghost use Rattle.lc_peer.specs.Rings.{ReachesBy, BeginsBy, StartsBy, StartsLonger, KeepsBy};
 
 use crate::outgrown::{Lead, Outgrown, find_in_piece, lead_up};
 use crate::peer::Peer;
@@ -112,16 +112,17 @@ fn feed_open(decoder: &mut StreamDecoder, piece: &[u8]) -> usize
     }
 }
 
-// Where part of a frame or of a greeting is held, or a whole frame: it is completed there.
-fn complete<C, S: FrameSink<C>>(
+// After so many bytes were fed: the frame that stands arrives.
+#[inline(always)]
+fn settle<C, S: FrameSink<C>>(
     sink: &mut S,
     context: &C,
     decoder: &mut StreamDecoder,
-    piece: &[u8],
+    taken: usize,
 ) -> Step
-    ensures { Steps S.arrived S.violated result sink.old decoder.old piece.now sink.new decoder.new }
+    ensures steps { (old : Stored) (piece : List ℕ) → Feeds old decoder.old piece taken → Steps S.arrived S.violated result sink.old old piece sink.new decoder.new }
+    ensures kept { (rings : List ℕ) → KeepsFew rings decoder.old → KeepsFew rings decoder.new }
 {
-    let taken = feed_open(decoder, piece);
     match decoder.frame() {
         Some(frame) => match sink.arrive_in(context, frame) {
             Ok(()) => {
@@ -137,8 +138,8 @@ fn complete<C, S: FrameSink<C>>(
     }
 }
 
-// Where something is held. A piece that leaves a frame as open as it was is only taken in.
-fn step_in_decoder<C, S: FrameSink<C>>(
+// Where part of a frame or of a greeting is held, or a whole frame: it is completed there.
+fn complete<C, S: FrameSink<C>>(
     sink: &mut S,
     context: &C,
     decoder: &mut StreamDecoder,
@@ -146,6 +147,46 @@ fn step_in_decoder<C, S: FrameSink<C>>(
 ) -> Step
     ensures { Steps S.arrived S.violated result sink.old decoder.old piece.now sink.new decoder.new }
 {
+    let taken = feed_open(decoder, piece);
+    settle(sink, context, decoder, taken)
+}
+
+// Where few bytes are held and few come: the frame that stands or is begun then is looked at once, both for
+// what it is and for its length. `None` where it may be longer than its ring, or where more bytes are held
+// or come, and nothing is done.
+#[inline(always)]
+fn step_in_few<C, S: FrameSink<C>>(
+    sink: &mut S,
+    context: &C,
+    decoder: &mut StreamDecoder,
+    most: usize,
+    piece: &[u8],
+) -> Option<Step>
+    ensures steps { IfSome result (λ step. Steps S.arrived S.violated step sink.old decoder.old piece.now sink.new decoder.new) }
+    ensures kept { IfSome result (λ step. (rings : List ℕ) → FitsAny most rings → KeepsFew rings decoder.old → KeepsFew rings decoder.new) }
+    ensures none { IfNone result ((sink.new ≡ sink.old) × (decoder.new ≡ decoder.old)) }
+{
+    let _stored = decoder.stored();
+    match decoder.feed_few(piece, most) {
+        Some(taken) => {
+            let _fed = decoder.stored();
+            Some(settle(sink, context, decoder, taken))
+        }
+        None => None,
+    }
+}
+
+// Where something is held. A piece that leaves a frame as open as it was is only taken in.
+fn step_in_decoder<C, S: FrameSink<C>>(
+    sink: &mut S,
+    context: &C,
+    decoder: &mut StreamDecoder,
+    piece: &[u8],
+) -> Step
+    ensures steps { Steps S.arrived S.violated result sink.old decoder.old piece.now sink.new decoder.new }
+    ensures kept { (rings : List ℕ) → FitsRings rings (fed decoder.old piece.now) → FitsGreatest rings (length decoder.old.bytes) → KeepsFew rings decoder.new }
+{
+    let _stored = decoder.stored();
     if decoder.take_part(piece) {
         return Step::Open(piece.len());
     }
@@ -166,10 +207,11 @@ fn step_or_find<C, S: FrameSink<C>>(
 ) -> Result<Step, Outgrown>
     requires { decoder.old ≡ stored_in version [] }
     ensures steps { IfOk result (λ step. Steps S.arrived S.violated step sink.old decoder.old piece.now sink.new decoder.new) }
-    ensures fits { IfOk result (λ step. FitsAny most rings.now → FitsRings rings.now (fed decoder.old piece.now)) }
+    ensures kept { IfOk result (λ step. FitsAny most rings.now → KeepsFew rings.now decoder.new) }
     ensures longer { IfErr result (λ o. StartsLonger rings.now decoder.old piece.now o) }
     ensures same { IfErr result (λ o. (sink.new ≡ sink.old) × (decoder.new ≡ decoder.old)) }
 {
+    let _stored = decoder.stored();
     match step_in_piece(sink, context, version, decoder, most, piece) {
         Some(step) => Ok(step),
         None => match find_in_piece(version, rings, piece) {
@@ -179,37 +221,106 @@ fn step_or_find<C, S: FrameSink<C>>(
     }
 }
 
-// One step: what stands at the front of what is held and of the piece is dealt with; or the Send at the
-// front, if it is longer than its ring.
+/// How far a delivery went: the first Send that is longer than its ring, if it came to one.
+#[derive(Clone, Copy)]
+pub(crate) struct Reached {
+    pub delivery: Delivery,
+    pub outgrown: Option<Outgrown>,
+}
+
+// How a delivery begins: it goes on between two frames, behind so many bytes and frames, or it has ended.
+#[derive(Clone, Copy)]
+enum Start {
+    GoesOn { taken: usize, frames: u64 },
+    Ended(Reached),
+}
+
+// What the first step makes of a piece of so many bytes, of which so many were taken before it.
 #[inline(always)]
-fn go_on<C, S: FrameSink<C>>(
+fn start_by(step: Step, taken: usize, len: usize) -> Start
+    requires { taken + taken_by step ≤ len }
+    ensures { StartsBy step taken len result }
+{
+    let (count, frames, stop) = match step {
+        Step::Arrived(count) if taken + count < len => {
+            return Start::GoesOn {
+                taken: taken + count,
+                frames: 1,
+            };
+        }
+        Step::Arrived(count) => (count, 1, None),
+        Step::Open(count) => (count, 0, None),
+        Step::Stopped(stop, count) => (count, 0, Some(stop)),
+    };
+    Start::Ended(Reached {
+        delivery: Delivery {
+            taken: taken + count,
+            frames,
+            stop,
+        },
+        outgrown: None,
+    })
+}
+
+// Whether it stands between two frames: the version is known, and nothing is held.
+#[inline(always)]
+fn is_between(decoder: &StreamDecoder) -> bool
+    ensures yes { IsTrue result → (version : Version) × (decoder.now ≡ stored_in version []) }
+    ensures no { result ≡ false → (version : Version) → ¬ (decoder.now ≡ stored_in version []) }
+{
+    let stored = decoder.stored();
+    match decoder.version() {
+        Some(_) => stored == 0,
+        None => false,
+    }
+}
+
+// The bytes come that the header lacks which is held, and with the rest of the piece one step.
+#[inline(always)]
+fn begin_by_head<C, S: FrameSink<C>>(
+    sink: &mut S,
+    context: &C,
+    decoder: &mut StreamDecoder,
+    rings: &[u32],
+    piece: &[u8],
+) -> Start
+    ensures { (most : ℕ) → BeginsBy result S.arrived S.violated rings.now most sink.old decoder.old piece.now sink.new decoder.new }
+{
+    let _stored = decoder.stored();
+    let Lead { taken, outgrown } = lead_up(rings, decoder, piece);
+    if let Some(outgrown) = outgrown {
+        return Start::Ended(comes_to(taken, 0, outgrown));
+    }
+    if is_between(decoder) {
+        return Start::GoesOn { taken, frames: 0 };
+    }
+    let step = step_in_decoder(sink, context, decoder, piece.split_at(taken).1);
+    start_by(step, taken, piece.len())
+}
+
+// What is held is gone on with, up to where a delivery stands between two frames.
+#[inline(always)]
+fn begin<C, S: FrameSink<C>>(
     sink: &mut S,
     context: &C,
     decoder: &mut StreamDecoder,
     rings: &[u32],
     most: usize,
     piece: &[u8],
-) -> Result<Step, Outgrown>
-    ensures steps { IfOk result (λ step. Steps S.arrived S.violated step sink.old decoder.old piece.now sink.new decoder.new) }
-    ensures kept { IfOk result (λ step. FitsAny most rings.now → IsReady rings.now decoder.old piece.now → KeepsFew rings.now decoder.new) }
-    ensures longer { IfErr result (λ o. StartsLonger rings.now decoder.old piece.now o) }
-    ensures same { IfErr result (λ o. (sink.new ≡ sink.old) × (decoder.new ≡ decoder.old)) }
+) -> Start
+    ensures { BeginsBy result S.arrived S.violated rings.now most sink.old decoder.old piece.now sink.new decoder.new }
 {
-    let stored = decoder.stored();
-    let Some(version) = decoder.version() else {
-        return Ok(step_in_decoder(sink, context, decoder, piece));
-    };
-    if stored > 0 {
-        return Ok(step_in_decoder(sink, context, decoder, piece));
+    let _stored = decoder.stored();
+    if is_between(decoder) {
+        return Start::GoesOn {
+            taken: 0,
+            frames: 0,
+        };
     }
-    step_or_find(sink, context, version, decoder, rings, most, piece)
-}
-
-/// How far a delivery went: the first Send that is longer than its ring, if it came to one.
-#[derive(Clone, Copy)]
-pub(crate) struct Reached {
-    pub delivery: Delivery,
-    pub outgrown: Option<Outgrown>,
+    match step_in_few(sink, context, decoder, most, piece) {
+        Some(step) => start_by(step, 0, piece.len()),
+        None => begin_by_head(sink, context, decoder, rings, piece),
+    }
 }
 
 /// Delivers a piece up to the first Send that is longer than its channel's ring, where the bytes of
@@ -227,14 +338,16 @@ pub(crate) fn deliver_up_to<C, S: FrameSink<C>>(
     ensures kept { FitsAny most rings.now → KeepsFew rings.now decoder.old → KeepsBy result.outgrown rings.now decoder.new }
 {
     let _stored = decoder.stored();
-    let Lead { taken, outgrown } = lead_up(rings, most, decoder, piece);
-    let (mut taken, mut frames) = (taken, 0);
-    if let Some(outgrown) = outgrown {
-        return comes_to(taken, frames, outgrown);
-    }
+    let (mut taken, mut frames) = match begin(sink, context, decoder, rings, most, piece) {
+        Start::GoesOn { taken, frames } => (taken, frames),
+        Start::Ended(reached) => return reached,
+    };
+    let Some(version) = decoder.version() else {
+        unreachable!();
+    };
     'frames: loop {
         let rest = piece.split_at(taken).1;
-        let step = match go_on(sink, context, decoder, rings, most, rest) {
+        let step = match step_or_find(sink, context, version, decoder, rings, most, rest) {
             Ok(step) => step,
             Err(outgrown) => return comes_to(taken, frames, outgrown),
         };

@@ -4,7 +4,7 @@ ghost use Rattle.lc_frame.specs.declared.kind.Kind.TheVariants.{Send};
 ghost use Rattle.lc_frame.specs.Kind.{header_len};
 ghost use Rattle.lc_frame.specs.Stored.{stored_in, IsSettled};
 ghost use Rattle.lc_frame.specs.Progress.{Feeds};
-ghost use Rattle.lc_peer.specs.Longer.{IsLonger, FitsRings, FitsAny, KeepsFew};
+ghost use Rattle.lc_peer.specs.Longer.{IsLonger, FitsRings, KeepsFew};
 ghost use Rattle.lc_peer.specs.Rings.{StartsLonger, Leads, GoesFrom, IsReady, IsMissing};
 
 use lc_frame::{Channel, GREETING, StreamDecoder, Version, begun_send};
@@ -131,39 +131,27 @@ pub(crate) struct Lead {
     pub outgrown: Option<Outgrown>,
 }
 
-// Where part of a greeting or of a header is held. Few bytes are mostly taken at once.
+// Where part of a greeting or of a header is held.
 #[inline(never)]
-fn lead_on(rings: &[u32], most: usize, decoder: &mut StreamDecoder, piece: &[u8]) -> Lead
+fn lead_on(rings: &[u32], decoder: &mut StreamDecoder, piece: &[u8]) -> Lead
     ensures leads { Leads decoder.old decoder.new piece.now result.taken }
     ensures some { IfSome result.outgrown (λ o. StartsLonger rings.now decoder.new (drop result.taken piece.now) o) }
-    ensures none { IfNone result.outgrown (FitsAny most rings.now → 0 < length rings.now → KeepsFew rings.now decoder.old → IsReady rings.now decoder.new (drop result.taken piece.now)) }
+    ensures none { IfNone result.outgrown (0 < length rings.now → KeepsFew rings.now decoder.old → IsReady rings.now decoder.new (drop result.taken piece.now)) }
 {
-    let _old = decoder.stored();
-    match decoder.feed_few(piece, most) {
-        Some(taken) => {
-            let _new = decoder.stored();
-            Lead {
-                taken,
-                outgrown: None,
-            }
-        }
-        None => {
-            let taken = lead_in(decoder, piece);
-            Lead {
-                taken,
-                outgrown: find_headed(rings, decoder),
-            }
-        }
+    let taken = lead_in(decoder, piece);
+    Lead {
+        taken,
+        outgrown: find_headed(rings, decoder),
     }
 }
 
 /// Takes bytes up to where a delivery goes on. Where rings are named and part of a greeting or of a
 /// header is held, it is known then which Send is begun, and no byte of a longer one is taken.
 #[inline(always)]
-pub(crate) fn lead_up(rings: &[u32], most: usize, decoder: &mut StreamDecoder, piece: &[u8]) -> Lead
+pub(crate) fn lead_up(rings: &[u32], decoder: &mut StreamDecoder, piece: &[u8]) -> Lead
     ensures leads { Leads decoder.old decoder.new piece.now result.taken }
     ensures some { IfSome result.outgrown (λ o. StartsLonger rings.now decoder.new (drop result.taken piece.now) o) }
-    ensures none { IfNone result.outgrown (FitsAny most rings.now → KeepsFew rings.now decoder.old → IsReady rings.now decoder.new (drop result.taken piece.now)) }
+    ensures none { IfNone result.outgrown (KeepsFew rings.now decoder.old → IsReady rings.now decoder.new (drop result.taken piece.now)) }
 {
     let stored = decoder.stored();
     if rings.is_empty() {
@@ -180,8 +168,8 @@ pub(crate) fn lead_up(rings: &[u32], most: usize, decoder: &mut StreamDecoder, p
                     outgrown: None,
                 };
             }
-            lead_on(rings, most, decoder, piece)
+            lead_on(rings, decoder, piece)
         }
-        None => lead_on(rings, most, decoder, piece),
+        None => lead_on(rings, decoder, piece),
     }
 }

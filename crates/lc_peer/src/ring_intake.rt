@@ -335,7 +335,9 @@ impl RingIntake {
             None => deliver_kept(sink, context, &mut self.decoder, &self.rings, piece),
         };
         let Went { delivery, skip } = went;
-        self.skip = skip;
+        if let Some(skip) = skip {
+            self.skip = Some(skip);
+        }
         self.stop = delivery.stop;
         delivery
     }
