@@ -235,7 +235,7 @@ enum Start {
     Ended(Reached),
 }
 
-// What the first step makes of a piece of so many bytes, of which so many were taken before it.
+// How a delivery begins by its first step, in a piece of so many bytes, of which so many were taken before.
 #[inline(always)]
 fn start_by(step: Step, taken: usize, len: usize) -> Start
     requires { taken + taken_by step ≤ len }
@@ -275,7 +275,7 @@ fn is_between(decoder: &StreamDecoder) -> bool
     }
 }
 
-// The bytes come that the header lacks which is held, and with the rest of the piece one step.
+// Where more is held or comes: first the bytes that a header lacks, then one step in what is held.
 #[inline(always)]
 fn begin_by_head<C, S: FrameSink<C>>(
     sink: &mut S,

@@ -14,11 +14,14 @@ use Rattle.lc_peer.proofs.delivery.begin_by_head.Goals as goal
 pub returns-in-Some : goal.returns-in-Some
 returns-in-Some g c = λ most.
     let starts = subst (λ (o : Option Outgrown). IfSome o (StartsLonger c.args.rings.now c.lead_up-taken.new.decoder (drop c.lead_up-taken.result.taken c.args.piece.now))) c.in-Some.is c.lead_up-taken.ensures.some in
-    rw c.comes_to.ensures (record {
-      so_far = begins_so g.S.FrameSink.arrived c.args.sink.now c.args.decoder.now c.args.piece.now c.lead_up-taken.new.decoder c.lead_up-taken.result.taken c.lead_up-taken.ensures.leads;
-      starts = starts.0;
-      longer = starts.1;
-    }, λ any kept. starts.0.few)
+    rw c.comes_to.ensures (
+      record {
+        so_far = begins_so g.S.FrameSink.arrived c.args.sink.now c.args.decoder.now c.args.piece.now c.lead_up-taken.new.decoder c.lead_up-taken.result.taken c.lead_up-taken.ensures.leads;
+        starts = starts.0;
+        longer = starts.1;
+      },
+      λ any kept. starts.0.few,
+    )
 
 pub returns-then-is_between : goal.returns-then-is_between
 returns-then-is_between g c = λ most. (begins_so g.S.FrameSink.arrived c.args.sink.now c.args.decoder.now c.args.piece.now c.lead_up-taken.new.decoder c.lead_up-taken.result.taken c.lead_up-taken.ensures.leads, c.is_between.ensures.yes c.if-is_between.true)
