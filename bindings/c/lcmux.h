@@ -253,8 +253,33 @@ typedef struct lcmux_delivery {
     uint64_t frames;
 } lcmux_delivery;
 
-/** Stands for a limit that is not set, and for the target of a plead if none is pending. */
+/** Stands for a number that is absent: a limit that is not set, the target of a plead if none is pending, and what does
+ *  not belong to an error. */
 #define LCMUX_NONE UINT64_MAX
+
+/** The protocol error for which this side discarded the rest of the peer's stream, and where it is. */
+typedef struct lcmux_error {
+    /** The size of the struct, which the program sets: LCMUX_ERROR_INIT. */
+    uint64_t size;
+    /** The code of the violation or of the fault, or LCMUX_OK while the stream goes on. */
+    uint64_t code;
+    /** How many bytes of the inbound stream precede the offending frame, its preface among them. While the stream goes
+     *  on, how many precede the frame that is not whole: after LCMUX_F4_TRUNCATED the one that is cut. */
+    uint64_t offset;
+    /** The kind of the frame that breaks a rule, 1 to 7 as in its tag, or LCMUX_NONE with any code but a violation. */
+    uint64_t kind;
+    /** The channel of that frame, or LCMUX_NONE. */
+    uint64_t channel;
+    /** The number that the frame carries, of a message its length, or LCMUX_NONE: a Finish carries none. */
+    uint64_t number;
+    /** The most that the number might have been, or LCMUX_NONE: nothing is allowed after a Finish. */
+    uint64_t allowed;
+    /** The byte that is no tag, or that differs from the preface; LCMUX_NONE with any code but LCMUX_F1_BAD_TAG. */
+    uint64_t byte;
+} lcmux_error;
+
+/** The initial value of an lcmux_error. */
+#define LCMUX_ERROR_INIT {sizeof(lcmux_error), 0, 0, LCMUX_NONE, LCMUX_NONE, LCMUX_NONE, LCMUX_NONE, LCMUX_NONE}
 
 /** The sender's ledger of a channel: the credit of this side as the one that sends, in bytes of messages. */
 typedef struct lcmux_client {
@@ -474,6 +499,13 @@ lcmux_delivery lcmux_peer_deliver(lcmux_peer *peer, const uint8_t *piece, size_t
  *  Codes: LCMUX_OK between two frames, LCMUX_F4_TRUNCATED inside a frame or inside the preface, and the code of an
  *  earlier lcmux_peer_deliver that failed. */
 lcmux_answer lcmux_peer_end(const lcmux_peer *peer) LCMUX_NONNULL;
+
+/** Returns why this side discarded the rest of the peer's stream, and where: the offset of the offending frame, what the
+ *  frame says, and what was allowed instead, in a struct whose size is set. While the stream goes on, the struct says
+ *  where the frame begins that is not whole. With a code other than LCMUX_OK the struct is unchanged.
+ *
+ *  Codes: LCMUX_BAD_SIZE. */
+lcmux_answer lcmux_peer_error(const lcmux_peer *peer, lcmux_error *error) LCMUX_NONNULL;
 
 /** Copies the next outbound bytes to the front of buffer. Number: how many bytes these are. A frame that does not fit
  *  continues in the next call. The bytes count as sent: a program that cannot send them has lost the stream.

@@ -158,6 +158,17 @@ export declare class LcmuxError extends Error {
   readonly taken?: number;
   /** With {@link Peer.deliver}: how many frames arrived before the protocol error. */
   readonly frames?: number;
+  /** With a protocol error: how many bytes of the peer's stream precede the offending frame, the preface among them. */
+  readonly offset?: number | bigint;
+  /** With a protocol error: the frame that broke a rule, or null after a fault. */
+  readonly frame?: OffendingFrame | null;
+  /**
+   * With a protocol error: the most that the number of the frame might have been, or null after the violation V9 and
+   * after a fault.
+   */
+  readonly allowed?: number | bigint | null;
+  /** With a protocol error: the byte that is no tag, or that differs from the preface, or null if it is not F1. */
+  readonly byte?: number | null;
   /**
    * Returns the error for `JSON.stringify`, with its `name` and `message`. JSON has no bigint: such a number becomes
    * a decimal string.
@@ -176,6 +187,31 @@ export interface LcmuxErrorJson {
   readonly number: number | string | undefined;
   readonly taken?: number;
   readonly frames?: number;
+  readonly offset?: number | string;
+  readonly frame?: { readonly kind: FrameKind; readonly channel: Channel; readonly number: number | string | null } | null;
+  readonly allowed?: number | string | null;
+  readonly byte?: number | null;
+}
+
+/** The kind of a frame. */
+export type FrameKind =
+  // codes: begin kinds
+  | 'Send'
+  | 'Issue'
+  | 'Absolve'
+  | 'Plead'
+  | 'LimitSending'
+  | 'LimitReceiving'
+  | 'Finish'
+  // codes: end
+  ;
+
+/** The frame that broke a rule of the protocol. */
+export interface OffendingFrame {
+  readonly kind: FrameKind;
+  readonly channel: Channel;
+  /** An amount, a bound or the length of a message, a bigint above 2^53, or null with a Finish. */
+  readonly number: number | bigint | null;
 }
 
 /**

@@ -65,6 +65,7 @@ static void empty_handle(lcmux_peer *peer) {
     lcmux_client client = {.held = 1}; /* its size is not looked at */
     lcmux_server server = {.issued = 1};
     lcmux_ready ready = {.channels[6].plead = 7};
+    lcmux_error error = {.byte = 5};
     lcmux_front front = {{buffer, 8}, {buffer, 8}};
     lcmux_next next = {.header_len = 1, .message = {buffer, 8}};
     lcmux_delivery delivery = lcmux_peer_deliver(peer, buffer, 4);
@@ -102,6 +103,7 @@ static void empty_handle(lcmux_peer *peer) {
     must(lcmux_peer_slots_left(peer).code == LCMUX_NO_PEER, "slots left");
     must(lcmux_peer_wants_write(peer).code == LCMUX_NO_PEER, "wants write");
     must(lcmux_peer_ready(peer, &ready).code == LCMUX_NO_PEER && ready.channels[6].plead == 7, "ready");
+    must(lcmux_peer_error(peer, &error).code == LCMUX_NO_PEER && error.byte == 5, "error");
     must(lcmux_peer_free(peer).code == LCMUX_NO_PEER, "free");
     must(lcmux_peer_free(NULL).code == LCMUX_NO_PEER, "free of no handle");
     must(!memcmp(buffer, "unused\0", 8), "nothing is written");
@@ -133,13 +135,16 @@ static void sizes(lcmux_peer *peer) {
     lcmux_client client = {.size = 79, .held = 1};
     lcmux_server server = {.size = 103, .issued = 1};
     lcmux_ready ready = {.size = 287, .channels[6].plead = 7};
-    must(sizeof client == 80 && sizeof server == 104 && sizeof ready == 288, "the sizes of this version");
+    lcmux_error error = {.size = 63, .byte = 5};
+    must(sizeof client == 80 && sizeof server == 104 && sizeof ready == 288 && sizeof error == 64, "the sizes of this version");
     lcmux_answer answer = lcmux_peer_client(peer, 1, &client);
     must(answer.code == LCMUX_BAD_SIZE && answer.number == 80 && client.held == 1, "a client that is too short");
     answer = lcmux_peer_server(peer, 1, &server);
     must(answer.code == LCMUX_BAD_SIZE && answer.number == 104 && server.issued == 1, "a server that is too short");
     answer = lcmux_peer_ready(peer, &ready);
     must(answer.code == LCMUX_BAD_SIZE && answer.number == 288 && ready.channels[6].plead == 7, "a ready that is too short");
+    answer = lcmux_peer_error(peer, &error);
+    must(answer.code == LCMUX_BAD_SIZE && answer.number == 64 && error.byte == 5, "an error that is too short");
     longer.balances.size = sizeof longer, longer.balances.held = 3;
     must(lcmux_peer_client(peer, 1, &longer.balances).code == LCMUX_OK && longer.balances.held == 0, "a client that is longer");
     must(longer.balances.size == sizeof longer && longer.later == 5, "keeps what this version doesn't know");
@@ -168,6 +173,42 @@ static void balances(lcmux_peer *peer) {
     must(lcmux_peer_client(peer, 2, &client).code == LCMUX_OK && !memcmp(&client, &sending, sizeof client), "client behind");
     must(lcmux_peer_server(peer, 2, &server).code == LCMUX_OK && !memcmp(&server, &receiving, sizeof server), "server behind");
     must(lcmux_peer_free(peer).code == LCMUX_OK, "free in version 2");
+}
+
+/* Bytes of a stream, and what is wrong with them: each field by its name. */
+static const struct {
+    const char *bytes;
+    size_t len;
+    lcmux_error error;
+} errors[] = {
+    {"\x21\0\0\0\7\x31\0\0\0\6", 10, {.code = LCMUX_V3_ABSOLVED_TOO_MUCH, .offset = 5, .kind = 3, .channel = 1, .number = 6, .allowed = 5, .byte = LCMUX_NONE}},
+    {"\x21\0\0\0\7\x33\0\0\0\6", 10, {.code = LCMUX_V3_ABSOLVED_TOO_MUCH, .offset = 5, .kind = 3, .channel = 3, .number = 6, .allowed = 0, .byte = LCMUX_NONE}},
+    {"\x11\0\1a\x11\0\5hello\x77", 13, {.code = LCMUX_V1_NOT_GUARANTEED, .offset = 4, .kind = 1, .channel = 1, .number = 5, .allowed = 4, .byte = LCMUX_NONE}},
+    {"LCM\2\x11\0\0\1\0", 9 + 256, {.code = LCMUX_V1_NOT_GUARANTEED, .offset = 4, .kind = 1, .channel = 1, .number = 256, .allowed = 5, .byte = LCMUX_NONE}},
+    {"LCM\2\x71\x71", 6, {.code = LCMUX_V9_AFTER_FINISH, .offset = 5, .kind = 7, .channel = 1, .number = LCMUX_NONE, .allowed = LCMUX_NONE, .byte = LCMUX_NONE}},
+    {"\x21\0\0\0\7\x7f\x21", 7, {.code = LCMUX_F1_BAD_TAG, .offset = 5, .kind = LCMUX_NONE, .channel = LCMUX_NONE, .number = LCMUX_NONE, .allowed = LCMUX_NONE, .byte = 0x7f}},
+    {"LCm\2", 4, {.code = LCMUX_F1_BAD_TAG, .offset = 0, .kind = LCMUX_NONE, .channel = LCMUX_NONE, .number = LCMUX_NONE, .allowed = LCMUX_NONE, .byte = 'm'}},
+    {"\x21\0\0\0\7\x11\0\0", 8, {.code = LCMUX_F2_ZERO_LENGTH, .offset = 5, .kind = LCMUX_NONE, .channel = LCMUX_NONE, .number = LCMUX_NONE, .allowed = LCMUX_NONE, .byte = LCMUX_NONE}},
+    {"LCM\2\x21\0\0\0\7\x11\0", 11, {.code = LCMUX_OK, .offset = 9, .kind = LCMUX_NONE, .channel = LCMUX_NONE, .number = LCMUX_NONE, .allowed = LCMUX_NONE, .byte = LCMUX_NONE}},
+};
+
+/* A stream that is given up says where, and what was allowed there, whole and byte by byte. */
+static void protocol_errors(lcmux_peer *peer) {
+    static uint8_t bytes[300];
+    for (size_t k = 0; k < 2 * sizeof errors / sizeof *errors; k++) {
+        size_t len = errors[k / 2].len, piece = k % 2 ? 1 : len;
+        lcmux_error want = errors[k / 2].error, error = {.size = sizeof error + 8};
+        memset(bytes, 'x', sizeof bytes);
+        memcpy(bytes, errors[k / 2].bytes, len < 16 ? len : 9);
+        must(lcmux_peer_new(&(lcmux_config){2, 8, {8, 8, 8, 8, 8, 8, 8}}, peer).code == LCMUX_OK, "a peer that reads");
+        must(lcmux_peer_issue(peer, 1, 5).code == LCMUX_OK && lcmux_peer_issue(peer, 2, 3).code == LCMUX_OK, "issue");
+        for (size_t at = 0; at < len; at += piece)
+            lcmux_peer_deliver(peer, bytes + at, piece);
+        want.size = error.size;
+        must(lcmux_peer_error(peer, &error).code == LCMUX_OK && !memcmp(&error, &want, sizeof error), errors[k / 2].bytes);
+        must(lcmux_peer_free(peer).code == LCMUX_OK, "free");
+    }
+    printf("%zu protocol errors\n", sizeof errors / sizeof *errors);
 }
 
 /* The sentence of each code. */
@@ -312,6 +353,7 @@ int main(void) {
     puts("handles and configurations as the header says");
     defaults(&(lcmux_config)LCMUX_CONFIG_INIT, &peer);
     balances(&peer);
+    protocol_errors(&peer);
     tell_all();
     return 0;
 }

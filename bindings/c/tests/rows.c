@@ -176,6 +176,25 @@ static void say_ready(lcmux_peer *peer) {
     }
 }
 
+/* What is wrong with the inbound stream where it ends here, and where that is. */
+static void say_error(lcmux_peer *peer) {
+    lcmux_error e = LCMUX_ERROR_INIT;
+    char number[24], allowed[24];
+    uint32_t code = lcmux_peer_end(peer).code;
+    lcmux_answer got = lcmux_peer_error(peer, &e);
+    if (got.code != LCMUX_OK || got.number || e.code != (code == LCMUX_F4_TRUNCATED ? LCMUX_OK : code))
+        abort();
+    say_code(code, 0);
+    if (code == LCMUX_OK)
+        return;
+    size_t at = strlen(said);
+    at += (size_t)snprintf(said + at, sizeof said - at, " at %" PRIu64, e.offset);
+    if (e.kind != LCMUX_NONE)
+        snprintf(said + at, sizeof said - at, ": kind %" PRIu64 " channel %" PRIu64 " number %s allowed %s", e.kind, e.channel, or_none(e.number, number), or_none(e.allowed, allowed));
+    if (e.byte != LCMUX_NONE)
+        snprintf(said + at, sizeof said - at, ": byte %" PRIu64, e.byte);
+}
+
 /* A query with a plain answer: the word after "would-". */
 static bool question(lcmux_peer *peer, const char *word, uint32_t channel, const char *arg, lcmux_answer *answer) {
     uint64_t number = strtoull(arg, NULL, 10);
@@ -275,7 +294,9 @@ static bool other_call(struct side *me, struct side *other, const char *word, co
         say_code(answer.code, answer.number);
         if (answer.code == LCMUX_OK)
             snprintf(said, sizeof said, "%" PRIu64, answer.number);
-    } else if (!strcmp(word, "end")) {
+    } else if (!strcmp(word, "error"))
+        say_error(&me->peer);
+    else if (!strcmp(word, "end")) {
         answer = lcmux_peer_end(&me->peer);
         say_code(answer.code, answer.number);
     } else

@@ -17,6 +17,7 @@ static struct {
         lcmux_client client;
         lcmux_server server;
         lcmux_ready ready;
+        lcmux_error error;
         lcmux_front front;
         lcmux_next next;
     };
@@ -95,7 +96,7 @@ u32 EXPORT(peer_deliver)(u32 peer, u32 len) {
     return delivery.code;
 }
 
-/* The calls that return more than a number: the first three in a struct whose first field is its size. */
+/* The calls that return more than a number: the first four in a struct whose first field is its size. */
 u32 EXPORT(peer_client)(u32 peer, u32 channel) {
     last.client.size = sizeof last.client;
     return answer(lcmux_peer_client(AT(peer), channel, &last.client));
@@ -109,6 +110,11 @@ u32 EXPORT(peer_server)(u32 peer, u32 channel) {
 u32 EXPORT(peer_ready)(u32 peer) {
     last.ready.size = sizeof last.ready;
     return answer(lcmux_peer_ready(AT(peer), &last.ready));
+}
+
+u32 EXPORT(peer_error)(u32 peer) {
+    last.error.size = sizeof last.error;
+    return answer(lcmux_peer_error(AT(peer), &last.error));
 }
 
 u32 EXPORT(peer_next)(u32 peer) { return answer(lcmux_peer_next(AT(peer), &last.next)); }

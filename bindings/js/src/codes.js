@@ -1,3 +1,5 @@
+import { Channel } from './channel.js';
+
 // The codes of lcmux.h: number, name, sentence, and the name of the number that belongs to some of them. A test compares
 // the sentences with those of the module.
 const TABLE = [
@@ -51,11 +53,47 @@ const TABLE = [
 
 const ROWS = new Map(TABLE.map(([code, kind, sentence, says]) => [code, { kind, sentence, says }]));
 
+/** The kinds of frames, by their codes. */
+const KINDS = [
+  ,
+  // codes: begin kinds
+  'Send',
+  'Issue',
+  'Absolve',
+  'Plead',
+  'LimitSending',
+  'LimitReceiving',
+  'Finish',
+  // codes: end
+];
+
+/** What a frame that violates the rules might have carried, with {n} for the number. */
+const ALLOWED = {
+  // codes: begin allowed
+  101: 'where {n} are outstanding',
+  102: "where the sender's limit leaves {n}",
+  103: 'where {n} are outstanding',
+  104: "where the sender's limit leaves {n}",
+  105: "where the receiver's limit leaves {n}",
+  106: 'where the sender may hold {n} more',
+  107: "where the receiver's limit leaves {n}",
+  108: 'where the sender may receive {n} more',
+  109: 'after the Finish of the channel',
+  // codes: end
+};
+
 /** The numbers of the codes, by their names. */
 export const Code = Object.freeze(Object.fromEntries(TABLE.map(([code, kind]) => [kind, code])));
 
 /** The first code of a protocol error. */
 const FIRST_STOP = 101;
+
+/** The first code of a fault. */
+const FIRST_FAULT = 201;
+
+/** Returns the members of an object, with a decimal string for each bigint. */
+const shortened = object =>
+  Object.fromEntries(Object.entries(object).map(([key, it]) => [key, typeof it === 'bigint' ? String(it) : it]));
 
 /** The error of a refused call, of a configuration or a freed peer, or of a protocol error. */
 export class LcmuxError extends Error {
@@ -75,11 +113,41 @@ export class LcmuxError extends Error {
 
   /** The members for JSON, which has no bigint: such a number becomes a decimal string. */
   toJSON() {
-    const number = typeof this.number === 'bigint' ? String(this.number) : this.number;
-    return { name: this.name, message: this.message, ...this, number };
+    const json = { name: this.name, message: this.message, ...shortened(this) };
+    return this.frame ? { ...json, frame: shortened(this.frame) } : json;
   }
 }
 Object.defineProperty(LcmuxError.prototype, 'name', { value: 'LcmuxError', configurable: true, writable: true });
+
+/** Returns a u64 as a number, or as a BigInt where a number would not be exact. */
+const exact = long => (long > BigInt(Number.MAX_SAFE_INTEGER) ? long : Number(long));
+
+function saidOf({ kind, channel, number }) {
+  const article = /^[AI]/.test(kind) ? 'an' : 'a';
+  const name = Object.keys(Channel)[channel];
+  return `${article} ${kind}${number === null ? '' : ` of ${number}`} on ${name}`;
+}
+
+/** Returns what is wrong, behind the place: of a violation what the frame says and what was allowed. */
+function wrongOf({ code, sentence, frame, allowed, byte }) {
+  if (frame !== null) {
+    return `${saidOf(frame)}, ${ALLOWED[code].replace('{n}', allowed)}`;
+  }
+  return byte === null ? sentence : `${sentence} (0x${byte.toString(16).padStart(2, '0')})`;
+}
+
+/**
+ * Makes the protocol error of a code by the numbers behind it in an lcmux_error, of which those are null that are absent:
+ * offset, kind, channel, number, allowed and byte.
+ */
+export function protocolErrorOf(code, longs) {
+  const [offset, kind, channel, number, allowed, byte] = longs.map(long => (long === null ? null : exact(long)));
+  const frame = kind === null ? null : { kind: KINDS[kind], channel, number };
+  const error = Object.assign(new LcmuxError(code), { offset, frame, allowed, byte });
+  const label = code < FIRST_FAULT ? `V${code - FIRST_STOP + 1}` : `F${code - FIRST_FAULT + 1}`;
+  error.message = `${label} at byte ${offset}: ${wrongOf(error)}`;
+  return error;
+}
 
 /** Makes the error of a code and its u64. What a limit allows may exceed 2^53, and stays a BigInt. */
 export function errorOf(code, long) {

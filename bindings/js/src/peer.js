@@ -1,6 +1,6 @@
 import { bytesOf, copyTo, part, sizeOf } from './bytes.js';
 import { CHANNELS } from './channel.js';
-import { Code, LcmuxError } from './codes.js';
+import { Code, LcmuxError, protocolErrorOf } from './codes.js';
 import { boundOf, channelOf, lengthOf, optionsOf, u32 } from './judge.js';
 
 /** The result of a take if no message is available and none will arrive. */
@@ -242,14 +242,23 @@ export class Peer {
       taken += this.#module.number;
       frames += this.#module.short(1);
       if (code !== 0) {
-        throw Object.assign(new LcmuxError(code), { taken, frames });
+        throw Object.assign(this.#stopped(code), { taken, frames });
       }
     } while (taken < size);
     return frames;
   }
 
   end() {
-    this.#do('peer_end');
+    const code = this.#ask('peer_end');
+    if (code !== 0) {
+      throw this.#stopped(code);
+    }
+  }
+
+  // The protocol error of this code, with its place in the stream.
+  #stopped(code) {
+    this.#do('peer_error');
+    return protocolErrorOf(code, [1, 2, 3, 4, 5, 6].map(at => unlessNone(this.#long(at))));
   }
 
   pending() {

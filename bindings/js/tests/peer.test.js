@@ -277,12 +277,55 @@ test('a stop says how far it came, and is answered for good', () => {
   peer.issue(Data, 5);
   // An issue, then a message that is longer than the outstanding guarantees, then more.
   const wire = hex('2100000005' + '110006616161616161' + '2100000001');
-  const stop = refusedBy(101, 'NotGuaranteed', undefined, 'a message longer than the guarantees outstanding');
+  const stop = refusedBy(101, 'NotGuaranteed', undefined, 'V1 at byte 5: a Send of 6 on Data, where 5 are outstanding');
   assert.throws(() => peer.deliver(wire), error => stop(error) && error.frames === 1 && error.taken === 14);
   assert.throws(() => peer.deliver(wire.subarray(0, 5)), error => stop(error) && error.frames === 0 && error.taken === 0);
   assert.throws(() => peer.end(), stop);
   assert.equal(peer.client(Data).held, 5);
   peer.send(Data, bytes('still'));
+});
+
+// Streams to a peer that issued 5 guarantees on channel 1, and what is wrong where they end.
+const PROTOCOL_ERRORS = {
+  '1100016111000568656c6c6f': 'V1 at byte 4: a Send of 5 on Data, where 4 are outstanding',
+  '5100000000000000011100026162': "V2 at byte 9: a Send of 2 on Data, where the sender's limit leaves 1",
+  '21000000073100000006': 'V3 at byte 5: an Absolve of 6 on Data, where 5 are outstanding',
+  '3300000006': 'V3 at byte 0: an Absolve of 6 on Capability, where 0 are outstanding',
+  '510000000000000001510000000000000002': "V4 at byte 9: a LimitSending of 2 on Data, where the sender's limit leaves 1",
+  '6100000000000000012100000002': "V5 at byte 9: an Issue of 2 on Data, where the receiver's limit leaves 1",
+  '21010000002100000001': 'V6 at byte 5: an Issue of 1 on Data, where the sender may hold 0 more',
+  '660000000000000005660000000000000006': "V7 at byte 9: a LimitReceiving of 6 on StaticToken, where the receiver's limit leaves 5",
+  '4c434d027171': 'V9 at byte 5: a Finish on Data, after the Finish of the channel',
+  '4c434d0271110000000161': 'V9 at byte 5: a Send of 1 on Data, after the Finish of the channel',
+  '210000000577': "F1 at byte 5: a byte names no kind or channel, or is not the greeting's (0x77)",
+  '4c430d': "F1 at byte 0: a byte names no kind or channel, or is not the greeting's (0x0d)",
+  '2100000005110000': 'F2 at byte 5: a message has length 0',
+  '2100000000': 'F3 at byte 0: a number in a frame is out of its range',
+  '4c434d02210000000521': 'F4 at byte 9: the stream ends within a frame or a greeting',
+};
+
+test('a protocol error says where it is and what was allowed', () => {
+  for (const [stream, message] of Object.entries(PROTOCOL_ERRORS)) {
+    const peer = lcmux.peer();
+    peer.issue(Data, 5);
+    assert.throws(() => {
+      peer.deliver(hex(stream));
+      peer.end();
+    }, { message });
+    peer.free();
+  }
+});
+
+test('a protocol error writes its bigints as text', () => {
+  const peer = lcmux.peer();
+  const raised = hex('51' + '2000000000000000' + '51' + '2000000000000001');
+  assert.throws(() => peer.deliver(raised), error => {
+    const frame = { kind: 'LimitSending', channel: Data, number: 2n ** 61n + 1n };
+    assert.deepEqual([error.offset, error.frame, error.allowed, error.byte], [9, frame, 2n ** 61n, null]);
+    const json = JSON.parse(JSON.stringify(error));
+    assert.deepEqual([json.frame.number, json.allowed], [String(2n ** 61n + 1n), String(2n ** 61n)]);
+    return true;
+  });
 });
 
 test('a message that was taken is the caller\'s', () => {
@@ -297,7 +340,7 @@ test('an end within a frame is a fault', () => {
   const peer = lcmux.peer();
   peer.end();
   assert.equal(peer.deliver(hex('2100')), 0);
-  assert.throws(() => peer.end(), refusedBy(204, 'Truncated', undefined, 'the stream ends within a frame or a greeting'));
+  assert.throws(() => peer.end(), refusedBy(204, 'Truncated', undefined, 'F4 at byte 0: the stream ends within a frame or a greeting'));
   assert.equal(peer.deliver(hex('000005')), 1);
   peer.end();
 });

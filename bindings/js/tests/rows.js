@@ -7,6 +7,9 @@ const unhex = text => Uint8Array.from(text === '-' ? [] : text.match(/../g), byt
 // The names of the numbers that refusals carry, by docs/reference/errors.md.
 const CARRIED = { 3: 'left', 4: 'held', 6: 'held', 8: 'left', 9: 'left', 10: 'room', 11: 'outstanding', 16: 'need' };
 
+// The kinds of frames, by docs/reference/wire-format.md.
+const KINDS = [, 'Send', 'Issue', 'Absolve', 'Plead', 'LimitSending', 'LimitReceiving', 'Finish'];
+
 function said(error) {
   if (error instanceof RangeError && error.message.startsWith('the channel')) {
     return 'no channel';
@@ -73,6 +76,22 @@ function deliver(peer, bytes, piece) {
   return 'ok';
 }
 
+// What is wrong with the stream where it ends here, and where.
+function wrong(peer) {
+  try {
+    peer.end();
+    return 'ok';
+  } catch (error) {
+    const { offset, frame, allowed, byte } = error;
+    const at = `${said(error)} at ${offset}`;
+    if (frame !== null) {
+      const { kind, channel, number } = frame;
+      return `${at}: kind ${KINDS.indexOf(kind)} channel ${channel} number ${orNone(number)} allowed ${orNone(allowed)}`;
+    }
+    return byte === null ? at : `${at}: byte ${byte}`;
+  }
+}
+
 function take(peer, channel, room) {
   if (room === undefined) {
     return taken(peer.take(channel), message => `took ${hex(message)}`);
@@ -99,6 +118,7 @@ const CALLS = {
   bytes: ({ peer }, _, piece, bytes) => deliver(peer, unhex(bytes), piece),
   pending: ({ peer }) => String(peer.pending()),
   end: ({ peer }) => own(peer.end()),
+  error: ({ peer }) => wrong(peer),
   'slots-left': ({ peer }) => String(peer.slotsLeft()),
   'wants-write': ({ peer }) => String(Number(peer.wantsWrite())),
   ready: ({ peer }) => ready(peer.ready()),

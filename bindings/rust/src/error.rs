@@ -1,4 +1,4 @@
-use crate::{Channel, Config};
+use crate::{sys, Channel, Config, FrameKind};
 use std::error::Error;
 use std::fmt::{self, Display, Formatter};
 use std::io::{self, ErrorKind};
@@ -261,6 +261,25 @@ impl Violation {
     pub fn number(self) -> u8 {
         self as u8 + 1
     }
+
+    // What the frame might have carried.
+    fn write_allowed(self, allowed: u64, f: &mut Formatter<'_>) -> fmt::Result {
+        match self {
+            // codes: begin allowed by violations
+            Violation::NotGuaranteed => write!(f, "where {allowed} are outstanding"),
+            Violation::SentPastLimit => write!(f, "where the sender's limit leaves {allowed}"),
+            Violation::AbsolvedTooMuch => write!(f, "where {allowed} are outstanding"),
+            Violation::SendLimitRaised => write!(f, "where the sender's limit leaves {allowed}"),
+            Violation::IssuedPastLimit => write!(f, "where the receiver's limit leaves {allowed}"),
+            Violation::TooManyGuarantees => write!(f, "where the sender may hold {allowed} more"),
+            Violation::ReceiveLimitRaised => {
+                write!(f, "where the receiver's limit leaves {allowed}")
+            }
+            Violation::TotalPassed => write!(f, "where the sender may receive {allowed} more"),
+            Violation::AfterFinish => write!(f, "after the Finish of the channel"),
+            // codes: end
+        }
+    }
 }
 
 impl Display for Violation {
@@ -360,6 +379,14 @@ pub enum Stop {
 }
 
 impl Stop {
+    // The kind of an I/O error for it.
+    pub(crate) fn kind(self) -> ErrorKind {
+        match self {
+            Stop::Fault(Fault::Truncated) => ErrorKind::UnexpectedEof,
+            Stop::Fault(_) | Stop::Violated(_) => ErrorKind::InvalidData,
+        }
+    }
+
     pub(crate) fn of(code: u32) -> Option<Stop> {
         match code {
             0 => None,
@@ -380,6 +407,100 @@ impl Display for Stop {
 }
 
 impl Error for Stop {}
+
+/// The first bytes of a frame: what it does, on which channel, and with which number.
+#[derive(Clone, Copy, Debug, PartialEq, Eq)]
+#[non_exhaustive]
+pub struct FrameHead {
+    /// The kind of the frame.
+    pub kind: FrameKind,
+    /// The channel of the frame.
+    pub channel: Channel,
+    /// The number that the frame carries: an amount, a target, a bound or the length of a message. A Finish carries none.
+    pub number: Option<u64>,
+}
+
+impl Display for FrameHead {
+    fn fmt(&self, f: &mut Formatter<'_>) -> fmt::Result {
+        let FrameHead { kind, channel, .. } = self;
+        let article = match kind {
+            FrameKind::Issue | FrameKind::Absolve => "an",
+            _ => "a",
+        };
+        match self.number {
+            Some(number) => write!(f, "{article} {kind:?} of {number} on {channel:?}"),
+            None => write!(f, "{article} {kind:?} on {channel:?}"),
+        }
+    }
+}
+
+/// A protocol error of the peer's stream, where it is, and what was allowed instead. The session is over.
+///
+/// ```
+/// # use lcmux::{Channel::Data, Config, Peer, Stop, Violation, CHANNELS};
+/// # let mut peer = Peer::new(&Config::new([8; CHANNELS], 4))?;
+/// peer.issue(Data, 5)?;
+/// let _ = peer.deliver(b"\x21\0\0\0\x07\x31\0\0\0\x09"); // issues 7, then absolves 9
+/// let error = peer.protocol_error().unwrap();
+/// assert_eq!(error.stop, Stop::Violated(Violation::AbsolvedTooMuch));
+/// assert_eq!((error.offset, error.allowed), (5, Some(5)));
+/// assert_eq!(error.to_string(), "V3 at byte 5: an Absolve of 9 on Data, where 5 are outstanding");
+/// # Ok::<(), Box<dyn std::error::Error>>(())
+/// ```
+#[derive(Clone, Copy, Debug, PartialEq, Eq)]
+#[non_exhaustive]
+pub struct ProtocolError {
+    /// The violation or the fault.
+    pub stop: Stop,
+    /// How many bytes of the inbound stream precede the offending frame, its preface among them.
+    pub offset: u64,
+    /// The frame that broke a rule; `None` after a fault.
+    pub frame: Option<FrameHead>,
+    /// The most that the number of the frame might have been; `None` after [`Violation::AfterFinish`] and after a fault.
+    pub allowed: Option<u64>,
+    /// The byte that is no tag, or that differs from the preface; `None` unless the fault is [`Fault::BadTag`].
+    pub byte: Option<u8>,
+}
+
+impl ProtocolError {
+    /// Returns what is known of the protocol error, by the fields of the C interface.
+    pub(crate) fn of(stop: Stop, found: &sys::ProtocolError) -> ProtocolError {
+        let unless_none = |number| (number != u64::MAX).then_some(number);
+        ProtocolError {
+            stop,
+            offset: found.offset,
+            frame: FrameKind::of(found.kind as u8).map(|kind| FrameHead {
+                kind,
+                channel: Channel::ALL[found.channel as usize],
+                number: unless_none(found.number),
+            }),
+            allowed: unless_none(found.allowed),
+            byte: unless_none(found.byte).map(|byte| byte as u8),
+        }
+    }
+}
+
+impl Display for ProtocolError {
+    fn fmt(&self, f: &mut Formatter<'_>) -> fmt::Result {
+        let offset = self.offset;
+        match (self.stop, self.frame) {
+            (Stop::Violated(violation), Some(frame)) => {
+                write!(f, "V{} at byte {offset}: {frame}, ", violation.number())?;
+                violation.write_allowed(self.allowed.unwrap_or(0), f)
+            }
+            (Stop::Violated(violation), None) => {
+                write!(f, "V{} at byte {offset}: {violation}", violation.number())
+            }
+            (Stop::Fault(fault), _) => {
+                write!(f, "F{} at byte {offset}: {fault}", fault.number())?;
+                self.byte
+                    .map_or(Ok(()), |byte| write!(f, " (0x{byte:02x})"))
+            }
+        }
+    }
+}
+
+impl Error for ProtocolError {}
 
 /// The reason why [`Peer::new`](crate::Peer::new) made no peer.
 ///
@@ -462,7 +583,7 @@ impl Error for PeerFault {}
 /// # let mut peer = Peer::new(&Config::new([8; CHANNELS], 4))?;
 /// let error = peer.read_from(&mut &b"\x21\0\0\0\x05\xff"[..]).unwrap_err();
 /// assert_eq!(error.frames(), 1);
-/// assert!(matches!(error, ReadError::Stopped { stop: Stop::Fault(Fault::BadTag), .. }));
+/// assert_eq!(error.stop(), Some(Stop::Fault(Fault::BadTag)));
 /// # Ok::<(), lcmux::PeerFault>(())
 /// ```
 #[derive(Debug)]
@@ -474,7 +595,7 @@ pub enum ReadError {
     #[non_exhaustive]
     Stopped {
         /// The protocol error.
-        stop: Stop,
+        error: ProtocolError,
         /// How many frames arrived in this call before the frame that failed.
         frames: u64,
     },
@@ -488,13 +609,21 @@ impl ReadError {
             ReadError::Stopped { frames, .. } => *frames,
         }
     }
+
+    /// Returns the violation or the fault, if this is a protocol error.
+    pub fn stop(&self) -> Option<Stop> {
+        match self {
+            ReadError::Io(_) => None,
+            ReadError::Stopped { error, .. } => Some(error.stop),
+        }
+    }
 }
 
 impl Display for ReadError {
     fn fmt(&self, f: &mut Formatter<'_>) -> fmt::Result {
         match self {
             ReadError::Io(error) => error.fmt(f),
-            ReadError::Stopped { stop, .. } => stop.fmt(f),
+            ReadError::Stopped { error, .. } => error.fmt(f),
         }
     }
 }
@@ -518,14 +647,11 @@ impl From<io::Error> for ReadError {
 /// ended inside a frame, else of kind `InvalidData`.
 impl From<ReadError> for io::Error {
     fn from(error: ReadError) -> io::Error {
-        match error {
-            ReadError::Io(error) => error,
-            ReadError::Stopped {
-                stop: Stop::Fault(Fault::Truncated),
-                ..
-            } => io::Error::new(ErrorKind::UnexpectedEof, error),
-            ReadError::Stopped { .. } => io::Error::new(ErrorKind::InvalidData, error),
-        }
+        let kind = match error {
+            ReadError::Io(error) => return error,
+            ReadError::Stopped { error, .. } => error.stop.kind(),
+        };
+        io::Error::new(kind, error)
     }
 }
 

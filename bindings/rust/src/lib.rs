@@ -68,7 +68,7 @@
 //!             }
 //!             Take::Ended => return Ok(()),
 //!             Take::Empty => match peer.drive(&mut stream)?.incoming {
-//!                 Incoming::Stopped { stop, .. } => return Err(stop.into()),
+//!                 Incoming::Stopped { error, .. } => return Err(error.into()),
 //!                 Incoming::Ended => return Ok(()),
 //!                 _ => {}
 //!             },
@@ -87,7 +87,9 @@ mod questions;
 mod sys;
 
 pub use channel::{Channel, CHANNELS};
-pub use error::{Fault, Overrun, PeerFault, ReadError, Refusal, Stop, Violation};
+pub use error::{
+    Fault, FrameHead, Overrun, PeerFault, ProtocolError, ReadError, Refusal, Stop, Violation,
+};
 pub use mux::{
     Breaker, CallError, Closed, Direction, Driver, Frame, FrameKind, IssuePolicy, Message, Mux,
     MuxConfig, MuxFault, OwnedPermit, Permit, Pipe, PleadPolicy, PollRead, PollSender, PollWrite,

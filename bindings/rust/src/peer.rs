@@ -1,5 +1,5 @@
 use crate::sys::{self, Answer, Handle, Lent, Next};
-use crate::{Channel, Overrun, PeerFault, ReadError, Refusal, Stop, CHANNELS};
+use crate::{Channel, Overrun, PeerFault, ProtocolError, ReadError, Refusal, Stop, CHANNELS};
 use std::fmt::{self, Formatter};
 use std::io::{self, ErrorKind, Read, Write};
 
@@ -174,11 +174,11 @@ pub struct Progress {
 /// The state of the inbound stream after a [`Peer::drive`].
 ///
 /// ```
-/// use lcmux::{Incoming, Stop};
+/// use lcmux::{Incoming, ProtocolError};
 ///
-/// fn goes_on(incoming: Incoming) -> Result<bool, Stop> {
+/// fn goes_on(incoming: Incoming) -> Result<bool, ProtocolError> {
 ///     match incoming {
-///         Incoming::Stopped { stop, .. } => Err(stop),
+///         Incoming::Stopped { error, .. } => Err(error),
 ///         Incoming::Ended => Ok(false),
 ///         _ => Ok(true),
 ///     }
@@ -196,7 +196,7 @@ pub enum Incoming {
     /// The stream broke the framing or a rule, or it ended inside a frame.
     Stopped {
         /// The protocol error.
-        stop: Stop,
+        error: ProtocolError,
         /// How many frames arrived in the read that stopped the stream.
         frames: u64,
     },
@@ -491,6 +491,25 @@ impl Peer {
         Stop::of(self.handle.end().code).map_or(Ok(()), Err)
     }
 
+    /// Returns the error of [`Peer::end`] with its place in the stream, and with what was allowed there: that of a
+    /// [`Peer::deliver`] that stopped, or, if the stream ends here, that it ends within a frame. It changes nothing.
+    ///
+    /// # Examples
+    ///
+    /// ```
+    /// # use lcmux::{Config, Peer, CHANNELS};
+    /// # let mut peer = Peer::new(&Config::new([8; CHANNELS], 4))?;
+    /// assert_eq!(peer.protocol_error(), None);
+    /// let _ = peer.deliver(b"\x21\0\0\0\x05\x77");
+    /// let error = peer.protocol_error().unwrap();
+    /// assert_eq!((error.offset, error.byte), (5, Some(0x77)));
+    /// # Ok::<(), lcmux::PeerFault>(())
+    /// ```
+    pub fn protocol_error(&self) -> Option<ProtocolError> {
+        let stop = self.end().err()?;
+        Some(ProtocolError::of(stop, &self.handle.error()))
+    }
+
     /// Copies the next outbound bytes to the front of `buffer` and returns how many they are. A frame that does not
     /// fit continues in the next call. The bytes count as sent.
     #[inline]
@@ -647,13 +666,13 @@ impl Peer {
     /// assert_eq!(peer.read_from(&mut wire)?, 6);
     /// assert_eq!(peer.client(Data).held, 5);
     /// let end = peer.read_from(&mut wire).unwrap_err();
-    /// assert!(matches!(end, ReadError::Stopped { stop: Stop::Fault(Fault::Truncated), .. }));
+    /// assert_eq!(end.stop(), Some(Stop::Fault(Fault::Truncated)));
     /// # Ok::<(), Box<dyn std::error::Error>>(())
     /// ```
     #[inline]
     pub fn read_from(&mut self, reader: &mut impl Read) -> Result<usize, ReadError> {
-        if let Some(stop) = self.stop {
-            return Err(ReadError::Stopped { stop, frames: 0 });
+        if self.stop.is_some() {
+            return self.ended();
         }
         if self.piece.is_empty() {
             self.piece = new_piece();
@@ -673,14 +692,22 @@ impl Peer {
         let Delivery { frames, stop, .. } = delivered(&mut self.handle, &mut self.stop, bytes);
         match stop {
             None => Ok(count),
-            Some(stop) => Err(ReadError::Stopped { stop, frames }),
+            Some(_) => self.stopped(count, frames),
         }
     }
 
     #[cold]
     fn ended(&self) -> Result<usize, ReadError> {
-        let end = self.end().map(|()| 0);
-        end.map_err(|stop| ReadError::Stopped { stop, frames: 0 })
+        self.stopped(0, 0)
+    }
+
+    // What a read answers where its stream may end.
+    #[cold]
+    fn stopped(&self, count: usize, frames: u64) -> Result<usize, ReadError> {
+        match self.protocol_error() {
+            None => Ok(count),
+            Some(error) => Err(ReadError::Stopped { error, frames }),
+        }
     }
 
     /// Moves both directions once. It writes until all bytes are written or the stream accepts no more; then it reads
@@ -732,8 +759,8 @@ impl Peer {
                         continue;
                     }
                 }
-                Err(ReadError::Stopped { stop, frames }) => {
-                    incoming = Incoming::Stopped { stop, frames };
+                Err(ReadError::Stopped { error, frames }) => {
+                    incoming = Incoming::Stopped { error, frames };
                 }
                 Err(ReadError::Io(error)) if is_for_later(&error) => {}
                 Err(ReadError::Io(error)) => return Err(error),

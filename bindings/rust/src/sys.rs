@@ -99,6 +99,19 @@ pub(crate) struct Ready {
 }
 
 #[repr(C)]
+#[derive(Default)]
+pub(crate) struct ProtocolError {
+    size: u64,
+    pub code: u64,
+    pub offset: u64,
+    pub kind: u64,
+    pub channel: u64,
+    pub number: u64,
+    pub allowed: u64,
+    pub byte: u64,
+}
+
+#[repr(C)]
 struct Piece {
     bytes: *const u8,
     len: usize,
@@ -202,6 +215,7 @@ extern "C" {
     fn lcmux_rs_peer_ready(peer: *mut Raw, ready: *mut Ready) -> Answer;
     fn lcmux_rs_peer_deliver(peer: *mut Raw, piece: *const u8, len: usize) -> Delivery;
     fn lcmux_rs_peer_end(peer: *mut Raw) -> Answer;
+    fn lcmux_rs_peer_error(peer: *mut Raw, error: *mut ProtocolError) -> Answer;
     fn lcmux_rs_peer_write(peer: *mut Raw, buffer: *mut u8, len: usize) -> Answer;
     fn lcmux_rs_peer_pending(peer: *mut Raw) -> Answer;
     fn lcmux_rs_peer_next(peer: *mut Raw, next: *mut RawNext) -> Answer;
@@ -365,6 +379,16 @@ impl Handle {
     #[inline]
     pub fn end(&self) -> Answer {
         unsafe { lcmux_rs_peer_end(self.0.get()) }
+    }
+
+    #[cold]
+    pub fn error(&self) -> ProtocolError {
+        let mut error = ProtocolError {
+            size: size_of::<ProtocolError>() as u64,
+            ..ProtocolError::default()
+        };
+        unsafe { lcmux_rs_peer_error(self.0.get(), &mut error) };
+        error
     }
 
     #[inline]

@@ -5,7 +5,8 @@ use common::{hex, rows};
 use lcmux::{
     Channel,
     Channel::{Data, Overlap},
-    ClientBook, Config, Delivery, Peer, PeerFault, Refusal, ServerBook, Take, Version, CHANNELS,
+    ClientBook, Closed, Config, Delivery, Peer, PeerFault, Refusal, ServerBook, Take, Version,
+    CHANNELS,
 };
 use std::marker::PhantomData;
 use std::thread;
@@ -307,6 +308,48 @@ fn the_end_of_a_stream_is_judged_by_what_is_held() {
         let mut peer = peer();
         assert_eq!(peer.deliver(&hex(piece)).stop, None);
         assert_eq!(format!("{:?}", peer.end()), end, "{piece}");
+    }
+}
+
+// The bytes of a stream to a peer that issued 5 guarantees on channel 1, and what is wrong where it ends there.
+const PROTOCOL_ERRORS: &str = "\
+2100000005 => -
+1100016111000568656c6c6f => V1 at byte 4: a Send of 5 on Data, where 4 are outstanding
+5100000000000000011100026162 => V2 at byte 9: a Send of 2 on Data, where the sender's limit leaves 1
+21000000073100000006 => V3 at byte 5: an Absolve of 6 on Data, where 5 are outstanding
+3300000006 => V3 at byte 0: an Absolve of 6 on Capability, where 0 are outstanding
+510000000000000001510000000000000002 => V4 at byte 9: a LimitSending of 2 on Data, where the sender's limit leaves 1
+6100000000000000012100000002 => V5 at byte 9: an Issue of 2 on Data, where the receiver's limit leaves 1
+21010000002100000001 => V6 at byte 5: an Issue of 1 on Data, where the sender may hold 0 more
+660000000000000005660000000000000006 => V7 at byte 9: a LimitReceiving of 6 on StaticToken, where the receiver's limit leaves 5
+4c434d027171 => V9 at byte 5: a Finish on Data, after the Finish of the channel
+4c434d0271110000000161 => V9 at byte 5: a Send of 1 on Data, after the Finish of the channel
+210000000577 => F1 at byte 5: a byte names no kind or channel, or is not the greeting's (0x77)
+4c430d => F1 at byte 0: a byte names no kind or channel, or is not the greeting's (0x0d)
+2100000005110000 => F2 at byte 5: a message has length 0
+2100000000 => F3 at byte 0: a number in a frame is out of its range
+4c434d02210000000521 => F4 at byte 9: the stream ends within a frame or a greeting";
+
+#[test]
+fn a_protocol_error_says_where_it_is_and_what_was_allowed() {
+    for (stream, want) in rows(PROTOCOL_ERRORS) {
+        let stream = hex(stream);
+        for piece in [1, stream.len()] {
+            let mut peer = peer();
+            peer.issue(Data, 5).unwrap();
+            for piece in stream.chunks(piece) {
+                let _ = peer.deliver(piece);
+            }
+            let error = peer.protocol_error();
+            let said = error.map_or("-".into(), |error| error.to_string());
+            assert_eq!(said, want);
+            let stop = error.map(|error| error.stop);
+            assert_eq!(peer.end().err(), stop);
+            assert_eq!(
+                error.map(|it| Closed::from(it).to_string()),
+                error.map(|_| said)
+            );
+        }
     }
 }
 

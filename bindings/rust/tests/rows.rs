@@ -2,7 +2,9 @@
 mod common;
 
 use common::{hex, shared};
-use lcmux::{Channel, Config, Needs, Peer, Ready, Refusal, Stop, Take, Version, CHANNELS};
+use lcmux::{
+    Channel, Config, Needs, Peer, ProtocolError, Ready, Refusal, Stop, Take, Version, CHANNELS,
+};
 
 struct Side {
     peer: Peer,
@@ -75,6 +77,25 @@ fn stop(stop: Option<Stop>) -> String {
         None => "ok".into(),
         Some(Stop::Violated(violation)) => format!("violation V{}", violation.number()),
         Some(Stop::Fault(fault)) => format!("fault F{}", fault.number()),
+    }
+}
+
+// What is wrong with the stream where it ends here, and where.
+fn wrong(error: Option<ProtocolError>) -> String {
+    let Some(error) = error else {
+        return "ok".into();
+    };
+    let at = format!("{} at {}", stop(Some(error.stop)), error.offset);
+    match (error.frame, error.byte) {
+        (Some(frame), _) => format!(
+            "{at}: kind {} channel {} number {} allowed {}",
+            frame.kind as u8 + 1,
+            frame.channel.number(),
+            or_none(frame.number),
+            or_none(error.allowed)
+        ),
+        (None, Some(byte)) => format!("{at}: byte {byte}"),
+        (None, None) => at,
     }
 }
 
@@ -158,6 +179,7 @@ fn answer(me: &mut Side, other: &mut Side, words: &[&str], piece: usize) -> Stri
         "bytes" => return deliver(peer, &hex(words[1]), piece),
         "pending" => return peer.pending().to_string(),
         "end" => return stop(peer.end().err()),
+        "error" => return wrong(peer.protocol_error()),
         "slots-left" => return peer.slots_left().to_string(),
         "wants-write" => return u8::from(peer.wants_write()).to_string(),
         "ready" => return ready(peer.ready()),

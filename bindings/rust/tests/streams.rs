@@ -359,7 +359,7 @@ fn answer(read: Result<usize, ReadError>) -> String {
     match read {
         Ok(count) => count.to_string(),
         Err(ReadError::Io(error)) => format!("{:?}", error.kind()),
-        Err(ReadError::Stopped { stop, frames, .. }) => format!("{stop:?}:{frames}"),
+        Err(ReadError::Stopped { error, frames, .. }) => format!("{:?}:{frames}", error.stop),
         Err(error) => panic!("{error}"),
     }
 }
@@ -410,11 +410,20 @@ WouldBlock | 2100000005 => 0 5 true Open
 5 | TimedOut => 5 0 false WouldBlock
 5 | WouldBlock => 5 0 false WouldBlock
 5 | - => 5 0 false Ended
-5 | 77 => 5 0 false Stopped { stop: Fault(BadTag), frames: 0 }
-5 | 210000000577 => 5 0 false Stopped { stop: Fault(BadTag), frames: 1 }
+5 | 77 => 5 0 false Fault(BadTag) at 0 after 0 frames
+5 | 210000000577 => 5 0 false Fault(BadTag) at 5 after 1 frames
 BrokenPipe | 2100000005 => BrokenPipe
 0 | 2100000005 => WriteZero
 5 | ConnectionReset => ConnectionReset";
+
+fn shown(incoming: Incoming) -> String {
+    match incoming {
+        Incoming::Stopped { error, frames } => {
+            format!("{:?} at {} after {frames} frames", error.stop, error.offset)
+        }
+        other => format!("{other:?}"),
+    }
+}
 
 #[test]
 fn each_drive_is_answered() {
@@ -424,8 +433,11 @@ fn each_drive_is_answered() {
         peer.issue(Data, 5).unwrap();
         let answer = match peer.drive(&mut stream) {
             Ok(it) => format!(
-                "{} {} {} {:?}",
-                it.written, it.read, it.blocked, it.incoming
+                "{} {} {} {}",
+                it.written,
+                it.read,
+                it.blocked,
+                shown(it.incoming)
             ),
             Err(error) => format!("{:?}", error.kind()),
         };
@@ -444,8 +456,8 @@ fn a_drive_over_a_stream_that_was_given_up_still_writes() {
         peer.issue(Data, 1).unwrap();
         let progress = peer.drive(&mut stream).unwrap();
         assert_eq!((progress.written, progress.blocked), (written, false));
-        let stop = Stop::Fault(Fault::BadTag);
-        assert_eq!(progress.incoming, Incoming::Stopped { stop, frames: 0 });
+        let said = "Fault(BadTag) at 0 after 0 frames";
+        assert_eq!(shown(progress.incoming), said);
     }
     assert_eq!(stream.1.asked.len(), 1);
 }
@@ -506,7 +518,7 @@ fn driven(left: usize, end: End, frames: u32) -> String {
     };
     let it = peer.drive(&mut stream).unwrap();
     assert_eq!((it.written, it.blocked), (0, frames > 0));
-    format!("{} {:?}, {} reads", it.read, it.incoming, stream.reads)
+    format!("{} {}, {} reads", it.read, shown(it.incoming), stream.reads)
 }
 
 const LATE: End = || Err(ErrorKind::WouldBlock.into());
@@ -520,7 +532,7 @@ fn a_drive_that_could_not_write_all_reads_while_pieces_are_full() {
         (
             32_768,
             || Ok(0),
-            "32768 Stopped { stop: Fault(Truncated), frames: 0 }, 3 reads",
+            "32768 Fault(Truncated) at 4 after 0 frames, 3 reads",
         ),
         (300_000, LATE, "262144 Open, 16 reads"),
     ];
@@ -670,5 +682,5 @@ fn a_read_error_says_what_befell() {
     let failed = ReadError::from(io::Error::other("the cable is cut"));
     assert_eq!(failed.to_string(), "the cable is cut");
     let stopped = peer().read_from(&mut &[0x11, 0, 0][..]).unwrap_err();
-    assert_eq!(stopped.to_string(), "a message has length 0");
+    assert_eq!(stopped.to_string(), "F2 at byte 0: a message has length 0");
 }

@@ -1,9 +1,11 @@
 //! A peer with its two streams.
 ghost use Rattle.std.specs.Prelude.{◌≡◌, ◌+◌, ◌≤◌, ◌↔◌, [], length, false, None, IfOk, OnOk, IfSome};
 ghost use Rattle.std.specs.Result.{result_err};
+ghost use Rattle.lc_frame.specs.declared.frame_fault.FrameFault.TheVariants.{BadTag};
 ghost use Rattle.lc_frame.specs.Kind.{max_frame};
-ghost use Rattle.lc_frame.specs.Stored.{nothing_stored};
+ghost use Rattle.lc_frame.specs.Stored.{nothing_stored, HasFault};
 ghost use Rattle.lc_peer.specs.Config.{IsNewAnswer, new_peer};
+ghost use Rattle.lc_peer.specs.Offending.{ShowsHead, last_byte};
 ghost use Rattle.lc_peer.specs.RingIntake.{IsKept};
 ghost use Rattle.lc_driver.specs.Outgo.{new_outgo};
 ghost use Rattle.lc_driver.specs.Writing.{Writes, CountsWrites, written_in};
@@ -13,7 +15,7 @@ use crate::counted::{CountedRead, CountedWrite};
 use crate::outgo::Outgo;
 use crate::reading::{ReadEnd, read_by};
 use crate::writing::{WriteFault, write_out};
-use lc_peer::{Config, Peer, PeerFault, RingIntake, Stop};
+use lc_peer::{Config, FrameHead, Peer, PeerFault, RingIntake, Stop};
 use std::alloc::Global;
 
 /// A peer with its outgoing and its incoming stream as one value. The peer's own calls are made on
@@ -117,5 +119,29 @@ impl Link {
         ensures { result ≡ self.now.intake.stop }
     {
         self.intake.stop()
+    }
+
+    /// How many bytes of the incoming stream came since the last whole frame, as
+    /// [`RingIntake::begun`] counts them.
+    pub fn begun(&self) -> usize
+        ensures { result ≡ length self.now.intake.held.bytes }
+    {
+        self.intake.begun()
+    }
+
+    /// The frame that broke the rules, after a violation; `None` where no frame is held whole. What it
+    /// might have carried [`Peer::allowed`] answers.
+    pub fn offending(&self) -> Option<FrameHead>
+        ensures { ShowsHead result self.now.intake.held }
+    {
+        self.intake.offending()
+    }
+
+    /// The byte that is no tag, or that differs from a greeting, after `FrameFault::BadTag`.
+    pub fn bad_byte(&self) -> Option<u8>
+        ensures bad { HasFault BadTag self.now.intake.held → result ≡ last_byte self.now.intake.held }
+        ensures none { ¬ HasFault BadTag self.now.intake.held → result ≡ None }
+    {
+        self.intake.bad_byte()
     }
 }

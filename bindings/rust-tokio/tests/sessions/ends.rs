@@ -1,7 +1,7 @@
 //! How the peer's stream ends over TCP, before and after this side's close, and the result of each call then.
 use crate::*;
 use lcmux_tokio::lcmux::Channel::Data;
-use lcmux_tokio::lcmux::{Fault, SendError, Violation};
+use lcmux_tokio::lcmux::{Fault, SendError, Stop, Violation};
 use std::time::Duration;
 use tokio::io::AsyncWriteExt;
 
@@ -47,11 +47,11 @@ fn is_reason(end: End, closed: &Closed) -> bool {
     match end {
         End::InOrder => false,
         End::BetweenFrames => *closed == Closed::Cut,
-        End::InAFrame => *closed == Closed::Fault(Fault::Truncated),
+        End::InAFrame => closed.stop() == Some(Stop::Fault(Fault::Truncated)),
         End::Reset => {
             matches!(closed, Closed::Transport(error) if error.kind() == ErrorKind::ConnectionReset)
         }
-        End::AgainstTheRules => *closed == Closed::Violated(Violation::AbsolvedTooMuch),
+        End::AgainstTheRules => closed.stop() == Some(Stop::Violated(Violation::AbsolvedTooMuch)),
     }
 }
 

@@ -143,18 +143,64 @@ const DEVICE_ERRORS: [(Stop, ErrorKind); 3] = [
     ),
 ];
 
+fn at_byte_7(stop: Stop) -> ProtocolError {
+    ProtocolError {
+        stop,
+        offset: 7,
+        frame: None,
+        allowed: None,
+        byte: None,
+    }
+}
+
+// The texts of an Issue that violates, by the violation: what no test on a stream reaches is among them.
+const ISSUES: [(Violation, &str); 3] = [
+    (
+        Violation::IssuedPastLimit,
+        "where the receiver's limit leaves 5",
+    ),
+    (
+        Violation::TooManyGuarantees,
+        "where the sender may hold 5 more",
+    ),
+    (
+        Violation::TotalPassed,
+        "where the sender may receive 5 more",
+    ),
+];
+
+#[test]
+fn a_protocol_error_says_what_was_allowed() {
+    for (violation, allowed) in ISSUES {
+        let error = ProtocolError {
+            frame: Some(FrameHead {
+                kind: FrameKind::Issue,
+                channel: Channel::Overlap,
+                number: Some(9),
+            }),
+            allowed: Some(5),
+            ..at_byte_7(Stop::Violated(violation))
+        };
+        let number = violation.number();
+        let said = format!("V{number} at byte 7: an Issue of 9 on Overlap, {allowed}");
+        assert_eq!(error.to_string(), said);
+    }
+}
+
 #[test]
 fn a_read_error_becomes_an_error_of_a_device() {
     for (stop, kind) in DEVICE_ERRORS {
-        let stopped = ReadError::Stopped { stop, frames: 3 };
-        assert_eq!(stopped.frames(), 3);
+        let error = at_byte_7(stop);
+        let stopped = ReadError::Stopped { error, frames: 3 };
+        assert_eq!((stopped.frames(), stopped.stop()), (3, Some(stop)));
+        let said = error.to_string();
         let error = io::Error::from(stopped);
-        assert_eq!((error.kind(), error.to_string()), (kind, stop.to_string()));
+        assert_eq!((error.kind(), error.to_string()), (kind, said));
         let inner = error.get_ref().and_then(|inner| inner.downcast_ref());
         assert_eq!(inner.map(ReadError::frames), Some(3));
     }
     let failed = ReadError::from(io::Error::new(ErrorKind::BrokenPipe, Fault::BadTag));
-    assert_eq!(failed.frames(), 0);
+    assert_eq!((failed.frames(), failed.stop()), (0, None));
     let error = io::Error::from(failed);
     assert_eq!(error.kind(), ErrorKind::BrokenPipe);
     assert!(error.get_ref().is_some_and(|inner| inner.is::<Fault>()));
@@ -182,7 +228,8 @@ fn a_read_error_has_the_source_of_what_failed() {
     let source = failed.source().map(ToString::to_string);
     assert_eq!(source, Some(Fault::BadTag.to_string()));
     let stop = Stop::Fault(Fault::BadTag);
-    assert!(ReadError::Stopped { stop, frames: 0 }.source().is_none());
+    let error = at_byte_7(stop);
+    assert!(ReadError::Stopped { error, frames: 0 }.source().is_none());
 }
 
 // `LCMUX_NO_ROOM = 10, ..` of the C header as `10 NoRoom`, `LCMUX_V1_NOT_GUARANTEED` as `NotGuaranteed`.

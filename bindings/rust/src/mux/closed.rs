@@ -1,4 +1,4 @@
-use crate::{Fault, Needs, PeerFault, Refusal, Stop, Violation};
+use crate::{Needs, PeerFault, ProtocolError, Refusal, Stop};
 use std::error::Error;
 use std::fmt::{self, Display, Formatter};
 use std::io;
@@ -36,12 +36,28 @@ pub enum Closed {
     /// [`TimedOut`](io::ErrorKind::TimedOut). That error is the [`source`](Error::source) of this one.
     Transport(Arc<io::Error>),
     /// The peer's stream broke the framing.
-    Fault(Fault),
+    Fault(ProtocolError),
     /// A frame of the peer broke a rule of the protocol.
-    Violated(Violation),
+    Violated(ProtocolError),
 }
 
 impl Closed {
+    /// Returns the violation or the fault, if the session ended by a protocol error of the peer.
+    ///
+    /// ```
+    /// use lcmux::{Closed, Stop, Violation};
+    ///
+    /// fn was_past_the_credit(closed: &Closed) -> bool {
+    ///     closed.stop() == Some(Stop::Violated(Violation::NotGuaranteed))
+    /// }
+    /// ```
+    pub fn stop(&self) -> Option<Stop> {
+        match self {
+            Closed::Fault(error) | Closed::Violated(error) => Some(error.stop),
+            _ => None,
+        }
+    }
+
     pub(crate) fn result(self) -> Result<(), Closed> {
         match self {
             Closed::Local => Ok(()),
@@ -77,11 +93,12 @@ impl From<io::Error> for Closed {
     }
 }
 
-impl From<Stop> for Closed {
-    fn from(stop: Stop) -> Closed {
-        match stop {
-            Stop::Violated(violation) => Closed::Violated(violation),
-            Stop::Fault(fault) => Closed::Fault(fault),
+/// Makes a [`Closed::Violated`] or a [`Closed::Fault`].
+impl From<ProtocolError> for Closed {
+    fn from(error: ProtocolError) -> Closed {
+        match error.stop {
+            Stop::Violated(_) => Closed::Violated(error),
+            Stop::Fault(_) => Closed::Fault(error),
         }
     }
 }
@@ -96,8 +113,7 @@ impl Display for Closed {
             }
             Closed::Aborted => f.write_str("the session was aborted"),
             Closed::Transport(error) => write!(f, "the transport failed: {error}"),
-            Closed::Fault(fault) => write!(f, "F{}: {fault}", fault.number()),
-            Closed::Violated(violation) => write!(f, "V{}: {violation}", violation.number()),
+            Closed::Fault(error) | Closed::Violated(error) => error.fmt(f),
         }
     }
 }
@@ -117,8 +133,8 @@ impl From<Closed> for io::Error {
     fn from(closed: Closed) -> io::Error {
         let kind = match &closed {
             Closed::Transport(error) => error.kind(),
-            Closed::Cut | Closed::Fault(Fault::Truncated) => io::ErrorKind::UnexpectedEof,
-            Closed::Fault(_) | Closed::Violated(_) => io::ErrorKind::InvalidData,
+            Closed::Cut => io::ErrorKind::UnexpectedEof,
+            Closed::Fault(error) | Closed::Violated(error) => error.stop.kind(),
             Closed::Local | Closed::Remote | Closed::Aborted => io::ErrorKind::ConnectionAborted,
         };
         io::Error::new(kind, closed)

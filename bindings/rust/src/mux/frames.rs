@@ -56,6 +56,24 @@ pub enum FrameKind {
     // codes: end
 }
 
+impl FrameKind {
+    /// Returns the kind of a code in a frame's tag.
+    pub(crate) fn of(code: u8) -> Option<FrameKind> {
+        match code {
+            // codes: begin kinds of codes
+            1 => Some(FrameKind::Send),
+            2 => Some(FrameKind::Issue),
+            3 => Some(FrameKind::Absolve),
+            4 => Some(FrameKind::Plead),
+            5 => Some(FrameKind::LimitSending),
+            6 => Some(FrameKind::LimitReceiving),
+            7 => Some(FrameKind::Finish),
+            // codes: end
+            _ => None,
+        }
+    }
+}
+
 /// A frame that was sent or that arrived, as [`Driver::on_frame`](crate::Driver::on_frame) reports it.
 ///
 /// ```
@@ -244,18 +262,7 @@ impl Heads {
 
     // The frame, once it is complete, unless its tag names none.
     fn frame(&self, direction: Direction) -> Option<Frame> {
-        let kind = match self.head[0] >> 4 {
-            // codes: begin kinds of codes
-            1 => FrameKind::Send,
-            2 => FrameKind::Issue,
-            3 => FrameKind::Absolve,
-            4 => FrameKind::Plead,
-            5 => FrameKind::LimitSending,
-            6 => FrameKind::LimitReceiving,
-            7 => FrameKind::Finish,
-            // codes: end
-            _ => return None,
-        };
+        let kind = FrameKind::of(self.head[0] >> 4)?;
         Some(Frame {
             direction,
             kind,

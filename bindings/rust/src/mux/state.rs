@@ -379,10 +379,21 @@ impl State {
         }
         let delivery = self.peer.deliver(piece);
         self.arrived();
-        if let Some(stop) = delivery.stop {
-            self.fail(stop.into());
+        if delivery.stop.is_some() {
+            self.judge_stream().ok();
         }
         Ok((delivery.taken, delivery.frames))
+    }
+
+    // Fails where the peer's stream was discarded, or may not end here.
+    fn judge_stream(&mut self) -> Result<(), Closed> {
+        match self.peer.protocol_error().map(Closed::from) {
+            Some(closed) => {
+                self.fail(closed.clone());
+                Err(closed)
+            }
+            None => Ok(()),
+        }
     }
 
     // Notifies the calls that inbound frames let proceed.
@@ -419,10 +430,7 @@ impl State {
         if let Some(closed) = &self.closed {
             return closed.clone().result();
         }
-        if let Err(stop) = self.peer.end() {
-            self.fail(stop.into());
-            return Err(stop.into());
-        }
+        self.judge_stream()?;
         if !Channel::ALL
             .into_iter()
             .all(|it| self.is_finished_there(it))

@@ -1,7 +1,7 @@
-use crate::hand::{Call, Count, Hand};
+use crate::hand::{broken, Call, Count, Hand};
 use crate::*;
 use lcmux::Channel::Data;
-use lcmux::{Closed, Fault, PollRead, Reader, Violation};
+use lcmux::{Closed, PollRead, Reader};
 use std::future::poll_fn;
 use std::io::{BufRead, ErrorKind, Read};
 use std::sync::Arc;
@@ -166,12 +166,12 @@ fn a_failed_session_is_an_error_after_all_bytes_that_arrived() {
         (
             |hand| assert!(hand.read(&mut &b"\xff"[..]).is_ready()),
             ErrorKind::InvalidData,
-            Closed::Fault(Fault::BadTag),
+            broken(&[PREFACE, &send(b"hel"), &send(b"lo"), b"\xff"].concat()),
         ),
         (
             |hand| assert!(hand.read(&mut &send(&[0; 65])[..]).is_ready()),
             ErrorKind::InvalidData,
-            Closed::Violated(Violation::NotGuaranteed),
+            broken(&[PREFACE, &send(b"hel"), &send(b"lo"), &send(&[0; 65])].concat()),
         ),
         (
             |hand| assert!(hand.read(&mut Reset).is_ready()),

@@ -1,6 +1,6 @@
 //! A session whose bytes the test moves by hand, and wakers that count their wake-ups.
 use crate::watchdog::Watchdog;
-use lcmux::{Closed, Driver, Mux, MuxConfig, PollRead, PollWrite};
+use lcmux::{Channel, Closed, Config, Driver, Mux, MuxConfig, Peer, PollRead, PollWrite, CHANNELS};
 use std::future::Future;
 use std::io;
 use std::pin::Pin;
@@ -62,6 +62,16 @@ impl<'a, T> Call<'a, T> {
         assert_eq!(self.wakes(), 1);
         self.poll().expect("it was woken")
     }
+}
+
+/// The reason of a session with rings of 64 bytes, all of them issued, whose peer sent these bytes.
+pub fn broken(bytes: &[u8]) -> Closed {
+    let mut peer = Peer::new(&Config::new([64; CHANNELS], 16)).unwrap();
+    for channel in Channel::ALL {
+        peer.issue(channel, 64).unwrap();
+    }
+    let _ = peer.deliver(bytes);
+    peer.protocol_error().expect("they break a rule").into()
 }
 
 /// Inbound bytes, after which the transport is pending.

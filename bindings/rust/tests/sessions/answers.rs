@@ -1,8 +1,8 @@
 //! The table "What each call answers" of `docs/reference/sessions.md`, cell by cell.
-use crate::hand::{Call, Hand};
+use crate::hand::{broken, Call, Hand};
 use crate::*;
 use lcmux::Channel::{Capability, Data, Overlap};
-use lcmux::{CallError, Closed, Fault, Permit, Receiver, SendError, Violation};
+use lcmux::{CallError, Closed, Permit, Receiver, SendError};
 use std::fs;
 use std::io::{self, ErrorKind};
 use std::path::Path;
@@ -98,12 +98,8 @@ fn states() -> Vec<State> {
         state(OVER, |hand| close_and(hand, end_in_order), Closed::Local),
         state(FAILED, cut, Closed::Cut),
         state(FAILED, reset, reset_by_peer()),
-        state(FAILED, cut_a_frame, Closed::Fault(Fault::Truncated)),
-        state(
-            FAILED,
-            break_a_rule,
-            Closed::Violated(Violation::AbsolvedTooMuch),
-        ),
+        state(FAILED, cut_a_frame, broken(b"\x11\0")),
+        state(FAILED, break_a_rule, broken(&frames("absolve 0 99"))),
         state(FAILED, |hand| close_and(hand, cut), Closed::Cut),
         state(FAILED, |hand| close_and(hand, reset), reset_by_peer()),
         state(ABORTED, |hand| hand.mux.abort(), Closed::Aborted),
@@ -115,13 +111,18 @@ fn states() -> Vec<State> {
     ]
 }
 
+/// Whether it is this reason, wherever in the stream.
+fn is_of(closed: &Closed, reason: &Closed) -> bool {
+    closed == reason || closed.stop().is_some() && closed.stop() == reason.stop()
+}
+
 /// The cell of the page for a result.
 fn word(closed: &Closed, reason: &Closed) -> String {
     match closed {
         Closed::Local => "closed here".into(),
         Closed::Remote => "closed by the peer".into(),
         Closed::Aborted => "aborted".into(),
-        closed if closed == reason => "reason".into(),
+        closed if is_of(closed, reason) => "reason".into(),
         closed => format!("{closed:?}"),
     }
 }

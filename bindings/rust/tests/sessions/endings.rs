@@ -1,9 +1,9 @@
 //! How sessions end, and the results of their calls.
-use crate::hand::{Call, Count, Feed, Hand};
+use crate::hand::{broken, Call, Count, Feed, Hand};
 use crate::*;
 use lcmux::Channel::{Capability, Data, Overlap};
-use lcmux::{CallError, Closed, Fault, Mux, PollRead, PollWrite, Refusal, SendError, Sender};
-use lcmux::{TryRecvError, TrySendError, Violation};
+use lcmux::{CallError, Closed, Mux, PollRead, PollWrite, Refusal, SendError, Sender};
+use lcmux::{TryRecvError, TrySendError};
 use std::future::Future;
 use std::io::{self, ErrorKind};
 use std::panic::{self, AssertUnwindSafe};
@@ -79,23 +79,23 @@ fn ends() -> Vec<(End, Closed, &'static str)> {
         ),
         (
             |hand| read(hand, b"\xff"),
-            Closed::Fault(Fault::BadTag),
-            "F1: a byte names no kind or channel, or is not the greeting's",
+            broken(b"\xff"),
+            "F1 at byte 0: a byte names no kind or channel, or is not the greeting's (0xff)",
         ),
         (
             |hand| read(hand, b"\x11\0"),
-            Closed::Fault(Fault::Truncated),
-            "F4: the stream ends within a frame or a greeting",
+            broken(b"\x11\0"),
+            "F4 at byte 0: the stream ends within a frame or a greeting",
         ),
         (
             |hand| read(hand, b"\x11\0\x02h"),
-            Closed::Fault(Fault::Truncated),
-            "F4: the stream ends within a frame or a greeting",
+            broken(b"\x11\0\x02h"),
+            "F4 at byte 0: the stream ends within a frame or a greeting",
         ),
         (
             |hand| read(hand, b"\x31\0\0\0\xff"),
-            Closed::Violated(Violation::AbsolvedTooMuch),
-            "V3: more guarantees absolved than are outstanding",
+            broken(b"\x31\0\0\0\xff"),
+            "V3 at byte 0: an Absolve of 255 on Data, where 64 are outstanding",
         ),
         (
             |hand| assert!(hand.read(&mut Bad::Fails).is_ready()),
@@ -394,7 +394,8 @@ fn a_stream_that_ends_in_order_ends_what_waits_for_it_alone() {
 
 #[test]
 fn what_arrived_is_there_after_a_failure_and_not_after_an_abort() {
-    for (bytes, last) in [("ff", Closed::Fault(Fault::BadTag)), ("", Closed::Aborted)] {
+    let fault = broken(&[&greeted("send 1 6869")[..], b"\xff"].concat());
+    for (bytes, last) in [("ff", fault), ("", Closed::Aborted)] {
         let mut hand = Hand::started(narrow());
         let mut receiver = hand.mux.receiver(Data).unwrap();
         hand.feed(&greeted("send 1 6869"));
@@ -621,12 +622,9 @@ fn a_reason_is_an_error_of_a_device() {
         (Closed::Local, ErrorKind::ConnectionAborted),
         (Closed::Aborted, ErrorKind::ConnectionAborted),
         (transport(ErrorKind::TimedOut, "late"), ErrorKind::TimedOut),
-        (Closed::Fault(Fault::Truncated), ErrorKind::UnexpectedEof),
-        (Closed::Fault(Fault::ZeroLength), ErrorKind::InvalidData),
-        (
-            Closed::Violated(Violation::AfterFinish),
-            ErrorKind::InvalidData,
-        ),
+        (broken(b"\x11"), ErrorKind::UnexpectedEof),
+        (broken(b"\x11\0\0"), ErrorKind::InvalidData),
+        (broken(b"LCM\x02\x71\x71"), ErrorKind::InvalidData),
     ];
     for (closed, kind) in kinds {
         let error = io::Error::from(closed.clone());

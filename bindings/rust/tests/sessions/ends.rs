@@ -2,7 +2,7 @@
 use crate::watchdog::Watchdog;
 use crate::*;
 use lcmux::Channel::Data;
-use lcmux::{Closed, Driver, Fault, Mux, SendError, Violation};
+use lcmux::{Closed, Driver, Fault, Mux, SendError, Stop, Violation};
 use std::io::{ErrorKind, Read, Write};
 use std::net::{Shutdown, TcpListener, TcpStream};
 use std::thread::{self, JoinHandle};
@@ -50,11 +50,11 @@ fn is_reason(end: End, closed: &Closed) -> bool {
     match end {
         End::InOrder => false,
         End::BetweenFrames => *closed == Closed::Cut,
-        End::InAFrame => *closed == Closed::Fault(Fault::Truncated),
+        End::InAFrame => closed.stop() == Some(Stop::Fault(Fault::Truncated)),
         End::Reset => {
             matches!(closed, Closed::Transport(error) if error.kind() == ErrorKind::ConnectionReset)
         }
-        End::AgainstTheRules => *closed == Closed::Violated(Violation::AbsolvedTooMuch),
+        End::AgainstTheRules => closed.stop() == Some(Stop::Violated(Violation::AbsolvedTooMuch)),
     }
 }
 

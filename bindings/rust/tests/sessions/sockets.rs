@@ -1,4 +1,5 @@
 //! Drivers on threads, over sockets and pipes.
+use crate::hand::broken;
 use crate::watchdog::Watchdog;
 use crate::*;
 use lcmux::Channel::{Data, Overlap};
@@ -340,7 +341,7 @@ fn a_connection_that_is_cut_is_told() {
         let reason = recv.join().unwrap().unwrap_err();
         match bytes {
             b"" => assert_eq!(reason, Closed::Cut),
-            _ => assert_eq!(reason, Closed::Fault(lcmux::Fault::Truncated)),
+            _ => assert_eq!(reason, broken(bytes)),
         }
         drop(mux);
         assert_eq!(run.join().unwrap(), Err(reason));

@@ -3,7 +3,7 @@ use crate::tests::failing_link::FailingLink;
 use crate::tests::same;
 use lc_driver::{Link, ReadEnd};
 use lc_frame::{Channel, Version};
-use lc_peer::{Peer, Take};
+use lc_peer::{FrameHead, Peer, Stop, Take};
 use std::alloc::Global;
 use std::mem::replace;
 use std::process::Abort;
@@ -55,7 +55,25 @@ fn answer(alloc: Global, side: &mut FailingLink, input: &mut Pipe, call: &str) -
     match verb {
         "write" => write(alloc, side, rest),
         "read" | "count" => read(alloc, side, input, verb, rest),
+        "offending" => offending(alloc, &side.link),
         _ => on_channel(alloc, &mut side.link, verb, rest),
+    }
+}
+
+// How much came since the last whole frame, and what is wrong with it.
+fn offending(alloc: Global, link: &Link) -> Option<String> {
+    let begun = link.begun();
+    match (link.offending(), link.stop()) {
+        (Some(head), Some(Stop::Violated(violation))) => {
+            let FrameHead { kind, number, .. } = head;
+            let allowed = link.peer.allowed(head.channel, violation);
+            let at = head.channel.number();
+            format!(in alloc; "begun {begun} {kind:?} {at} {number:?} of {allowed:?}").ok()
+        }
+        (head, _) => {
+            let byte = link.bad_byte();
+            format!(in alloc; "begun {begun} {head:?} {byte:?}").ok()
+        }
     }
 }
 

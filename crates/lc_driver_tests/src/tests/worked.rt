@@ -11,13 +11,14 @@ use std::test::Fail;
 use test_devices::{FAILED_WRITES, Odd, Pipe, PipeReader, Plan, THREE_FRAMES};
 
 /// Of each example: the bytes of the stream that comes, and the calls with what they answer.
-const WORKED: [(&str, &str); 12] = [
+const WORKED: [(&str, &str); 13] = [
     // A message beyond what was guaranteed ends the reading for good.
     (
         "11000261621100026364",
         "issue 1 3 => Ok(())
         count 10 all => Violated(NotGuaranteed) calls 1
         server 1 => outstanding 1 buffered 2 None
+        offending => begun 5 Send 1 Some(2) of Some(1)
         count 10 all => Violated(NotGuaranteed) calls 0
         count 0 all => Violated(NotGuaranteed) calls 0
         take 1 => 6162
@@ -42,7 +43,9 @@ const WORKED: [(&str, &str); 12] = [
     // A kept fault comes before the number of reads, and what arrived before it stays.
     (
         "210000000577",
-        "count 10 all => Fault(BadTag) calls 1
+        "offending => begun 0 None None
+        count 10 all => Fault(BadTag) calls 1
+        offending => begun 1 None Some(119)
         count 0 all => Fault(BadTag) calls 0
         client 1 => held 5 None",
     ),
@@ -78,6 +81,7 @@ const WORKED: [(&str, &str); 12] = [
         "issue 1 4 => Ok(())
         count 10 all => Violated(AfterFinish) calls 1
         server 1 => outstanding 0 buffered 0 None
+        offending => begun 6 Send 1 Some(1) of None
         take 1 => Ok(Ended)
         issue 1 1 => Err(ChannelFinished)",
     ),
@@ -85,13 +89,24 @@ const WORKED: [(&str, &str); 12] = [
         "4c434d027171",
         "issue 1 4 => Ok(())
         count 10 all => Violated(AfterFinish) calls 1
+        offending => begun 1 Finish 1 None of None
         count 10 all => Violated(AfterFinish) calls 0",
+    ),
+    // A message longer than its ring, of which no byte is kept, is known as any other.
+    (
+        "21000000051100096162636465666768692100000005",
+        "issue 1 4 => Ok(())
+        count 1 14 => TurnsSpent calls 1
+        offending => begun 9 None None
+        count 10 all => Violated(NotGuaranteed) calls 1
+        offending => begun 12 Send 1 Some(9) of Some(4)",
     ),
     // Version One has no such frame.
     (
         "71",
         "issue 1 4 => Ok(())
         count 10 all => Fault(BadTag) calls 1
+        offending => begun 1 None Some(113)
         server 1 => outstanding 4 buffered 0 None
         take 1 => Ok(Empty)",
     ),
