@@ -58,10 +58,11 @@
  * until the socket is readable and, if lcmux_peer_wants_write returns 1 or a write left bytes, until it is
  * writable; it writes, reads and delivers.
  *
- * Closing. Once a program has nothing more to send, it finishes all seven channels, also those on which it
- * sent nothing: by lcmux_peer_finish, or in version One by lcmux_peer_limit_sending with a bound of 0. It
- * writes all pending bytes, shuts down its direction of the socket and reads until the peer has done so, too
- * (half-close). A session of the libraries for Rust and JavaScript reports a stream that ends with an
+ * Closing. Once a program has nothing more to send, it finishes the channels on which it sent messages: by
+ * lcmux_peer_finish, or in version One by lcmux_peer_limit_sending with a bound of 0. It goes on reading and
+ * takes until the peer's channels have ended, so that no message is lost. Then it finishes the other channels,
+ * writes all pending bytes, shuts down its direction of the socket (half-close) and reads until the peer has
+ * done so, too. A session of the libraries for Rust and JavaScript reports a stream that ends with an
  * unfinished channel as cut. A side that has read the end of the peer's stream may still have bytes to write.
  *
  * Memory. Only lcmux_peer_new and lcmux_peer_send allocate, by the three functions of heap.c. A program may
