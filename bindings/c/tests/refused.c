@@ -195,9 +195,11 @@ static const struct {
 /* A stream that is given up says where, and what was allowed there, whole and byte by byte. */
 static void protocol_errors(lcmux_peer *peer) {
     static uint8_t bytes[300];
+    char what[32];
     for (size_t k = 0; k < 2 * sizeof errors / sizeof *errors; k++) {
         size_t len = errors[k / 2].len, piece = k % 2 ? 1 : len;
         lcmux_error want = errors[k / 2].error, error = {.size = sizeof error + 8};
+        snprintf(what, sizeof what, "protocol error %zu", k / 2);
         memset(bytes, 'x', sizeof bytes);
         memcpy(bytes, errors[k / 2].bytes, len < 16 ? len : 9);
         must(lcmux_peer_new(&(lcmux_config){2, 8, {8, 8, 8, 8, 8, 8, 8}}, peer).code == LCMUX_OK, "a peer that reads");
@@ -205,7 +207,7 @@ static void protocol_errors(lcmux_peer *peer) {
         for (size_t at = 0; at < len; at += piece)
             lcmux_peer_deliver(peer, bytes + at, piece);
         want.size = error.size;
-        must(lcmux_peer_error(peer, &error).code == LCMUX_OK && !memcmp(&error, &want, sizeof error), errors[k / 2].bytes);
+        must(lcmux_peer_error(peer, &error).code == LCMUX_OK && !memcmp(&error, &want, sizeof error), what);
         must(lcmux_peer_free(peer).code == LCMUX_OK, "free");
     }
     printf("%zu protocol errors\n", sizeof errors / sizeof *errors);

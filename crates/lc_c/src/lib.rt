@@ -10,14 +10,15 @@
 //! only ones that are proved by hand. The contracts of all others see which side, if any, a handle has.
 //! `open` takes it out, and `reach` does if the call also names a channel.
 //!
-//! A `CPeer` is a peer, the `RingIntake` of its inbound stream, and `Pending`, the rest of the greeting or
-//! of a frame that is partly written. Contracts see it as a `Side`. The intake knows the sizes of the
-//! peer's rings, which never change: that is the invariant of a `CPeer`, and the reason why no message
-//! that is longer than its ring is stored. Inbound bytes go through `RingIntake::deliver`. Outbound bytes
-//! go through `give` (in `streams.rt`): first the pending bytes, then the queued frames one by one, each
-//! encoded into the buffer of `Pending` and copied as far as there is room. So a call writes exactly as
-//! many bytes as there are and have room. `Outgo` could not promise that, since it hands its bytes to a
-//! writer, of which nothing is known.
+//! A `CPeer` is a peer, the `RingIntake` of its inbound stream with a count of the bytes that were taken of
+//! it, and `Pending`, the rest of the greeting or of a frame that is partly written. Contracts see it as a
+//! `Side`. The intake knows the sizes of the peer's rings, which never change: that is the invariant of a
+//! `CPeer`, and the reason why no message that is longer than its ring is stored. Inbound bytes go through
+//! `RingIntake::deliver`; where they broke the rules `error.rt` says by the count. Outbound bytes go through
+//! `give` (in `streams.rt`): first the pending bytes, then the queued frames one by one, each encoded into
+//! the buffer of `Pending` and copied as far as there is room. So a call writes exactly as many bytes as
+//! there are and have room. `Outgo` could not promise that, since it hands its bytes to a writer, of which
+//! nothing is known.
 //!
 //! Codes are 0, the numbers of refusals, 32 to 50 for handles, configurations and takes, the number of a
 //! violation plus 100, and that of a fault plus 200.

@@ -1,6 +1,6 @@
 // Valid uses, and the types of their results.
 import { CHANNELS, Channel, Code, ENDED, LcmuxError, Peer, Session, SessionChannel, SessionClosed, VERSION, fromWebSocket, load, open } from 'lcmux';
-import type { ClientBook, Config, IssuePolicy, Kind, LcmuxErrorJson, Library, Needs, Ready, ServerBook, SessionConfig, SessionEnd, Stats, Streams, Take } from 'lcmux';
+import type { ClientBook, Config, FrameKind, IssuePolicy, Kind, LcmuxErrorJson, Library, Needs, OffendingFrame, Ready, ServerBook, SessionConfig, SessionEnd, Stats, Streams, Take } from 'lcmux';
 import { fromSocket } from 'lcmux/node';
 
 /** Whether two types are one. */
@@ -52,6 +52,8 @@ export function errors(error: unknown): Kind | undefined {
   if (error instanceof LcmuxError) {
     same<typeof error.number, number | bigint | undefined>(true);
     same<ReturnType<LcmuxError['toJSON']>, LcmuxErrorJson>(true);
+    same<NonNullable<LcmuxError['frame']>, OffendingFrame>(true);
+    same<OffendingFrame['kind'], FrameKind>(true);
     return error.code === Code.NoGuarantee && !error.isStop ? error.kind : undefined;
   }
   return undefined;
