@@ -1,6 +1,6 @@
 -- How little is kept of a stream whose rings are known.
 use Rattle.std.proofs.Common.{◌≡◌, ℕ, ◌+◌, ◌<◌, ◌≤◌, Bool, true, false, List, [], ◌∷◌, length, get_or, take, drop, Option, Some, None, zero, suc, refl, sym, ap, subst, ◌∙◌, arith, inl, inr}
-use Rattle.std.specs.Prelude.{◌⊎◌, ◌==◌, slice_get, IsSomeAnd, All, IfNone, IfOk, Result, Ok, Err}
+use Rattle.std.specs.Prelude.{◌⊎◌, ◌==◌, slice_get, IsSomeAnd, All, IfNone}
 use Rattle.std.proofs.lemmas.Bool.Decides.{nat_tests}
 use Rattle.std.proofs.lemmas.Bool.{cases_lt, true≢false}
 use Rattle.std.proofs.lemmas.List.{length-append, length-take-le, nil_from_length, take-append-drop, take_all}
@@ -440,24 +440,11 @@ pub if_none_then : {X : Type 0} (o : Option X) (P Q : Type 0) → (P → Q) → 
 if_none_then None P Q then p = then p
 if_none_then (Some x) P Q then p = tt
 
-pub if_ok_then : {X Y : Type 0} (r : Result X Y) (P Q R : X → Type 0) → ((x : X) → P x → Q x → R x) → IfOk r P → IfOk r Q → IfOk r R
-if_ok_then (Ok x) P Q R then p q = then x p q
-if_ok_then (Err y) P Q R then p q = tt
-
 -- ---- one step from there
 
 -- what is held is not nothing
 pub ready_fits : (rings : List ℕ) (h : Stored) (rest : List ℕ) → IsReady rings h rest → ((v : Version) → ¬ (h ≡ stored_in v [])) → FitsRings rings (fed h rest)
 ready_fits rings h rest ready some = elim ready.fits [ inl empty ↦ absurd (some empty.0 empty.1) | inr fits ↦ fits ]
-
-pub none_is_not : (h : Stored) → h.version ≡ None → (v : Version) → ¬ (h ≡ stored_in v [])
-none_is_not h none v e = absurd (none_some (sym none ∙ ap (λ (x : Stored). x.version) e))
-  where
-    none_some : {v : Version} → None ≡ Some v → ⊥
-    none_some e = cc
-
-pub some_is_not : (h : Stored) → 0 < length h.bytes → (v : Version) → ¬ (h ≡ stored_in v [])
-some_is_not h some v e = omega (arith, some, ap (λ (x : Stored). length x.bytes) e)
 
 -- ---- bytes that are not there
 
