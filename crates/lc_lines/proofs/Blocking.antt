@@ -67,13 +67,13 @@ full_by true true false a t e = cc
 full_by false fit turn a t e = cc
 
 -- the least of those that wait for bytes has no room
-waits_of : (s : SchedulerState) (c d : Channel) (first : Option Call) → front s d ≡ first → is_able_call s.peer d first ≡ true → is_turn s d ≡ true → can_call_proceed s d first ≡ false → (queue s d).last ≤ (queue s c).last → WaitsForBytesOf s c d
+waits_of : (s : SchedulerState) (c d : Channel) (first : Option Call) → front s d ≡ first → is_able_call s d first ≡ true → is_turn s d ≡ true → can_call_proceed s d first ≡ false → (queue s d).last ≤ (queue s c).last → WaitsForBytesOf s c d
 waits_of s c d None is able turn not le = cc
 waits_of s c d (Some call) is able turn not le = record {
   call = call;
   first = is;
   before = le;
-  full = full_by (is_able s.peer d (call_len call)) (fits (unwritten s) (call_len call)) (is_turn s d) able turn not;
+  full = full_by (is_able s d (call_len call)) (fits (unwritten s) (call_len call)) (is_turn s d) able turn not;
 }
 
 pub first_calls_wait_for_bytes : FirstCallsWaitForBytes
@@ -90,14 +90,14 @@ own_able true true shared g o = refl
 own_able true false shared g o = cc
 own_able false own shared g o = cc
 
-no_blocking_by : (s : SchedulerState) (c : Channel) (call : Call) (b : Bool) → has_guarantees s.peer c (call_len call) ≡ b → IsSettled s → unwritten s ≡ 0 → front s c ≡ Some call → is_own_free s.peer c ≡ true → b ≡ false
+no_blocking_by : (s : SchedulerState) (c : Channel) (call : Call) (b : Bool) → has_guarantees s c (call_len call) ≡ b → IsSettled s → unwritten s ≡ 0 → front s c ≡ Some call → is_own_free s.peer s.asides c ≡ true → b ≡ false
 no_blocking_by s c call false is settled empty first own = refl
 no_blocking_by s c call true is settled empty first own =
-    let able : is_able s.peer c (call_len call) ≡ true = own_able (has_guarantees s.peer c (call_len call)) (is_own_free s.peer c) (is_shared_free s.peer) is own in
-    let waits : waits_for_bytes s c ≡ true = subst (λ (o : Option Call). is_able_call s.peer c o ≡ true) (sym first) able in
+    let able : is_able s c (call_len call) ≡ true = own_able (has_guarantees s c (call_len call)) (is_own_free s.peer s.asides c) (is_shared_free s.peer s.asides) is own in
+    let waits : waits_for_bytes s c ≡ true = subst (λ (o : Option Call). is_able_call s c o ≡ true) (sym first) able in
     let of = first_calls_wait_for_bytes s c settled waits in
     absurd (fits_none (unwritten s) (call_len of.1.call) empty of.1.full)
 
 pub no_head_of_line_blocking : NoHeadOfLineBlocking
 no_head_of_line_blocking s c call settled empty first own =
-    no_blocking_by s c call (has_guarantees s.peer c (call_len call)) refl settled empty first own
+    no_blocking_by s c call (has_guarantees s c (call_len call)) refl settled empty first own

@@ -10,7 +10,7 @@ use Rattle.lc_frame.specs.Channel.{channel_count, number_of, is_same}
 use Rattle.lc_frame.proofs.Channels.{number_below, same_from_number}
 use Rattle.lc_lines.specs.Queue.{QueueState, empty_queue, without_first}
 use Rattle.lc_lines.specs.Outbound.{every_channel}
-use Rattle.lc_lines.specs.Scheduler.{SchedulerState, queue, waits_for_bytes, is_no_later, is_turn_among, is_turn, count_after, with_queue, send, proceed, SentBy}
+use Rattle.lc_lines.specs.Scheduler.{SchedulerState, queue, waits_for_bytes, is_no_later, is_turn_among, is_turn, count_after, with_queue, send, proceed, grant, proceed_by_grant, SentBy}
 use Rattle.lc_lines.specs.Fair.{SendsOn, Happens, IsNotOf, Passes, AreCounted, EachSendsOnceMeanwhile, EachCallIsCounted}
 use Rattle.lc_lines.proofs.Next.{of_every, first_of_both, second_of_both}
 use Rattle.lc_lines.proofs.Stamps.{sent_at}
@@ -112,10 +112,21 @@ proceeds_on s c body places turn =
       there = λ d e. ap (λ (x : QueueState). x.last) (queue_there mid d c q e ∙ queue_there s d c (without_first (queue s c)) e);
     }
 
+-- a grant takes the turn that a message would
+grants_on : (s : SchedulerState) (c : Channel) (len : ℕ) → length s.queues ≡ channel_count → is_turn s c ≡ true → SendsOn c s (grant s c len)
+grants_on s c len places turn = let sends = sends_on s c [] places turn in record { turn = turn; sent = refl; here = sends.here; there = sends.there }
+
+proceeds_by_grant_on : (s : SchedulerState) (c : Channel) (len : ℕ) → length s.queues ≡ channel_count → is_turn s c ≡ true → SendsOn c s (proceed_by_grant s c len)
+proceeds_by_grant_on s c len places turn = let sends = proceeds_on s c [] places turn in record { turn = turn; sent = refl; here = sends.here; there = sends.there }
+
 pub each_call_is_counted : EachCallIsCounted
 each_call_is_counted s places = record {
   sends = λ c body turn. sends_on s c body places turn;
   proceeds = λ c body turn. proceeds_on s c body places turn;
+  grants = λ c len turn. grants_on s c len places turn;
+  proceeds_by_grant = λ c len turn. proceeds_by_grant_on s c len places turn;
+  reserved = λ c len body. record { sent = refl; last = λ d. refl };
+  released = λ c len. record { sent = refl; last = λ d. refl };
   queues = λ c q is. record { sent = refl; last = λ d. last_same (is_same d c) s c d q refl is places };
   peers = λ p begun. record { sent = refl; last = λ d. refl };
 }

@@ -1,6 +1,7 @@
 pub mod Queued
 pub mod Bytes
 pub mod Slots
+pub mod Guarantees
 pub mod Next
 pub mod Stamps
 pub mod Fields
@@ -9,3 +10,4 @@ pub mod Order
 pub mod Blocking
 pub mod Accepted
 pub mod Fair
+pub mod Honoured

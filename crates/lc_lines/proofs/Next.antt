@@ -49,17 +49,17 @@ second_of_both true b e = e
 second_of_both false b e = cc
 
 -- what is true of a first call that can proceed
-able_by : (s : SchedulerState) (c : Channel) (first : Option Call) → can_call_proceed s c first ≡ true → is_able_call s.peer c first ≡ true
+able_by : (s : SchedulerState) (c : Channel) (first : Option Call) → can_call_proceed s c first ≡ true → is_able_call s c first ≡ true
 able_by s c None e = cc
-able_by s c (Some call) e = first_of_both (is_able s.peer c (call_len call)) (fits (unwritten s) (call_len call) && is_turn s c) e
+able_by s c (Some call) e = first_of_both (is_able s c (call_len call)) (fits (unwritten s) (call_len call) && is_turn s c) e
 
 bytes_by : (s : SchedulerState) (c : Channel) (first : Option Call) → can_call_proceed s c first ≡ true → call_fits s first ≡ true
 bytes_by s c None e = cc
-bytes_by s c (Some call) e = first_of_both (fits (unwritten s) (call_len call)) (is_turn s c) (second_of_both (is_able s.peer c (call_len call)) (fits (unwritten s) (call_len call) && is_turn s c) e)
+bytes_by s c (Some call) e = first_of_both (fits (unwritten s) (call_len call)) (is_turn s c) (second_of_both (is_able s c (call_len call)) (fits (unwritten s) (call_len call) && is_turn s c) e)
 
 turn_by : (s : SchedulerState) (c : Channel) (first : Option Call) → can_call_proceed s c first ≡ true → is_turn s c ≡ true
 turn_by s c None e = cc
-turn_by s c (Some call) e = second_of_both (fits (unwritten s) (call_len call)) (is_turn s c) (second_of_both (is_able s.peer c (call_len call)) (fits (unwritten s) (call_len call) && is_turn s c) e)
+turn_by s c (Some call) e = second_of_both (fits (unwritten s) (call_len call)) (is_turn s c) (second_of_both (is_able s c (call_len call)) (fits (unwritten s) (call_len call) && is_turn s c) e)
 
 pub next_is_able : (s : SchedulerState) (o : Option Channel) → o ≡ next_channel s → IfSome o (λ c. waits_for_bytes s c ≡ true)
 next_is_able s None e = tt

@@ -13,10 +13,10 @@ use Rattle.lc_frame.proofs.Measures.{messages-append}
 use Rattle.lc_lines.specs.declared.queue.Call.{Call}
 use Rattle.lc_lines.specs.declared.scheduler.Notice.{Notice}
 use Rattle.lc_lines.specs.declared.queue.Ask.{Ask}
-use Rattle.lc_lines.specs.declared.queue.Ask.TheVariants.{Message, Offer}
+use Rattle.lc_lines.specs.declared.queue.Ask.TheVariants.{Message, Offer, Permit}
 use Rattle.lc_lines.specs.declared.scheduler.Outcome.{Outcome}
 use Rattle.lc_lines.specs.Queue.{QueueState, empty_queue, without_first}
-use Rattle.lc_lines.specs.Scheduler.{SchedulerState, queue, count_after, with_queue, with_notified, proceed, Proceeds, Notifies, Steps}
+use Rattle.lc_lines.specs.Scheduler.{SchedulerState, queue, count_after, with_queue, with_notified, proceed, proceed_by_grant, Proceeds, Grants, Completes, Notifies, Steps}
 use Rattle.lc_lines.specs.Order.{with_ticket, tickets_on, with_body, bodies, ProceedInOrder, CallsProceedInOrder, ProceedingKeepsOrder}
 
 first_of : (calls : List Call) (call : Call) → slice_get calls 0 ≡ Some call → calls ≡ call ∷ drop 1 calls
@@ -69,12 +69,17 @@ proceed_other s c g body ne =
     let mid = with_queue s g (without_first (queue s g)) in
     queue_there mid c g (record (queue mid g) { last = count_after s.sent }) ne ∙ queue_there s c g (without_first (queue s g)) ne
 
+-- what a grant leaves of wait queues is what a message would: both take a call and a turn
+granted_queue : (s : SchedulerState) (c g : Channel) (len : ℕ) → queue (proceed_by_grant s g len) c ≡ queue (proceed s g []) c
+granted_queue s c g len = refl
+
 with_message_of : (ask : Ask) (body : List ℕ) (messages : List (List ℕ)) → ask ≡ Message body → with_body ask messages ≡ body ∷ messages
 with_message_of ask body messages e = ap (λ (a : Ask). with_body a messages) e
 
 body_before : (ask : Ask) (xs ys : List (List ℕ)) → with_body ask (xs ++ ys) ≡ with_body ask xs ++ ys
 body_before (Message body) xs ys = refl
 body_before (Offer len) xs ys = refl
+body_before (Permit len) xs ys = refl
 
 bodies_append : (xs ys : List Call) → bodies (xs ++ ys) ≡ bodies xs ++ bodies ys
 bodies_append [] ys = refl
@@ -130,11 +135,49 @@ module _ (n : Notice) (ran : List Notice) (c : Channel) (s mid s' : SchedulerSta
         stream = later.stream ∙ ap (λ (m : SchedulerState). messages c m.peer.waiting ++ bodies later.sent) notifies.after;
       }
 
+module _ (n : Notice) (ran : List Notice) (c : Channel) (s mid s' : SchedulerState) (places : length s.queues ≡ channel_count) (grants : Grants n s mid) (later : ProceedInOrder ran c mid s') where
+  same_stream : messages c mid.peer.waiting ≡ messages c s.peer.waiting
+  same_stream = ap (λ (m : SchedulerState). messages c m.peer.waiting) grants.after
+
+  granted_ticket : with_ticket n.outcome n.ticket (tickets_on c ran) ≡ grants.call.ticket ∷ tickets_on c ran
+  granted_ticket = ap (λ (o : Outcome). with_ticket o n.ticket (tickets_on c ran)) grants.outcome ∙ ap (λ (t : ℕ). t ∷ tickets_on c ran) grants.ticket
+
+  no_body : with_body grants.call.ask (bodies later.sent) ≡ bodies later.sent
+  no_body = ap (λ (a : Ask). with_body a (bodies later.sent)) grants.ask
+
+  grant_step : (b : Bool) → is_same c n.channel ≡ b → ProceedInOrder (n ∷ ran) c s s'
+  grant_step true e =
+      let same : number_of c ≡ number_of n.channel = grind (arith, nat_tests) in
+      let queue_is : (queue mid c).calls ≡ drop 1 (queue s c).calls = ap (λ (m : SchedulerState). (queue m c).calls) grants.after ∙ (ap (λ (q : QueueState). q.calls) (granted_queue s c n.channel grants.len) ∙ proceed_same s c n.channel [] places same) in
+      let there : slice_get (queue s n.channel).calls 0 ≡ Some grants.call = first_by (queue s n.channel).notified (slice_get (queue s n.channel).calls 0) grants.call grants.next.first in
+      let front_is : slice_get (queue s c).calls 0 ≡ Some grants.call = rw same there in
+      record {
+        sent = grants.call ∷ later.sent;
+        tickets = rw e (ap (λ (xs : List ℕ). grants.call.ticket ∷ xs) later.tickets ∙ sym granted_ticket);
+        first = first_of (queue s c).calls grants.call front_is ∙ ap (λ (xs : List Call). grants.call ∷ xs) (sym queue_is ∙ later.first);
+        stream = later.stream ∙ (ap (λ (xs : List (List ℕ)). xs ++ bodies later.sent) same_stream ∙ ap (λ (xs : List (List ℕ)). messages c s.peer.waiting ++ xs) (sym no_body));
+      }
+  grant_step false e =
+      let other : number_of c ≢ number_of n.channel = grind (arith, nat_tests) in
+      let queue_is : queue mid c ≡ queue s c = ap (λ (m : SchedulerState). queue m c) grants.after ∙ (granted_queue s c n.channel grants.len ∙ proceed_other s c n.channel [] other) in
+      record {
+        sent = later.sent;
+        tickets = rw e later.tickets;
+        first = sym (ap (λ (q : QueueState). q.calls) queue_is) ∙ later.first;
+        stream = later.stream ∙ ap (λ (xs : List (List ℕ)). xs ++ bodies later.sent) same_stream;
+      }
+
+completes_step : (n : Notice) (ran : List Notice) (c : Channel) (s mid s' : SchedulerState) → length s.queues ≡ channel_count → Completes n s mid → ProceedInOrder ran c mid s' → ProceedInOrder (n ∷ ran) c s s'
+completes_step n ran c s mid s' places completes later = elim completes [ inl proceeds ↦ proceed_step n ran c s mid s' places proceeds later (is_same c n.channel) refl | inr grants ↦ grant_step n ran c s mid s' places grants later (is_same c n.channel) refl ]
+
 step : (n : Notice) (ran : List Notice) (c : Channel) (s mid s' : SchedulerState) → length s.queues ≡ channel_count → Steps n s mid → ProceedInOrder ran c mid s' → ProceedInOrder (n ∷ ran) c s s'
-step n ran c s mid s' places steps later = elim steps [ inl proceeds ↦ proceed_step n ran c s mid s' places proceeds later (is_same c n.channel) refl | inr notifies ↦ notify_step n ran c s mid s' places notifies later ]
+step n ran c s mid s' places steps later = elim steps [ inl completes ↦ completes_step n ran c s mid s' places completes later | inr notifies ↦ notify_step n ran c s mid s' places notifies later ]
+
+places_completed : (n : Notice) (s mid : SchedulerState) → Completes n s mid → length s.queues ≡ channel_count → length mid.queues ≡ channel_count
+places_completed n s mid completes places = elim completes [ inl proceeds ↦ ap (λ (m : SchedulerState). length m.queues) proceeds.after ∙ simp length-set places | inr grants ↦ ap (λ (m : SchedulerState). length m.queues) grants.after ∙ simp length-set places ]
 
 pub places_kept : (n : Notice) (s mid : SchedulerState) → Steps n s mid → length s.queues ≡ channel_count → length mid.queues ≡ channel_count
-places_kept n s mid steps places = elim steps [ inl proceeds ↦ ap (λ (m : SchedulerState). length m.queues) proceeds.after ∙ simp length-set places | inr notifies ↦ ap (λ (m : SchedulerState). length m.queues) notifies.after ∙ simp length-set places ]
+places_kept n s mid steps places = elim steps [ inl completes ↦ places_completed n s mid completes places | inr notifies ↦ ap (λ (m : SchedulerState). length m.queues) notifies.after ∙ simp length-set places ]
 
 none_proceeded : (c : Channel) (s : SchedulerState) → ProceedInOrder [] c s s
 none_proceeded c s = record { sent = []; tickets = refl; first = refl; stream = sym (append-nil (messages c s.peer.waiting)) }

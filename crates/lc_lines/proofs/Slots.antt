@@ -1,57 +1,92 @@
 -- The slots of the outbound queue stay within bounds.
-use Rattle.std.proofs.Common.{◌≡◌, ℕ, zero, suc, ◌+◌, ◌-◌, ◌≤◌, ◌<◌, true, List, [], ◌∷◌, ◌++◌, length, drop, ap, ◌∙◌, arith}
+use Rattle.std.proofs.Common.{◌≡◌, ℕ, zero, suc, ◌+◌, ◌-◌, ◌≤◌, ◌<◌, true, List, [], ◌∷◌, ◌++◌, length, drop, set, ap, ◌∙◌, arith}
 use Rattle.std.specs.Prelude.{nat_lt, ◌==◌, ◌||◌}
 use Rattle.std.proofs.lemmas.Bool.Decides.{nat_tests}
 use Rattle.std.proofs.lemmas.List.{length_push}
 use Rattle.lc_frame.specs.declared.channel.Channel.{Channel}
+use Rattle.lc_frame.specs.Channel.{channel_count, number_of}
 use Rattle.lc_frame.specs.declared.frame.Frame.{Frame}
 use Rattle.lc_frame.specs.declared.frame.Frame.TheVariants.{Send}
 use Rattle.lc_peer.specs.Peer.{PeerState}
 use Rattle.lc_peer.specs.Calls.{put, without_next}
-use Rattle.lc_lines.specs.Outbound.{queued, none, unused, message_count, message_one, has_slot, has_control_slot}
+use Rattle.lc_lines.specs.declared.permits.Aside.{Aside}
+use Rattle.lc_lines.specs.Permits.{aside_on, permits_on, with_permit, without_permit}
+use Rattle.lc_lines.specs.Outbound.{under_way, none, kept, message_count, message_one, has_slot, has_control_slot}
 use Rattle.lc_lines.specs.Scheduler.{KeepsSlots}
 use Rattle.lc_lines.proofs.Bytes.{count_push, count_few}
-use Rattle.lc_lines.proofs.Queued.{unused_push, unused_drop, unused_more}
+use Rattle.lc_lines.proofs.Queued.{kept_push, kept_drop, kept_after, kept_more, kept_less, kept_used, none_small}
 
-record Place (slots len unused' count : ℕ) : Type 0 where
-  pub own : unused' + (len + 1) ≤ slots
-  pub control : count + 1 + unused' + 7 ≤ slots
+record Place (slots len kept' count : ℕ) : Type 0 where
+  pub own : kept' + (len + 1) ≤ slots
+  pub control : count + 1 + kept' + 7 ≤ slots
 
-place : (q slots len unused unused' count : ℕ) → (q == 0 || nat_lt 7 ((slots - len) - unused)) ≡ true → unused' + none q ≡ unused → unused + len ≤ slots → count + unused + 7 ≤ slots → count ≤ len → Place slots len unused' count
-place zero slots len unused unused' count slot e own control few = record { own = omega arith; control = omega arith }
-place (suc q) slots len unused unused' count slot e own control few =
-    let free : 7 < (slots - len) - unused = grind (arith, nat_tests) in
+-- a slot for one thing more: the channel's own, or a shared one
+place : (u slots len kept kept' count : ℕ) → (u == 0 || nat_lt 7 ((slots - len) - kept)) ≡ true → kept' + none u ≡ kept → kept + len ≤ slots → count + kept + 7 ≤ slots → count ≤ len → Place slots len kept' count
+place zero slots len kept kept' count slot e own control few = record { own = omega arith; control = omega arith }
+place (suc u) slots len kept kept' count slot e own control few =
+    let free : 7 < (slots - len) - kept = grind (arith, nat_tests) in
     record { own = omega arith; control = omega arith }
 
-pub slots_push : (p : PeerState) (c : Channel) (body : List ℕ) → KeepsSlots p → has_slot p c ≡ true → KeepsSlots (put p (Send c body))
-slots_push p c body kept slot =
-    let by = place (queued c p.waiting) p.slots (length p.waiting) (unused p.waiting) (unused (p.waiting ++ Send c body ∷ [])) (message_count p.waiting) slot (unused_push p.waiting c body) kept.own kept.control (count_few p.waiting) in
+pub slots_push : (p : PeerState) (h : List Aside) (c : Channel) (body : List ℕ) → KeepsSlots p h → has_slot p h c ≡ true → KeepsSlots (put p (Send c body)) h
+slots_push p h c body keeps slot =
+    let by = place (under_way p.waiting h c) p.slots (length p.waiting) (kept p.waiting h) (kept (p.waiting ++ Send c body ∷ []) h) (message_count p.waiting) slot (kept_push p.waiting h c body) keeps.own keeps.control (count_few p.waiting) in
     let len = length_push p.waiting (Send c body) in
     let count = count_push p.waiting (Send c body) in
     record { own = omega (arith, by.own); control = omega (arith, by.control) }
 
 -- a message that has a slot may enter the queue
-pub room : (p : PeerState) (c : Channel) → KeepsSlots p → has_slot p c ≡ true → none (queued c p.waiting) ≤ unused p.waiting
-room p c kept slot = let u = unused_push p.waiting c [] in omega arith
+pub room : (p : PeerState) (h : List Aside) (c : Channel) → KeepsSlots p h → has_slot p h c ≡ true → none (under_way p.waiting h c) ≤ kept p.waiting h
+room p h c keeps slot = let u = kept_push p.waiting h c [] in omega arith
 
-own_next : (frames : List Frame) (slots : ℕ) → unused frames + length frames ≤ slots → unused (drop 1 frames) + length (drop 1 frames) ≤ slots
-own_next [] slots le = le
-own_next (g ∷ w) slots le = let more = unused_more g w in omega arith
+record Held (slots len kept' count : ℕ) : Type 0 where
+  pub own : kept' + len ≤ slots
+  pub control : count + kept' + 7 ≤ slots
+
+hold : (u slots len kept kept' count : ℕ) → (u == 0 || nat_lt 7 ((slots - len) - kept)) ≡ true → kept' + none u ≡ kept + 1 → kept + len ≤ slots → count + kept + 7 ≤ slots → count ≤ len → Held slots len kept' count
+hold zero slots len kept kept' count slot e own control few = record { own = omega arith; control = omega arith }
+hold (suc u) slots len kept kept' count slot e own control few =
+    let free : 7 < (slots - len) - kept = grind (arith, nat_tests) in
+    record { own = omega arith; control = omega arith }
+
+-- a permit is granted that has a slot
+pub slots_grant : (p : PeerState) (h : List Aside) (c : Channel) (len : ℕ) → length h ≡ channel_count → KeepsSlots p h → has_slot p h c ≡ true → KeepsSlots p (set h (number_of c) (with_permit (aside_on h c) len))
+slots_grant p h c len places keeps slot =
+    let by = hold (under_way p.waiting h c) p.slots (length p.waiting) (kept p.waiting h) (kept p.waiting (set h (number_of c) (with_permit (aside_on h c) len))) (message_count p.waiting) slot (kept_more p.waiting h c len places) keeps.own keeps.control (count_few p.waiting) in
+    record { own = by.own; control = by.control }
+
+-- a permit leaves its slot
+pub slots_release : (p : PeerState) (h : List Aside) (c : Channel) (len : ℕ) → length h ≡ channel_count → 1 ≤ permits_on h c → KeepsSlots p h → KeepsSlots p (set h (number_of c) (without_permit (aside_on h c) len))
+slots_release p h c len places one keeps =
+    let gone = kept_less p.waiting h c len places one in
+    let small = none_small (under_way p.waiting h c - 1) in
+    record { own = omega (arith, keeps.own); control = omega (arith, keeps.control) }
+
+-- a message takes the slot of its permit
+pub slots_reserved : (p : PeerState) (h : List Aside) (c : Channel) (len : ℕ) (body : List ℕ) → length h ≡ channel_count → 1 ≤ permits_on h c → KeepsSlots p h → KeepsSlots (put p (Send c body)) (set h (number_of c) (without_permit (aside_on h c) len))
+slots_reserved p h c len body places one keeps =
+    let used = kept_used p.waiting h c len body places one in
+    let more = length_push p.waiting (Send c body) in
+    let count = count_push p.waiting (Send c body) in
+    record { own = omega (arith, keeps.own); control = omega (arith, keeps.control) }
+
+own_next : (frames : List Frame) (h : List Aside) (slots : ℕ) → kept frames h + length frames ≤ slots → kept (drop 1 frames) h + length (drop 1 frames) ≤ slots
+own_next [] h slots le = le
+own_next (g ∷ w) h slots le = let more = kept_after g w h in omega arith
 
 -- a control frame that has a slot leaves the bounds as they were
-pub slots_control : (p p' : PeerState) (f : Frame) → KeepsSlots p → has_control_slot p ≡ true → p'.slots ≡ p.slots → p'.waiting ≡ p.waiting ++ f ∷ [] → unused (p.waiting ++ f ∷ []) ≡ unused p.waiting → message_one f ≡ 0 → KeepsSlots p'
-slots_control p p' f kept slot slots waiting same none_in =
-    let free : unused p.waiting < p.slots - length p.waiting = grind (arith, nat_tests) in
+pub slots_control : (p p' : PeerState) (h : List Aside) (f : Frame) → KeepsSlots p h → has_control_slot p h ≡ true → p'.slots ≡ p.slots → p'.waiting ≡ p.waiting ++ f ∷ [] → kept (p.waiting ++ f ∷ []) h ≡ kept p.waiting h → message_one f ≡ 0 → KeepsSlots p' h
+slots_control p p' h f keeps slot slots waiting same none_in =
+    let free : kept p.waiting h < p.slots - length p.waiting = grind (arith, nat_tests) in
     let len = length_push p.waiting f in
     let count = count_push p.waiting f in
-    let unused_is : unused p'.waiting ≡ unused p.waiting = ap unused waiting ∙ same in
+    let kept_is : kept p'.waiting h ≡ kept p.waiting h = ap (λ (w : List Frame). kept w h) waiting ∙ same in
     let len_is : length p'.waiting ≡ length p.waiting + 1 = ap length waiting ∙ len in
     let count_is : message_count p'.waiting ≡ message_count p.waiting = ap message_count waiting ∙ omega arith in
-    record { own = omega (arith, kept.own, slots); control = omega (arith, kept.control, slots) }
+    record { own = omega (arith, keeps.own, slots); control = omega (arith, keeps.control, slots) }
 
 -- a frame that leaves leaves the bounds as they were
-pub slots_next : (p : PeerState) → KeepsSlots p → KeepsSlots (without_next p)
-slots_next p kept = record {
-  own = own_next p.waiting p.slots kept.own;
-  control = omega (arith, unused_drop p.waiting, kept.control);
+pub slots_next : (p : PeerState) (h : List Aside) → KeepsSlots p h → KeepsSlots (without_next p) h
+slots_next p h keeps = record {
+  own = own_next p.waiting h p.slots keeps.own;
+  control = omega (arith, kept_drop p.waiting h, keeps.control);
 }

@@ -1,4 +1,5 @@
 pub mod Queue
+pub mod Permits
 pub mod Outbound
 pub mod Scheduler
 pub mod Lines
@@ -6,3 +7,4 @@ pub mod Order
 pub mod Blocking
 pub mod Runs
 pub mod Fair
+pub mod Honoured

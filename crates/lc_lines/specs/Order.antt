@@ -5,7 +5,7 @@ use Rattle.lc_frame.specs.Channel.{channel_count, is_same}
 use Rattle.lc_frame.specs.Stream.{messages}
 use Rattle.lc_lines.specs.declared.queue.Call.{Call}
 use Rattle.lc_lines.specs.declared.queue.Ask.{Ask}
-use Rattle.lc_lines.specs.declared.queue.Ask.TheVariants.{Message, Offer}
+use Rattle.lc_lines.specs.declared.queue.Ask.TheVariants.{Message, Offer, Permit}
 use Rattle.lc_lines.specs.declared.scheduler.Notice.{Notice}
 use Rattle.lc_lines.specs.declared.scheduler.Outcome.{Outcome}
 use Rattle.lc_lines.specs.declared.scheduler.Outcome.TheVariants.{Completed}
@@ -22,17 +22,18 @@ abbrev pub tickets_on : Channel → List Notice → List ℕ
 tickets_on c [] = []
 tickets_on c (n ∷ notices) = if is_same c n.channel then with_ticket n.outcome n.ticket (tickets_on c notices) else tickets_on c notices
 
--- a message that a call left, among others
+-- the message that a call left, if it did, among others
 abbrev pub with_body : Ask → List (List ℕ) → List (List ℕ)
 with_body (Message body) messages = body ∷ messages
 with_body (Offer len) messages = messages
+with_body (Permit len) messages = messages
 
 -- the messages that calls left
 abbrev pub bodies : List Call → List (List ℕ)
 bodies [] = []
 bodies (call ∷ calls) = with_body call.ask (bodies calls)
 
--- of one channel, these calls were completed: they were the first of its wait queue, in this order, and what was behind them waits there still; their messages are queued behind all that were, in the same order, once each, and nothing else of the channel is; and their tickets are noticed
+-- of one channel, these calls were completed: they were the first of its wait queue, in this order, and what was behind them waits there still; the messages that they left are queued behind all that were, in the same order, once each, and nothing else of the channel is; and their tickets are noticed
 pub record ProceedInOrder (ran : List Notice) (c : Channel) (s s' : SchedulerState) : Type 0 where
   pub sent : List Call
   pub tickets : map (λ call. call.ticket) sent ≡ tickets_on c ran

@@ -1,17 +1,17 @@
--- The wait queue of a channel: the calls that wait, the first first, and when the channel sent last. Wait queues are this project's own.
+-- The wait queue of a channel: the calls that wait, the first first, and when the channel took its last turn. Wait queues are this project's own.
 use Rattle.std.specs.Prelude.{ℕ, Bool, true, false, ◌==◌, nat_lt, if◌then◌else◌, List, [], length, drop, remove, slice_get, Option, None}
 use Rattle.std.specs.List.{position_or_len}
 use Rattle.lc_lines.specs.declared.queue.Ask.{Ask}
-use Rattle.lc_lines.specs.declared.queue.Ask.TheVariants.{Message, Offer}
+use Rattle.lc_lines.specs.declared.queue.Ask.TheVariants.{Message, Offer, Permit}
 use Rattle.lc_lines.specs.declared.queue.Call.{Call}
 
--- the calls that wait, the first first, when the channel sent last, counted in the messages of all channels, and whether the first call was notified and has not come since
+-- the calls that wait, the first first, when the channel took its last turn, counted in the turns of all channels, and whether the first call was notified and has not come since
 pub record QueueState : Type 0 where
   pub calls : List Call
   pub last : ℕ
   pub notified : Bool
 
--- no call waits, and the channel has not sent
+-- no call waits, and the channel has taken no turn
 abbrev pub empty_queue : QueueState
 empty_queue = record { calls = []; last = 0; notified = false }
 
@@ -19,8 +19,9 @@ empty_queue = record { calls = []; last = 0; notified = false }
 abbrev pub ask_len : Ask → ℕ
 ask_len (Message body) = length body
 ask_len (Offer len) = len
+ask_len (Permit len) = len
 
--- the bytes of the message of a call
+-- the bytes of the message of a call, or of its permit
 abbrev pub call_len : Call → ℕ
 call_len call = ask_len call.ask
 
@@ -28,6 +29,7 @@ call_len call = ask_len call.ask
 abbrev pub is_offer : Ask → Bool
 is_offer (Message body) = false
 is_offer (Offer len) = true
+is_offer (Permit len) = false
 
 -- the first call, unless it was notified and has not come since
 abbrev pub first_waiting : QueueState → Option Call

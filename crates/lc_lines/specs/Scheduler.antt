@@ -1,11 +1,13 @@
 -- The send scheduler: a peer with the wait queues of its seven channels, which call proceeds next, and what that leaves. Guarantees are LCMUX's; the rules of scheduling are this project's own.
-use Rattle.std.specs.Prelude.{◌≡◌, ℕ, ◌+◌, ◌-◌, ◌≤◌, ◌==◌, ◌^◌, ◌&&◌, ◌⊎◌, ◌++◌, nat_lt, nat_le, min, Bool, true, false, if◌then◌else◌, List, [], ◌∷◌, length, slice_get, slice_index_or, slice_set, replicate, is_none, Option, Some, None}
+use Rattle.std.specs.Prelude.{◌≡◌, ℕ, ◌+◌, ◌-◌, ◌*◌, ◌≤◌, ◌==◌, ◌^◌, ◌&&◌, ◌⊎◌, ◌++◌, nat_lt, nat_le, min, Bool, true, false, if◌then◌else◌, List, [], ◌∷◌, length, slice_get, slice_index_or, slice_set, replicate, is_none, Option, Some, None}
 use Rattle.std.specs.Option.{option_or}
 use Rattle.std.specs.List.{AllByRecursion}
 use Rattle.lc_frame.specs.declared.channel.Channel.{Channel}
 use Rattle.lc_frame.specs.declared.frame.Frame.{Frame}
 use Rattle.lc_frame.specs.declared.frame.Frame.TheVariants.{Send, Issue, Absolve, Plead, LimitSending, LimitReceiving, Finish}
 use Rattle.lc_frame.specs.Channel.{channel_count, number_of}
+use Rattle.lc_frame.specs.Bounds.{max_slots}
+use Rattle.lc_frame.specs.Frame.{channel_of}
 use Rattle.lc_book.specs.Client.{spend_refusal}
 use Rattle.lc_book.specs.declared.fault.Refusal.{Refusal}
 use Rattle.lc_book.specs.declared.fault.Refusal.TheVariants.{NoGuarantee, OutOfMemory, QueueFull}
@@ -16,12 +18,13 @@ use Rattle.lc_peer.specs.declared.config.PeerFault.TheVariants as fault
 use Rattle.lc_peer.specs.Config.{new_peer, config_fault}
 use Rattle.lc_peer.specs.Calls.{put, refusal_by_books, next, without_next}
 use Rattle.lc_peer.specs.declared.questions.Needs.{Needs}
-use Rattle.lc_peer.specs.declared.questions.Needs.TheVariants.{Nothing, Never, Slot}
+use Rattle.lc_peer.specs.declared.questions.Needs.TheVariants.{Guarantees, Never, Slot}
 use Rattle.lc_peer.specs.Questions.{needs}
-use Rattle.lc_lines.specs.declared.queue.Ask.TheVariants.{Message}
+use Rattle.lc_lines.specs.declared.queue.Ask.TheVariants.{Message, Permit}
 use Rattle.lc_lines.specs.declared.queue.Call.{Call}
+use Rattle.lc_lines.specs.declared.permits.Aside.{Aside}
 use Rattle.lc_lines.specs.declared.scheduler.Attempt.{Attempt}
-use Rattle.lc_lines.specs.declared.scheduler.Attempt.TheVariants.{Sent, Lacks}
+use Rattle.lc_lines.specs.declared.scheduler.Attempt.TheVariants.{Succeeded, Lacks}
 use Rattle.lc_lines.specs.declared.scheduler.Control.{Control}
 use Rattle.lc_lines.specs.declared.scheduler.Control.TheVariants as control
 use Rattle.lc_lines.specs.declared.scheduler.Notice.{Notice}
@@ -29,18 +32,21 @@ use Rattle.lc_lines.specs.declared.scheduler.Outcome.TheVariants.{Completed, Not
 use Rattle.lc_lines.specs.declared.scheduler.Progress.{Progress}
 use Rattle.lc_lines.specs.declared.scheduler.Progress.TheVariants.{Proceeded, Waits}
 use Rattle.lc_lines.specs.Queue.{QueueState, empty_queue, call_len, is_offer, first_waiting, without_first, without_ticket}
-use Rattle.lc_lines.specs.Outbound.{every_channel, control_slots, least_slots, most_queued, unused, message_bytes, message_count, message_len, none, has_slot, has_control_slot, fits, Counts, counts_of}
+use Rattle.lc_lines.specs.Permits.{none_aside, aside_on, with_permit, without_permit, is_permit, permitted, free_of, beyond_permits, Covers}
+use Rattle.lc_lines.specs.Outbound.{every_channel, control_slots, least_slots, most_queued, kept, message_bytes, message_count, message_len, none, has_slot, has_control_slot, fits, Counts, counts_of}
 
--- a peer, the wait queues of its channels by their numbers, how many messages entered the outbound queue so far, and how many bytes of the message that left it last are not written yet
+-- a peer, the wait queues of its channels and what permits hold there, by their numbers, how many turns were taken so far, how many bytes of the message that left the outbound queue last are not written yet, and how many messages entered it by permits since the last other one did
 pub record SchedulerState : Type 0 where
   pub peer : PeerState
   pub queues : List QueueState
+  pub asides : List Aside
   pub sent : ℕ
   pub begun : ℕ
+  pub exempt : ℕ
 
--- a new peer: no call waits, and nothing was sent
+-- a new peer: no call waits, no permit is out, and nothing was sent
 abbrev pub new_scheduler : Config → SchedulerState
-new_scheduler config = record { peer = new_peer config; queues = replicate channel_count empty_queue; sent = 0; begun = 0 }
+new_scheduler config = record { peer = new_peer config; queues = replicate channel_count empty_queue; asides = none_aside; sent = 0; begun = 0; exempt = 0 }
 
 -- what is wrong with a configuration: too few slots, or what its peer would say
 abbrev pub scheduler_fault : Config → Option PeerFault
@@ -54,6 +60,10 @@ IsSchedulerAnswer config answer = (answer ≡ scheduler_fault config) ⊎ ((sche
 abbrev pub queue : SchedulerState → Channel → QueueState
 queue s c = slice_index_or s.queues (number_of c) empty_queue
 
+-- what the permits of a channel hold
+abbrev pub aside : SchedulerState → Channel → Aside
+aside s c = aside_on s.asides c
+
 -- the first call of a channel
 abbrev pub first : SchedulerState → Channel → Option Call
 first s c = slice_get (queue s c).calls 0
@@ -66,22 +76,26 @@ front s c = first_waiting (queue s c)
 abbrev pub unwritten : SchedulerState → ℕ
 unwritten s = message_bytes s.peer.waiting + s.begun
 
--- whether a channel's guarantees suffice for a message of so many bytes, and nothing else refuses it
-abbrev pub has_guarantees : PeerState → Channel → ℕ → Bool
-has_guarantees p c len = is_none (spend_refusal (client p c) len)
+-- the guarantees of a channel that a call may use: those that permits set aside are not among them
+abbrev pub free : SchedulerState → Channel → ℕ
+free s c = free_of (client s.peer c) (aside s c)
 
--- whether a message of a channel of so many bytes has its guarantees and a slot, so that it waits for bytes at most
-abbrev pub is_able : PeerState → Channel → ℕ → Bool
-is_able p c len = has_guarantees p c len && has_slot p c
+-- whether a channel's guarantees suffice for a message of so many bytes, beside those that permits set aside, and nothing else refuses it
+abbrev pub has_guarantees : SchedulerState → Channel → ℕ → Bool
+has_guarantees s c len = is_none (spend_refusal (client s.peer c) len) && nat_le len (free s c)
+
+-- whether a message or a permit of a channel of so many bytes has its guarantees and a slot, so that it waits for bytes at most
+abbrev pub is_able : SchedulerState → Channel → ℕ → Bool
+is_able s c len = has_guarantees s c len && has_slot s.peer s.asides c
 
 -- the same of a call, if there is one
-abbrev pub is_able_call : PeerState → Channel → Option Call → Bool
-is_able_call p c None = false
-is_able_call p c (Some call) = is_able p c (call_len call)
+abbrev pub is_able_call : SchedulerState → Channel → Option Call → Bool
+is_able_call s c None = false
+is_able_call s c (Some call) = is_able s c (call_len call)
 
 -- whether the first call of a channel waits for bytes at most
 abbrev pub waits_for_bytes : SchedulerState → Channel → Bool
-waits_for_bytes s c = is_able_call s.peer c (front s c)
+waits_for_bytes s c = is_able_call s c (front s c)
 
 -- whether a channel sent no later than another one, where the first call of that waits for bytes at most
 abbrev pub is_no_later : SchedulerState → Channel → Channel → Bool
@@ -96,9 +110,9 @@ is_turn_among s c (d ∷ channels) = is_no_later s c d && is_turn_among s c chan
 abbrev pub is_turn : SchedulerState → Channel → Bool
 is_turn s c = is_turn_among s c every_channel
 
--- whether a message of a channel of so many bytes can proceed: its guarantees are there, a slot is free for it, its bytes fit, and no other channel that sent less recently waits for bytes alone
+-- whether a message or a permit of a channel of so many bytes can proceed: its guarantees are there, a slot is free for it, its bytes fit, and no other channel that sent less recently waits for bytes alone
 abbrev pub can_proceed : SchedulerState → Channel → ℕ → Bool
-can_proceed s c len = is_able s.peer c len && (fits (unwritten s) len && is_turn s c)
+can_proceed s c len = is_able s c len && (fits (unwritten s) len && is_turn s c)
 
 -- the same of a call, if there is one
 abbrev pub can_call_proceed : SchedulerState → Channel → Option Call → Bool
@@ -127,25 +141,54 @@ next_channel s = next_among s every_channel
 abbrev pub IsSettled : SchedulerState → Type 0
 IsSettled s = (c : Channel) → can_front_proceed s c ≡ false
 
--- the count of messages one message later, which stops at the greatest number
+-- a count one later, which stops at the greatest number
 abbrev pub count_after : ℕ → ℕ
-count_after sent = min (sent + 1) (2 ^ 64 - 1)
+count_after count = min (count + 1) (2 ^ 64 - 1)
 
 -- this is the wait queue of a channel
 abbrev pub with_queue : SchedulerState → Channel → QueueState → SchedulerState
 with_queue s c q = record s { queues = slice_set s.queues (number_of c) q }
 
--- a message of a channel enters the outbound queue as the last frame, and its channel sent last
+-- a message of a channel enters the outbound queue as the last frame, at its turn: its channel sent last
 abbrev pub send : SchedulerState → Channel → List ℕ → SchedulerState
 send s c body = record s {
   peer = put s.peer (Send c body);
   queues = slice_set s.queues (number_of c) (record (queue s c) { last = count_after s.sent });
   sent = count_after s.sent;
+  exempt = 0;
 }
+
+-- this is what the permits of a channel hold
+abbrev pub with_aside : SchedulerState → Channel → Aside → SchedulerState
+with_aside s c a = record s { asides = slice_set s.asides (number_of c) a }
+
+-- a permit of a channel of so many bytes is granted, at its turn: its channel sent last
+abbrev pub grant : SchedulerState → Channel → ℕ → SchedulerState
+grant s c len = record s {
+  queues = slice_set s.queues (number_of c) (record (queue s c) { last = count_after s.sent });
+  asides = slice_set s.asides (number_of c) (with_permit (aside s c) len);
+  sent = count_after s.sent;
+}
+
+-- a permit of so many bytes is out no longer: its slot and its guarantees are free again
+abbrev pub release : SchedulerState → Channel → ℕ → SchedulerState
+release s c len = with_aside s c (without_permit (aside s c) len)
+
+-- a message is sent by a permit of so many bytes: it enters the outbound queue as the last frame, and took its turn when the permit was granted
+abbrev pub send_reserved : SchedulerState → Channel → ℕ → List ℕ → SchedulerState
+send_reserved s c len body = record (release s c len) { peer = put s.peer (Send c body); exempt = count_after s.exempt }
+
+-- a permit is given back, if it is out
+abbrev pub give_back : SchedulerState → Channel → ℕ → SchedulerState
+give_back s c len = if is_permit (aside s c) len then release s c len else s
 
 -- the first call of a channel proceeds: it is out of its wait queue, and its message enters the outbound queue
 abbrev pub proceed : SchedulerState → Channel → List ℕ → SchedulerState
 proceed s c body = send (with_queue s c (without_first (queue s c))) c body
+
+-- the first call of a channel proceeds: it is out of its wait queue, and its permit is granted
+abbrev pub proceed_by_grant : SchedulerState → Channel → ℕ → SchedulerState
+proceed_by_grant s c len = grant (with_queue s c (without_first (queue s c))) c len
 
 -- a call joins its wait queue, as the last
 abbrev pub join : SchedulerState → Channel → Call → SchedulerState
@@ -180,20 +223,44 @@ progress_of s c len = if goes_at_once s c len then Proceeded else Waits
 abbrev pub start : SchedulerState → Channel → ℕ → List ℕ → SchedulerState
 start s c ticket body = if goes_at_once s c (length body) then send s c body else join s c (record { ticket = ticket; ask = Message body })
 
--- what a message lacks that is not sent at once: guarantees, what never comes, or else a slot, bytes or its turn
-abbrev pub lack : Needs → Needs
-lack Nothing = Slot
-lack needed = needed
+-- why a call to reserve is refused: what its book refuses for good, or want of memory where it would wait
+abbrev pub IsReserveAnswer : SchedulerState → Channel → ℕ → Option Refusal → Type 0
+IsReserveAnswer s c len answer = (answer ≡ for_good (spend_refusal (client s.peer c) len)) ⊎ ((goes_at_once s c len ≡ false) × (answer ≡ Some OutOfMemory))
+
+-- what a call to reserve that is accepted leaves: its permit is granted, or it joins its wait queue
+abbrev pub reserve : SchedulerState → Channel → ℕ → ℕ → SchedulerState
+reserve s c ticket len = if goes_at_once s c len then grant s c len else join s c (record { ticket = ticket; ask = Permit len })
+
+-- what an attempt to reserve leaves
+abbrev pub try_reserve : SchedulerState → Channel → ℕ → SchedulerState
+try_reserve s c len = if goes_at_once s c len then grant s c len else s
+
+-- why a message of so many bytes is refused that is sent by a permit of so many: by its book, but for guarantees, and by 4 where it is longer than the permit
+abbrev pub reserved_refusal : SchedulerState → Channel → ℕ → ℕ → Option Refusal
+reserved_refusal s c len n = option_or (for_good (spend_refusal (client s.peer c) n)) (if nat_lt (permitted (aside s c) len) n then Some (NoGuarantee (permitted (aside s c) len)) else None)
+
+-- the same, or want of memory where that is nothing
+abbrev pub IsReservedAnswer : SchedulerState → Channel → ℕ → ℕ → Option Refusal → Type 0
+IsReservedAnswer s c len n answer = (answer ≡ reserved_refusal s c len n) ⊎ ((reserved_refusal s c len n ≡ None) × (answer ≡ Some OutOfMemory))
+
+-- whether a need is for what never comes
+abbrev pub is_never : Needs → Bool
+is_never Never = true
+is_never needed = false
+
+-- what a message or a permit of so many bytes lacks that does not go at once: what never comes, guarantees, or else a slot, bytes or its turn
+abbrev pub lack : SchedulerState → Channel → ℕ → Needs
+lack s c len = if is_never (needs s.peer c len) then Never else (if nat_le len (free s c) then Slot else Guarantees (len - free s c))
 
 -- why an attempt is refused: what its book refuses for good, or want of memory where the message goes at once
 abbrev pub IsAttemptAnswer : SchedulerState → Channel → ℕ → Option Refusal → Type 0
 IsAttemptAnswer s c len answer = (answer ≡ for_good (spend_refusal (client s.peer c) len)) ⊎ ((goes_at_once s c len ≡ true) × (answer ≡ Some OutOfMemory))
 
--- the answer of an attempt: the message is sent, or lacks something
+-- the answer of an attempt: it succeeds, or lacks something
 abbrev pub attempt : SchedulerState → Channel → ℕ → Attempt
-attempt s c len = if goes_at_once s c len then Sent else Lacks (lack (needs s.peer c len))
+attempt s c len = if goes_at_once s c len then Succeeded else Lacks (lack s c len)
 
--- what an attempt leaves
+-- what an attempt to send leaves
 abbrev pub try_send : SchedulerState → Channel → List ℕ → SchedulerState
 try_send s c body = if goes_at_once s c (length body) then send s c body else s
 
@@ -226,7 +293,7 @@ complete s c ticket body = if is_offer_of ticket (first s c) then (if can_procee
 -- a call can proceed: it is the first of its channel and was not notified, it has its guarantees and a slot, its bytes fit, and no channel that sent less recently waits for bytes alone
 pub record IsNext (s : SchedulerState) (c : Channel) (call : Call) : Type 0 where
   pub first : front s c ≡ Some call
-  pub able : is_able s.peer c (call_len call) ≡ true
+  pub able : is_able s c (call_len call) ≡ true
   pub bytes : fits (unwritten s) (call_len call) ≡ true
   pub turn : is_turn s c ≡ true
 
@@ -240,6 +307,20 @@ pub record Proceeds (notice : Notice) (old new : SchedulerState) : Type 0 where
   pub ask : call.ask ≡ Message body
   pub after : new ≡ proceed old notice.channel body
 
+-- the permit of a call is granted, and its ticket is noticed
+pub record Grants (notice : Notice) (old new : SchedulerState) : Type 0 where
+  pub call : Call
+  pub len : ℕ
+  pub ticket : notice.ticket ≡ call.ticket
+  pub outcome : notice.outcome ≡ Completed
+  pub next : IsNext old notice.channel call
+  pub ask : call.ask ≡ Permit len
+  pub after : new ≡ proceed_by_grant old notice.channel len
+
+-- a call is completed: its message proceeds, or its permit is granted
+abbrev pub Completes : Notice → SchedulerState → SchedulerState → Type 0
+Completes notice old new = Proceeds notice old new ⊎ Grants notice old new
+
 -- the caller of an offer is notified that it can proceed: it holds nothing, and its call stays the first of its channel
 pub record Notifies (notice : Notice) (old new : SchedulerState) : Type 0 where
   pub call : Call
@@ -251,7 +332,7 @@ pub record Notifies (notice : Notice) (old new : SchedulerState) : Type 0 where
 
 -- a call that can proceed is completed, or its caller is notified
 abbrev pub Steps : Notice → SchedulerState → SchedulerState → Type 0
-Steps notice old new = Proceeds notice old new ⊎ Notifies notice old new
+Steps notice old new = Completes notice old new ⊎ Notifies notice old new
 
 -- the frame of a control call
 abbrev pub frame_of_control : Control → Frame
@@ -262,9 +343,13 @@ frame_of_control (control.LimitSending c bound) = LimitSending c bound
 frame_of_control (control.LimitReceiving c bound) = LimitReceiving c bound
 frame_of_control (control.Finish c) = Finish c
 
--- why a control call is refused: its books come first, and then 13 where no slot is free for a control frame
-abbrev pub control_refusal : PeerState → Frame → Option Refusal
-control_refusal p f = option_or (refusal_by_books p f) (if has_control_slot p then None else Some QueueFull)
+-- 13 where no slot is free for a control frame
+abbrev pub slot_refusal : SchedulerState → Option Refusal
+slot_refusal s = if has_control_slot s.peer s.asides then None else Some QueueFull
+
+-- why a control call is refused: its books come first, then what permits set aside, and then 13
+abbrev pub control_refusal : SchedulerState → Frame → Option Refusal
+control_refusal s f = option_or (refusal_by_books s.peer f) (option_or (beyond_permits (client s.peer (channel_of f)) (aside s (channel_of f)) f) (slot_refusal s))
 
 -- a frame enters the outbound queue
 abbrev pub put_frame : SchedulerState → Frame → SchedulerState
@@ -282,11 +367,6 @@ take_frame s = record s { peer = without_next s.peer; begun = begun_by (next s.p
 -- of the message that is begun at most so many bytes are not written yet
 abbrev pub write : SchedulerState → ℕ → SchedulerState
 write s left = record s { begun = min left s.begun }
-
--- whether a need is for what never comes
-abbrev pub is_never : Needs → Bool
-is_never Never = true
-is_never needed = false
 
 -- whether a call, if there is one, will never proceed
 abbrev pub is_hopeless_call : PeerState → Channel → Option Call → Bool
@@ -320,27 +400,53 @@ pub record GivesUp (notice : Notice) (old new : SchedulerState) : Type 0 where
   pub after : new ≡ with_queue old notice.channel (without_first (queue old notice.channel))
 
 -- the messages that are queued or begun have few enough bytes, or there is one
-abbrev pub FitsBytes : List Frame → ℕ → Type 0
-FitsBytes frames begun = (message_bytes frames + begun ≤ most_queued) ⊎ (message_count frames + (1 - none begun) ≤ 1)
+abbrev pub IsFew : List Frame → ℕ → Type 0
+IsFew frames begun = (message_bytes frames + begun ≤ most_queued) ⊎ (message_count frames + (1 - none begun) ≤ 1)
 
--- what the slots of the outbound queue keep: the unused ones of the channels' own are free, and so are those for control frames, but for control frames that take them
-pub record KeepsSlots (p : PeerState) : Type 0 where
-  pub own : unused p.waiting + length p.waiting ≤ p.slots
-  pub control : message_count p.waiting + unused p.waiting + control_slots ≤ p.slots
+-- so it is but for the newest messages, so many at most, which entered by permits
+pub record FitsBytes (frames : List Frame) (begun exempt : ℕ) : Type 0 where
+  pub older : List Frame
+  pub newer : List Frame
+  pub whole : frames ≡ older ++ newer
+  pub few : message_count newer ≤ exempt
+  pub fits : IsFew older begun
 
--- the bytes of the greatest message, which is the most that is queued or begun
+-- what the slots of the outbound queue keep: those that only their owners take are free, and so are those for control frames, but for control frames that take them
+pub record KeepsSlots (p : PeerState) (asides : List Aside) : Type 0 where
+  pub own : kept p.waiting asides + length p.waiting ≤ p.slots
+  pub control : message_count p.waiting + kept p.waiting asides + control_slots ≤ p.slots
+
+-- the guarantees that the permits of each channel set aside are there
+abbrev pub KeepsGuarantees : PeerState → List Aside → Type 0
+KeepsGuarantees p asides = (c : Channel) → Covers (client p c) (aside_on asides c)
+
+-- the bytes of the greatest message
+abbrev pub greatest_message : ℕ
+greatest_message = 1048576
+
+-- a frame has no greater message
+abbrev pub IsShort : Frame → Type 0
+IsShort f = message_len f ≤ greatest_message
+
+-- the most bytes of messages that are queued or begun: one for each slot, and the one that is begun
 abbrev pub most_unwritten : ℕ
-most_unwritten = 1048576
+most_unwritten = greatest_message * (max_slots + 1)
 
--- a channel sent last when so many messages had been sent, or before
+-- a channel took its last turn when so many had been taken, or before
 abbrev pub SentBy : ℕ → QueueState → Type 0
 SentBy sent q = q.last ≤ sent
 
--- every channel has its wait queue, the messages that are queued are counted, and their slots and bytes are within bounds
-pub record AreSchedulerFields (p : PeerState) (queues : List QueueState) (sent begun : ℕ) (counts : Counts) : Type 0 where
+-- every channel has its wait queue, its permits and its books, what is under way is counted, its slots, guarantees and bytes are within bounds
+pub record AreSchedulerFields (p : PeerState) (queues : List QueueState) (asides : List Aside) (sent begun exempt : ℕ) (counts : Counts) : Type 0 where
   pub places : length queues ≡ channel_count
+  pub permits : length asides ≡ channel_count
+  pub channels : length p.channels ≡ channel_count
   pub stamps : AllByRecursion (SentBy sent) queues
-  pub counted : counts ≡ counts_of p.waiting
-  pub slots : KeepsSlots p
-  pub bytes : FitsBytes p.waiting begun
+  pub counted : counts ≡ counts_of p.waiting asides
+  pub slots : KeepsSlots p asides
+  pub some : p.slots ≤ max_slots
+  pub guarantees : KeepsGuarantees p asides
+  pub bytes : FitsBytes p.waiting begun exempt
+  pub short : AllByRecursion IsShort p.waiting
+  pub small : begun ≤ greatest_message
   pub bounded : message_bytes p.waiting + begun ≤ most_unwritten

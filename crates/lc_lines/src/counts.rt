@@ -1,24 +1,24 @@
-//! What of the outbound queue is messages, counted as they enter and leave it.
+//! What is under way on each channel, counted as messages enter and leave the outbound queue and as permits come and go.
 ghost use Rattle.std.specs.Prelude.{◌≡◌, ◌+◌, ◌-◌, ◌<◌, ◌≤◌, ◌^◌, length, slice_index};
 ghost use Rattle.lc_frame.specs.Channel.{channel_count, number_of};
-ghost use Rattle.lc_lines.specs.Outbound.{none, no_counts, with_message, without_message, without_frame, IsCounted};
+ghost use Rattle.lc_lines.specs.Outbound.{none, no_counts, with_message, without_message, without_frame, with_grant, without_grant, with_use, IsCounted};
 
 use lc_frame::{CHANNELS, Channel, Frame};
 use std::marker::Model;
 
-/// How many messages of each channel are queued, how many of the channels' own slots are unused, and the bytes of all
-/// messages that are queued.
+/// How many messages of each channel are queued and permits of it out, how many of the free slots only their owners
+/// take, and the bytes of all messages that are queued.
 pub struct MessageCounts {
-    queued: [usize; CHANNELS],
-    unused: usize,
+    under_way: [usize; CHANNELS],
+    kept: usize,
     bytes: usize,
 }
 
 impl Drop for MessageCounts {
     fn drop(self) {
         let MessageCounts {
-            queued: _,
-            unused: _,
+            under_way: _,
+            kept: _,
             bytes: _,
         } = self;
     }
@@ -31,7 +31,7 @@ impl Model for MessageCounts {
 
     ghost Value = { Counts };
 
-    ghost view = { λ counts. record { queued = counts.queued; unused = counts.unused; bytes = counts.bytes } };
+    ghost view = { λ counts. record { under_way = counts.under_way; kept = counts.kept; bytes = counts.bytes } };
 }
 
 // 1 where there is none of something, else 0.
@@ -43,31 +43,31 @@ fn none(count: usize) -> usize
 }
 
 impl MessageCounts {
-    /// The counts of an empty queue.
+    /// The counts of an empty queue, where no permit is out.
     pub fn new() -> MessageCounts
         ensures { result ≡ no_counts }
     {
         MessageCounts {
-            queued: [0; CHANNELS],
-            unused: CHANNELS,
+            under_way: [0; CHANNELS],
+            kept: CHANNELS,
             bytes: 0,
         }
     }
 
-    /// How many messages of a channel are queued.
+    /// How many messages of a channel are queued, and permits of it out.
     #[inline]
-    pub fn queued(&self, channel: Channel) -> usize
-        ensures { result ≡ slice_index self.now.queued (number_of channel) }
+    pub fn under_way(&self, channel: Channel) -> usize
+        ensures { result ≡ slice_index self.now.under_way (number_of channel) }
     {
-        self.queued[channel.index()]
+        self.under_way[channel.index()]
     }
 
-    /// How many of the channels' own slots are unused.
+    /// How many of the free slots only their owners take: the unused ones of the channels' own, and those of permits.
     #[inline]
-    pub fn unused(&self) -> usize
-        ensures { result ≡ self.now.unused }
+    pub fn kept(&self) -> usize
+        ensures { result ≡ self.now.kept }
     {
-        self.unused
+        self.kept
     }
 
     /// The bytes of all messages that are queued.
@@ -81,36 +81,71 @@ impl MessageCounts {
     /// A message of so many bytes enters the queue.
     #[inline]
     pub fn enter(&mut self, channel: Channel, len: usize)
-        requires queued { slice_index self.old.queued (number_of channel) < 2 ^ 32 }
-        requires unused { none (slice_index self.old.queued (number_of channel)) ≤ self.old.unused }
-        requires bytes { self.old.bytes + len < 2 ^ 32 }
+        requires under_way { slice_index self.old.under_way (number_of channel) < 2 ^ 32 }
+        requires kept { none (slice_index self.old.under_way (number_of channel)) ≤ self.old.kept }
+        requires bytes { self.old.bytes + len < 2 ^ 48 }
         ensures { self.new ≡ with_message self.old channel len }
     {
-        let queued = &mut self.queued[channel.index()];
-        self.unused -= none(*queued);
-        *queued += 1;
+        let under_way = &mut self.under_way[channel.index()];
+        self.kept -= none(*under_way);
+        *under_way += 1;
         self.bytes += len;
     }
 
     // A message of so many bytes leaves the queue.
     #[inline]
     fn leave(&mut self, channel: Channel, len: usize)
-        requires queued { 1 ≤ slice_index self.old.queued (number_of channel) }
-        requires unused { self.old.unused < 2 ^ 32 }
+        requires under_way { 1 ≤ slice_index self.old.under_way (number_of channel) }
+        requires kept { self.old.kept < 2 ^ 32 }
         requires bytes { len ≤ self.old.bytes }
         ensures { self.new ≡ without_message self.old channel len }
     {
-        let queued = &mut self.queued[channel.index()];
-        *queued -= 1;
-        self.unused += none(*queued);
+        let under_way = &mut self.under_way[channel.index()];
+        *under_way -= 1;
+        self.kept += none(*under_way);
         self.bytes -= len;
+    }
+
+    /// A permit is granted.
+    #[inline]
+    pub fn grant(&mut self, channel: Channel)
+        requires under_way { slice_index self.old.under_way (number_of channel) < 2 ^ 32 }
+        requires kept { self.old.kept < 2 ^ 32 }
+        ensures { self.new ≡ with_grant self.old channel }
+    {
+        let under_way = &mut self.under_way[channel.index()];
+        self.kept = self.kept + 1 - none(*under_way);
+        *under_way += 1;
+    }
+
+    /// A permit leaves its slot.
+    #[inline]
+    pub fn release(&mut self, channel: Channel)
+        requires under_way { 1 ≤ slice_index self.old.under_way (number_of channel) }
+        requires kept { (1 ≤ self.old.kept) × (self.old.kept < 2 ^ 32) }
+        ensures { self.new ≡ without_grant self.old channel }
+    {
+        let under_way = &mut self.under_way[channel.index()];
+        *under_way -= 1;
+        self.kept = self.kept - 1 + none(*under_way);
+    }
+
+    /// A message of so many bytes enters the queue by a permit, whose slot it takes.
+    #[inline]
+    pub fn use_permit(&mut self, len: usize)
+        requires kept { 1 ≤ self.old.kept }
+        requires bytes { self.old.bytes + len < 2 ^ 48 }
+        ensures { self.new ≡ with_use self.old len }
+    {
+        self.kept -= 1;
+        self.bytes += len;
     }
 
     /// A frame leaves the queue.
     #[inline]
     pub fn leave_frame(&mut self, frame: &Frame)
         requires counted { IsCounted self.old frame.now }
-        requires unused { self.old.unused < 2 ^ 32 }
+        requires kept { self.old.kept < 2 ^ 32 }
         ensures { self.new ≡ without_frame self.old frame.now }
     {
         match frame {

@@ -3,9 +3,10 @@ ghost use Rattle.lc_lines.specs.Order.{CallsProceedInOrder, ProceedingKeepsOrder
 ghost use Rattle.lc_lines.specs.Blocking.{NoHeadOfLineBlocking, FirstCallsWaitForBytes};
 ghost use Rattle.lc_lines.specs.Runs.{RunsAreCalls};
 ghost use Rattle.lc_lines.specs.Fair.{EachSendsOnceMeanwhile, EachCallIsCounted};
+ghost use Rattle.lc_lines.specs.Honoured.{PermitsAreHonoured, EachCallLeavesPermits};
 
 /// Whatever calls proceeded, those of each channel are the first of its wait queue, in their order; each is noticed,
-/// and its message is queued once, whole, behind all earlier messages of its channel.
+/// and the message that it left is queued once, whole, behind all earlier messages of its channel.
 pub fn calls_proceed_in_order()
     ensures { CallsProceedInOrder }
 {}
@@ -16,7 +17,7 @@ pub fn proceeding_keeps_order()
     ensures { ProceedingKeepsOrder }
 {}
 
-/// Whatever calls of other channels wait, or were notified and do not come: where no message is unwritten, a first call
+/// Whatever calls of other channels wait, or were notified and do not come, and whatever their permits hold: where no message is unwritten, a first call
 /// whose channel's own slot is free, and which was not notified, waits for guarantees alone.
 pub fn no_head_of_line_blocking()
     ensures { NoHeadOfLineBlocking }
@@ -32,13 +33,25 @@ pub fn runs_are_calls()
     ensures { RunsAreCalls }
 {}
 
-/// Where a channel sends twice, and another one not between, the first call of that other one did not wait for bytes
-/// alone when the channel sent again: so while a call does, each other channel sends once at most.
+/// Where a channel takes two turns, and another one none between, the first call of that other one did not wait for
+/// bytes alone when the channel took the second: so while a call does, each other channel takes one turn at most.
 pub fn each_sends_once_meanwhile()
     ensures { EachSendsOnceMeanwhile }
 {}
 
-/// Each call counts the messages so: one more where a channel sent, and none where all else happened.
+/// Each call counts the turns so: one more where a channel sent or was granted a permit, and none where all else
+/// happened, a message that was sent by a permit, too.
 pub fn each_call_is_counted()
     ensures { EachCallIsCounted }
+{}
+
+/// Where a channel is not finished, and its limit on sending leaves what permits set aside, a message within its permit
+/// is refused for want of memory alone.
+pub fn permits_are_honoured()
+    ensures { PermitsAreHonoured }
+{}
+
+/// So it is on each channel at first, and no call ends it but a finish of the channel and a limit on its sending.
+pub fn each_call_leaves_permits()
+    ensures { EachCallLeavesPermits }
 {}

@@ -11,14 +11,17 @@ ghost use Rattle.lc_frame.specs.Frame.{IsValid};
 ghost use Rattle.lc_frame.specs.FrameRef.{frame_of};
 ghost use Rattle.lc_frame.specs.declared.version.Version.TheVariants.{Two};
 ghost use Rattle.lc_peer.specs.Inbox.{IsTake, take_answer};
-ghost use Rattle.lc_peer.specs.Peer.{inbox};
+ghost use Rattle.lc_peer.specs.Peer.{client, inbox};
 ghost use Rattle.lc_peer.specs.Calls.{next, take_on};
 ghost use Rattle.lc_peer.specs.Arrivals.{arrivals};
 ghost use Rattle.lc_lines.specs.Queue.{waits};
+ghost use Rattle.lc_lines.specs.Permits.{is_permit};
+ghost use Rattle.lc_book.specs.Client.{spend_refusal};
 ghost use Rattle.lc_lines.specs.declared.queue.Ask.TheVariants.{Offer};
-ghost use Rattle.lc_lines.specs.Scheduler.{IsSchedulerAnswer, IsSettled, NoneIsHopeless, queue, start, join, complete, complete_progress, IsCompleteAnswer, progress_of, cancel, IsCallAnswer, IsAttemptAnswer, attempt, try_send, frame_of_control, control_refusal, put_frame, take_frame, write, KeepsSlots, FitsBytes};
+ghost use Rattle.lc_lines.specs.Scheduler.{IsSchedulerAnswer, IsSettled, NoneIsHopeless, queue, start, join, complete, complete_progress, IsCompleteAnswer, progress_of, cancel, IsCallAnswer, IsAttemptAnswer, attempt, try_send, aside, free, for_good, IsReserveAnswer, reserve, try_reserve, IsReservedAnswer, send_reserved, give_back, frame_of_control, control_refusal, put_frame, take_frame, write, KeepsSlots, KeepsGuarantees, FitsBytes};
 ghost use Rattle.lc_lines.specs.Lines.{new_lines, Runs, Settles, NoticesNext, DeliversAndSettles, with_scheduler};
 
+use crate::permits::Aside;
 use crate::scheduler::{Attempt, Control, Notice, Progress, Scheduler};
 use circular_buffer::HeapCircularBuffer;
 use lc_book::{Refusal, Violation};
@@ -82,7 +85,7 @@ fn settle(scheduler: &mut Scheduler, notices: &mut HeapCircularBuffer<Notice>)
 }
 
 impl Lines {
-    /// A new peer, and no call waits. `BadSlots` comes first, where there are fewer than
+    /// A new peer, where no call waits and no permit is out. `BadSlots` comes first, where there are fewer than
     /// [`LEAST_SLOTS`](crate::LEAST_SLOTS).
     pub fn new(alloc: Global, config: Config) -> Result<Lines, PeerFault>
         ensures answer { IsSchedulerAnswer config (result_err result) }
@@ -99,10 +102,28 @@ impl Lines {
     #[inline]
     pub fn peer(&self) -> &Peer
         ensures value { result.now ≡ self.now.scheduler.peer }
-        ensures slots { KeepsSlots self.now.scheduler.peer }
-        ensures bytes { FitsBytes self.now.scheduler.peer.waiting self.now.scheduler.begun }
+        ensures slots { KeepsSlots self.now.scheduler.peer self.now.scheduler.asides }
+        ensures guarantees { KeepsGuarantees self.now.scheduler.peer self.now.scheduler.asides }
+        ensures bytes { FitsBytes self.now.scheduler.peer.waiting self.now.scheduler.begun self.now.scheduler.exempt }
     {
         self.scheduler.peer()
+    }
+
+    /// What the permits of a channel hold.
+    #[inline]
+    pub fn aside(&self, channel: Channel) -> Aside
+        ensures { result ≡ aside self.now.scheduler channel }
+    {
+        self.scheduler.aside(channel)
+    }
+
+    /// The guarantees of a channel that a call may use: those held, within the limit on sending, beside those that
+    /// permits set aside.
+    #[inline]
+    pub fn free(&self, channel: Channel) -> u64
+        ensures { result ≡ free self.now.scheduler channel }
+    {
+        self.scheduler.free(channel)
     }
 
     /// A call to send a message, by a ticket of the caller's choice. Its message enters the outbound queue at once where
@@ -168,8 +189,76 @@ impl Lines {
         Ok(progress)
     }
 
+    /// A call to reserve a permit for a message of so many bytes, by a ticket of the caller's choice. The permit is
+    /// granted at once where that is possible; else the call waits, and its ticket is noticed once the permit is granted.
+    /// It holds a slot and so many guarantees until it is used by [`Lines::send_reserved`] or given back by
+    /// [`Lines::give_back`]. Refused by 15, 1, 2 and 3, and by 14 where it would wait and memory is refused; then
+    /// nothing changed.
+    pub fn reserve(
+        &mut self,
+        channel: Channel,
+        ticket: u64,
+        len: usize,
+    ) -> Result<Progress, Refusal>
+        ensures answer { IsReserveAnswer self.old.scheduler channel len (result_err result) }
+        ensures progress { IfOk result (λ progress. progress ≡ progress_of self.old.scheduler channel len) }
+        ensures refused { OnErr result (self.new ≡ self.old) }
+        ensures reserves { OnOk result (Settles (with_scheduler self.old (reserve self.old.scheduler channel ticket len)) self.new) }
+        ensures settled { length self.new.notices < self.new.entries → IsSettled self.new.scheduler }
+    {
+        let progress = self.scheduler.reserve(channel, ticket, len)?;
+        settle(&mut self.scheduler, &mut self.notices);
+        Ok(progress)
+    }
+
+    /// An attempt to reserve a permit at once, behind all calls of its channel that wait. Refused by 15, 1, 2 and 3; then
+    /// nothing changed.
+    pub fn try_reserve(&mut self, channel: Channel, len: usize) -> Result<Attempt, Refusal>
+        ensures answer { result_err result ≡ for_good (spend_refusal (client self.old.scheduler.peer channel) len) }
+        ensures attempt { IfOk result (λ answer. answer ≡ attempt self.old.scheduler channel len) }
+        ensures refused { OnErr result (self.new ≡ self.old) }
+        ensures reserves { OnOk result (Settles (with_scheduler self.old (try_reserve self.old.scheduler channel len)) self.new) }
+        ensures settled { length self.new.notices < self.new.entries → IsSettled self.new.scheduler }
+    {
+        let answer = self.scheduler.try_reserve(channel, len)?;
+        settle(&mut self.scheduler, &mut self.notices);
+        Ok(answer)
+    }
+
+    /// Sends a message by a permit of so many bytes, which is used up: whatever is queued and whatever waits, the message
+    /// enters the outbound queue, and the guarantees that it leaves unused are free again. Refused by 15, 1, 2 and 3, by
+    /// 4 where the message is longer than the permit or no such permit is out, and by 14 where memory is refused; then
+    /// nothing changed, and the permit is out still.
+    pub fn send_reserved(
+        &mut self,
+        channel: Channel,
+        len: usize,
+        body: &[u8],
+    ) -> Result<(), Refusal>
+        ensures answer { IsReservedAnswer self.old.scheduler channel len (length body.now) (result_err result) }
+        ensures refused { OnErr result (self.new ≡ self.old) }
+        ensures sends { OnOk result (Settles (with_scheduler self.old (send_reserved self.old.scheduler channel len body.now)) self.new) }
+        ensures settled { length self.new.notices < self.new.entries → IsSettled self.new.scheduler }
+    {
+        self.scheduler.send_reserved(channel, len, body)?;
+        settle(&mut self.scheduler, &mut self.notices);
+        Ok(())
+    }
+
+    /// Gives back a permit of so many bytes: its slot and its guarantees are free again. The answer is whether such a
+    /// permit was out.
+    pub fn give_back(&mut self, channel: Channel, len: usize) -> bool
+        ensures answer { result ≡ is_permit (aside self.old.scheduler channel) len }
+        ensures after { Settles (with_scheduler self.old (give_back self.old.scheduler channel len)) self.new }
+        ensures settled { length self.new.notices < self.new.entries → IsSettled self.new.scheduler }
+    {
+        let was_out = self.scheduler.give_back(channel, len);
+        settle(&mut self.scheduler, &mut self.notices);
+        was_out
+    }
+
     /// Gives up the first call of a ticket that waits: nothing of it was sent, and nothing will be. The answer is whether
-    /// one waited; where none did, its message entered the outbound queue, and stays there.
+    /// one waited; where none did, its message entered the outbound queue, and stays there, or its permit was granted.
     pub fn cancel(&mut self, channel: Channel, ticket: u64) -> bool
         ensures waited { result ≡ waits ticket (queue self.old.scheduler channel).calls }
         ensures after { Settles (with_scheduler self.old (cancel self.old.scheduler channel ticket)) self.new }
@@ -180,10 +269,10 @@ impl Lines {
         waited
     }
 
-    /// A control call: its frame enters the outbound queue before messages that wait. It is refused as at the peer, and
-    /// by 13 where no slot is free for a control frame.
+    /// A control call: its frame enters the outbound queue before messages that wait. It is refused as at the peer, by 6
+    /// where it absolves guarantees that permits set aside, and by 13 where no slot is free for a control frame.
     pub fn control(&mut self, control: Control) -> Result<(), Refusal>
-        ensures answer { result_err result ≡ control_refusal self.old.scheduler.peer (frame_of_control control) }
+        ensures answer { result_err result ≡ control_refusal self.old.scheduler (frame_of_control control) }
         ensures refused { OnErr result (self.new ≡ self.old) }
         ensures puts { OnOk result (Settles (with_scheduler self.old (put_frame self.old.scheduler (frame_of_control control))) self.new) }
         ensures settled { length self.new.notices < self.new.entries → IsSettled self.new.scheduler }

@@ -15,6 +15,8 @@ pub enum Ask {
     Message(Body),
     /// To send a message of so many bytes: the caller is notified once it can proceed, and then hands it over.
     Offer(usize),
+    /// To be granted a permit for a message of so many bytes.
+    Permit(usize),
 }
 
 /// A call that waits, by the ticket that its caller gave it.
@@ -24,7 +26,7 @@ pub struct Call {
     pub ask: Ask,
 }
 
-/// The calls of a channel that wait, when the channel sent last, and whether the first call was notified and has not
+/// The calls of a channel that wait, when the channel took its last turn, and whether the first call was notified and has not
 /// come since.
 pub struct WaitQueue {
     calls: VecDeque<Call>,
@@ -33,14 +35,14 @@ pub struct WaitQueue {
 }
 
 impl Call {
-    /// How many bytes its message has.
+    /// How many bytes its message has, or its permit.
     #[inline]
     pub fn len(&self) -> usize
         ensures { result ≡ call_len self.now }
     {
         match &self.ask {
             Ask::Message(body) => body.as_slice().len(),
-            Ask::Offer(len) => *len,
+            Ask::Offer(len) | Ask::Permit(len) => *len,
         }
     }
 
@@ -50,7 +52,7 @@ impl Call {
         ensures { result ≡ is_offer self.now.ask }
     {
         match &self.ask {
-            Ask::Message(_) => false,
+            Ask::Message(_) | Ask::Permit(_) => false,
             Ask::Offer(_) => true,
         }
     }
@@ -87,7 +89,7 @@ fn place_of(calls: &VecDeque<Call>, ticket: u64) -> usize
 }
 
 impl WaitQueue {
-    /// A wait queue without calls, of a channel that has not sent.
+    /// A wait queue without calls, of a channel that has taken no turn.
     pub fn new(alloc: Global) -> WaitQueue
         ensures { result ≡ empty_queue }
     {
@@ -98,7 +100,7 @@ impl WaitQueue {
         }
     }
 
-    /// When the channel sent last, counted in the messages of all channels; 0 where it has not.
+    /// When the channel took its last turn, counted in the turns of all channels; 0 where it has taken none.
     #[inline]
     pub fn last(&self) -> u64
         ensures { result ≡ self.now.last }
@@ -163,7 +165,7 @@ impl WaitQueue {
         self.notified = notified;
     }
 
-    /// Notes when the channel sent.
+    /// Notes when the channel took a turn.
     #[inline]
     pub fn note_sent(&mut self, at: u64)
         ensures { self.new ≡ record self.old { last = at } }

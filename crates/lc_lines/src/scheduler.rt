@@ -1,13 +1,13 @@
 //! Which call proceeds next.
 //!
-//! A `Scheduler` is a peer with the wait queues of its seven channels. The first call of a channel can proceed once its
-//! guarantees are there, a slot is free for it (its channel's own or a shared one), its bytes fit beside those that
-//! are queued, and no other channel that sent less recently waits for bytes alone.
-ghost use Rattle.std.specs.Prelude.{◌≡◌, ◌≤◌, ◌<◌, ◌^◌, ◌-◌, ◌∷◌, ◌==◌, [], true, false, if◌then◌else◌, is_ok, length, min, None, Some, IfSome, IfNone, IfOk, OnErr};
+//! A `Scheduler` is a peer with the wait queues of its seven channels, and with what permits hold. The first call of a
+//! channel can proceed once its guarantees are there beside those that permits set aside, a slot is free for it (its
+//! channel's own or a shared one), its bytes fit beside those that are queued, and no other channel that sent less
+//! recently waits for bytes alone.
+ghost use Rattle.std.specs.Prelude.{◌≡◌, ◌≤◌, ◌<◌, ◌^◌, ◌-◌, ◌∷◌, [], true, false, if◌then◌else◌, is_ok, length, min, None, Some, IfSome, IfNone, IfOk, IfErr, OnErr, OnOk};
 ghost use Rattle.std.specs.Result.{result_err};
 ghost use Rattle.std.specs.Option.{option_or};
 ghost use Rattle.lc_frame.specs.declared.frame.Frame.TheVariants.{Send};
-ghost use Rattle.lc_frame.specs.Frame.{IsValid};
 ghost use Rattle.lc_frame.specs.FrameRef.{frame_of};
 ghost use Rattle.lc_frame.specs.declared.version.Version.TheVariants.{Two};
 ghost use Rattle.lc_peer.specs.Calls.{next, refusal, refusal_by_books, put, take_on};
@@ -16,14 +16,17 @@ ghost use Rattle.lc_peer.specs.Deliveries.{Delivers};
 ghost use Rattle.lc_peer.specs.Peer.{client, inbox};
 ghost use Rattle.lc_peer.specs.Inbox.{IsTake, take_answer};
 ghost use Rattle.lc_book.specs.declared.fault.Refusal.TheVariants.{OutOfMemory, QueueFull};
-ghost use Rattle.lc_book.specs.Client.{spend_refusal};
+ghost use Rattle.lc_book.specs.Client.{held, spend_refusal};
 ghost use Rattle.lc_lines.specs.Queue.{waits};
 ghost use Rattle.lc_lines.specs.Fair.{AreCounted};
 ghost use Rattle.lc_lines.specs.declared.queue.Ask.TheVariants.{Offer};
-ghost use Rattle.lc_lines.specs.Outbound.{has_slot, has_control_slot, fits, message_len, is_own_free};
-ghost use Rattle.lc_lines.specs.Scheduler.{new_scheduler, IsSchedulerAnswer, queue, front, unwritten, has_guarantees, is_able, waits_for_bytes, is_no_later, is_turn, can_proceed, can_front_proceed, call_fits, next_channel, IsSettled, send, proceed, start, progress_of, cancel, for_good, IsCallAnswer, IsAttemptAnswer, IsCompleteAnswer, goes_at_once, attempt, try_send, join, first, is_offer_of, is_offer_call, complete_progress, complete, Proceeds, Notifies, Steps, frame_of_control, control_refusal, put_frame, take_frame, write, is_hopeless, next_hopeless, NoneIsHopeless, GivesUp, KeepsSlots, FitsBytes, lack};
+ghost use Rattle.lc_lines.specs.Permits.{free_of, is_permit, beyond_permits};
+ghost use Rattle.lc_frame.specs.Frame.{IsValid, channel_of};
+ghost use Rattle.lc_lines.specs.Outbound.{has_slot, has_control_slot, fits, message_len};
+ghost use Rattle.lc_lines.specs.Scheduler.{new_scheduler, IsSchedulerAnswer, queue, aside, front, unwritten, free, has_guarantees, is_able, waits_for_bytes, is_no_later, is_turn, can_proceed, can_front_proceed, call_fits, next_channel, IsSettled, send, proceed, start, progress_of, cancel, for_good, IsCallAnswer, IsAttemptAnswer, IsCompleteAnswer, goes_at_once, attempt, try_send, reserve, try_reserve, IsReserveAnswer, reserved_refusal, IsReservedAnswer, grant, proceed_by_grant, release, send_reserved, give_back, join, first, is_offer_of, is_offer_call, complete_progress, complete, Completes, Notifies, Steps, frame_of_control, control_refusal, put_frame, take_frame, write, is_hopeless, next_hopeless, NoneIsHopeless, GivesUp, KeepsSlots, KeepsGuarantees, FitsBytes, lack};
 
 use crate::counts::MessageCounts;
+use crate::permits::Aside;
 use crate::queue::{Ask, Call, WaitQueue};
 use lc_book::{ClientBook, Refusal, Violation};
 use lc_frame::{Body, CHANNELS, Channel, Frame, FrameRef, StreamDecoder};
@@ -43,7 +46,7 @@ pub const MOST_QUEUED: usize = 65_536;
 /// What became of a call that waited.
 #[derive(Clone, Copy)]
 pub enum Outcome {
-    /// Its message entered the outbound queue.
+    /// Its message entered the outbound queue, or its permit was granted.
     Completed,
     /// It can proceed: its caller hands the message over.
     Notified,
@@ -62,17 +65,17 @@ pub struct Notice {
 /// How far a new call came.
 #[derive(Clone, Copy)]
 pub enum Progress {
-    /// Its message entered the outbound queue.
+    /// Its message entered the outbound queue, or its permit was granted.
     Proceeded,
     /// It waits.
     Waits,
 }
 
-/// The answer of an attempt to send.
+/// The answer of an attempt to send or to reserve.
 #[derive(Clone, Copy)]
 pub enum Attempt {
-    /// The message entered the outbound queue.
-    Sent,
+    /// The message entered the outbound queue, or the permit was granted.
+    Succeeded,
     /// It lacks this, and nothing changed. `Needs::Slot` is a slot, bytes, or its turn.
     Lacks(Needs),
 }
@@ -88,13 +91,15 @@ pub enum Control {
     Finish { channel: Channel },
 }
 
-/// A peer with the wait queues of its channels.
+/// A peer with the wait queues of its channels, and with what permits hold.
 pub struct Scheduler {
     alloc: Global,
     peer: Peer,
     queues: [WaitQueue; CHANNELS],
+    asides: [Aside; CHANNELS],
     sent: u64,
     begun: usize,
+    exempt: u64,
     counts: MessageCounts,
 }
 
@@ -105,8 +110,10 @@ impl Drop for Scheduler {
             alloc: _,
             peer: _,
             queues: _,
+            asides: _,
             sent: _,
             begun: _,
+            exempt: _,
             counts: _,
         } = self;
     }
@@ -117,9 +124,9 @@ impl Model for Scheduler {
 
     ghost Value = { SchedulerState };
 
-    ghost view = { λ s. record { peer = s.peer; queues = s.queues; sent = s.sent; begun = s.begun } };
+    ghost view = { λ s. record { peer = s.peer; queues = s.queues; asides = s.asides; sent = s.sent; begun = s.begun; exempt = s.exempt } };
 
-    ghost invariant = { λ s. AreSchedulerFields s.peer s.queues s.sent s.begun s.counts };
+    ghost invariant = { λ s. AreSchedulerFields s.peer s.queues s.asides s.sent s.begun s.exempt s.counts };
 }
 
 // The refusal of a message of so many bytes by a book.
@@ -164,15 +171,17 @@ fn message_len(frame: &Frame) -> usize
     }
 }
 
-// What a message lacks that is not sent at once.
-fn lack(needs: Needs) -> Needs
-    ensures { result ≡ lack needs }
+// The guarantees that a call may use, by the book of its channel and what permits hold there.
+#[inline]
+fn free_of(book: &ClientBook, aside: Aside) -> u64
+    ensures { result ≡ free_of book.now aside }
 {
-    match needs {
-        Needs::Nothing | Needs::Slot => Needs::Slot,
-        Needs::Guarantees(missing) => Needs::Guarantees(missing),
-        Needs::Never => Needs::Never,
-    }
+    let held = book.held();
+    let within = match book.send_left() {
+        Some(left) => left.min(held),
+        None => held,
+    };
+    within.saturating_sub(aside.bytes)
 }
 
 // Puts the frame of a control call.
@@ -215,7 +224,8 @@ fn refuse_control(peer: &Peer, control: Control) -> Refusal
 }
 
 impl Scheduler {
-    /// A new peer, and no call waits. `BadSlots` comes first, where there are fewer than [`LEAST_SLOTS`].
+    /// A new peer, where no call waits and no permit is out. `BadSlots` comes first, where there are fewer than
+    /// [`LEAST_SLOTS`].
     pub fn new(alloc: Global, config: Config) -> Result<Scheduler, PeerFault>
         ensures answer { IsSchedulerAnswer config (result_err result) }
         ensures value { IfOk result (λ s. s ≡ new_scheduler config) }
@@ -224,6 +234,8 @@ impl Scheduler {
             return Err(PeerFault::BadSlots);
         }
         let peer = Peer::new(alloc, config)?;
+        // Its contract says how many slots there may be.
+        let _count = peer.waiting();
         let queues = [
             WaitQueue::new(alloc),
             WaitQueue::new(alloc),
@@ -237,13 +249,16 @@ impl Scheduler {
             alloc,
             peer,
             queues,
+            asides: [Aside::none(); CHANNELS],
             sent: 0,
             begun: 0,
+            exempt: 0,
             counts: MessageCounts::new(),
         })
     }
 
-    /// How many messages entered the outbound queue so far, up to the greatest number.
+    /// How many turns were taken so far, up to the greatest number: messages that were sent without a permit, and
+    /// permits that were granted.
     pub fn sent(&self) -> u64
         ensures value { result ≡ self.now.sent }
         ensures counted { result < 2 ^ 64 - 1 → AreCounted self.now }
@@ -255,44 +270,64 @@ impl Scheduler {
     #[inline]
     pub fn peer(&self) -> &Peer
         ensures value { result.now ≡ self.now.peer }
-        ensures slots { KeepsSlots self.now.peer }
-        ensures bytes { FitsBytes self.now.peer.waiting self.now.begun }
+        ensures slots { KeepsSlots self.now.peer self.now.asides }
+        ensures guarantees { KeepsGuarantees self.now.peer self.now.asides }
+        ensures bytes { FitsBytes self.now.peer.waiting self.now.begun self.now.exempt }
     {
         &self.peer
     }
 
-    // Whether a channel's guarantees suffice for a message of so many bytes, and nothing else refuses it.
+    /// What the permits of a channel hold.
+    #[inline]
+    pub fn aside(&self, channel: Channel) -> Aside
+        ensures { result ≡ aside self.now channel }
+    {
+        self.asides[channel.index()]
+    }
+
+    /// The guarantees of a channel that a call may use: those held, within the limit on sending, beside those that
+    /// permits set aside.
+    #[inline]
+    pub fn free(&self, channel: Channel) -> u64
+        ensures { result ≡ free self.now channel }
+    {
+        free_of(&self.peer.client(channel), self.aside(channel))
+    }
+
+    // Whether a channel's guarantees suffice for a message of so many bytes, beside those that permits set aside, and
+    // nothing else refuses it.
     #[inline]
     fn has_guarantees(&self, channel: Channel, len: usize) -> bool
-        ensures { result ≡ has_guarantees self.now.peer channel len }
+        ensures { result ≡ has_guarantees self.now channel len }
     {
-        match judge_spend(&self.peer.client(channel), len) {
-            Ok(()) => true,
+        let book = self.peer.client(channel);
+        match judge_spend(&book, len) {
+            Ok(()) => len as u64 <= free_of(&book, self.aside(channel)),
             Err(_) => false,
         }
     }
 
-    // Whether a slot is free for a message of a channel.
+    // Whether a slot is free for a message or a permit of a channel.
     #[inline]
     fn has_slot(&self, channel: Channel) -> bool
-        ensures { result ≡ has_slot self.now.peer channel }
+        ensures { result ≡ has_slot self.now.peer self.now.asides channel }
     {
-        self.counts.queued(channel) == 0
-            || self.peer.slots_left().saturating_sub(self.counts.unused()) > CONTROL_SLOTS
+        self.counts.under_way(channel) == 0
+            || self.peer.slots_left().saturating_sub(self.counts.kept()) > CONTROL_SLOTS
     }
 
     // Whether a slot is free for a control frame.
     #[inline]
     fn has_control_slot(&self) -> bool
-        ensures { result ≡ has_control_slot self.now.peer }
+        ensures { result ≡ has_control_slot self.now.peer self.now.asides }
     {
-        self.peer.slots_left() > self.counts.unused()
+        self.peer.slots_left() > self.counts.kept()
     }
 
-    // Whether a message of a channel of so many bytes waits for bytes at most.
+    // Whether a message or a permit of a channel of so many bytes waits for bytes at most.
     #[inline]
     fn is_able(&self, channel: Channel, len: usize) -> bool
-        ensures { result ≡ is_able self.now.peer channel len }
+        ensures { result ≡ is_able self.now channel len }
     {
         self.has_guarantees(channel, len) && self.has_slot(channel)
     }
@@ -341,11 +376,11 @@ impl Scheduler {
         fits(self.counts.bytes() + self.begun, len)
     }
 
-    /// Whether a message of a channel of so many bytes can proceed, where it is the first that waits there.
+    /// Whether a message or a permit of a channel of so many bytes can proceed, where it is the first that waits there.
     #[inline]
     pub fn can_proceed(&self, channel: Channel, len: usize) -> bool
         ensures value { result ≡ can_proceed self.now channel len }
-        ensures able { result ≡ true → is_able self.now.peer channel len ≡ true }
+        ensures able { result ≡ true → is_able self.now channel len ≡ true }
         ensures bytes { result ≡ true → fits (unwritten self.now) len ≡ true }
     {
         self.holds_all(channel, len)
@@ -400,7 +435,7 @@ impl Scheduler {
 
     // A message enters the outbound queue, for which there are guarantees, a slot and bytes.
     fn put(&mut self, channel: Channel, body: Body)
-        requires able { is_able self.old.peer channel (length body) ≡ true }
+        requires able { is_able self.old channel (length body) ≡ true }
         requires bytes { fits (unwritten self.old) (length body) ≡ true }
         ensures { self.new ≡ send self.old channel body }
     {
@@ -413,7 +448,23 @@ impl Scheduler {
         self.counts.enter(channel, len);
         self.queues[at].note_sent(sent);
         self.sent = sent;
+        self.exempt = 0;
         self.peer.send_owned(channel, body);
+    }
+
+    // A permit is granted, for which there are guarantees and a slot.
+    fn grant(&mut self, channel: Channel, len: usize)
+        requires able { is_able self.old channel len ≡ true }
+        ensures { self.new ≡ grant self.old channel len }
+    {
+        // Its contract says what the book keeps.
+        let _book = self.peer.client(channel);
+        let at = channel.index();
+        let sent = self.sent.saturating_add(1);
+        self.counts.grant(channel);
+        self.asides[at] = self.asides[at].with_permit(len);
+        self.queues[at].note_sent(sent);
+        self.sent = sent;
     }
 
     // Whether the first call of a channel is an offer.
@@ -426,13 +477,13 @@ impl Scheduler {
         }
     }
 
-    // The first call of a channel proceeds, which can, and left its message.
+    // The first call of a channel is completed, which can proceed, and left its message or asks for a permit.
     fn proceed(&mut self, channel: Channel) -> Notice
         requires able { waits_for_bytes self.old channel ≡ true }
         requires bytes { call_fits self.old (front self.old channel) ≡ true }
         requires turn { is_turn self.old channel ≡ true }
-        requires message { is_offer_call (front self.old channel) ≡ false }
-        ensures { Proceeds result self.old self.new }
+        requires ask { is_offer_call (front self.old channel) ≡ false }
+        ensures { Completes result self.old self.new }
     {
         let at = channel.index();
         match self.queues[at].pop() {
@@ -443,6 +494,19 @@ impl Scheduler {
                 },
             ) => {
                 self.put(channel, body);
+                Notice {
+                    channel,
+                    ticket,
+                    outcome: Outcome::Completed,
+                }
+            }
+            Some(
+                Call {
+                    ticket,
+                    ask: Ask::Permit(len),
+                },
+            ) => {
+                self.grant(channel, len);
                 Notice {
                     channel,
                     ticket,
@@ -498,10 +562,26 @@ impl Scheduler {
     // Whether no call of a channel waits, and a new one of so many bytes can proceed.
     fn goes_at_once(&self, channel: Channel, len: usize) -> bool
         ensures value { result ≡ goes_at_once self.now channel len }
-        ensures able { result ≡ true → is_able self.now.peer channel len ≡ true }
+        ensures able { result ≡ true → is_able self.now channel len ≡ true }
         ensures bytes { result ≡ true → fits (unwritten self.now) len ≡ true }
     {
         self.queues[channel.index()].len() == 0 && self.can_proceed(channel, len)
+    }
+
+    // What a message or a permit of so many bytes lacks that does not go at once.
+    fn lack(&self, channel: Channel, len: usize) -> Needs
+        ensures { result ≡ lack self.now channel len }
+    {
+        match self.peer.needs(channel, len) {
+            Needs::Never => return Needs::Never,
+            Needs::Nothing | Needs::Guarantees(_) | Needs::Slot => {}
+        }
+        let free = self.free(channel);
+        if len as u64 <= free {
+            Needs::Slot
+        } else {
+            Needs::Guarantees(len as u64 - free)
+        }
     }
 
     // A copy of a message.
@@ -547,11 +627,11 @@ impl Scheduler {
     {
         judge_call(&self.peer.client(channel), body.len())?;
         if !self.goes_at_once(channel, body.len()) {
-            return Ok(Attempt::Lacks(lack(self.peer.needs(channel, body.len()))));
+            return Ok(Attempt::Lacks(self.lack(channel, body.len())));
         }
         let body = self.copy(body)?;
         self.put(channel, body);
-        Ok(Attempt::Sent)
+        Ok(Attempt::Succeeded)
     }
 
     /// An offer of a message of so many bytes, by a ticket of the caller's choice: the call joins its wait queue, and its
@@ -609,13 +689,131 @@ impl Scheduler {
 
     // The first call of a channel is removed, and its message enters the outbound queue.
     fn put_first(&mut self, channel: Channel, body: Body)
-        requires able { is_able self.old.peer channel (length body) ≡ true }
+        requires able { is_able self.old channel (length body) ≡ true }
         requires bytes { fits (unwritten self.old) (length body) ≡ true }
         ensures { self.new ≡ proceed self.old channel body }
     {
         let at = channel.index();
         let _ = self.queues[at].pop();
         self.put(channel, body);
+    }
+
+    /// A call to reserve a permit for a message of so many bytes, by a ticket of the caller's choice. The permit is
+    /// granted at once where that is possible; else the call joins its wait queue. Refused by 15, 1, 2 and 3, and by 14
+    /// where it would wait and memory is refused; that guarantees are missing refuses nothing.
+    pub fn reserve(
+        &mut self,
+        channel: Channel,
+        ticket: u64,
+        len: usize,
+    ) -> Result<Progress, Refusal>
+        ensures answer { IsReserveAnswer self.old channel len (result_err result) }
+        ensures progress { IfOk result (λ progress. progress ≡ progress_of self.old channel len) }
+        ensures after { self.new ≡ (if is_ok result then reserve self.old channel ticket len else self.old) }
+    {
+        judge_call(&self.peer.client(channel), len)?;
+        if self.goes_at_once(channel, len) {
+            self.grant(channel, len);
+            return Ok(Progress::Proceeded);
+        }
+        let at = channel.index();
+        let ask = Ask::Permit(len);
+        match self.queues[at].push(Call { ticket, ask }) {
+            Ok(()) => Ok(Progress::Waits),
+            Err(_) => Err(Refusal::OutOfMemory),
+        }
+    }
+
+    /// An attempt to reserve a permit at once, behind all calls of its channel that wait. Refused by 15, 1, 2 and 3.
+    pub fn try_reserve(&mut self, channel: Channel, len: usize) -> Result<Attempt, Refusal>
+        ensures answer { result_err result ≡ for_good (spend_refusal (client self.old.peer channel) len) }
+        ensures attempt { IfOk result (λ answer. answer ≡ attempt self.old channel len) }
+        ensures after { self.new ≡ (if is_ok result then try_reserve self.old channel len else self.old) }
+    {
+        judge_call(&self.peer.client(channel), len)?;
+        if !self.goes_at_once(channel, len) {
+            return Ok(Attempt::Lacks(self.lack(channel, len)));
+        }
+        self.grant(channel, len);
+        Ok(Attempt::Succeeded)
+    }
+
+    // Why a message of so many bytes is refused that is sent by a permit of so many.
+    fn judge_reserved(&self, channel: Channel, len: usize, n: usize) -> Result<(), Refusal>
+        ensures answer { result_err result ≡ reserved_refusal self.now channel len n }
+        ensures permit { OnOk result (is_permit (aside self.now channel) len ≡ true) }
+        ensures within { OnOk result (n ≤ len) }
+        ensures accepted { OnOk result (spend_refusal (client self.now.peer channel) n ≡ None) }
+    {
+        judge_call(&self.peer.client(channel), n)?;
+        let permitted = self.aside(channel).permitted(len);
+        if n > permitted {
+            return Err(Refusal::NoGuarantee {
+                held: permitted as u64,
+            });
+        }
+        Ok(())
+    }
+
+    // A message enters the outbound queue by a permit of so many bytes, which is out and no shorter.
+    fn put_reserved(&mut self, channel: Channel, len: usize, body: Body)
+        requires permit { is_permit (aside self.old channel) len ≡ true }
+        requires within { length body ≤ len }
+        requires accepted { spend_refusal (client self.old.peer channel) (length body) ≡ None }
+        ensures { self.new ≡ send_reserved self.old channel len body }
+    {
+        // Their contracts say what the peer keeps.
+        let _book = self.peer.client(channel);
+        let _count = self.peer.waiting();
+        let at = channel.index();
+        let body_len = body.as_slice().len();
+        let exempt = self.exempt.saturating_add(1);
+        self.counts.use_permit(body_len);
+        self.asides[at] = self.asides[at].without_permit(len);
+        self.exempt = exempt;
+        self.peer.send_owned(channel, body);
+    }
+
+    /// Sends a message by a permit of so many bytes, which is used up: whatever is queued and whatever waits, the message
+    /// enters the outbound queue, and the guarantees that it leaves unused are free again. Refused by 15, 1, 2 and 3, by
+    /// 4 where the message is longer than the permit or no such permit is out, and by 14 where memory is refused; then
+    /// nothing changes, and the permit is out still.
+    pub fn send_reserved(
+        &mut self,
+        channel: Channel,
+        len: usize,
+        body: &[u8],
+    ) -> Result<(), Refusal>
+        ensures answer { IsReservedAnswer self.old channel len (length body.now) (result_err result) }
+        ensures after { self.new ≡ (if is_ok result then send_reserved self.old channel len body.now else self.old) }
+    {
+        self.judge_reserved(channel, len, body.len())?;
+        let body = self.copy(body)?;
+        self.put_reserved(channel, len, body);
+        Ok(())
+    }
+
+    /// Gives back a permit of so many bytes: its slot and its guarantees are free again. The answer is whether such a
+    /// permit was out.
+    pub fn give_back(&mut self, channel: Channel, len: usize) -> bool
+        ensures answer { result ≡ is_permit (aside self.old channel) len }
+        ensures after { self.new ≡ give_back self.old channel len }
+    {
+        if !self.aside(channel).is_permit(len) {
+            return false;
+        }
+        self.release(channel, len);
+        true
+    }
+
+    // A permit of so many bytes, which is out, is out no longer.
+    fn release(&mut self, channel: Channel, len: usize)
+        requires { is_permit (aside self.old channel) len ≡ true }
+        ensures { self.new ≡ release self.old channel len }
+    {
+        let at = channel.index();
+        self.counts.release(channel);
+        self.asides[at] = self.asides[at].without_permit(len);
     }
 
     /// Gives up the first call of a ticket that waits: nothing of it was sent, and nothing will be. The answer is whether
@@ -628,11 +826,36 @@ impl Scheduler {
         self.queues[at].remove(ticket)
     }
 
-    /// A control call. It is refused as at the peer, and by 13 where no slot is free for a control frame.
+    // An absolve takes no guarantees that permits set aside. Its book comes first.
+    fn spare_permits(&self, control: Control) -> Result<(), Refusal>
+        ensures spared { OnOk result (beyond_permits (client self.now.peer (channel_of (frame_of_control control))) (aside self.now (channel_of (frame_of_control control))) (frame_of_control control) ≡ None) }
+        ensures refused { IfErr result (λ refusal. Some refusal ≡ control_refusal self.now (frame_of_control control)) }
+    {
+        match control {
+            Control::Absolve { channel, amount } => {
+                let book = self.peer.client(channel);
+                book.judge_absolve(amount)?;
+                let held = book.held().saturating_sub(self.aside(channel).bytes);
+                if u64::from(amount) > held {
+                    return Err(Refusal::NotHeld { held });
+                }
+                Ok(())
+            }
+            Control::Issue { .. }
+            | Control::Plead { .. }
+            | Control::LimitSending { .. }
+            | Control::LimitReceiving { .. }
+            | Control::Finish { .. } => Ok(()),
+        }
+    }
+
+    /// A control call. It is refused as at the peer, by 6 where it absolves guarantees that permits set aside, and by 13
+    /// where no slot is free for a control frame.
     pub fn control(&mut self, control: Control) -> Result<(), Refusal>
-        ensures answer { result_err result ≡ control_refusal self.old.peer (frame_of_control control) }
+        ensures answer { result_err result ≡ control_refusal self.old (frame_of_control control) }
         ensures after { self.new ≡ (if is_ok result then put_frame self.old (frame_of_control control) else self.old) }
     {
+        self.spare_permits(control)?;
         if self.has_control_slot() {
             return put_control(&mut self.peer, control);
         }

@@ -10,4 +10,6 @@ fn every_law_holds() {
     laws::runs_are_calls();
     laws::each_sends_once_meanwhile();
     laws::each_call_is_counted();
+    laws::permits_are_honoured();
+    laws::each_call_leaves_permits();
 }

@@ -1,9 +1,12 @@
 //! Calls in turn, and what becomes of them. A case is a call: `send CHANNEL TICKET LENGTH`, `try CHANNEL LENGTH`,
-//! `offer CHANNEL TICKET LENGTH`, `complete CHANNEL TICKET LENGTH`, `cancel CHANNEL TICKET`, `issued CHANNEL AMOUNT` (guarantees arrive), `finish CHANNEL`, `out` (the next frame is
-//! taken), `left BYTES` (of the message that was taken last), `notice`.
+//! `offer CHANNEL TICKET LENGTH`, `complete CHANNEL TICKET LENGTH`, `cancel CHANNEL TICKET`, `reserve CHANNEL TICKET
+//! LENGTH`, `tryreserve CHANNEL LENGTH`, `use CHANNEL PERMIT LENGTH` (a message by a permit), `back CHANNEL PERMIT`,
+//! `aside CHANNEL` (the permits, their guarantees, and the guarantees that are free), `issued CHANNEL AMOUNT` (guarantees
+//! arrive), `absolve CHANNEL AMOUNT`, `limit CHANNEL BOUND`, `finish CHANNEL`, `out` (the next frame is taken), `left
+//! BYTES` (of the message that was taken last), `notice`.
 use super::{Subject, answers, same};
 use lc_frame::{Channel, Frame, FrameRef, Version};
-use lc_lines::{Attempt, Control, Lines, NOTICES, Notice, Outcome, Progress};
+use lc_lines::{Aside, Attempt, Control, Lines, NOTICES, Notice, Outcome, Progress};
 use lc_peer::{Config, Needs, PeerFault, Refusal};
 use std::alloc::Global;
 use std::str::SplitWhitespace;
@@ -48,6 +51,14 @@ fn refused(alloc: Global, refusal: Refusal) -> Option<String> {
     format!(in alloc; "refused {}", refusal.number()).ok()
 }
 
+fn lacks(alloc: Global, needs: Needs) -> Option<String> {
+    match needs {
+        Needs::Guarantees(missing) => format!(in alloc; "lacks {missing}").ok(),
+        Needs::Slot => text(alloc, "lacks a slot"),
+        Needs::Nothing | Needs::Never => text(alloc, "never"),
+    }
+}
+
 fn text(alloc: Global, text: &str) -> Option<String> {
     String::from_str(alloc, text).ok()
 }
@@ -67,12 +78,8 @@ impl Play {
         let channel = channel(words)?;
         let body = message(alloc, words)?;
         match self.lines.try_send(channel, &body) {
-            Ok(Attempt::Sent) => text(alloc, "sent"),
-            Ok(Attempt::Lacks(Needs::Guarantees(missing))) => {
-                format!(in alloc; "lacks {missing}").ok()
-            }
-            Ok(Attempt::Lacks(Needs::Slot)) => text(alloc, "lacks a slot"),
-            Ok(Attempt::Lacks(_)) => text(alloc, "never"),
+            Ok(Attempt::Succeeded) => text(alloc, "sent"),
+            Ok(Attempt::Lacks(needs)) => lacks(alloc, needs),
             Err(refusal) => refused(alloc, refusal),
         }
     }
@@ -104,6 +111,71 @@ impl Play {
         }
     }
 
+    fn reserve(&mut self, alloc: Global, words: &mut SplitWhitespace) -> Option<String> {
+        let (channel, ticket) = (channel(words)?, number(words)?);
+        let len = usize::try_from(number(words)?).ok()?;
+        match self.lines.reserve(channel, ticket, len) {
+            Ok(Progress::Proceeded) => text(alloc, "granted"),
+            Ok(Progress::Waits) => text(alloc, "waits"),
+            Err(refusal) => refused(alloc, refusal),
+        }
+    }
+
+    fn try_reserve(&mut self, alloc: Global, words: &mut SplitWhitespace) -> Option<String> {
+        let channel = channel(words)?;
+        let len = usize::try_from(number(words)?).ok()?;
+        match self.lines.try_reserve(channel, len) {
+            Ok(Attempt::Succeeded) => text(alloc, "granted"),
+            Ok(Attempt::Lacks(needs)) => lacks(alloc, needs),
+            Err(refusal) => refused(alloc, refusal),
+        }
+    }
+
+    fn use_permit(&mut self, alloc: Global, words: &mut SplitWhitespace) -> Option<String> {
+        let channel = channel(words)?;
+        let len = usize::try_from(number(words)?).ok()?;
+        let body = message(alloc, words)?;
+        match self.lines.send_reserved(channel, len, &body) {
+            Ok(()) => text(alloc, "sent"),
+            Err(Refusal::NoGuarantee { held }) => format!(in alloc; "refused 4 {held}").ok(),
+            Err(refusal) => refused(alloc, refusal),
+        }
+    }
+
+    fn back(&mut self, alloc: Global, words: &mut SplitWhitespace) -> Option<String> {
+        let channel = channel(words)?;
+        let len = usize::try_from(number(words)?).ok()?;
+        match self.lines.give_back(channel, len) {
+            true => text(alloc, "was out"),
+            false => text(alloc, "was not out"),
+        }
+    }
+
+    fn aside(&mut self, alloc: Global, words: &mut SplitWhitespace) -> Option<String> {
+        let channel = channel(words)?;
+        let Aside { permits, bytes } = self.lines.aside(channel);
+        let free = self.lines.free(channel);
+        format!(in alloc; "{permits} {bytes} {free}").ok()
+    }
+
+    fn control(&mut self, alloc: Global, control: Control) -> Option<String> {
+        match self.lines.control(control) {
+            Ok(()) => text(alloc, "put"),
+            Err(Refusal::NotHeld { held }) => format!(in alloc; "refused 6 {held}").ok(),
+            Err(refusal) => refused(alloc, refusal),
+        }
+    }
+
+    fn absolve(&mut self, alloc: Global, words: &mut SplitWhitespace) -> Option<String> {
+        let (channel, amount) = (channel(words)?, u32::try_from(number(words)?).ok()?);
+        self.control(alloc, Control::Absolve { channel, amount })
+    }
+
+    fn limit(&mut self, alloc: Global, words: &mut SplitWhitespace) -> Option<String> {
+        let (channel, bound) = (channel(words)?, number(words)?);
+        self.control(alloc, Control::LimitSending { channel, bound })
+    }
+
     fn issued(&mut self, alloc: Global, words: &mut SplitWhitespace) -> Option<String> {
         let (channel, amount) = (channel(words)?, u32::try_from(number(words)?).ok()?);
         if amount == 0 || amount > 1 << 24 {
@@ -117,10 +189,7 @@ impl Play {
 
     fn finish(&mut self, alloc: Global, words: &mut SplitWhitespace) -> Option<String> {
         let channel = channel(words)?;
-        match self.lines.control(Control::Finish { channel }) {
-            Ok(()) => text(alloc, "put"),
-            Err(refusal) => refused(alloc, refusal),
-        }
+        self.control(alloc, Control::Finish { channel })
     }
 
     fn out(&mut self, alloc: Global) -> Option<String> {
@@ -162,6 +231,13 @@ impl Subject for Play {
             "offer" => self.offer(alloc, &mut words),
             "complete" => self.complete(alloc, &mut words),
             "cancel" => self.cancel(alloc, &mut words),
+            "reserve" => self.reserve(alloc, &mut words),
+            "tryreserve" => self.try_reserve(alloc, &mut words),
+            "use" => self.use_permit(alloc, &mut words),
+            "back" => self.back(alloc, &mut words),
+            "aside" => self.aside(alloc, &mut words),
+            "absolve" => self.absolve(alloc, &mut words),
+            "limit" => self.limit(alloc, &mut words),
             "issued" => self.issued(alloc, &mut words),
             "finish" => self.finish(alloc, &mut words),
             "out" => self.out(alloc),
@@ -308,6 +384,213 @@ send 2 5 1048577 => refused 2
 out => control
 out => nothing
 ";
+
+// A permit holds its guarantees and a slot until it is used or given back: 16 slots, of which 2 are shared.
+const PERMITS: &str = "issued 1 100 => arrived
+issued 2 100 => arrived
+reserve 1 1 60 => granted
+aside 1 => 1 60 40
+send 1 2 41 => waits
+try 1 1 => lacks a slot
+reserve 2 3 10 => granted
+reserve 2 4 10 => granted
+tryreserve 2 10 => granted
+tryreserve 2 10 => lacks a slot
+aside 2 => 3 30 70
+reserve 2 5 70 => waits
+absolve 2 71 => refused 6 70
+absolve 2 101 => refused 6 100
+use 1 60 61 => refused 4 60
+use 1 61 1 => refused 4 0
+use 1 60 0 => refused 1
+use 2 10 10 => sent
+notice => nothing
+out => 2 10
+notice => 2 5 completed
+aside 2 => 3 90 0
+use 1 60 20 => sent
+aside 1 => 0 0 80
+notice => nothing
+back 1 60 => was not out
+use 1 60 20 => refused 4 0
+out => 1 20
+notice => 1 2 completed
+back 2 10 => was out
+notice => nothing
+aside 2 => 2 80 10
+back 2 70 => was out
+use 2 10 10 => sent
+aside 2 => 0 0 80
+absolve 2 81 => refused 6 80
+absolve 2 80 => put
+out => 1 41
+out => 2 10
+out => control
+out => nothing
+";
+
+// A channel's permit leaves its own slot, and the channels' own slots are not taken: 14 slots, of which none is shared.
+const OWN: &str = "issued 1 100 => arrived
+issued 2 100 => arrived
+reserve 1 1 5 => granted
+reserve 1 2 5 => waits
+send 2 3 5 => proceeded
+send 2 4 5 => waits
+use 1 5 5 => sent
+notice => nothing
+out => 2 5
+notice => 2 4 completed
+out => 1 5
+notice => 1 2 completed
+cancel 1 2 => did not wait
+send 1 5 5 => waits
+cancel 1 5 => waited
+reserve 1 6 5 => waits
+cancel 1 6 => waited
+back 1 5 => was out
+notice => nothing
+send 1 7 5 => proceeded
+";
+
+// The message of a permit enters whatever is queued, and its bytes count then. A permit that is out counts none.
+const EXEMPT: &str = "issued 1 200000 => arrived
+issued 2 200000 => arrived
+reserve 1 1 60000 => granted
+send 2 2 65536 => proceeded
+reserve 1 3 1 => waits
+use 1 60000 60000 => sent
+notice => nothing
+send 2 4 5536 => waits
+out => 2 65536
+left 5536 => noted
+notice => nothing
+left 5535 => noted
+notice => 1 3 completed
+notice => nothing
+left 1 => noted
+notice => nothing
+left 0 => noted
+notice => 2 4 completed
+out => 1 60000
+out => 2 5536
+out => nothing
+";
+
+// Calls that ask for permits and for messages take turns, and those of a channel keep their order. A message by a permit
+// takes no turn.
+const TURNS: &str = "reserve 1 1 10 => waits
+send 1 2 10 => waits
+offer 1 3 10 => waits
+reserve 1 4 5 => waits
+issued 1 19 => arrived
+notice => 1 1 completed
+notice => nothing
+issued 1 11 => arrived
+notice => 1 2 completed
+notice => 1 3 notified
+complete 1 3 10 => proceeded
+notice => nothing
+issued 1 5 => arrived
+notice => 1 4 completed
+out => 1 10
+out => 1 10
+use 1 5 5 => sent
+use 1 10 10 => sent
+out => 1 5
+out => 1 10
+";
+
+// A limit leaves what permits set aside before it, unless it is set lower meanwhile; a finish ends their use.
+const LIMITS: &str = "issued 1 100 => arrived
+limit 1 50 => put
+reserve 1 1 30 => granted
+aside 1 => 1 30 20
+try 1 21 => lacks 1
+try 1 51 => refused 3
+try 1 20 => sent
+aside 1 => 1 30 0
+send 1 2 30 => waits
+use 1 30 29 => sent
+notice => 1 2 hopeless
+tryreserve 1 1 => granted
+limit 1 0 => put
+use 1 1 1 => refused 3
+back 1 1 => was out
+issued 2 9 => arrived
+reserve 2 3 9 => granted
+finish 2 => put
+use 2 9 9 => refused 15
+aside 2 => 1 9 0
+back 2 9 => was out
+reserve 2 4 9 => refused 15
+tryreserve 3 0 => refused 1
+reserve 3 5 1048577 => refused 2
+tryreserve 3 7 => lacks 7
+";
+
+// Control frames leave the slots of permits and the channels' own: 14 slots, of which none is shared.
+const CONTROLS: &str = "issued 1 100 => arrived
+issued 2 100 => arrived
+reserve 1 1 5 => granted
+limit 0 7 => put
+limit 0 6 => put
+limit 0 5 => put
+limit 0 4 => put
+limit 0 3 => put
+limit 0 2 => put
+limit 0 1 => put
+limit 0 0 => refused 13
+absolve 1 96 => refused 6 95
+absolve 1 95 => refused 13
+use 1 5 5 => sent
+limit 0 0 => refused 13
+send 2 2 5 => proceeded
+limit 0 0 => refused 13
+out => control
+limit 0 0 => put
+";
+
+#[test]
+fn a_permit_holds_guarantees_and_a_slot(rt: HostRuntime) -> Result<(), Fail> {
+    let alloc = rt.alloc();
+    answers(&rt, alloc, &mut session(alloc, 16)?, PERMITS);
+    Ok(())
+}
+
+#[test]
+fn a_permit_takes_its_channels_own_slot(rt: HostRuntime) -> Result<(), Fail> {
+    let alloc = rt.alloc();
+    answers(&rt, alloc, &mut session(alloc, 14)?, OWN);
+    Ok(())
+}
+
+#[test]
+fn control_frames_leave_slots_to_permits(rt: HostRuntime) -> Result<(), Fail> {
+    let alloc = rt.alloc();
+    answers(&rt, alloc, &mut session(alloc, 14)?, CONTROLS);
+    Ok(())
+}
+
+#[test]
+fn a_permit_is_used_whatever_is_queued(rt: HostRuntime) -> Result<(), Fail> {
+    let alloc = rt.alloc();
+    answers(&rt, alloc, &mut session(alloc, 64)?, EXEMPT);
+    Ok(())
+}
+
+#[test]
+fn permits_are_granted_in_line(rt: HostRuntime) -> Result<(), Fail> {
+    let alloc = rt.alloc();
+    answers(&rt, alloc, &mut session(alloc, 64)?, TURNS);
+    Ok(())
+}
+
+#[test]
+fn a_limit_or_a_finish_ends_permits(rt: HostRuntime) -> Result<(), Fail> {
+    let alloc = rt.alloc();
+    answers(&rt, alloc, &mut session(alloc, 64)?, LIMITS);
+    Ok(())
+}
 
 #[test]
 fn a_channel_has_a_slot_of_its_own(rt: HostRuntime) -> Result<(), Fail> {

@@ -8,9 +8,9 @@ use Rattle.lc_lines.proofs.scheduler.Scheduler.can_proceed.Goals as goal
 pub returns-clause-able : goal.returns-clause-able
 returns-clause-able c = λ e.
     let s = c.args.self.now in
-    first_of_both (is_able s.peer c.args.channel c.args.len) (fits (unwritten s) c.args.len && is_turn s c.args.channel) (sym c.holds_all.ensures ∙ e)
+    first_of_both (is_able s c.args.channel c.args.len) (fits (unwritten s) c.args.len && is_turn s c.args.channel) (sym c.holds_all.ensures ∙ e)
 
 pub returns-clause-bytes : goal.returns-clause-bytes
 returns-clause-bytes c = λ e.
     let s = c.args.self.now in
-    first_of_both (fits (unwritten s) c.args.len) (is_turn s c.args.channel) (second_of_both (is_able s.peer c.args.channel c.args.len) (fits (unwritten s) c.args.len && is_turn s c.args.channel) (sym c.holds_all.ensures ∙ e))
+    first_of_both (fits (unwritten s) c.args.len) (is_turn s c.args.channel) (second_of_both (is_able s c.args.channel c.args.len) (fits (unwritten s) c.args.len && is_turn s c.args.channel) (sym c.holds_all.ensures ∙ e))

@@ -1,18 +1,14 @@
-use Rattle.std.proofs.Common.{◌≡◌, ◌∙◌, Some, ap, sym, arith}
-use Rattle.lc_lines.specs.Outbound.{Counts, unused}
+use Rattle.std.proofs.Common.{◌≡◌, ◌∙◌, Some, sym}
 use Rattle.lc_peer.specs.Calls.{next}
-use Rattle.lc_lines.proofs.Fields.{next_fields}
-use Rattle.lc_lines.proofs.Queued.{unused_few}
+use Rattle.lc_lines.proofs.Fields.{next_fields, few_kept}
 use Rattle.lc_lines.proofs.scheduler.Scheduler.next_out.Goals as goal
 
-pub leave_frame-requires-clause-unused : goal.leave_frame-requires-clause-unused
-leave_frame-requires-clause-unused c =
-    let is : c.self.inside.counts.unused ≡ unused c.self.inside.peer.waiting = ap (λ (s : Counts). s.unused) c.self.invariant.counted in
-    let few = unused_few c.self.inside.peer.waiting in
-    omega arith
+pub leave_frame-requires-clause-kept : goal.leave_frame-requires-clause-kept
+leave_frame-requires-clause-kept c =
+    few_kept c.self.inside.peer c.self.inside.queues c.self.inside.asides c.self.inside.sent c.self.inside.begun c.self.inside.exempt c.self.inside.counts c.self.invariant
 
 pub invariant_of-self-2 : goal.invariant_of-self-2
 invariant_of-self-2 c =
     let p = c.self.inside.peer in
     let first : next p ≡ Some c.in_ok-frame.frame = sym c.next_out.ensures.value ∙ c.in_ok-frame.was in
-    next_fields p c.next_out.new.self c.in_ok-frame.frame c.self.inside.queues c.self.inside.sent c.self.inside.begun c.message_len-begun.result c.self.inside.counts c.leave_frame.new.self c.next_out.ensures.after first c.message_len-begun.ensures c.leave_frame.ensures c.self.invariant
+    next_fields p c.next_out.new.self c.in_ok-frame.frame c.self.inside.queues c.self.inside.asides c.self.inside.sent c.self.inside.begun c.message_len-begun.result c.self.inside.exempt c.self.inside.counts c.leave_frame.new.self c.next_out.ensures.after first c.message_len-begun.ensures c.leave_frame.ensures c.self.invariant

@@ -1,45 +1,39 @@
-use Rattle.std.proofs.Common.{◌<◌, ◌^◌, ◌≡◌, ◌≤◌, ◌+◌, ℕ, true, length, ap, sym, subst, ◌∙◌, arith}
-use Rattle.std.specs.Prelude.{slice_index}
+use Rattle.std.proofs.Common.{◌+◌, ◌<◌, ◌^◌, ◌≡◌, ℕ, true, length, ap, sym, subst, ◌∙◌, arith}
+use Rattle.std.specs.Prelude.{is_none, nat_le}
 use Rattle.std.proofs.lemmas.Grind.{common_steps}
-use Rattle.lc_frame.specs.Channel.{number_of}
-use Rattle.lc_frame.specs.Frame.{IsValid}
-use Rattle.lc_frame.specs.Stream.{messages}
-use Rattle.lc_frame.specs.declared.frame.Frame.TheVariants.{Send}
-use Rattle.lc_peer.specs.Peer.{PeerState}
+use Rattle.lc_book.specs.Client.{Client, spend_refusal}
+use Rattle.lc_peer.specs.Peer.{client}
 use Rattle.lc_lines.specs.Queue.{QueueState}
-use Rattle.lc_lines.specs.Outbound.{Counts, counts_of, with_message, message_bytes, fits, has_slot}
-use Rattle.lc_lines.specs.Scheduler.{SchedulerState, count_after, unwritten, FitsBytes, KeepsSlots, most_unwritten, has_guarantees}
-use Rattle.lc_lines.proofs.Queued.{counts_push, queued_few, of_channel}
-use Rattle.lc_lines.proofs.Bytes.{fits_push, bounded_push}
-use Rattle.lc_lines.proofs.Slots.{slots_push}
+use Rattle.lc_lines.specs.Outbound.{with_message, message_bytes, fits, has_slot}
+use Rattle.lc_lines.specs.Scheduler.{SchedulerState, count_after, unwritten, has_guarantees, free}
+use Rattle.lc_lines.proofs.Fields.{push_fields, few_under_way}
+use Rattle.lc_lines.proofs.Guarantees.{none_is, valid_send}
 use Rattle.lc_lines.proofs.Next.{first_of_both, second_of_both}
 use Rattle.lc_lines.proofs.Stamps.{sent_now}
 use Rattle.lc_lines.proofs.scheduler.Scheduler.put.Goals as goal
 
-pub enter-requires-clause-queued : goal.enter-requires-clause-queued
-enter-requires-clause-queued c =
-    let w = c.self.inside.peer.waiting in
-    let is : slice_index c.self.inside.counts.queued (number_of c.args.channel) ≡ length (messages c.args.channel w) = ap (λ (s : Counts). slice_index s.queued (number_of c.args.channel)) c.self.invariant.counted ∙ of_channel w c.args.channel in
-    let few = queued_few c.args.channel w in
-    omega arith
+pub enter-requires-clause-under_way : goal.enter-requires-clause-under_way
+enter-requires-clause-under_way c =
+    few_under_way c.self.inside.peer c.self.inside.queues c.self.inside.asides c.self.inside.sent c.self.inside.begun c.self.inside.exempt c.self.inside.counts c.args.channel c.self.invariant
 
 pub invariant_of-self : goal.invariant_of-self
 invariant_of-self c =
     let p = c.self.inside.peer in
+    let h = c.self.inside.asides in
     let body = c.args.body in
-    let f = Send c.args.channel body in
     let len : length c.as_slice-len.result.now ≡ length body = ap length c.as_slice-len.ensures in
-    let able : (has_guarantees p c.args.channel (length body) ≡ true) × (has_slot p c.args.channel ≡ true) = subst (λ (s : SchedulerState). (has_guarantees s.peer c.args.channel (length body) ≡ true) × (has_slot s.peer c.args.channel ≡ true)) (sym c.self.view_is) (first_of_both _ _ c.requires.able, second_of_both _ _ c.requires.able) in
+    let old : SchedulerState = record { peer = p; queues = c.self.inside.queues; asides = h; sent = c.self.inside.sent; begun = c.self.inside.begun; exempt = c.self.inside.exempt } in
+    let able : (has_guarantees old c.args.channel (length body) ≡ true) × (has_slot p h c.args.channel ≡ true) = subst (λ (s : SchedulerState). (has_guarantees s c.args.channel (length body) ≡ true) × (has_slot s.peer s.asides c.args.channel ≡ true)) (sym c.self.view_is) (first_of_both (has_guarantees c.args.self.now c.args.channel (length body)) (has_slot c.args.self.now.peer c.args.self.now.asides c.args.channel) c.requires.able, second_of_both (has_guarantees c.args.self.now c.args.channel (length body)) (has_slot c.args.self.now.peer c.args.self.now.asides c.args.channel) c.requires.able) in
+    let free_is : nat_le (length body) (free old c.args.channel) ≡ true = second_of_both (is_none (spend_refusal (client p c.args.channel) (length body))) (nat_le (length body) (free old c.args.channel)) able.0 in
     let bytes : fits (message_bytes p.waiting + c.self.inside.begun) (length body) ≡ true = subst (λ (s : SchedulerState). fits (unwritten s) (length body) ≡ true) (sym c.self.view_is) c.requires.bytes in
-    let valid : IsValid p.version f = grind (arith, common_steps) in
+    let allowed = none_is (spend_refusal (client p c.args.channel) (length body)) (first_of_both (is_none (spend_refusal (client p c.args.channel) (length body))) (nat_le (length body) (free old c.args.channel)) able.0) in
+    let valid = valid_send p.version (client p c.args.channel) c.args.channel body (ap (λ (b : Client). b.version) (sym c.client-book.ensures.value) ∙ c.client-book.ensures.version) allowed in
     let turn : c.saturating_add-sent.result ≡ count_after c.self.inside.sent = c.saturating_add-sent.ensures in
     let small : c.self.inside.sent < 2 ^ 64 = omega arith in
     let last : c.note_sent.new.self.last ≡ c.saturating_add-sent.result = ap (λ (q : QueueState). q.last) c.note_sent.ensures in
-    record {
-      places = grind (arith, common_steps);
-      stamps = sent_now c.self.inside.sent c.saturating_add-sent.result c.self.inside.queues c.index-at.result c.note_sent.new.self small turn last c.self.invariant.stamps;
-      counted = c.enter.ensures ∙ (ap (λ (s : Counts). with_message s c.args.channel (length c.as_slice-len.result.now)) c.self.invariant.counted ∙ (ap (λ (n : ℕ). with_message (counts_of p.waiting) c.args.channel n) len ∙ (sym (counts_push p.waiting c.args.channel body) ∙ ap (λ (q : PeerState). counts_of q.waiting) (sym c.send_owned.ensures))));
-      slots = subst KeepsSlots (sym c.send_owned.ensures) (slots_push p c.args.channel body c.self.invariant.slots able.1);
-      bytes = subst (λ (q : PeerState). FitsBytes q.waiting c.self.inside.begun) (sym c.send_owned.ensures) (fits_push p.version p.waiting c.self.inside.begun c.args.channel body c.waiting-count.ensures.kept.each bytes);
-      bounded = subst (λ (q : PeerState). message_bytes q.waiting + c.self.inside.begun ≤ most_unwritten) (sym c.send_owned.ensures) (bounded_push p.version p.waiting c.self.inside.begun c.args.channel body valid bytes);
-    }
+    push_fields p c.send_owned.new.self c.self.inside.queues _ h c.self.inside.sent c.saturating_add-sent.result c.self.inside.begun c.self.inside.exempt c.self.inside.counts c.enter.new.self p.version c.args.channel body
+    c.send_owned.ensures
+    (grind (arith, common_steps))
+    (sent_now c.self.inside.sent c.saturating_add-sent.result c.self.inside.queues c.index-at.result c.note_sent.new.self small turn last c.self.invariant.stamps)
+    (c.enter.ensures ∙ ap (λ (n : ℕ). with_message c.self.inside.counts c.args.channel n) len)
+    able.1 free_is bytes c.waiting-count.ensures.kept.each valid c.self.invariant
