@@ -1,9 +1,9 @@
 -- What a scheduler keeps, where its peer changes.
-use Rattle.std.proofs.Common.{◌≡◌, ℕ, ◌+◌, ◌^◌, ◌<◌, ◌≤◌, Bool, true, false, if◌then◌else◌, List, [], ◌∷◌, ◌++◌, length, drop, set, Option, Some, None, inl, refl, sym, ap, ◌∙◌, subst, arith}
+use Rattle.std.proofs.Common.{◌≡◌, ℕ, inr, ◌+◌, ◌^◌, ◌<◌, ◌≤◌, Bool, true, false, if◌then◌else◌, List, [], ◌∷◌, ◌++◌, length, drop, set, Option, Some, None, inl, refl, sym, ap, ◌∙◌, subst, arith}
 use Rattle.std.specs.Prelude.{slice_get, slice_index, nat_le, replicate}
 use Rattle.std.specs.List.{AllByRecursion}
 use Rattle.std.proofs.Math.ListN.{length-set}
-use Rattle.std.proofs.lemmas.List.{length-map}
+use Rattle.std.proofs.lemmas.List.{append-nil, length-map}
 use Rattle.lc_frame.specs.declared.channel.Channel.{Channel}
 use Rattle.lc_frame.specs.Bounds.{max_slots}
 use Rattle.lc_frame.specs.Channel.{channel_count, number_of}
@@ -20,7 +20,7 @@ use Rattle.lc_peer.specs.Inbox.{take_first}
 use Rattle.lc_peer.specs.declared.config.Config.{Config}
 use Rattle.lc_peer.specs.Config.{new_peer}
 use Rattle.lc_peer.specs.Peer.{PeerState, new_channel, channel, client, inbox}
-use Rattle.lc_peer.specs.Calls.{put, without_next, take_on, channel_after_put}
+use Rattle.lc_peer.specs.Calls.{put, without_next, take_on, channel_after_put, due, put_honour, channel_after_honour, absolvings}
 use Rattle.lc_peer.specs.Arrivals.{Arrival, arrivals, violation_at, arrive_unless, arrive, channel_after_arrival}
 use Rattle.lc_lines.specs.declared.permits.Aside.{Aside}
 use Rattle.lc_lines.specs.declared.scheduler.Control.{Control}
@@ -28,10 +28,11 @@ use Rattle.lc_lines.specs.declared.scheduler.Control.TheVariants.{Issue, Absolve
 use Rattle.lc_lines.specs.Queue.{QueueState, empty_queue}
 use Rattle.lc_lines.specs.Permits.{none_aside, aside_on, with_permit, without_permit, is_permit, free_of, beyond_permits}
 use Rattle.lc_lines.specs.Outbound.{least_slots, no_counts, under_way, kept, has_slot, fits, with_message, with_grant, without_grant, with_use, message_len, message_bytes, message_count, message_one, has_control_slot, Counts, counts_of, without_frame}
-use Rattle.lc_lines.specs.Scheduler.{frame_of_control, count_after, SentBy, FitsBytes, KeepsSlots, KeepsGuarantees, IsShort, greatest_message, most_unwritten, AreSchedulerFields}
+use Rattle.lc_book.specs.Client.{honour_refusal}
+use Rattle.lc_lines.specs.Scheduler.{absolving_refusal, honour_refusal as lines_honour_refusal, frame_of_control, count_after, SentBy, FitsBytes, KeepsSlots, KeepsGuarantees, IsShort, greatest_message, most_unwritten, AreSchedulerFields}
 use Rattle.lc_lines.proofs.Queued.{counts_control, counts_next, counts_push, counts_more, counts_less, counts_used, of_channel, queued_few, permits_few}
 use Rattle.lc_lines.proofs.Bytes.{bytes_push, bytes_next, fits_next, fits_control, fits_push, fits_reserved, short_of, short_push, short_next, short_first, bounded_by}
-use Rattle.lc_lines.proofs.Guarantees.{NoLess, same_book, and_then, arrive_takes_nothing, take_takes_nothing, guarantees_new, guarantees_same, guarantees_control, guarantees_push, guarantees_grant, guarantees_release, guarantees_reserved, permit_is_out}
+use Rattle.lc_lines.proofs.Guarantees.{NoLess, same_book, and_then, arrive_takes_nothing, take_takes_nothing, guarantees_new, guarantees_same, guarantees_control, guarantees_honour, spared_by, guarantees_push, guarantees_grant, guarantees_release, guarantees_reserved, permit_is_out}
 use Rattle.lc_lines.proofs.Slots.{slots_control, slots_next, slots_push, slots_grant, slots_release, slots_reserved}
 
 -- what arrives and what is taken changes nothing that is queued, and takes nothing from a client
@@ -63,18 +64,34 @@ arrivals_keep p (f ∷ frames) places =
 pub take_keeps : (p : PeerState) (c : Channel) → length p.channels ≡ channel_count → SameQueue p (take_on p c)
 take_keeps p c places = record { waiting = refl; slots = refl; channels = length-set p.channels (number_of c) (record (channel p c) { inbox = take_first (inbox p c) }); books = take_takes_nothing p c places }
 
+slots_same : (p p' : PeerState) (h : List Aside) → p'.waiting ≡ p.waiting → p'.slots ≡ p.slots → KeepsSlots p h → KeepsSlots p' h
+slots_same p p' h waiting slots keeps =
+    let len = ap length waiting in
+    let kept_is = ap (λ (w : List Frame). kept w h) waiting in
+    let count_is = ap message_count waiting in
+    record { own = omega (arith, keeps.own, slots); control = omega (arith, keeps.control, slots) }
+
+first_none : (a b : Option Refusal) → option_or a b ≡ None → a ≡ None
+first_none None b e = refl
+first_none (Some r) b e = cc
+
+second_none : (a b : Option Refusal) → option_or a b ≡ None → b ≡ None
+second_none None b e = e
+second_none (Some r) b e = cc
+
+slot_none : (b : Bool) → (if b then None else Some QueueFull) ≡ None → b ≡ true
+slot_none true e = refl
+slot_none false e = cc
+
 pub fields_same : (p p' : PeerState) (queues : List QueueState) (h : List Aside) (sent begun exempt : ℕ) (counts : Counts) → SameQueue p p' → AreSchedulerFields p queues h sent begun exempt counts → AreSchedulerFields p' queues h sent begun exempt counts
 fields_same p p' queues h sent begun exempt counts same fields =
-    let len = ap length same.waiting in
-    let kept_is = ap (λ (w : List Frame). kept w h) same.waiting in
-    let count_is = ap message_count same.waiting in
     record {
       places = fields.places;
       permits = fields.permits;
       channels = same.channels ∙ fields.channels;
       stamps = fields.stamps;
       counted = fields.counted ∙ ap (λ (w : List Frame). counts_of w h) (sym same.waiting);
-      slots = record { own = omega (arith, fields.slots.own, same.slots); control = omega (arith, fields.slots.control, same.slots) };
+      slots = slots_same p p' h same.waiting same.slots fields.slots;
       some = omega (arith, same.slots, fields.some);
       guarantees = guarantees_same p p' h same.books fields.guarantees;
       bytes = subst (λ (w : List Frame). FitsBytes w begun exempt) (sym same.waiting) fields.bytes;
@@ -110,26 +127,68 @@ no_count (Finish c) = refl
 is_short : (f : Control) → IsShort (frame_of_control f)
 is_short f = let no = no_bytes f in omega arith
 
-put_fields : (p : PeerState) (f : Control) (queues : List QueueState) (h : List Aside) (sent begun exempt : ℕ) (counts : Counts) → has_control_slot p h ≡ true → beyond_permits (client p (channel_of (frame_of_control f))) (aside_on h (channel_of (frame_of_control f))) (frame_of_control f) ≡ None → AreSchedulerFields p queues h sent begun exempt counts → AreSchedulerFields (put p (frame_of_control f)) queues h sent begun exempt counts
-put_fields p f queues h sent begun exempt counts slot spared fields =
+-- a control frame enters the queue, whatever it leaves of books
+queue_fields : (p p' : PeerState) (f : Control) (queues : List QueueState) (h : List Aside) (sent begun exempt : ℕ) (counts : Counts) → p'.waiting ≡ p.waiting ++ frame_of_control f ∷ [] → p'.slots ≡ p.slots → length p'.channels ≡ length p.channels → KeepsGuarantees p' h → has_control_slot p h ≡ true → AreSchedulerFields p queues h sent begun exempt counts → AreSchedulerFields p' queues h sent begun exempt counts
+queue_fields p p' f queues h sent begun exempt counts waiting slots places guarantees slot fields =
     let g = frame_of_control f in
     let same = counts_control p.waiting h g (no_message f) (no_bytes f) in
     let bytes = bytes_push p.waiting g in
     let no = no_bytes f in
+    let bytes_is : message_bytes p'.waiting ≡ message_bytes p.waiting = ap message_bytes waiting ∙ omega arith in
     record {
       places = fields.places;
       permits = fields.permits;
-      channels = length-set p.channels (number_of (channel_of g)) (channel_after_put g (channel p (channel_of g))) ∙ fields.channels;
+      channels = places ∙ fields.channels;
       stamps = fields.stamps;
-      counted = fields.counted ∙ same;
-      slots = slots_control p (put p g) h g fields.slots slot refl refl (sym (ap (λ (s : Counts). s.kept) same)) (no_count f);
-      some = fields.some;
-      guarantees = guarantees_control p h f fields.channels spared fields.guarantees;
-      bytes = fits_control p.waiting begun exempt g (no_count f) fields.bytes;
-      short = short_push p.waiting g fields.short (is_short f);
+      counted = fields.counted ∙ (same ∙ ap (λ (w : List Frame). counts_of w h) (sym waiting));
+      slots = slots_control p p' h g fields.slots slot slots waiting (sym (ap (λ (s : Counts). s.kept) same)) (no_count f);
+      some = omega (arith, slots, fields.some);
+      guarantees = guarantees;
+      bytes = subst (λ (w : List Frame). FitsBytes w begun exempt) (sym waiting) (fits_control p.waiting begun exempt g (no_count f) fields.bytes);
+      short = subst (λ (w : List Frame). AllByRecursion IsShort w) (sym waiting) (short_push p.waiting g fields.short (is_short f));
       small = fields.small;
       bounded = omega (arith, fields.bounded);
     }
+
+put_fields : (p : PeerState) (f : Control) (queues : List QueueState) (h : List Aside) (sent begun exempt : ℕ) (counts : Counts) → has_control_slot p h ≡ true → beyond_permits (client p (channel_of (frame_of_control f))) (aside_on h (channel_of (frame_of_control f))) (frame_of_control f) ≡ None → AreSchedulerFields p queues h sent begun exempt counts → AreSchedulerFields (put p (frame_of_control f)) queues h sent begun exempt counts
+put_fields p f queues h sent begun exempt counts slot spared fields =
+    let g = frame_of_control f in
+    queue_fields p (put p g) f queues h sent begun exempt counts refl refl
+    (length-set p.channels (number_of (channel_of g)) (channel_after_put g (channel p (channel_of g))))
+    (guarantees_control p h f fields.channels spared fields.guarantees) slot fields
+
+honour_by : (p : PeerState) (c : Channel) (amount : Option ℕ) (queues : List QueueState) (h : List Aside) (sent begun exempt : ℕ) (counts : Counts) → due p c ≡ amount → option_or (honour_refusal (client p c)) (absolving_refusal (record { peer = p; queues = queues; asides = h; sent = sent; begun = begun; exempt = exempt }) c amount) ≡ None → AreSchedulerFields p queues h sent begun exempt counts → AreSchedulerFields (put_honour p c) queues h sent begun exempt counts
+honour_by p c None queues h sent begun exempt counts is none fields =
+    let places = length-set p.channels (number_of c) (channel_after_honour (channel p c)) in
+    let waiting : (put_honour p c).waiting ≡ p.waiting = ap (λ (o : Option ℕ). p.waiting ++ absolvings c o) is ∙ append-nil p.waiting in
+    let guarantees = guarantees_honour p h c fields.channels (inl is) fields.guarantees in
+    record {
+      places = fields.places;
+      permits = fields.permits;
+      channels = places ∙ fields.channels;
+      stamps = fields.stamps;
+      counted = fields.counted ∙ ap (λ (w : List Frame). counts_of w h) (sym waiting);
+      slots = slots_same p (put_honour p c) h waiting refl fields.slots;
+      some = fields.some;
+      guarantees = guarantees;
+      bytes = subst (λ (w : List Frame). FitsBytes w begun exempt) (sym waiting) fields.bytes;
+      short = subst (λ (w : List Frame). AllByRecursion IsShort w) (sym waiting) fields.short;
+      small = fields.small;
+      bounded = subst (λ (w : List Frame). message_bytes w + begun ≤ most_unwritten) (sym waiting) fields.bounded;
+    }
+honour_by p c (Some n) queues h sent begun exempt counts is none fields =
+    let absolving = second_none (honour_refusal (client p c)) _ none in
+    let spared = first_none (beyond_permits (client p c) (aside_on h c) (frame_of_control (Absolve c n))) _ absolving in
+    let slot = slot_none (has_control_slot p h) (second_none (beyond_permits (client p c) (aside_on h c) (frame_of_control (Absolve c n))) _ absolving) in
+    let waiting : (put_honour p c).waiting ≡ p.waiting ++ frame_of_control (Absolve c n) ∷ [] = ap (λ (o : Option ℕ). p.waiting ++ absolvings c o) is in
+    let le = spared_by (client p c) (aside_on h c) c n spared in
+    queue_fields p (put_honour p c) (Absolve c n) queues h sent begun exempt counts waiting refl (length-set p.channels (number_of c) (channel_after_honour (channel p c)))
+    (guarantees_honour p h c fields.channels (inr (λ m e. let same : m ≡ n = cc in omega arith)) fields.guarantees) slot fields
+
+-- a plead is honoured, or not
+pub honour_fields : (ok : Bool) (p p' : PeerState) (c : Channel) (queues : List QueueState) (h : List Aside) (sent begun exempt : ℕ) (counts : Counts) → p' ≡ (if ok then put_honour p c else p) → lines_honour_refusal (record { peer = p; queues = queues; asides = h; sent = sent; begun = begun; exempt = exempt }) c ≡ None → AreSchedulerFields p queues h sent begun exempt counts → AreSchedulerFields p' queues h sent begun exempt counts
+honour_fields true p p' c queues h sent begun exempt counts e none fields = subst (λ (q : PeerState). AreSchedulerFields q queues h sent begun exempt counts) (sym e) (honour_by p c (due p c) queues h sent begun exempt counts refl none fields)
+honour_fields false p p' c queues h sent begun exempt counts e none fields = subst (λ (q : PeerState). AreSchedulerFields q queues h sent begun exempt counts) (sym e) fields
 
 -- a control call that is made where a slot is free for it
 pub control_fields : (ok : Bool) (p p' : PeerState) (f : Control) (queues : List QueueState) (h : List Aside) (sent begun exempt : ℕ) (counts : Counts) → p' ≡ (if ok then put p (frame_of_control f) else p) → has_control_slot p h ≡ true → beyond_permits (client p (channel_of (frame_of_control f))) (aside_on h (channel_of (frame_of_control f))) (frame_of_control f) ≡ None → AreSchedulerFields p queues h sent begun exempt counts → AreSchedulerFields p' queues h sent begun exempt counts

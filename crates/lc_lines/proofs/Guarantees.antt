@@ -1,6 +1,6 @@
 -- The guarantees that permits set aside stay there.
-use Rattle.std.proofs.Common.{◌≡◌, ◌≢◌, ℕ, zero, suc, ◌+◌, ◌-◌, ◌<◌, ◌≤◌, Bool, true, false, if◌then◌else◌, List, [], ◌∷◌, length, map, get_or, set, Option, Some, None, refl, sym, ap, ◌∙◌, subst, arith}
-use Rattle.std.specs.Prelude.{◌==◌, nat_le, nat_lt, is_none}
+use Rattle.std.proofs.Common.{◌≡◌, ◌≢◌, ℕ, inr, inl, ◌⊎◌, zero, suc, ◌+◌, ◌-◌, ◌<◌, ◌≤◌, Bool, true, false, if◌then◌else◌, List, [], ◌∷◌, length, map, get_or, set, Option, Some, None, refl, sym, ap, ◌∙◌, subst, arith}
+use Rattle.std.specs.Prelude.{◌==◌, nat_le, nat_lt, is_none, unwrap_or}
 use Rattle.std.proofs.lemmas.List.{get_or-set_same, get_or-set_other}
 use Rattle.std.proofs.lemmas.Bool.Decides.{nat_tests}
 use Rattle.std.proofs.lemmas.Grind.{common_steps}
@@ -17,14 +17,14 @@ use Rattle.lc_book.specs.declared.fault.Refusal.TheVariants.{ChannelFinished, Em
 use Rattle.lc_book.specs.Limit.{is_past, left_of}
 use Rattle.lc_book.specs.Finish.{finished_refusal_or}
 use Rattle.lc_frame.specs.Kind.{max_body}
-use Rattle.lc_book.specs.Client.{Client, held, new_client, message_refusal_or, spend_refusal}
+use Rattle.lc_book.specs.Client.{Client, held, new_client, message_refusal_or, spend_refusal, honour}
 use Rattle.lc_book.specs.Sums.{client_after_put, client_after_arrival}
 use Rattle.lc_peer.specs.declared.channel_state.ChannelState.{ChannelState}
 use Rattle.lc_peer.specs.declared.config.Config.{Config}
 use Rattle.lc_peer.specs.Config.{new_peer}
 use Rattle.lc_peer.specs.Inbox.{take_first}
 use Rattle.lc_peer.specs.Peer.{PeerState, client, inbox, channel, new_channel, set_channel}
-use Rattle.lc_peer.specs.Calls.{put, take_on, channel_after_put}
+use Rattle.lc_peer.specs.Calls.{put, take_on, channel_after_put, due, put_honour, channel_after_honour}
 use Rattle.lc_peer.specs.Arrivals.{arrive, channel_after_arrival}
 use Rattle.lc_lines.specs.declared.permits.Aside.{Aside}
 use Rattle.lc_lines.specs.declared.scheduler.Control.{Control}
@@ -187,6 +187,23 @@ guarantees_control p h f places spared keeps =
     let after = channel_after_put (frame_of_control f) (channel p c) in
     guarantees_by p (put p (frame_of_control f)) h h c
     (subst (λ (b : Client). Covers b (aside_on h c)) (sym (client_here p c after places)) (book_control (client p c) (aside_on h c) f spared (keeps c)))
+    (λ d e. subst (NoLess (client p d)) (sym (client_there p c d after e)) (same_book (client p d))) (λ d e. refl) keeps
+
+-- a plead is honoured: what is absolved is not set aside
+honoured : (b : Client) (a : Aside) (amount : Option ℕ) → (amount ≡ None) ⊎ ((n : ℕ) → amount ≡ Some n → n ≤ held b - a.bytes) → Covers b a → b.spent + (b.absolved + unwrap_or amount 0) + a.bytes ≤ b.received
+honoured b a None spared covers = omega arith
+honoured b a (Some n) (inl e) covers = cc
+honoured b a (Some n) (inr spared) covers = let le = spared n refl in omega arith
+
+pub spared_by : (b : Client) (a : Aside) (c : Channel) (n : ℕ) → beyond_permits b a (Absolve c n) ≡ None → n ≤ held b - a.bytes
+spared_by b a c n spared = no_less (held b - a.bytes) n (nat_lt (held b - a.bytes) n) refl spared
+
+pub guarantees_honour : (p : PeerState) (h : List Aside) (c : Channel) → length p.channels ≡ channel_count → (due p c ≡ None) ⊎ ((n : ℕ) → due p c ≡ Some n → n ≤ held (client p c) - (aside_on h c).bytes) → KeepsGuarantees p h → KeepsGuarantees (put_honour p c) h
+guarantees_honour p h c places spared keeps =
+    let after = channel_after_honour (channel p c) in
+    let here : Covers (honour (client p c)) (aside_on h c) = honoured (client p c) (aside_on h c) (due p c) spared (keeps c) in
+    guarantees_by p (put_honour p c) h h c
+    (subst (λ (b : Client). Covers b (aside_on h c)) (sym (client_here p c after places)) here)
     (λ d e. subst (NoLess (client p d)) (sym (client_there p c d after e)) (same_book (client p d))) (λ d e. refl) keeps
 
 -- nothing that arrives takes guarantees away

@@ -15,7 +15,7 @@ use Rattle.lc_book.specs.Sums.{client_after_put}
 use Rattle.lc_peer.specs.declared.config.Config.{Config}
 use Rattle.lc_peer.specs.Config.{new_peer}
 use Rattle.lc_peer.specs.Peer.{PeerState, client, channel}
-use Rattle.lc_peer.specs.Calls.{put, channel_after_put}
+use Rattle.lc_peer.specs.Calls.{put, channel_after_put, put_honour, channel_after_honour}
 use Rattle.lc_lines.specs.declared.permits.Aside.{Aside}
 use Rattle.lc_lines.specs.declared.scheduler.Control.{Control}
 use Rattle.lc_lines.specs.declared.scheduler.Control.TheVariants as control
@@ -124,6 +124,13 @@ allows_control s c (control.LimitReceiving d n) places was e = allows_put s.peer
 allows_control s c (control.LimitSending d n) places was e = allows_elsewhere s c (frame_of_control (control.LimitSending d n)) e was
 allows_control s c (control.Finish d) places was e = allows_elsewhere s c (frame_of_control (control.Finish d)) e was
 
+allows_honour : (s : SchedulerState) (c d : Channel) → length s.peer.channels ≡ channel_count → AllowsPermits s c → Allows (client (put_honour s.peer d) c) (aside s c)
+allows_honour s c d places was =
+    let after = channel_after_honour (channel s.peer d) in
+    allows_by s.peer (put_honour s.peer d) s.asides s.asides c d was
+    (λ old. subst (λ (b : Client). Allows b (aside s d)) (sym (client_here s.peer d after places)) (record { unfinished = old.unfinished; left = old.left }))
+    (λ x e. client_there s.peer d x after e) (λ x e. refl)
+
 allows_new : (config : Config) (c : Channel) → Allows (client (new_peer config) c) (aside_on none_aside c)
 allows_new config c =
     let none : Allows (new_client config.version) no_permits = record { unfinished = refl; left = refl } in
@@ -140,6 +147,7 @@ each_call_leaves_permits = record {
     reserved = λ d len body permit fit. allows_reserved s c d len body channels places was permit fit;
     released = λ d len. allows_release s c d len places was;
     controls = λ f e. allows_control s c f channels was e;
+    honours = λ d. allows_honour s c d channels was;
     arrives = λ frames. still_allows (client s.peer c) _ (aside s c) ((arrivals_keep s.peer frames channels).books c) was;
     takes = λ d. still_allows (client s.peer c) _ (aside s c) ((take_keeps s.peer d channels).books c) was;
     queues = λ d q. was;

@@ -15,7 +15,7 @@ use Rattle.lc_lines.specs.declared.permits.Aside.{Aside}
 use Rattle.lc_lines.specs.declared.scheduler.Control.{Control}
 use Rattle.lc_lines.specs.Queue.{QueueState}
 use Rattle.lc_lines.specs.Permits.{is_permit}
-use Rattle.lc_lines.specs.Scheduler.{SchedulerState, new_scheduler, aside, is_able, send, proceed, grant, proceed_by_grant, send_reserved, release, with_queue, frame_of_control, put_frame, take_frame, write, reserved_refusal, KeepsGuarantees}
+use Rattle.lc_lines.specs.Scheduler.{SchedulerState, new_scheduler, aside, is_able, send, proceed, grant, proceed_by_grant, send_reserved, release, with_queue, frame_of_control, put_frame, honour, take_frame, write, reserved_refusal, KeepsGuarantees}
 
 -- what permits set aside may be sent: the client has not finished the channel, and its limit on sending leaves no less
 pub record Allows (b : Client) (a : Aside) : Type 0 where
@@ -36,7 +36,7 @@ ends_sending c (LimitSending d bound) = is_same c d
 ends_sending c (Finish d) = is_same c d
 ends_sending c f = false
 
--- on a channel it is so after each call: a message that is sent or a permit that is granted, at once or from its wait queue, a message that is sent by a permit, a permit that is given back, any control frame but a finish of this channel and a limit on its sending, frames that arrive, and all that changes no book
+-- on a channel it is so after each call: a message that is sent or a permit that is granted, at once or from its wait queue, a message that is sent by a permit, a permit that is given back, any control frame but a finish of this channel and a limit on its sending, a plead that is honoured, frames that arrive, and all that changes no book
 pub record StillAllows (s : SchedulerState) (c : Channel) : Type 0 where
   pub sends : (d : Channel) (body : List ℕ) → is_able s d (length body) ≡ true → AllowsPermits (send s d body) c
   pub proceeds : (d : Channel) (body : List ℕ) → is_able s d (length body) ≡ true → AllowsPermits (proceed s d body) c
@@ -45,6 +45,7 @@ pub record StillAllows (s : SchedulerState) (c : Channel) : Type 0 where
   pub reserved : (d : Channel) (len : ℕ) (body : List ℕ) → is_permit (aside s d) len ≡ true → length body ≤ len → AllowsPermits (send_reserved s d len body) c
   pub released : (d : Channel) (len : ℕ) → AllowsPermits (release s d len) c
   pub controls : (f : Control) → ends_sending c (frame_of_control f) ≡ false → AllowsPermits (put_frame s (frame_of_control f)) c
+  pub honours : (d : Channel) → AllowsPermits (honour s d) c
   pub arrives : (frames : List Frame) → AllowsPermits (record s { peer = (arrivals s.peer frames).peer }) c
   pub takes : (d : Channel) → AllowsPermits (record s { peer = take_on s.peer d }) c
   pub queues : (d : Channel) (q : QueueState) → AllowsPermits (with_queue s d q) c

@@ -8,7 +8,7 @@ use Rattle.lc_frame.specs.declared.frame.Frame.TheVariants.{Send, Issue, Absolve
 use Rattle.lc_frame.specs.Channel.{channel_count, number_of}
 use Rattle.lc_frame.specs.Bounds.{max_slots}
 use Rattle.lc_frame.specs.Frame.{channel_of}
-use Rattle.lc_book.specs.Client.{spend_refusal}
+use Rattle.lc_book.specs.Client.{spend_refusal, honour_refusal as book_honour_refusal}
 use Rattle.lc_book.specs.declared.fault.Refusal.{Refusal}
 use Rattle.lc_book.specs.declared.fault.Refusal.TheVariants.{NoGuarantee, OutOfMemory, QueueFull}
 use Rattle.lc_peer.specs.Peer.{PeerState, client}
@@ -16,7 +16,7 @@ use Rattle.lc_peer.specs.declared.config.Config.{Config}
 use Rattle.lc_peer.specs.declared.config.PeerFault.{PeerFault}
 use Rattle.lc_peer.specs.declared.config.PeerFault.TheVariants as fault
 use Rattle.lc_peer.specs.Config.{new_peer, config_fault}
-use Rattle.lc_peer.specs.Calls.{put, refusal_by_books, next, without_next}
+use Rattle.lc_peer.specs.Calls.{put, refusal_by_books, due, put_honour, next, without_next}
 use Rattle.lc_peer.specs.declared.questions.Needs.{Needs}
 use Rattle.lc_peer.specs.declared.questions.Needs.TheVariants.{Guarantees, Never, Slot}
 use Rattle.lc_peer.specs.Questions.{needs}
@@ -350,6 +350,19 @@ slot_refusal s = if has_control_slot s.peer s.asides then None else Some QueueFu
 -- why a control call is refused: its books come first, then what permits set aside, and then 13
 abbrev pub control_refusal : SchedulerState → Frame → Option Refusal
 control_refusal s f = option_or (refusal_by_books s.peer f) (option_or (beyond_permits (client s.peer (channel_of f)) (aside s (channel_of f)) f) (slot_refusal s))
+
+-- why an honour is refused that absolves so much, if it absolves anything: what permits set aside, and then 13
+abbrev pub absolving_refusal : SchedulerState → Channel → Option ℕ → Option Refusal
+absolving_refusal s c None = None
+absolving_refusal s c (Some amount) = option_or (beyond_permits (client s.peer c) (aside s c) (Absolve c amount)) (slot_refusal s)
+
+-- why an honour is refused, which then keeps the plead: its book comes first
+abbrev pub honour_refusal : SchedulerState → Channel → Option Refusal
+honour_refusal s c = option_or (book_honour_refusal (client s.peer c)) (absolving_refusal s c (due s.peer c))
+
+-- an honour forgets the plead, and absolves what is held above its target, if anything
+abbrev pub honour : SchedulerState → Channel → SchedulerState
+honour s c = record s { peer = put_honour s.peer c }
 
 -- a frame enters the outbound queue
 abbrev pub put_frame : SchedulerState → Frame → SchedulerState

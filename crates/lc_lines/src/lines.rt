@@ -12,13 +12,13 @@ ghost use Rattle.lc_frame.specs.FrameRef.{frame_of};
 ghost use Rattle.lc_frame.specs.declared.version.Version.TheVariants.{Two};
 ghost use Rattle.lc_peer.specs.Inbox.{IsTake, take_answer};
 ghost use Rattle.lc_peer.specs.Peer.{client, inbox};
-ghost use Rattle.lc_peer.specs.Calls.{next, take_on};
+ghost use Rattle.lc_peer.specs.Calls.{next, due, take_on};
 ghost use Rattle.lc_peer.specs.Arrivals.{arrivals};
 ghost use Rattle.lc_lines.specs.Queue.{waits};
 ghost use Rattle.lc_lines.specs.Permits.{is_permit};
 ghost use Rattle.lc_book.specs.Client.{spend_refusal};
 ghost use Rattle.lc_lines.specs.declared.queue.Ask.TheVariants.{Offer};
-ghost use Rattle.lc_lines.specs.Scheduler.{IsSchedulerAnswer, IsSettled, NoneIsHopeless, queue, start, join, complete, complete_progress, IsCompleteAnswer, progress_of, cancel, IsCallAnswer, IsAttemptAnswer, attempt, try_send, aside, free, for_good, IsReserveAnswer, reserve, try_reserve, IsReservedAnswer, send_reserved, give_back, frame_of_control, control_refusal, put_frame, take_frame, write, KeepsSlots, KeepsGuarantees, FitsBytes};
+ghost use Rattle.lc_lines.specs.Scheduler.{IsSchedulerAnswer, IsSettled, NoneIsHopeless, queue, start, join, complete, complete_progress, IsCompleteAnswer, progress_of, cancel, IsCallAnswer, IsAttemptAnswer, attempt, try_send, aside, free, for_good, IsReserveAnswer, reserve, try_reserve, IsReservedAnswer, send_reserved, give_back, frame_of_control, control_refusal, honour_refusal, honour, put_frame, take_frame, write, KeepsSlots, KeepsGuarantees, FitsBytes};
 ghost use Rattle.lc_lines.specs.Lines.{new_lines, Runs, Settles, NoticesNext, DeliversAndSettles, with_scheduler};
 
 use crate::permits::Aside;
@@ -280,6 +280,21 @@ impl Lines {
         self.scheduler.control(control)?;
         settle(&mut self.scheduler, &mut self.notices);
         Ok(())
+    }
+
+    /// Honours the plead that a channel keeps: what is held above its target is absolved, and the answer is that amount.
+    /// Refused by 15, by 6 where guarantees would be absolved that permits set aside, and by 13 where any would and no
+    /// slot is free for a control frame; then the plead is kept, and nothing changed.
+    pub fn honour(&mut self, channel: Channel) -> Result<Option<u32>, Refusal>
+        ensures answer { result_err result ≡ honour_refusal self.old.scheduler channel }
+        ensures amount { IfOk result (λ amount. amount ≡ due self.old.scheduler.peer channel) }
+        ensures refused { OnErr result (self.new ≡ self.old) }
+        ensures honours { OnOk result (Settles (with_scheduler self.old (honour self.old.scheduler channel)) self.new) }
+        ensures settled { length self.new.notices < self.new.entries → IsSettled self.new.scheduler }
+    {
+        let amount = self.scheduler.honour(channel)?;
+        settle(&mut self.scheduler, &mut self.notices);
+        Ok(amount)
     }
 
     /// A frame arrives.

@@ -7,10 +7,10 @@
 ghost use Rattle.std.specs.Prelude.{◌≡◌, ◌≤◌, ◌<◌, ◌^◌, ◌-◌, ◌∷◌, [], true, false, if◌then◌else◌, is_ok, length, min, None, Some, IfSome, IfNone, IfOk, IfErr, OnErr, OnOk};
 ghost use Rattle.std.specs.Result.{result_err};
 ghost use Rattle.std.specs.Option.{option_or};
-ghost use Rattle.lc_frame.specs.declared.frame.Frame.TheVariants.{Send};
+ghost use Rattle.lc_frame.specs.declared.frame.Frame.TheVariants.{Send, Absolve};
 ghost use Rattle.lc_frame.specs.FrameRef.{frame_of};
 ghost use Rattle.lc_frame.specs.declared.version.Version.TheVariants.{Two};
-ghost use Rattle.lc_peer.specs.Calls.{next, refusal, refusal_by_books, put, take_on};
+ghost use Rattle.lc_peer.specs.Calls.{next, refusal, refusal_by_books, put, due, take_on};
 ghost use Rattle.lc_peer.specs.Arrivals.{arrivals};
 ghost use Rattle.lc_peer.specs.Deliveries.{Delivers};
 ghost use Rattle.lc_peer.specs.Peer.{client, inbox};
@@ -23,7 +23,7 @@ ghost use Rattle.lc_lines.specs.declared.queue.Ask.TheVariants.{Offer};
 ghost use Rattle.lc_lines.specs.Permits.{free_of, is_permit, beyond_permits};
 ghost use Rattle.lc_frame.specs.Frame.{IsValid, channel_of};
 ghost use Rattle.lc_lines.specs.Outbound.{has_slot, has_control_slot, fits, message_len};
-ghost use Rattle.lc_lines.specs.Scheduler.{new_scheduler, IsSchedulerAnswer, queue, aside, front, unwritten, free, has_guarantees, is_able, waits_for_bytes, is_no_later, is_turn, can_proceed, can_front_proceed, call_fits, next_channel, IsSettled, send, proceed, start, progress_of, cancel, for_good, IsCallAnswer, IsAttemptAnswer, IsCompleteAnswer, goes_at_once, attempt, try_send, reserve, try_reserve, IsReserveAnswer, reserved_refusal, IsReservedAnswer, grant, proceed_by_grant, release, send_reserved, give_back, join, first, is_offer_of, is_offer_call, complete_progress, complete, Completes, Notifies, Steps, frame_of_control, control_refusal, put_frame, take_frame, write, is_hopeless, next_hopeless, NoneIsHopeless, GivesUp, KeepsSlots, KeepsGuarantees, FitsBytes, lack};
+ghost use Rattle.lc_lines.specs.Scheduler.{new_scheduler, IsSchedulerAnswer, queue, aside, front, unwritten, free, has_guarantees, is_able, waits_for_bytes, is_no_later, is_turn, can_proceed, can_front_proceed, call_fits, next_channel, IsSettled, send, proceed, start, progress_of, cancel, for_good, IsCallAnswer, IsAttemptAnswer, IsCompleteAnswer, goes_at_once, attempt, try_send, reserve, try_reserve, IsReserveAnswer, reserved_refusal, IsReservedAnswer, grant, proceed_by_grant, release, send_reserved, give_back, join, first, is_offer_of, is_offer_call, complete_progress, complete, Completes, Notifies, Steps, frame_of_control, control_refusal, honour_refusal, honour, put_frame, take_frame, write, is_hopeless, next_hopeless, NoneIsHopeless, GivesUp, KeepsSlots, KeepsGuarantees, FitsBytes, lack};
 
 use crate::counts::MessageCounts;
 use crate::permits::Aside;
@@ -826,6 +826,18 @@ impl Scheduler {
         self.queues[at].remove(ticket)
     }
 
+    // An absolve of so much takes no guarantees that permits set aside.
+    fn judge_spared(&self, channel: Channel, amount: u32) -> Result<(), Refusal>
+        ensures { result_err result ≡ beyond_permits (client self.now.peer channel) (aside self.now channel) (Absolve channel amount) }
+    {
+        let held = self.peer.client(channel).held();
+        let held = held.saturating_sub(self.aside(channel).bytes);
+        if u64::from(amount) > held {
+            return Err(Refusal::NotHeld { held });
+        }
+        Ok(())
+    }
+
     // An absolve takes no guarantees that permits set aside. Its book comes first.
     fn spare_permits(&self, control: Control) -> Result<(), Refusal>
         ensures spared { OnOk result (beyond_permits (client self.now.peer (channel_of (frame_of_control control))) (aside self.now (channel_of (frame_of_control control))) (frame_of_control control) ≡ None) }
@@ -833,13 +845,8 @@ impl Scheduler {
     {
         match control {
             Control::Absolve { channel, amount } => {
-                let book = self.peer.client(channel);
-                book.judge_absolve(amount)?;
-                let held = book.held().saturating_sub(self.aside(channel).bytes);
-                if u64::from(amount) > held {
-                    return Err(Refusal::NotHeld { held });
-                }
-                Ok(())
+                self.peer.client(channel).judge_absolve(amount)?;
+                self.judge_spared(channel, amount)
             }
             Control::Issue { .. }
             | Control::Plead { .. }
@@ -860,6 +867,33 @@ impl Scheduler {
             return put_control(&mut self.peer, control);
         }
         Err(refuse_control(&self.peer, control))
+    }
+
+    // Why an honour is refused.
+    fn judge_honour(&self, channel: Channel) -> Result<(), Refusal>
+        ensures { result_err result ≡ honour_refusal self.now channel }
+    {
+        let Some(amount) = self.peer.client(channel).judge_honour()? else {
+            return Ok(());
+        };
+        self.judge_spared(channel, amount)?;
+        if self.has_control_slot() {
+            Ok(())
+        } else {
+            Err(Refusal::QueueFull)
+        }
+    }
+
+    /// Honours the plead that a channel keeps: what is held above its target is absolved, and the answer is that amount.
+    /// Refused by 15, by 6 where guarantees would be absolved that permits set aside, and by 13 where any would and no
+    /// slot is free for a control frame; then the plead is kept.
+    pub fn honour(&mut self, channel: Channel) -> Result<Option<u32>, Refusal>
+        ensures answer { result_err result ≡ honour_refusal self.old channel }
+        ensures amount { IfOk result (λ amount. amount ≡ due self.old.peer channel) }
+        ensures after { self.new ≡ (if is_ok result then honour self.old channel else self.old) }
+    {
+        self.judge_honour(channel)?;
+        self.peer.honour(channel)
     }
 
     /// A frame arrives, as at the peer.

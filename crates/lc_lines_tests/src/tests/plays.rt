@@ -2,7 +2,7 @@
 //! `offer CHANNEL TICKET LENGTH`, `complete CHANNEL TICKET LENGTH`, `cancel CHANNEL TICKET`, `reserve CHANNEL TICKET
 //! LENGTH`, `tryreserve CHANNEL LENGTH`, `use CHANNEL PERMIT LENGTH` (a message by a permit), `back CHANNEL PERMIT`,
 //! `aside CHANNEL` (the permits, their guarantees, and the guarantees that are free), `issued CHANNEL AMOUNT` (guarantees
-//! arrive), `absolve CHANNEL AMOUNT`, `limit CHANNEL BOUND`, `finish CHANNEL`, `out` (the next frame is taken), `left
+//! arrive), `pleaded CHANNEL TARGET` (a plead arrives), `honour CHANNEL`, `absolve CHANNEL AMOUNT`, `limit CHANNEL BOUND`, `finish CHANNEL`, `out` (the next frame is taken), `left
 //! BYTES` (of the message that was taken last), `notice`.
 use super::{Subject, answers, same};
 use lc_frame::{Channel, Frame, FrameRef, Version};
@@ -187,6 +187,26 @@ impl Play {
         }
     }
 
+    fn pleaded(&mut self, alloc: Global, words: &mut SplitWhitespace) -> Option<String> {
+        let (channel, target) = (channel(words)?, u32::try_from(number(words)?).ok()?);
+        if target > 1 << 24 {
+            return None;
+        }
+        match self.lines.arrive(FrameRef::Plead { channel, target }) {
+            Ok(()) => text(alloc, "arrived"),
+            Err(_) => text(alloc, "violated"),
+        }
+    }
+
+    fn honour(&mut self, alloc: Global, words: &mut SplitWhitespace) -> Option<String> {
+        match self.lines.honour(channel(words)?) {
+            Ok(Some(amount)) => format!(in alloc; "absolved {amount}").ok(),
+            Ok(None) => text(alloc, "absolved nothing"),
+            Err(Refusal::NotHeld { held }) => format!(in alloc; "refused 6 {held}").ok(),
+            Err(refusal) => refused(alloc, refusal),
+        }
+    }
+
     fn finish(&mut self, alloc: Global, words: &mut SplitWhitespace) -> Option<String> {
         let channel = channel(words)?;
         self.control(alloc, Control::Finish { channel })
@@ -239,6 +259,8 @@ impl Subject for Play {
             "absolve" => self.absolve(alloc, &mut words),
             "limit" => self.limit(alloc, &mut words),
             "issued" => self.issued(alloc, &mut words),
+            "pleaded" => self.pleaded(alloc, &mut words),
+            "honour" => self.honour(alloc, &mut words),
             "finish" => self.finish(alloc, &mut words),
             "out" => self.out(alloc),
             "left" => self.left(alloc, &mut words),
@@ -542,6 +564,8 @@ limit 0 1 => put
 limit 0 0 => refused 13
 absolve 1 96 => refused 6 95
 absolve 1 95 => refused 13
+pleaded 1 94 => arrived
+honour 1 => refused 13
 use 1 5 5 => sent
 limit 0 0 => refused 13
 send 2 2 5 => proceeded
@@ -549,6 +573,39 @@ limit 0 0 => refused 13
 out => control
 limit 0 0 => put
 ";
+
+// An honour takes nothing that permits set aside, and keeps the plead where it would.
+const HONOURS: &str = "issued 1 100 => arrived
+honour 1 => absolved nothing
+pleaded 1 20 => arrived
+reserve 1 1 30 => granted
+honour 1 => refused 6 70
+use 1 30 5 => sent
+honour 1 => absolved 75
+aside 1 => 0 0 20
+honour 1 => absolved nothing
+out => 1 5
+out => control
+out => nothing
+reserve 1 2 20 => granted
+pleaded 1 10 => arrived
+honour 1 => refused 6 0
+back 1 20 => was out
+honour 1 => absolved 10
+out => control
+reserve 1 3 10 => granted
+pleaded 1 10 => arrived
+honour 1 => absolved nothing
+finish 1 => put
+honour 1 => refused 15
+";
+
+#[test]
+fn an_honour_spares_permits(rt: HostRuntime) -> Result<(), Fail> {
+    let alloc = rt.alloc();
+    answers(&rt, alloc, &mut session(alloc, 14)?, HONOURS);
+    Ok(())
+}
 
 #[test]
 fn a_permit_holds_guarantees_and_a_slot(rt: HostRuntime) -> Result<(), Fail> {
