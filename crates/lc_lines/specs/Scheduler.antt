@@ -223,9 +223,9 @@ progress_of s c len = if goes_at_once s c len then Proceeded else Waits
 abbrev pub start : SchedulerState → Channel → ℕ → List ℕ → SchedulerState
 start s c ticket body = if goes_at_once s c (length body) then send s c body else join s c (record { ticket = ticket; ask = Message body })
 
--- why a call to reserve is refused: what its book refuses for good, or want of memory where it would wait
+-- why a call to reserve is refused: what its book refuses for good, or want of memory where that is nothing and it would wait
 abbrev pub IsReserveAnswer : SchedulerState → Channel → ℕ → Option Refusal → Type 0
-IsReserveAnswer s c len answer = (answer ≡ for_good (spend_refusal (client s.peer c) len)) ⊎ ((goes_at_once s c len ≡ false) × (answer ≡ Some OutOfMemory))
+IsReserveAnswer s c len answer = (answer ≡ for_good (spend_refusal (client s.peer c) len)) ⊎ ((for_good (spend_refusal (client s.peer c) len) ≡ None) × ((goes_at_once s c len ≡ false) × (answer ≡ Some OutOfMemory)))
 
 -- what a call to reserve that is accepted leaves: its permit is granted, or it joins its wait queue
 abbrev pub reserve : SchedulerState → Channel → ℕ → ℕ → SchedulerState

@@ -486,40 +486,18 @@ impl Scheduler {
         ensures { Completes result self.old self.new }
     {
         let at = channel.index();
-        match self.queues[at].pop() {
-            Some(
-                Call {
-                    ticket,
-                    ask: Ask::Message(body),
-                },
-            ) => {
-                self.put(channel, body);
-                Notice {
-                    channel,
-                    ticket,
-                    outcome: Outcome::Completed,
-                }
-            }
-            Some(
-                Call {
-                    ticket,
-                    ask: Ask::Permit(len),
-                },
-            ) => {
-                self.grant(channel, len);
-                Notice {
-                    channel,
-                    ticket,
-                    outcome: Outcome::Completed,
-                }
-            }
-            Some(
-                Call {
-                    ticket: _,
-                    ask: Ask::Offer(_),
-                },
-            )
-            | None => unreachable!(),
+        let Some(Call { ticket, ask }) = self.queues[at].pop() else {
+            unreachable!()
+        };
+        match ask {
+            Ask::Message(body) => self.put(channel, body),
+            Ask::Permit(len) => self.grant(channel, len),
+            Ask::Offer(_) => unreachable!(),
+        }
+        Notice {
+            channel,
+            ticket,
+            outcome: Outcome::Completed,
         }
     }
 
