@@ -85,7 +85,7 @@ impl Exchange {
                 is_shut = true;
             }
             match progress.incoming {
-                Incoming::Stopped { stop, .. } => return Err(stop.into()),
+                Incoming::Stopped { error, .. } => return Err(error.into()),
                 Incoming::Ended if self.taken == self.count => return Ok(()),
                 Incoming::Ended => return Err("the other side is gone".into()),
                 _ => {}
