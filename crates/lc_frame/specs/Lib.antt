@@ -15,5 +15,6 @@ pub mod Splits
 pub mod Progress
 pub mod Fill
 pub mod Begun
+pub mod Numbers
 pub mod StreamDecoder
 pub mod StreamEncoder

@@ -2,15 +2,18 @@
 ghost use Rattle.std.specs.Prelude.{◌≡◌, ◌+◌, ◌≤◌, ◌==◌, [], ◌++◌, length, take, replicate, vec_len, vec_capacity, IfOk};
 ghost use Rattle.lc_frame.specs.declared.version.Version.TheVariants.{Two};
 ghost use Rattle.lc_frame.specs.Kind.{max_frame};
-ghost use Rattle.lc_frame.specs.Fill.{fill_len, FillsFrom};
+ghost use Rattle.lc_frame.specs.Fill.{FillsFrom};
 
 use crate::encoding::MAX_FRAME;
 use crate::fill::Fill;
 use std::alloc::{AllocError, Global};
 use std::marker::Model;
 
-/// The bytes of a body that are asked for at once.
+/// A source is asked for bytes of a frame alone where more than these are missing.
 pub(crate) const FILL_LEN: usize = 512;
+
+/// The most bytes that a source is asked for at once.
+pub(crate) const MOST_FILLED: usize = 4_096;
 
 /// Up to as many bytes as a frame has. Contracts see the bytes.
 #[derive(Drop)]
@@ -30,14 +33,14 @@ impl Model for Hold {
     ghost invariant = { λ hold. max_frame Two ≤ vec_capacity hold.bytes };
 }
 
-// Puts as many zeros last as bytes are asked for at once.
+// Puts so many zeros last.
 #[inline(always)]
-fn put_zeros(bytes: &mut Vec<u8>)
-    requires { vec_len bytes.old + fill_len ≤ vec_capacity bytes.old }
-    ensures zeros { bytes.new.items ≡ bytes.old.items ++ replicate fill_len 0 }
+fn put_zeros(bytes: &mut Vec<u8>, count: usize)
+    requires { vec_len bytes.old + count ≤ vec_capacity bytes.old }
+    ensures zeros { bytes.new.items ≡ bytes.old.items ++ replicate count 0 }
     ensures capacity { vec_capacity bytes.old ≤ vec_capacity bytes.new }
 {
-    let end = bytes.len() + FILL_LEN;
+    let end = bytes.len() + count;
     let _ = bytes.resize(end, 0);
 }
 
@@ -95,15 +98,21 @@ impl Hold {
         self.bytes.clear();
     }
 
-    /// Has the memory behind what is stored filled from a source, and stores what that gave. The source
-    /// finds zeros there: one that says it gave more than it did gives no byte of an earlier frame.
+    /// Has so many bytes of memory behind what is stored filled from a source, and stores what that gave.
+    /// The source finds zeros there: one that says it gave more than it did gives no byte of an earlier
+    /// frame.
     #[inline(always)]
-    pub(crate) fn fill<R, F: Fill<R>>(&mut self, filler: &F, source: &mut R) -> Option<usize>
-        requires { length self.old + fill_len ≤ max_frame Two }
-        ensures { FillsFrom F.fills result source.old source.new self.old self.new }
+    pub(crate) fn fill<R, F: Fill<R>>(
+        &mut self,
+        asked: usize,
+        filler: &F,
+        source: &mut R,
+    ) -> Option<usize>
+        requires { length self.old + asked ≤ max_frame Two }
+        ensures { FillsFrom F.fills asked result source.old source.new self.old self.new }
     {
         let held = self.bytes.len();
-        put_zeros(&mut self.bytes);
+        put_zeros(&mut self.bytes, asked);
         let answer = filler.fill(source, self.bytes.split_at_mut(held).1);
         match answer {
             Some(count) => self.bytes.truncate(held + count),

@@ -10,6 +10,8 @@ ghost use Rattle.lc_frame.specs.Fill.{FilledAs, LacksMore};
 ghost use Rattle.lc_frame.specs.StreamDecoder.{EndsAs, TakesMore};
 ghost use Rattle.lc_frame.specs.declared.channel.Channel.{Channel};
 ghost use Rattle.lc_frame.specs.Begun.{HasBegun, BeginsAtMost, HasBegunAtMost, TakesLonger};
+ghost use Rattle.lc_frame.specs.declared.frame_fault.FrameFault.TheVariants.{ZeroLength, BadNumber};
+ghost use Rattle.lc_frame.specs.Numbers.{HasNumber};
 ghost use Rattle.lc_frame.specs.Progress.{Feeds};
 
 use crate::begun::{BegunSend, begun_send};
@@ -18,7 +20,8 @@ use crate::fill::{Fill, Filled};
 use crate::frame_fault::FrameFault;
 use crate::frame_ref::FrameRef;
 use crate::greeting::open;
-use crate::hold::{FILL_LEN, Hold};
+use crate::hold::{FILL_LEN, Hold, MOST_FILLED};
+use crate::out_of_range::{OutOfRange, number_in_front};
 use crate::progress::{FEW, Progress, leap_within, take_in};
 use crate::scan::{Scan, scan_front};
 use crate::version::Version;
@@ -194,8 +197,9 @@ impl StreamDecoder {
         }
     }
 
-    /// Inside a frame that lacks more than 512 bytes, has the memory for so many filled where its next
-    /// bytes are stored, and stores those that were given. So they need no other memory on their way.
+    /// Inside a frame that lacks more than 512 bytes, has memory filled where its next bytes are stored, and
+    /// stores those that were given: at most 4,096, and never the frame's last. So they need no other memory
+    /// on their way.
     #[inline]
     #[tactic(auto, using(crate::proofs::Fronts::frame_fits))]
     pub fn fill<R, F: Fill<R>>(&mut self, filler: &F, source: &mut R) -> Filled
@@ -208,7 +212,13 @@ impl StreamDecoder {
                 if lacks <= FILL_LEN {
                     return Filled::Few;
                 }
-                match self.buffer.fill(filler, source) {
+                // Zeros of a constant count are written fast.
+                let answer = if lacks <= MOST_FILLED {
+                    self.buffer.fill(FILL_LEN, filler, source)
+                } else {
+                    self.buffer.fill(MOST_FILLED, filler, source)
+                };
+                match answer {
                     Some(count) => Filled::Took(count),
                     None => Filled::Failed,
                 }
@@ -316,6 +326,20 @@ impl StreamDecoder {
             Progress::Fault(fault) => Some(fault),
             Progress::Greeted => None,
             Progress::Broken => Some(FrameFault::BadTag),
+        }
+    }
+
+    /// The number that is out of range, and what its tag names, after F2 and F3; `None` where neither
+    /// stands.
+    pub fn out_of_range(&self) -> Option<OutOfRange>
+        ensures found { IfSome result (λ o. HasNumber o self.now) }
+        ensures none { IfNone result ((¬ HasFault ZeroLength self.now) × (¬ HasFault BadNumber self.now)) }
+    {
+        match self.fault()? {
+            FrameFault::ZeroLength | FrameFault::BadNumber => {
+                number_in_front(self.version, self.buffer.as_slice())
+            }
+            FrameFault::BadTag | FrameFault::Truncated => None,
         }
     }
 

@@ -9,14 +9,15 @@ returns-in-Some g c =
     let count = c.in-Some.count in
     let len = c.len-held.result in
     let items = c.self.inside.bytes.items in
-    let zeros : List ℕ = replicate 512 0 in
+    let asked = c.args.asked in
+    let zeros : List ℕ = replicate asked 0 in
     let there : length items ≡ len = omega arith in
-    let all : c.put_zeros.new.bytes.len ≡ len + 512 = omega (arith, there, ap length c.put_zeros.ensures.zeros, length-append items zeros, length-replicate {A = ℕ} 512 0) in
+    let all : c.put_zeros.new.bytes.len ≡ len + asked = omega (arith, there, ap length c.put_zeros.ensures.zeros, length-append items zeros, length-replicate {A = ℕ} asked 0) in
     let before = c.split_at_mut.result.0.now in
     let held : before ≡ c.args.self.now = c.split_at_mut.ensures.front ∙ ap (λ (xs : List ℕ). take len xs) (c.deref_mut.ensures.value ∙ c.put_zeros.ensures.zeros) ∙ take_at items zeros len there ∙ c.self.view_is in
     let tail : List ℕ = drop (length (before ++ memory)) c.put_zeros.new.bytes.items in
-    let size : length memory ≡ 512 = omega (arith, all) in
-    let within : count ≤ 512 = omega (arith, size, c.in-Some.ensures.bound) in
+    let size : length memory ≡ asked = omega (arith, all) in
+    let within : count ≤ asked = omega (arith, size, c.in-Some.ensures.bound) in
     let front = filled_front len count c.put_zeros.new.bytes.len before memory tail (sym c.split_at_mut.ensures.front_len) c.in-Some.ensures.bound (omega (arith, within, all)) in
     record {
       memory = memory;
