@@ -41,23 +41,23 @@ pub came_len : (s : Skip) → length (held_of s).bytes ≡ header_len s.version 
 came_len s = omega (arith, length-append (header s.version kinds.Send s.channel s.len) s.body.bytes, length-header s.version kinds.Send s.channel s.len)
 
 -- once it is whole, its frame stands
-pub shows_skip : (s : Skip) → IsInRange s.version kinds.Send s.len → length s.body.bytes ≡ s.len → HoldsHead (record { kind = kinds.Send; channel = s.channel; number = Some s.len }) (held_of s)
+pub shows_skip : (s : Skip) → IsInRange s.version kinds.Send s.len → length s.body.bytes ≡ s.len → ShowsHead (Some (record { kind = kinds.Send; channel = s.channel; number = Some s.len })) (held_of s)
 shows_skip s r all =
     let whole : length (held_of s).bytes ≡ header_len s.version kinds.Send + s.len = omega (arith, all, came_len s) in
-    record {
+    inl (record {
       frame = Send s.channel s.body.bytes;
       valid = begun_valid s.version s.channel s.len (held_of s).bytes (begun_of s r) whole;
       whole = begun_whole s.version s.channel s.len (held_of s).bytes (begun_of s r) whole;
       is = ap (λ (n : ℕ). record { kind = kinds.Send; channel = s.channel; number = Some n }) (sym all);
-    }
+    })
 
--- before, none does
-pub shows_none : (s : Skip) → IsInRange s.version kinds.Send s.len → length s.body.bytes < s.len → ShowsHead None (held_of s)
-shows_none s r few = (skip_open s r few).no_frame
-
--- nor does a fault
+-- no fault stands there
 pub skip_no_fault : (s : Skip) (e : FrameFault) → IsInRange s.version kinds.Send s.len → ¬ HasFault e (held_of s)
 skip_no_fault s e r = has_begun_no_fault s.channel s.len (held_of s) e (begun_of s r)
+
+-- before, nothing does
+pub shows_none : (s : Skip) → IsInRange s.version kinds.Send s.len → length s.body.bytes < s.len → ShowsHead None (held_of s)
+shows_none s r few = ((skip_open s r few).no_frame, (skip_no_fault s ZeroLength r, skip_no_fault s BadNumber r))
 
 -- ---- one fault at most
 

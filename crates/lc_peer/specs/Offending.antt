@@ -1,10 +1,13 @@
 -- What a stream that was given up shows of the frame or the byte that broke the rules. That a user learns it is this project's own.
-use Rattle.std.specs.Prelude.{◌≡◌, ℕ, ◌-◌, ◌<◌, length, slice_get, Option, Some, None}
+use Rattle.std.specs.Prelude.{◌≡◌, ℕ, ◌-◌, ◌<◌, ◌⊎◌, length, slice_get, Option, Some, None}
 use Rattle.lc_frame.specs.declared.frame.Frame.{Frame}
 use Rattle.lc_frame.specs.declared.frame.Frame.TheVariants.{Finish}
 use Rattle.lc_frame.specs.Kind.{max_amount, max_total}
 use Rattle.lc_frame.specs.Frame.{kind_of, channel_of, field_of}
-use Rattle.lc_frame.specs.Stored.{Stored, IsValidIn, encoding_in, HasFrame}
+use Rattle.lc_frame.specs.declared.frame_fault.FrameFault.TheVariants.{ZeroLength, BadNumber}
+use Rattle.lc_frame.specs.declared.out_of_range.OutOfRange.{OutOfRange}
+use Rattle.lc_frame.specs.Stored.{Stored, IsValidIn, encoding_in, HasFrame, HasFault}
+use Rattle.lc_frame.specs.Numbers.{HasNumber}
 use Rattle.lc_book.specs.declared.fault.Violation.{Violation}
 use Rattle.lc_book.specs.declared.fault.Violation.TheVariants.{NotGuaranteed, SentPastLimit, AbsolvedTooMuch, SendLimitRaised, IssuedPastLimit, TooManyGuarantees, ReceiveLimitRaised, TotalPassed, AfterFinish}
 use Rattle.lc_book.specs.Client.{Client, held}
@@ -27,10 +30,16 @@ pub record HoldsHead (head : FrameHead) (h : Stored) : Type 0 where
   pub whole : h.bytes ≡ encoding_in h.version frame
   pub is : head ≡ head_of frame
 
--- the head of the frame that stands at the front of what is held, if one does
+-- the bytes that are held begin with a tag and a number of this head, which is out of range, as they do after F2 and F3
+pub record HoldsNumber (head : FrameHead) (h : Stored) : Type 0 where
+  pub of : OutOfRange
+  pub lies : HasNumber of h
+  pub is : head ≡ record { kind = of.kind; channel = of.channel; number = Some of.number }
+
+-- the head of the frame that stands at the front of what is held, or of the number there that is out of range, if one of them does
 abbrev pub ShowsHead : Option FrameHead → Stored → Type 0
-ShowsHead None h = (f : Frame) → ¬ HasFrame f h
-ShowsHead (Some head) h = HoldsHead head h
+ShowsHead None h = ((f : Frame) → ¬ HasFrame f h) × ((¬ HasFault ZeroLength h) × (¬ HasFault BadNumber h))
+ShowsHead (Some head) h = HoldsHead head h ⊎ HoldsNumber head h
 
 -- the last byte that is held. As few bytes are taken as it takes to know a fault, so a bad tag, or the byte that differs from a greeting, is the last
 abbrev pub last_byte : Stored → Option ℕ

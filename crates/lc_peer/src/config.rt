@@ -21,11 +21,11 @@ pub struct Config {
 #[derive(Clone, Copy, Debug, PartialEq, Eq, Error)]
 pub enum PeerFault {
     /// The ring of this channel, and of none of a lower number, would not have 1 to 2^24 bytes.
-    #[error("the capacity of {channel:?} is not 1 to 2^24")]
-    BadCapacity { channel: Channel },
-    /// Not 1 to 65,536 frames might wait.
-    #[error("the slots are not 1 to 65,536")]
-    BadSlots,
+    #[error("the capacity of {channel:?} must be in 1..=16777216, got {capacity}")]
+    BadCapacity { channel: Channel, capacity: u32 },
+    /// Not 1 to 65,536 frames might wait, but so many.
+    #[error("slots must be in 1..=65536, got {slots}")]
+    BadSlots { slots: u32 },
     /// The memory of the rings or of the list of frames was refused.
     #[error("out of memory")]
     OutOfMemory,
@@ -51,10 +51,11 @@ impl Config {
         ensures { result_err result ≡ config_fault self.now }
     {
         if let Some(channel) = first_bad(&self.capacities) {
-            return Err(PeerFault::BadCapacity { channel });
+            let capacity = self.capacities[channel.index()];
+            return Err(PeerFault::BadCapacity { channel, capacity });
         }
         if !is_slots(self.slots) {
-            return Err(PeerFault::BadSlots);
+            return Err(PeerFault::BadSlots { slots: self.slots });
         }
         Ok(())
     }

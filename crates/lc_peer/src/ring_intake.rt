@@ -21,7 +21,7 @@ use crate::rings::Rings;
 use crate::skip::{Skip, Skipped, skip_on};
 use crate::unkept::Unkept;
 use lc_book::Violation;
-use lc_frame::{CHANNELS, Fill, Filled, FrameFault, Kind, StreamDecoder};
+use lc_frame::{CHANNELS, Fill, Filled, FrameFault, Kind, OutOfRange, StreamDecoder};
 use std::alloc::{AllocError, Global};
 use std::fmt;
 use std::fmt::{Debug, Formatter};
@@ -196,14 +196,23 @@ fn head_of_skip(skip: &Skip) -> Option<FrameHead>
     })
 }
 
-// The head of the frame that a decoder holds.
+// The head of the frame that a decoder holds, or of a number that is out of range.
 fn head_of_held(decoder: &StreamDecoder) -> Option<FrameHead>
     ensures { ShowsHead result decoder.now }
 {
-    match decoder.frame() {
-        Some(frame) => Some(FrameHead::of(frame)),
-        None => None,
+    if let Some(frame) = decoder.frame() {
+        return Some(FrameHead::of(frame));
     }
+    let OutOfRange {
+        kind,
+        channel,
+        number,
+    } = decoder.out_of_range()?;
+    Some(FrameHead {
+        kind,
+        channel,
+        number: Some(number),
+    })
 }
 
 // The byte that is no tag, or that differs from a greeting, where a decoder holds one.
@@ -272,7 +281,8 @@ impl RingIntake {
         }
     }
 
-    /// The frame that broke the rules, after a violation; `None` where no frame is held whole.
+    /// The head of the frame that broke the rules, after a violation, F2 or F3; `None` where neither a
+    /// whole frame nor a number that is out of range is held.
     pub fn offending(&self) -> Option<FrameHead>
         ensures { ShowsHead result self.now.held }
     {
