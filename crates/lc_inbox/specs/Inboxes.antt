@@ -1,10 +1,9 @@
 -- The inboxes of all seven channels, by number. The channels, and the bounds of their rings, are this project's own.
 use Rattle.std.specs.Prelude.{◌≡◌, ◌⊎◌, ℕ, ◌-◌, ◌≤◌, List, [], ◌∷◌, map, slice_index, Option, Some, None}
-use Rattle.std.specs.Option.{option_map}
 use Rattle.lc_frame.specs.Channel.{channel_count}
 use Rattle.lc_peer.specs.declared.config.PeerFault.{PeerFault}
-use Rattle.lc_peer.specs.declared.config.PeerFault.TheVariants.{BadCapacity, OutOfMemory}
-use Rattle.lc_peer.specs.Config.{first_bad}
+use Rattle.lc_peer.specs.declared.config.PeerFault.TheVariants.{OutOfMemory}
+use Rattle.lc_peer.specs.Config.{capacity_fault}
 use Rattle.lc_book.specs.Server.{Server}
 use Rattle.lc_queue.specs.Parts.{End}
 use Rattle.lc_inbox.specs.declared.rule.Key.{Key}
@@ -50,10 +49,6 @@ abbrev pub AreFinished : List InboxSide → List InboxSide → List Server → L
 AreFinished [] [] [] [] = Unit {0}
 AreFinished (i ∷ incoming) (o ∷ outgoing) (book ∷ books) (lane ∷ lanes) = IsFinished i o book lane × AreFinished incoming outgoing books lanes
 AreFinished incoming outgoing books lanes = ⊥
-
--- what is wrong with the capacities: the first that no ring may have
-abbrev pub capacity_fault : List ℕ → Option PeerFault
-capacity_fault capacities = option_map BadCapacity (first_bad capacities)
 
 -- why there are no inboxes: a capacity that no ring may have, or want of memory where there is none
 abbrev pub IsSharingAnswer : List ℕ → Option PeerFault → Type 0
