@@ -12,8 +12,7 @@ use Rattle.lc_frame.specs.Kind.{max_amount}
 use Rattle.lc_frame.proofs.Channels.{number_below}
 use Rattle.lc_peer.specs.declared.config.Config.{Config}
 use Rattle.lc_peer.specs.declared.config.PeerFault.{PeerFault}
-use Rattle.lc_peer.specs.declared.config.PeerFault.TheVariants.{BadCapacity}
-use Rattle.lc_peer.specs.Config.{bad_from, first_bad}
+use Rattle.lc_peer.specs.Config.{bad_from, first_bad, bad_capacity}
 use Rattle.lc_queue.specs.Parts.{End, new_ends}
 use Rattle.lc_inbox.specs.declared.rule.Key.{Key}
 use Rattle.lc_inbox.specs.Sides.{InboxId, InboxSide}
@@ -59,9 +58,9 @@ small number zero (n ∷ capacities) few none = (small_at (is_capacity n) number
 small number (suc k) (n ∷ capacities) few none = small (number + 1) k capacities (omega (arith, few)) (small_at (is_capacity n) number n capacities refl (omega (arith, few)) none).1
 
 -- what is wrong comes first from the capacities
-none_bad : (bad : Option Channel) (rest : Option PeerFault) → option_or (option_map BadCapacity bad) rest ≡ None → bad ≡ None
-none_bad None rest none = refl
-none_bad (Some c) rest none = absurd (cc)
+none_bad : (capacities : List ℕ) (bad : Option Channel) (rest : Option PeerFault) → option_or (option_map (bad_capacity capacities) bad) rest ≡ None → bad ≡ None
+none_bad capacities None rest none = refl
+none_bad capacities (Some c) rest none = absurd (cc)
 
 new_rings : (capacities : List ℕ) (lanes : List End) (incoming outgoing : List InboxSide) → first_bad capacities ≡ None → AreNew capacities lanes incoming outgoing → AllByRecursion (λ (s : InboxSide). s.key.capacity ≤ max_amount) incoming
 new_rings capacities [] [] outgoing none new = tt
@@ -83,7 +82,7 @@ rings_stay (s ∷ old) (t ∷ new) same all =
 rings_are : (config : Config) (s : SessionState) → WasPlayed config s → All (λ (side : InboxSide). side.key.capacity ≤ max_amount) s.reading.side.inboxes
 rings_are config s was =
     let began = was.began in
-    let none = none_bad (first_bad config.capacities) _ was.new.lawful in
+    let none = none_bad config.capacities (first_bad config.capacities) _ was.new.lawful in
     let rings = new_rings config.capacities (drop channel_count (new_ends began.writing.drain.queue config.version)) began.reading.side.inboxes began.receiving none was.new.inboxes_new in
     All-from_recursion (λ (side : InboxSide). side.key.capacity ≤ max_amount) s.reading.side.inboxes (rings_stay began.reading.side.inboxes s.reading.side.inboxes was.played.same.reading.inboxes rings)
 

@@ -127,6 +127,7 @@ each_call_is_counted s places = record {
   proceeds_by_grant = λ c len turn. proceeds_by_grant_on s c len places turn;
   reserved = λ c len body. record { sent = refl; last = λ d. refl };
   released = λ c len. record { sent = refl; last = λ d. refl };
+  bounds = λ c bound. record { sent = refl; last = λ d. last_same (is_same d c) s c d (without_first (queue s c)) refl refl places };
   queues = λ c q is. record { sent = refl; last = λ d. last_same (is_same d c) s c d q refl is places };
   peers = λ p begun. record { sent = refl; last = λ d. refl };
 }

@@ -24,15 +24,19 @@ use Rattle.lc_peer.specs.Calls.{put, without_next, take_on, channel_after_put, d
 use Rattle.lc_peer.specs.Arrivals.{Arrival, arrivals, violation_at, arrive_unless, arrive, channel_after_arrival}
 use Rattle.lc_lines.specs.declared.permits.Aside.{Aside}
 use Rattle.lc_lines.specs.declared.scheduler.Control.{Control}
-use Rattle.lc_lines.specs.declared.scheduler.Control.TheVariants.{Issue, Absolve, Plead, LimitSending, LimitReceiving, Finish}
+use Rattle.lc_lines.specs.declared.scheduler.Control.TheVariants.{Issue, Absolve, Plead, LimitReceiving}
+use Rattle.lc_lines.specs.declared.queue.Bound.{Bound}
+use Rattle.lc_lines.specs.declared.queue.Bound.TheVariants as kind
+use Rattle.lc_lines.specs.Bounds.{frame_of_bound}
 use Rattle.lc_lines.specs.Queue.{QueueState, empty_queue}
-use Rattle.lc_lines.specs.Permits.{none_aside, aside_on, with_permit, without_permit, is_permit, free_of, beyond_permits}
+use Rattle.lc_lines.specs.Permits.{none_aside, aside_on, permits_on, with_permit, without_permit, is_permit, free_of, beyond_permits}
 use Rattle.lc_lines.specs.Outbound.{least_slots, no_counts, under_way, kept, has_slot, fits, with_message, with_grant, without_grant, with_use, message_len, message_bytes, message_count, message_one, has_control_slot, Counts, counts_of, without_frame}
-use Rattle.lc_book.specs.Client.{honour_refusal}
-use Rattle.lc_lines.specs.Scheduler.{absolving_refusal, honour_refusal as lines_honour_refusal, frame_of_control, count_after, SentBy, FitsBytes, KeepsSlots, KeepsGuarantees, IsShort, greatest_message, most_unwritten, AreSchedulerFields}
+use Rattle.lc_book.specs.Client.{honour_refusal, spend_refusal}
+use Rattle.lc_lines.specs.Scheduler.{absolving_refusal, honour_refusal as lines_honour_refusal, frame_of_control, count_after, SentBy, FitsBytes, KeepsSlots, KeepsGuarantees, KeepsPermits, IsShort, greatest_message, most_unwritten, AreSchedulerFields}
 use Rattle.lc_lines.proofs.Queued.{counts_control, counts_next, counts_push, counts_more, counts_less, counts_used, of_channel, queued_few, permits_few}
 use Rattle.lc_lines.proofs.Bytes.{bytes_push, bytes_next, fits_next, fits_control, fits_push, fits_reserved, short_of, short_push, short_next, short_first, bounded_by}
-use Rattle.lc_lines.proofs.Guarantees.{NoLess, same_book, and_then, arrive_takes_nothing, take_takes_nothing, guarantees_new, guarantees_same, guarantees_control, guarantees_honour, spared_by, guarantees_push, guarantees_grant, guarantees_release, guarantees_reserved, permit_is_out}
+use Rattle.lc_lines.proofs.Guarantees.{NoLess, same_book, and_then, arrive_takes_nothing, take_takes_nothing, guarantees_new, guarantees_same, guarantees_control, guarantees_bound, guarantees_honour, spared_by, guarantees_push, guarantees_grant, guarantees_release, guarantees_reserved, permit_is_out}
+use Rattle.lc_lines.proofs.Allowed.{allowed_same, allowed_push, allowed_grant, allowed_release, allowed_reserved, allowed_control, allowed_bound, allowed_honour, allowed_new}
 use Rattle.lc_lines.proofs.Slots.{slots_control, slots_next, slots_push, slots_grant, slots_release, slots_reserved}
 
 -- what arrives and what is taken changes nothing that is queued, and takes nothing from a client
@@ -71,15 +75,15 @@ slots_same p p' h waiting slots keeps =
     let count_is = ap message_count waiting in
     record { own = omega (arith, keeps.own, slots); control = omega (arith, keeps.control, slots) }
 
-first_none : (a b : Option Refusal) → option_or a b ≡ None → a ≡ None
+pub first_none : (a b : Option Refusal) → option_or a b ≡ None → a ≡ None
 first_none None b e = refl
 first_none (Some r) b e = cc
 
-second_none : (a b : Option Refusal) → option_or a b ≡ None → b ≡ None
+pub second_none : (a b : Option Refusal) → option_or a b ≡ None → b ≡ None
 second_none None b e = e
 second_none (Some r) b e = cc
 
-slot_none : (b : Bool) → (if b then None else Some QueueFull) ≡ None → b ≡ true
+pub slot_none : (b : Bool) → (if b then None else Some QueueFull) ≡ None → b ≡ true
 slot_none true e = refl
 slot_none false e = cc
 
@@ -94,46 +98,38 @@ fields_same p p' queues h sent begun exempt counts same fields =
       slots = slots_same p p' h same.waiting same.slots fields.slots;
       some = omega (arith, same.slots, fields.some);
       guarantees = guarantees_same p p' h same.books fields.guarantees;
+      allowed = allowed_same p p' h same.books fields.allowed;
       bytes = subst (λ (w : List Frame). FitsBytes w begun exempt) (sym same.waiting) fields.bytes;
       short = subst (λ (w : List Frame). AllByRecursion IsShort w) (sym same.waiting) fields.short;
       small = fields.small;
       bounded = subst (λ (w : List Frame). message_bytes w + begun ≤ most_unwritten) (sym same.waiting) fields.bounded;
     }
 
-pub no_message : (control : Control) → message_of (frame_of_control control) ≡ None
-no_message (Issue c n) = refl
-no_message (Absolve c n) = refl
-no_message (Plead c n) = refl
-no_message (LimitSending c n) = refl
-no_message (LimitReceiving c n) = refl
-no_message (Finish c) = refl
+-- a frame is no message
+pub record IsSilent (f : Frame) : Type 0 where
+  pub message : message_of f ≡ None
+  pub bytes : message_len f ≡ 0
+  pub count : message_one f ≡ 0
 
-no_bytes : (control : Control) → message_len (frame_of_control control) ≡ 0
-no_bytes (Issue c n) = refl
-no_bytes (Absolve c n) = refl
-no_bytes (Plead c n) = refl
-no_bytes (LimitSending c n) = refl
-no_bytes (LimitReceiving c n) = refl
-no_bytes (Finish c) = refl
+pub silent_control : (f : Control) → IsSilent (frame_of_control f)
+silent_control (Issue c n) = record { message = refl; bytes = refl; count = refl }
+silent_control (Absolve c n) = record { message = refl; bytes = refl; count = refl }
+silent_control (Plead c n) = record { message = refl; bytes = refl; count = refl }
+silent_control (LimitReceiving c n) = record { message = refl; bytes = refl; count = refl }
 
-no_count : (control : Control) → message_one (frame_of_control control) ≡ 0
-no_count (Issue c n) = refl
-no_count (Absolve c n) = refl
-no_count (Plead c n) = refl
-no_count (LimitSending c n) = refl
-no_count (LimitReceiving c n) = refl
-no_count (Finish c) = refl
+pub silent_bound : (c : Channel) (bound : Bound) → IsSilent (frame_of_bound c bound)
+silent_bound c (kind.Limit n) = record { message = refl; bytes = refl; count = refl }
+silent_bound c kind.Finish = record { message = refl; bytes = refl; count = refl }
 
-is_short : (f : Control) → IsShort (frame_of_control f)
-is_short f = let no = no_bytes f in omega arith
+is_short : (f : Frame) → IsSilent f → IsShort f
+is_short f silent = let no = silent.bytes in omega arith
 
 -- a control frame enters the queue, whatever it leaves of books
-queue_fields : (p p' : PeerState) (f : Control) (queues : List QueueState) (h : List Aside) (sent begun exempt : ℕ) (counts : Counts) → p'.waiting ≡ p.waiting ++ frame_of_control f ∷ [] → p'.slots ≡ p.slots → length p'.channels ≡ length p.channels → KeepsGuarantees p' h → has_control_slot p h ≡ true → AreSchedulerFields p queues h sent begun exempt counts → AreSchedulerFields p' queues h sent begun exempt counts
-queue_fields p p' f queues h sent begun exempt counts waiting slots places guarantees slot fields =
-    let g = frame_of_control f in
-    let same = counts_control p.waiting h g (no_message f) (no_bytes f) in
+queue_fields : (p p' : PeerState) (g : Frame) (queues : List QueueState) (h : List Aside) (sent begun exempt : ℕ) (counts : Counts) → IsSilent g → p'.waiting ≡ p.waiting ++ g ∷ [] → p'.slots ≡ p.slots → length p'.channels ≡ length p.channels → KeepsGuarantees p' h → KeepsPermits p' h → has_control_slot p h ≡ true → AreSchedulerFields p queues h sent begun exempt counts → AreSchedulerFields p' queues h sent begun exempt counts
+queue_fields p p' g queues h sent begun exempt counts silent waiting slots places guarantees allowed slot fields =
+    let same = counts_control p.waiting h g silent.message silent.bytes in
     let bytes = bytes_push p.waiting g in
-    let no = no_bytes f in
+    let no = silent.bytes in
     let bytes_is : message_bytes p'.waiting ≡ message_bytes p.waiting = ap message_bytes waiting ∙ omega arith in
     record {
       places = fields.places;
@@ -141,11 +137,12 @@ queue_fields p p' f queues h sent begun exempt counts waiting slots places guara
       channels = places ∙ fields.channels;
       stamps = fields.stamps;
       counted = fields.counted ∙ (same ∙ ap (λ (w : List Frame). counts_of w h) (sym waiting));
-      slots = slots_control p p' h g fields.slots slot slots waiting (sym (ap (λ (s : Counts). s.kept) same)) (no_count f);
+      slots = slots_control p p' h g fields.slots slot slots waiting (sym (ap (λ (s : Counts). s.kept) same)) silent.count;
       some = omega (arith, slots, fields.some);
       guarantees = guarantees;
-      bytes = subst (λ (w : List Frame). FitsBytes w begun exempt) (sym waiting) (fits_control p.waiting begun exempt g (no_count f) fields.bytes);
-      short = subst (λ (w : List Frame). AllByRecursion IsShort w) (sym waiting) (short_push p.waiting g fields.short (is_short f));
+      allowed = allowed;
+      bytes = subst (λ (w : List Frame). FitsBytes w begun exempt) (sym waiting) (fits_control p.waiting begun exempt g silent.count fields.bytes);
+      short = subst (λ (w : List Frame). AllByRecursion IsShort w) (sym waiting) (short_push p.waiting g fields.short (is_short g silent));
       small = fields.small;
       bounded = omega (arith, fields.bounded);
     }
@@ -153,15 +150,25 @@ queue_fields p p' f queues h sent begun exempt counts waiting slots places guara
 put_fields : (p : PeerState) (f : Control) (queues : List QueueState) (h : List Aside) (sent begun exempt : ℕ) (counts : Counts) → has_control_slot p h ≡ true → beyond_permits (client p (channel_of (frame_of_control f))) (aside_on h (channel_of (frame_of_control f))) (frame_of_control f) ≡ None → AreSchedulerFields p queues h sent begun exempt counts → AreSchedulerFields (put p (frame_of_control f)) queues h sent begun exempt counts
 put_fields p f queues h sent begun exempt counts slot spared fields =
     let g = frame_of_control f in
-    queue_fields p (put p g) f queues h sent begun exempt counts refl refl
+    queue_fields p (put p g) g queues h sent begun exempt counts (silent_control f) refl refl
     (length-set p.channels (number_of (channel_of g)) (channel_after_put g (channel p (channel_of g))))
-    (guarantees_control p h f fields.channels spared fields.guarantees) slot fields
+    (guarantees_control p h f fields.channels spared fields.guarantees) (allowed_control p h f fields.channels fields.allowed) slot fields
 
-honour_by : (p : PeerState) (c : Channel) (amount : Option ℕ) (queues : List QueueState) (h : List Aside) (sent begun exempt : ℕ) (counts : Counts) → due p c ≡ amount → option_or (honour_refusal (client p c)) (absolving_refusal (record { peer = p; queues = queues; asides = h; sent = sent; begun = begun; exempt = exempt }) c amount) ≡ None → AreSchedulerFields p queues h sent begun exempt counts → AreSchedulerFields (put_honour p c) queues h sent begun exempt counts
-honour_by p c None queues h sent begun exempt counts is none fields =
+-- a bound is put where no permit of its channel is out
+pub bound_fields : (p p' : PeerState) (c : Channel) (bound : Bound) (queues : List QueueState) (h : List Aside) (sent begun exempt : ℕ) (counts : Counts) → p' ≡ put p (frame_of_bound c bound) → permits_on h c ≡ 0 → has_control_slot p h ≡ true → AreSchedulerFields p queues h sent begun exempt counts → AreSchedulerFields p' queues h sent begun exempt counts
+bound_fields p p' c bound queues h sent begun exempt counts e none slot fields =
+    let g = frame_of_bound c bound in
+    subst (λ (q : PeerState). AreSchedulerFields q queues h sent begun exempt counts) (sym e)
+    (queue_fields p (put p g) g queues h sent begun exempt counts (silent_bound c bound) refl refl
+    (length-set p.channels (number_of (channel_of g)) (channel_after_put g (channel p (channel_of g))))
+    (guarantees_bound p h c bound fields.channels fields.guarantees) (allowed_bound p h c bound fields.channels none fields.allowed) slot fields)
+
+honour_by : (p : PeerState) (c : Channel) (amount : Option ℕ) (queues : List QueueState) (h : List Aside) (sent begun exempt left : ℕ) (counts : Counts) → due p c ≡ amount → option_or (honour_refusal (client p c)) (absolving_refusal (record { peer = p; queues = queues; asides = h; sent = sent; begun = begun; exempt = exempt; left = left }) c amount) ≡ None → AreSchedulerFields p queues h sent begun exempt counts → AreSchedulerFields (put_honour p c) queues h sent begun exempt counts
+honour_by p c None queues h sent begun exempt left counts is none fields =
     let places = length-set p.channels (number_of c) (channel_after_honour (channel p c)) in
     let waiting : (put_honour p c).waiting ≡ p.waiting = ap (λ (o : Option ℕ). p.waiting ++ absolvings c o) is ∙ append-nil p.waiting in
     let guarantees = guarantees_honour p h c fields.channels (inl is) fields.guarantees in
+    let allowed = allowed_honour p h c fields.channels fields.allowed in
     record {
       places = fields.places;
       permits = fields.permits;
@@ -171,24 +178,25 @@ honour_by p c None queues h sent begun exempt counts is none fields =
       slots = slots_same p (put_honour p c) h waiting refl fields.slots;
       some = fields.some;
       guarantees = guarantees;
+      allowed = allowed;
       bytes = subst (λ (w : List Frame). FitsBytes w begun exempt) (sym waiting) fields.bytes;
       short = subst (λ (w : List Frame). AllByRecursion IsShort w) (sym waiting) fields.short;
       small = fields.small;
       bounded = subst (λ (w : List Frame). message_bytes w + begun ≤ most_unwritten) (sym waiting) fields.bounded;
     }
-honour_by p c (Some n) queues h sent begun exempt counts is none fields =
+honour_by p c (Some n) queues h sent begun exempt left counts is none fields =
     let absolving = second_none (honour_refusal (client p c)) _ none in
     let spared = first_none (beyond_permits (client p c) (aside_on h c) (frame_of_control (Absolve c n))) _ absolving in
     let slot = slot_none (has_control_slot p h) (second_none (beyond_permits (client p c) (aside_on h c) (frame_of_control (Absolve c n))) _ absolving) in
     let waiting : (put_honour p c).waiting ≡ p.waiting ++ frame_of_control (Absolve c n) ∷ [] = ap (λ (o : Option ℕ). p.waiting ++ absolvings c o) is in
     let le = spared_by (client p c) (aside_on h c) c n spared in
-    queue_fields p (put_honour p c) (Absolve c n) queues h sent begun exempt counts waiting refl (length-set p.channels (number_of c) (channel_after_honour (channel p c)))
-    (guarantees_honour p h c fields.channels (inr (λ m e. let same : m ≡ n = cc in omega arith)) fields.guarantees) slot fields
+    queue_fields p (put_honour p c) (frame_of_control (Absolve c n)) queues h sent begun exempt counts (silent_control (Absolve c n)) waiting refl (length-set p.channels (number_of c) (channel_after_honour (channel p c)))
+    (guarantees_honour p h c fields.channels (inr (λ m e. let same : m ≡ n = cc in omega arith)) fields.guarantees) (allowed_honour p h c fields.channels fields.allowed) slot fields
 
 -- a plead is honoured, or not
-pub honour_fields : (ok : Bool) (p p' : PeerState) (c : Channel) (queues : List QueueState) (h : List Aside) (sent begun exempt : ℕ) (counts : Counts) → p' ≡ (if ok then put_honour p c else p) → lines_honour_refusal (record { peer = p; queues = queues; asides = h; sent = sent; begun = begun; exempt = exempt }) c ≡ None → AreSchedulerFields p queues h sent begun exempt counts → AreSchedulerFields p' queues h sent begun exempt counts
-honour_fields true p p' c queues h sent begun exempt counts e none fields = subst (λ (q : PeerState). AreSchedulerFields q queues h sent begun exempt counts) (sym e) (honour_by p c (due p c) queues h sent begun exempt counts refl none fields)
-honour_fields false p p' c queues h sent begun exempt counts e none fields = subst (λ (q : PeerState). AreSchedulerFields q queues h sent begun exempt counts) (sym e) fields
+pub honour_fields : (ok : Bool) (p p' : PeerState) (c : Channel) (queues : List QueueState) (h : List Aside) (sent begun exempt left : ℕ) (counts : Counts) → p' ≡ (if ok then put_honour p c else p) → lines_honour_refusal (record { peer = p; queues = queues; asides = h; sent = sent; begun = begun; exempt = exempt; left = left }) c ≡ None → AreSchedulerFields p queues h sent begun exempt counts → AreSchedulerFields p' queues h sent begun exempt counts
+honour_fields true p p' c queues h sent begun exempt left counts e none fields = subst (λ (q : PeerState). AreSchedulerFields q queues h sent begun exempt counts) (sym e) (honour_by p c (due p c) queues h sent begun exempt left counts refl none fields)
+honour_fields false p p' c queues h sent begun exempt left counts e none fields = subst (λ (q : PeerState). AreSchedulerFields q queues h sent begun exempt counts) (sym e) fields
 
 -- a control call that is made where a slot is free for it
 pub control_fields : (ok : Bool) (p p' : PeerState) (f : Control) (queues : List QueueState) (h : List Aside) (sent begun exempt : ℕ) (counts : Counts) → p' ≡ (if ok then put p (frame_of_control f) else p) → has_control_slot p h ≡ true → beyond_permits (client p (channel_of (frame_of_control f))) (aside_on h (channel_of (frame_of_control f))) (frame_of_control f) ≡ None → AreSchedulerFields p queues h sent begun exempt counts → AreSchedulerFields p' queues h sent begun exempt counts
@@ -206,6 +214,7 @@ new_fields config some few rings = record {
   slots = record { own = omega arith; control = omega arith };
   some = few;
   guarantees = guarantees_new config;
+  allowed = allowed_new config;
   bytes = record { older = []; newer = []; whole = refl; few = omega arith; fits = inl (omega arith) };
   short = tt;
   small = omega arith;
@@ -241,6 +250,7 @@ push_fields p p' queues queues' h sent sent' begun exempt counts counts' v c bod
       slots = slots;
       some = fields.some;
       guarantees = guarantees_push p h c body fields.channels fields.guarantees fit;
+      allowed = allowed_push p h c body fields.channels fields.allowed fit;
       bytes = fits_push v p.waiting begun c body all bytes;
       short = short;
       small = fields.small;
@@ -250,9 +260,9 @@ push_fields p p' queues queues' h sent sent' begun exempt counts counts' v c bod
 -- a permit is granted at its turn
 pub grant_fields : (p : PeerState) (queues queues' : List QueueState) (h h' : List Aside) (sent sent' begun exempt : ℕ) (counts counts' : Counts) (c : Channel) (len : ℕ) →
     h' ≡ set h (number_of c) (with_permit (aside_on h c) len) → length queues' ≡ channel_count → AllByRecursion (SentBy sent') queues' → counts' ≡ with_grant counts c →
-    has_slot p h c ≡ true → nat_le len (free_of (client p c) (aside_on h c)) ≡ true →
+    has_slot p h c ≡ true → spend_refusal (client p c) len ≡ None → nat_le len (free_of (client p c) (aside_on h c)) ≡ true →
     AreSchedulerFields p queues h sent begun exempt counts → AreSchedulerFields p queues' h' sent' begun exempt counts'
-grant_fields p queues queues' h h' sent sent' begun exempt counts counts' c len asides places stamps counts_is slot fit fields =
+grant_fields p queues queues' h h' sent sent' begun exempt counts counts' c len asides places stamps counts_is slot accepted fit fields =
     subst (λ (x : List Aside). AreSchedulerFields p queues' x sent' begun exempt counts') (sym asides) (record {
       places = places;
       permits = length-set h (number_of c) (with_permit (aside_on h c) len) ∙ fields.permits;
@@ -262,6 +272,7 @@ grant_fields p queues queues' h h' sent sent' begun exempt counts counts' c len 
       slots = slots_grant p h c len fields.permits fields.slots slot;
       some = fields.some;
       guarantees = guarantees_grant p h c len fields.permits fields.guarantees fit;
+      allowed = allowed_grant p h c len fields.permits fields.allowed accepted fit;
       bytes = fields.bytes;
       short = fields.short;
       small = fields.small;
@@ -283,6 +294,7 @@ release_fields p queues h h' sent begun exempt counts counts' c len asides count
       slots = slots_release p h c len fields.permits one fields.slots;
       some = fields.some;
       guarantees = guarantees_release p h c len fields.permits fields.guarantees;
+      allowed = allowed_release p h c len fields.permits fields.allowed;
       bytes = fields.bytes;
       short = fields.short;
       small = fields.small;
@@ -312,6 +324,7 @@ reserved_fields p p' queues h h' sent begun exempt exempt' counts counts' v c le
       slots = slots;
       some = fields.some;
       guarantees = guarantees_reserved p h c len body fields.channels fields.permits permit within_it fields.guarantees;
+      allowed = allowed_reserved p h c len body fields.channels fields.permits permit within_it fields.allowed;
       bytes = fits_reserved p.waiting begun exempt p.slots c body fit fields.some fields.bytes;
       short = short;
       small = fields.small;
@@ -335,6 +348,7 @@ next_fields p p' f queues h sent begun begun' exempt counts counts' peer first b
       slots = subst (λ (q : PeerState). KeepsSlots q h) (sym peer) (slots_next p h fields.slots);
       some = subst (λ (q : PeerState). q.slots ≤ max_slots) (sym peer) fields.some;
       guarantees = subst (λ (q : PeerState). KeepsGuarantees q h) (sym peer) fields.guarantees;
+      allowed = subst (λ (q : PeerState). KeepsPermits q h) (sym peer) fields.allowed;
       bytes = subst (λ (n : ℕ). FitsBytes p'.waiting n exempt) (sym begun_is) (subst (λ (w : List Frame). FitsBytes w (message_len f) exempt) (sym waiting) (fits_next p.waiting f begun exempt first fields.bytes));
       short = subst (λ (w : List Frame). AllByRecursion IsShort w) (sym waiting) (short_next p.waiting fields.short);
       small = omega arith;

@@ -29,6 +29,9 @@ use Rattle.lc_peer.specs.Arrivals.{arrive, channel_after_arrival}
 use Rattle.lc_lines.specs.declared.permits.Aside.{Aside}
 use Rattle.lc_lines.specs.declared.scheduler.Control.{Control}
 use Rattle.lc_lines.specs.declared.scheduler.Control.TheVariants as control
+use Rattle.lc_lines.specs.declared.queue.Bound.{Bound}
+use Rattle.lc_lines.specs.declared.queue.Bound.TheVariants as kind
+use Rattle.lc_lines.specs.Bounds.{frame_of_bound}
 use Rattle.lc_lines.specs.Permits.{none_aside, no_permits, aside_on, with_permit, without_permit, is_permit, within, free_of, beyond_permits, Covers}
 use Rattle.lc_lines.specs.Scheduler.{for_good, frame_of_control, KeepsGuarantees}
 use Rattle.lc_lines.proofs.Queued.{aside_here, aside_there}
@@ -177,9 +180,7 @@ book_control b a (control.Absolve c n) spared covers =
     omega arith
 book_control b a (control.Issue c n) spared covers = covers
 book_control b a (control.Plead c n) spared covers = covers
-book_control b a (control.LimitSending c n) spared covers = covers
 book_control b a (control.LimitReceiving c n) spared covers = covers
-book_control b a (control.Finish c) spared covers = covers
 
 pub guarantees_control : (p : PeerState) (h : List Aside) (f : Control) → length p.channels ≡ channel_count → beyond_permits (client p (channel_of (frame_of_control f))) (aside_on h (channel_of (frame_of_control f))) (frame_of_control f) ≡ None → KeepsGuarantees p h → KeepsGuarantees (put p (frame_of_control f)) h
 guarantees_control p h f places spared keeps =
@@ -188,6 +189,24 @@ guarantees_control p h f places spared keeps =
     guarantees_by p (put p (frame_of_control f)) h h c
     (subst (λ (b : Client). Covers b (aside_on h c)) (sym (client_here p c after places)) (book_control (client p c) (aside_on h c) f spared (keeps c)))
     (λ d e. subst (NoLess (client p d)) (sym (client_there p c d after e)) (same_book (client p d))) (λ d e. refl) keeps
+
+-- a bound takes no guarantees
+book_bound : (b : Client) (a : Aside) (c : Channel) (bound : Bound) → Covers b a → Covers (client_after_put (frame_of_bound c bound) b) a
+book_bound b a c (kind.Limit n) covers = covers
+book_bound b a c kind.Finish covers = covers
+
+pub bound_channel : (c : Channel) (bound : Bound) → channel_of (frame_of_bound c bound) ≡ c
+bound_channel c (kind.Limit n) = refl
+bound_channel c kind.Finish = refl
+
+pub guarantees_bound : (p : PeerState) (h : List Aside) (c : Channel) (bound : Bound) → length p.channels ≡ channel_count → KeepsGuarantees p h → KeepsGuarantees (put p (frame_of_bound c bound)) h
+guarantees_bound p h c bound places keeps =
+    let f = frame_of_bound c bound in
+    let g = channel_of f in
+    let after = channel_after_put f (channel p g) in
+    guarantees_by p (put p f) h h g
+    (subst (λ (b : Client). Covers b (aside_on h g)) (sym (client_here p g after places)) (book_bound (client p g) (aside_on h g) c bound (keeps g)))
+    (λ d e. subst (NoLess (client p d)) (sym (client_there p g d after e)) (same_book (client p d))) (λ d e. refl) keeps
 
 -- a plead is honoured: what is absolved is not set aside
 honoured : (b : Client) (a : Aside) (amount : Option ℕ) → (amount ≡ None) ⊎ ((n : ℕ) → amount ≡ Some n → n ≤ held b - a.bytes) → Covers b a → b.spent + (b.absolved + unwrap_or amount 0) + a.bytes ≤ b.received

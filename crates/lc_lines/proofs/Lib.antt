@@ -2,6 +2,7 @@ pub mod Queued
 pub mod Bytes
 pub mod Slots
 pub mod Guarantees
+pub mod Allowed
 pub mod Next
 pub mod Stamps
 pub mod Fields
@@ -10,4 +11,4 @@ pub mod Order
 pub mod Blocking
 pub mod Accepted
 pub mod Fair
-pub mod Honoured
+pub mod Passed

@@ -1,13 +1,15 @@
 -- The channel whose first call proceeds next.
-use Rattle.std.proofs.Common.{◌≡◌, Bool, true, false, if◌then◌else◌, List, [], ◌∷◌, Option, Some, None, refl, sym, subst}
-use Rattle.std.specs.Prelude.{◌&&◌, IfSome, IfNone}
+use Rattle.std.proofs.Common.{◌≡◌, ℕ, Bool, true, false, if◌then◌else◌, List, [], ◌∷◌, Option, Some, None, refl, sym, subst}
+use Rattle.std.specs.Prelude.{◌&&◌, ◌||◌, IfSome, IfNone}
 use Rattle.std.specs.List.{AllByRecursion}
 use Rattle.lc_frame.specs.declared.channel.Channel.{Channel}
 use Rattle.lc_frame.specs.declared.channel.Channel.TheVariants.{Reconciliation, Data, Overlap, Capability, AreaOfInterest, PayloadRequest, StaticToken}
-use Rattle.lc_lines.specs.Outbound.{every_channel, fits}
+use Rattle.lc_lines.specs.Outbound.{every_channel, fits, has_slot, is_own_free}
 use Rattle.lc_lines.specs.declared.queue.Call.{Call}
-use Rattle.lc_lines.specs.Queue.{call_len}
-use Rattle.lc_lines.specs.Scheduler.{SchedulerState, front, unwritten, is_able, is_able_call, is_turn, waits_for_bytes, call_fits, can_call_proceed, can_front_proceed, next_among, next_channel, IsSettled, is_hopeless, hopeless_among, next_hopeless, NoneIsHopeless}
+use Rattle.lc_lines.specs.declared.queue.Ask.{Ask}
+use Rattle.lc_lines.specs.declared.queue.Ask.TheVariants.{Message, Offer, Permit, End}
+use Rattle.lc_lines.specs.Queue.{ask_len, call_len, is_bound}
+use Rattle.lc_lines.specs.Scheduler.{SchedulerState, unwritten, has_guarantees, may_share, has_place, is_accepted, is_accepted_call, is_able, is_turn, call_fits, can_proceed, can_ask_proceed, can_call_proceed, is_bound_call, can_front_proceed, next_among, next_channel, IsSettled, is_hopeless, hopeless_among, next_hopeless, NoneIsHopeless}
 
 pub of_every : (P : Channel → Type 0) → AllByRecursion P every_channel → (d : Channel) → P d
 of_every P h Reconciliation = h.0
@@ -48,30 +50,43 @@ pub second_of_both : (a b : Bool) → (a && b) ≡ true → b ≡ true
 second_of_both true b e = e
 second_of_both false b e = cc
 
--- what is true of a first call that can proceed
-able_by : (s : SchedulerState) (c : Channel) (first : Option Call) → can_call_proceed s c first ≡ true → is_able_call s c first ≡ true
-able_by s c None e = cc
-able_by s c (Some call) e = first_of_both (is_able s c (call_len call)) (fits (unwritten s) (call_len call) && is_turn s c) e
+-- what is able has its guarantees, and a slot is free
+both : (a b : Bool) → a ≡ true → b ≡ true → (a && b) ≡ true
+both true b e f = f
+both false b e f = cc
 
-bytes_by : (s : SchedulerState) (c : Channel) (first : Option Call) → can_call_proceed s c first ≡ true → call_fits s first ≡ true
-bytes_by s c None e = cc
-bytes_by s c (Some call) e = first_of_both (fits (unwritten s) (call_len call)) (is_turn s c) (second_of_both (is_able s c (call_len call)) (fits (unwritten s) (call_len call) && is_turn s c) e)
+pub able_parts : (s : SchedulerState) (c : Channel) (len : ℕ) → is_able s c len ≡ true → (has_guarantees s c len ≡ true) × (has_slot s.peer s.asides c ≡ true)
+able_parts s c len able =
+    let place = second_of_both (has_guarantees s c len) (has_place s c) able in
+    (first_of_both (has_guarantees s c len) (has_place s c) able, first_of_both (has_slot s.peer s.asides c) (is_own_free s.peer s.asides c || may_share s c) place)
 
-turn_by : (s : SchedulerState) (c : Channel) (first : Option Call) → can_call_proceed s c first ≡ true → is_turn s c ≡ true
-turn_by s c None e = cc
-turn_by s c (Some call) e = second_of_both (fits (unwritten s) (call_len call)) (is_turn s c) (second_of_both (is_able s c (call_len call)) (fits (unwritten s) (call_len call) && is_turn s c) e)
+-- what is true of a first call that can proceed, and asks for no bound
+able_ask : (s : SchedulerState) (c : Channel) (ask : Ask) → is_bound ask ≡ false → can_ask_proceed s c ask ≡ true → can_proceed s c (ask_len ask) ≡ true
+able_ask s c (Message body) other e = e
+able_ask s c (Offer len) other e = e
+able_ask s c (Permit len) other e = e
+able_ask s c (End bound) other e = cc
 
-pub next_is_able : (s : SchedulerState) (o : Option Channel) → o ≡ next_channel s → IfSome o (λ c. waits_for_bytes s c ≡ true)
-next_is_able s None e = tt
-next_is_able s (Some c) e = able_by s c (front s c) (next_can_proceed s c (sym e))
+pub bytes_by : (s : SchedulerState) (c : Channel) (first : Option Call) → is_bound_call first ≡ false → can_call_proceed s c first ≡ true → call_fits s first ≡ true
+bytes_by s c None other e = cc
+bytes_by s c (Some call) other e = first_of_both (fits (unwritten s) (call_len call)) (is_turn s c) (second_of_both (is_able s c (call_len call)) (fits (unwritten s) (call_len call) && is_turn s c) (able_ask s c call.ask other e))
 
-pub next_fits : (s : SchedulerState) (o : Option Channel) → o ≡ next_channel s → IfSome o (λ c. call_fits s (front s c) ≡ true)
-next_fits s None e = tt
-next_fits s (Some c) e = bytes_by s c (front s c) (next_can_proceed s c (sym e))
+pub accepted : (s : SchedulerState) (c : Channel) (len : ℕ) → is_able s c len ≡ true → is_accepted s c len ≡ true
+accepted s c len able =
+    let parts = able_parts s c len able in
+    both (has_guarantees s c len) (has_slot s.peer s.asides c) parts.0 parts.1
 
-pub next_has_turn : (s : SchedulerState) (o : Option Channel) → o ≡ next_channel s → IfSome o (λ c. is_turn s c ≡ true)
-next_has_turn s None e = tt
-next_has_turn s (Some c) e = turn_by s c (front s c) (next_can_proceed s c (sym e))
+pub accepted_by : (s : SchedulerState) (c : Channel) (first : Option Call) → is_bound_call first ≡ false → can_call_proceed s c first ≡ true → is_accepted_call s c first ≡ true
+accepted_by s c None other e = cc
+accepted_by s c (Some call) other e = accepted s c (call_len call) (first_of_both (is_able s c (call_len call)) (fits (unwritten s) (call_len call) && is_turn s c) (able_ask s c call.ask other e))
+
+pub turn_by : (s : SchedulerState) (c : Channel) (first : Option Call) → is_bound_call first ≡ false → can_call_proceed s c first ≡ true → is_turn s c ≡ true
+turn_by s c None other e = cc
+turn_by s c (Some call) other e = second_of_both (fits (unwritten s) (call_len call)) (is_turn s c) (second_of_both (is_able s c (call_len call)) (fits (unwritten s) (call_len call) && is_turn s c) (able_ask s c call.ask other e))
+
+pub next_proceeds : (s : SchedulerState) (o : Option Channel) → o ≡ next_channel s → IfSome o (λ c. can_front_proceed s c ≡ true)
+next_proceeds s None e = tt
+next_proceeds s (Some c) e = next_can_proceed s c (sym e)
 
 pub next_is_settled : (s : SchedulerState) (o : Option Channel) → o ≡ next_channel s → IfNone o (IsSettled s)
 next_is_settled s None e = none_is_settled s (sym e)

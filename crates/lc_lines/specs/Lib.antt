@@ -1,5 +1,6 @@
 pub mod Queue
 pub mod Permits
+pub mod Bounds
 pub mod Outbound
 pub mod Scheduler
 pub mod Lines
@@ -7,4 +8,4 @@ pub mod Order
 pub mod Blocking
 pub mod Runs
 pub mod Fair
-pub mod Honoured
+pub mod Passed

@@ -1,5 +1,5 @@
 -- Permits: each holds a slot and the guarantees of one message of its channel until it is used or given back. Permits of one channel are alike, and they are this project's own.
-use Rattle.std.specs.Prelude.{ℕ, ◌+◌, ◌-◌, ◌≤◌, ◌&&◌, nat_lt, nat_le, min, Bool, if◌then◌else◌, List, slice_index_or, replicate, sum_by, Option, Some, None}
+use Rattle.std.specs.Prelude.{◌≡◌, ℕ, ◌+◌, ◌-◌, ◌≤◌, ◌&&◌, nat_lt, nat_le, min, Bool, false, if◌then◌else◌, List, slice_index_or, replicate, sum_by, Option, Some, None}
 use Rattle.lc_frame.specs.declared.channel.Channel.{Channel}
 use Rattle.lc_frame.specs.Channel.{channel_count, number_of}
 use Rattle.lc_frame.specs.declared.frame.Frame.{Frame}
@@ -7,6 +7,7 @@ use Rattle.lc_frame.specs.declared.frame.Frame.TheVariants.{Absolve}
 use Rattle.lc_book.specs.declared.fault.Refusal.{Refusal}
 use Rattle.lc_book.specs.declared.fault.Refusal.TheVariants.{NotHeld}
 use Rattle.lc_book.specs.Client.{Client, held}
+use Rattle.lc_book.specs.Limit.{is_past}
 use Rattle.lc_lines.specs.declared.permits.Aside.{Aside}
 
 -- a channel without permits
@@ -62,3 +63,12 @@ beyond_permits b a f = None
 -- the guarantees that permits set aside are among those that came and were neither used up nor absolved: until the channel is finished, those are the ones held
 abbrev pub Covers : Client → Aside → Type 0
 Covers b a = b.spent + b.absolved + a.bytes ≤ b.received
+
+-- what permits set aside may be sent: the client has not finished the channel, and its limit on sending leaves no less
+pub record Allows (b : Client) (a : Aside) : Type 0 where
+  pub unfinished : b.finished ≡ false
+  pub left : is_past b.send_left a.bytes ≡ false
+
+-- so it is where a permit is out
+abbrev pub AllowsPermits : Client → Aside → Type 0
+AllowsPermits b a = 1 ≤ a.permits → Allows b a

@@ -2,24 +2,26 @@
 use Rattle.std.specs.Prelude.{ℕ, Bool, true, false, ◌==◌, nat_lt, if◌then◌else◌, List, [], length, drop, remove, slice_get, Option, None}
 use Rattle.std.specs.List.{position_or_len}
 use Rattle.lc_lines.specs.declared.queue.Ask.{Ask}
-use Rattle.lc_lines.specs.declared.queue.Ask.TheVariants.{Message, Offer, Permit}
+use Rattle.lc_lines.specs.declared.queue.Ask.TheVariants.{Message, Offer, Permit, End}
 use Rattle.lc_lines.specs.declared.queue.Call.{Call}
 
--- the calls that wait, the first first, when the channel took its last turn, counted in the turns of all channels, and whether the first call was notified and has not come since
+-- the calls that wait, the first first, when the channel took its last turn, counted in the turns of all channels, whether the first call was notified and has not come since, and how many frames had left the outbound queue when that was noted
 pub record QueueState : Type 0 where
   pub calls : List Call
   pub last : ℕ
   pub notified : Bool
+  pub noted : ℕ
 
 -- no call waits, and the channel has taken no turn
 abbrev pub empty_queue : QueueState
-empty_queue = record { calls = []; last = 0; notified = false }
+empty_queue = record { calls = []; last = 0; notified = false; noted = 0 }
 
--- the bytes of what a call asks for
+-- the bytes of what a call asks for; a bound has none
 abbrev pub ask_len : Ask → ℕ
 ask_len (Message body) = length body
 ask_len (Offer len) = len
 ask_len (Permit len) = len
+ask_len (End bound) = 0
 
 -- the bytes of the message of a call, or of its permit
 abbrev pub call_len : Call → ℕ
@@ -30,6 +32,14 @@ abbrev pub is_offer : Ask → Bool
 is_offer (Message body) = false
 is_offer (Offer len) = true
 is_offer (Permit len) = false
+is_offer (End bound) = false
+
+-- whether a call asks to bound what its channel sends
+abbrev pub is_bound : Ask → Bool
+is_bound (Message body) = false
+is_bound (Offer len) = false
+is_bound (Permit len) = false
+is_bound (End bound) = true
 
 -- the first call, unless it was notified and has not come since
 abbrev pub first_waiting : QueueState → Option Call

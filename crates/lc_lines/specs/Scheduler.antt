@@ -1,12 +1,13 @@
 -- The send scheduler: a peer with the wait queues of its seven channels, which call proceeds next, and what that leaves. Guarantees are LCMUX's; the rules of scheduling are this project's own.
-use Rattle.std.specs.Prelude.{◌≡◌, ℕ, ◌+◌, ◌-◌, ◌*◌, ◌≤◌, ◌==◌, ◌^◌, ◌&&◌, ◌⊎◌, ◌++◌, nat_lt, nat_le, min, Bool, true, false, if◌then◌else◌, List, [], ◌∷◌, length, slice_get, slice_index_or, slice_set, replicate, is_none, Option, Some, None}
+use Rattle.std.specs.Prelude.{◌≡◌, ℕ, ◌+◌, ◌-◌, ◌*◌, ◌≤◌, ◌==◌, ◌^◌, ◌&&◌, ◌||◌, not, ◌⊎◌, ◌++◌, nat_lt, nat_le, min, Bool, true, false, if◌then◌else◌, List, [], ◌∷◌, length, slice_get, slice_index_or, slice_set, replicate, is_none, is_some, Option, Some, None}
 use Rattle.std.specs.Option.{option_or}
 use Rattle.std.specs.List.{AllByRecursion}
 use Rattle.lc_frame.specs.declared.channel.Channel.{Channel}
 use Rattle.lc_frame.specs.declared.frame.Frame.{Frame}
-use Rattle.lc_frame.specs.declared.frame.Frame.TheVariants.{Send, Issue, Absolve, Plead, LimitSending, LimitReceiving, Finish}
-use Rattle.lc_frame.specs.Channel.{channel_count, number_of}
+use Rattle.lc_frame.specs.declared.frame.Frame.TheVariants.{Send, Issue, Absolve, Plead, LimitReceiving}
+use Rattle.lc_frame.specs.Channel.{channel_count, number_of, is_same}
 use Rattle.lc_frame.specs.Bounds.{max_slots}
+use Rattle.lc_frame.specs.Kind.{max_body}
 use Rattle.lc_frame.specs.Frame.{channel_of}
 use Rattle.lc_book.specs.Client.{spend_refusal, honour_refusal as book_honour_refusal}
 use Rattle.lc_book.specs.declared.fault.Refusal.{Refusal}
@@ -20,7 +21,9 @@ use Rattle.lc_peer.specs.Calls.{put, refusal_by_books, due, put_honour, next, wi
 use Rattle.lc_peer.specs.declared.questions.Needs.{Needs}
 use Rattle.lc_peer.specs.declared.questions.Needs.TheVariants.{Guarantees, Never, Slot}
 use Rattle.lc_peer.specs.Questions.{needs}
-use Rattle.lc_lines.specs.declared.queue.Ask.TheVariants.{Message, Permit}
+use Rattle.lc_lines.specs.declared.queue.Ask.{Ask}
+use Rattle.lc_lines.specs.declared.queue.Ask.TheVariants.{Message, Permit, End}
+use Rattle.lc_lines.specs.declared.queue.Bound.{Bound}
 use Rattle.lc_lines.specs.declared.queue.Call.{Call}
 use Rattle.lc_lines.specs.declared.permits.Aside.{Aside}
 use Rattle.lc_lines.specs.declared.scheduler.Attempt.{Attempt}
@@ -31,11 +34,12 @@ use Rattle.lc_lines.specs.declared.scheduler.Notice.{Notice}
 use Rattle.lc_lines.specs.declared.scheduler.Outcome.TheVariants.{Completed, Notified, Hopeless}
 use Rattle.lc_lines.specs.declared.scheduler.Progress.{Progress}
 use Rattle.lc_lines.specs.declared.scheduler.Progress.TheVariants.{Proceeded, Waits}
-use Rattle.lc_lines.specs.Queue.{QueueState, empty_queue, call_len, is_offer, first_waiting, without_first, without_ticket}
-use Rattle.lc_lines.specs.Permits.{none_aside, aside_on, with_permit, without_permit, is_permit, permitted, free_of, beyond_permits, Covers}
-use Rattle.lc_lines.specs.Outbound.{every_channel, control_slots, least_slots, most_queued, kept, message_bytes, message_count, message_len, none, has_slot, has_control_slot, fits, Counts, counts_of}
+use Rattle.lc_lines.specs.Queue.{QueueState, empty_queue, ask_len, call_len, is_offer, is_bound, first_waiting, without_first, without_ticket}
+use Rattle.lc_lines.specs.Permits.{none_aside, aside_on, permits_on, with_permit, without_permit, is_permit, permitted, free_of, beyond_permits, Covers, AllowsPermits}
+use Rattle.lc_lines.specs.Bounds.{frame_of_bound, bound_refusal}
+use Rattle.lc_lines.specs.Outbound.{every_channel, control_slots, least_slots, most_queued, kept, message_bytes, message_count, message_len, none, is_own_free, has_slot, has_control_slot, fits, Counts, counts_of}
 
--- a peer, the wait queues of its channels and what permits hold there, by their numbers, how many turns were taken so far, how many bytes of the message that left the outbound queue last are not written yet, and how many messages entered it by permits since the last other one did
+-- a peer, the wait queues of its channels and what permits hold there, by their numbers, how many turns were taken so far, how many bytes of the message that left the outbound queue last are not written yet, how many messages entered it by permits since the last other one did, and how many frames left it
 pub record SchedulerState : Type 0 where
   pub peer : PeerState
   pub queues : List QueueState
@@ -43,14 +47,15 @@ pub record SchedulerState : Type 0 where
   pub sent : ℕ
   pub begun : ℕ
   pub exempt : ℕ
+  pub left : ℕ
 
 -- a new peer: no call waits, no permit is out, and nothing was sent
 abbrev pub new_scheduler : Config → SchedulerState
-new_scheduler config = record { peer = new_peer config; queues = replicate channel_count empty_queue; asides = none_aside; sent = 0; begun = 0; exempt = 0 }
+new_scheduler config = record { peer = new_peer config; queues = replicate channel_count empty_queue; asides = none_aside; sent = 0; begun = 0; exempt = 0; left = 0 }
 
 -- what is wrong with a configuration: too few slots, or what its peer would say
 abbrev pub scheduler_fault : Config → Option PeerFault
-scheduler_fault config = if nat_lt config.slots least_slots then Some fault.BadSlots else config_fault config
+scheduler_fault config = if nat_lt config.slots least_slots then Some (fault.BadSlots config.slots) else config_fault config
 
 -- why there is no scheduler: that fault, or want of memory where there is none
 abbrev pub IsSchedulerAnswer : Config → Option PeerFault → Type 0
@@ -84,9 +89,39 @@ free s c = free_of (client s.peer c) (aside s c)
 abbrev pub has_guarantees : SchedulerState → Channel → ℕ → Bool
 has_guarantees s c len = is_none (spend_refusal (client s.peer c) len) && nat_le len (free s c)
 
+-- how many messages of other channels are queued behind one of a channel at most
+abbrev pub most_behind : PeerState → ℕ
+most_behind p = p.slots - (control_slots + 1)
+
+-- whether a channel is passed: its first call was notified and has not come since, no frame has left the outbound queue since, and as many turns of other channels followed the channel's own last one as messages can be queued behind one
+abbrev pub is_passed : SchedulerState → Channel → Bool
+is_passed s c = (queue s c).notified && ((queue s c).noted == s.left && nat_le (most_behind s.peer) (s.sent - (queue s c).last))
+
+-- whether none of these channels is passed, beside this one
+abbrev pub none_passed_among : SchedulerState → Channel → List Channel → Bool
+none_passed_among s c [] = true
+none_passed_among s c (d ∷ channels) = (is_same d c || not (is_passed s d)) && none_passed_among s c channels
+
+-- whether a channel may take a shared slot: no frame is queued, or no other channel is passed
+unfoldable pub may_share : SchedulerState → Channel → Bool
+may_share s c = length s.peer.waiting == 0 || none_passed_among s c every_channel
+
+-- whether a message or a permit of a channel has a slot: its own is free, or a shared one that it may take
+abbrev pub has_place : SchedulerState → Channel → Bool
+has_place s c = has_slot s.peer s.asides c && (is_own_free s.peer s.asides c || may_share s c)
+
+-- whether the guarantees of a channel suffice for a message or a permit of so many bytes and a slot is free for it, whoever may take that
+abbrev pub is_accepted : SchedulerState → Channel → ℕ → Bool
+is_accepted s c len = has_guarantees s c len && has_slot s.peer s.asides c
+
+-- the same of a call, if there is one
+abbrev pub is_accepted_call : SchedulerState → Channel → Option Call → Bool
+is_accepted_call s c None = false
+is_accepted_call s c (Some call) = is_accepted s c (call_len call)
+
 -- whether a message or a permit of a channel of so many bytes has its guarantees and a slot, so that it waits for bytes at most
 abbrev pub is_able : SchedulerState → Channel → ℕ → Bool
-is_able s c len = has_guarantees s c len && has_slot s.peer s.asides c
+is_able s c len = has_guarantees s c len && has_place s c
 
 -- the same of a call, if there is one
 abbrev pub is_able_call : SchedulerState → Channel → Option Call → Bool
@@ -114,10 +149,19 @@ is_turn s c = is_turn_among s c every_channel
 abbrev pub can_proceed : SchedulerState → Channel → ℕ → Bool
 can_proceed s c len = is_able s c len && (fits (unwritten s) len && is_turn s c)
 
+-- whether a bound of a channel can be put: its book does not refuse it, no permit of the channel is out, and a slot is free for a control frame
+abbrev pub can_bound : SchedulerState → Channel → Bound → Bool
+can_bound s c bound = is_none (bound_refusal (client s.peer c) bound) && (permits_on s.asides c == 0 && has_control_slot s.peer s.asides)
+
+-- whether what a call asks for can proceed
+abbrev pub can_ask_proceed : SchedulerState → Channel → Ask → Bool
+can_ask_proceed s c (End bound) = can_bound s c bound
+can_ask_proceed s c ask = can_proceed s c (ask_len ask)
+
 -- the same of a call, if there is one
 abbrev pub can_call_proceed : SchedulerState → Channel → Option Call → Bool
 can_call_proceed s c None = false
-can_call_proceed s c (Some call) = can_proceed s c (call_len call)
+can_call_proceed s c (Some call) = can_ask_proceed s c call.ask
 
 -- whether the bytes of a call, if there is one, fit beside those that are queued or begun
 abbrev pub call_fits : SchedulerState → Option Call → Bool
@@ -196,7 +240,7 @@ join s c call = with_queue s c (record (queue s c) { calls = (queue s c).calls +
 
 -- the first call of a channel is notified, or has come
 abbrev pub with_notified : SchedulerState → Channel → Bool → SchedulerState
-with_notified s c notified = with_queue s c (record (queue s c) { notified = notified })
+with_notified s c notified = with_queue s c (record (queue s c) { notified = notified; noted = s.left })
 
 -- the first call of a ticket is given up: it is out of its wait queue
 abbrev pub cancel : SchedulerState → Channel → ℕ → SchedulerState
@@ -243,6 +287,17 @@ reserved_refusal s c len n = option_or (for_good (spend_refusal (client s.peer c
 abbrev pub IsReservedAnswer : SchedulerState → Channel → ℕ → ℕ → Option Refusal → Type 0
 IsReservedAnswer s c len n answer = (answer ≡ reserved_refusal s c len n) ⊎ ((reserved_refusal s c len n ≡ None) × (answer ≡ Some OutOfMemory))
 
+-- a message of so many bytes is within a permit of so many that is out
+pub record IsWithinPermit (s : SchedulerState) (c : Channel) (len n : ℕ) : Type 0 where
+  pub out : is_permit (aside s c) len ≡ true
+  pub some : 1 ≤ n
+  pub within : n ≤ len
+  pub short : n ≤ max_body (client s.peer c).version
+
+-- where that is so, want of memory alone refuses it: whatever is queued, whatever waits, and whatever other permits hold
+abbrev pub IsHonoured : SchedulerState → Channel → ℕ → ℕ → Option Refusal → Type 0
+IsHonoured s c len n answer = IsWithinPermit s c len n → (answer ≡ None) ⊎ (answer ≡ Some OutOfMemory)
+
 -- whether a need is for what never comes
 abbrev pub is_never : Needs → Bool
 is_never Never = true
@@ -269,6 +324,11 @@ abbrev pub is_offer_call : Option Call → Bool
 is_offer_call None = false
 is_offer_call (Some call) = is_offer call.ask
 
+-- whether a call, if there is one, asks to bound what its channel sends
+abbrev pub is_bound_call : Option Call → Bool
+is_bound_call None = false
+is_bound_call (Some call) = is_bound call.ask
+
 -- whether a call, if there is one, is an offer of this ticket
 abbrev pub is_offer_of : ℕ → Option Call → Bool
 is_offer_of ticket None = false
@@ -290,7 +350,7 @@ complete_progress s c ticket len = if completes s c ticket len then Proceeded el
 abbrev pub complete : SchedulerState → Channel → ℕ → List ℕ → SchedulerState
 complete s c ticket body = if is_offer_of ticket (first s c) then (if can_proceed s c (length body) then proceed s c body else with_notified s c false) else s
 
--- a call can proceed: it is the first of its channel and was not notified, it has its guarantees and a slot, its bytes fit, and no channel that sent less recently waits for bytes alone
+-- a message or a permit can proceed: its call is the first of its channel and was not notified, it has its guarantees and a slot, its bytes fit, and no channel that sent less recently waits for bytes alone
 pub record IsNext (s : SchedulerState) (c : Channel) (call : Call) : Type 0 where
   pub first : front s c ≡ Some call
   pub able : is_able s c (call_len call) ≡ true
@@ -317,7 +377,7 @@ pub record Grants (notice : Notice) (old new : SchedulerState) : Type 0 where
   pub ask : call.ask ≡ Permit len
   pub after : new ≡ proceed_by_grant old notice.channel len
 
--- a call is completed: its message proceeds, or its permit is granted
+-- a call to send or to reserve is completed: its message proceeds, or its permit is granted
 abbrev pub Completes : Notice → SchedulerState → SchedulerState → Type 0
 Completes notice old new = Proceeds notice old new ⊎ Grants notice old new
 
@@ -330,18 +390,12 @@ pub record Notifies (notice : Notice) (old new : SchedulerState) : Type 0 where
   pub ask : is_offer call.ask ≡ true
   pub after : new ≡ with_notified old notice.channel true
 
--- a call that can proceed is completed, or its caller is notified
-abbrev pub Steps : Notice → SchedulerState → SchedulerState → Type 0
-Steps notice old new = Completes notice old new ⊎ Notifies notice old new
-
 -- the frame of a control call
 abbrev pub frame_of_control : Control → Frame
 frame_of_control (control.Issue c amount) = Issue c amount
 frame_of_control (control.Absolve c amount) = Absolve c amount
 frame_of_control (control.Plead c target) = Plead c target
-frame_of_control (control.LimitSending c bound) = LimitSending c bound
 frame_of_control (control.LimitReceiving c bound) = LimitReceiving c bound
-frame_of_control (control.Finish c) = Finish c
 
 -- 13 where no slot is free for a control frame
 abbrev pub slot_refusal : SchedulerState → Option Refusal
@@ -368,23 +422,72 @@ honour s c = record s { peer = put_honour s.peer c }
 abbrev pub put_frame : SchedulerState → Frame → SchedulerState
 put_frame s f = record s { peer = put s.peer f }
 
+-- whether a new bound of a channel is put at once: no call of the channel waits, and it can be put
+abbrev pub bounds_at_once : SchedulerState → Channel → Bound → Bool
+bounds_at_once s c bound = length (queue s c).calls == 0 && can_bound s c bound
+
+-- why a call to bound what a channel sends is refused: what its book refuses, or want of memory where that is nothing and it would wait
+abbrev pub IsBoundAnswer : SchedulerState → Channel → Bound → Option Refusal → Type 0
+IsBoundAnswer s c bound answer = (answer ≡ bound_refusal (client s.peer c) bound) ⊎ ((bound_refusal (client s.peer c) bound ≡ None) × ((bounds_at_once s c bound ≡ false) × (answer ≡ Some OutOfMemory)))
+
+-- how far a new bound comes: it is put, or waits
+abbrev pub bound_progress : SchedulerState → Channel → Bound → Progress
+bound_progress s c bound = if bounds_at_once s c bound then Proceeded else Waits
+
+-- what a new bound that is accepted leaves: its frame is put, or its call joins its wait queue
+abbrev pub start_bound : SchedulerState → Channel → ℕ → Bound → SchedulerState
+start_bound s c ticket bound = if bounds_at_once s c bound then put_frame s (frame_of_bound c bound) else join s c (record { ticket = ticket; ask = End bound })
+
+-- the first call of a channel proceeds: it is out of its wait queue, and the frame of its bound enters the outbound queue as the last
+abbrev pub proceed_by_bound : SchedulerState → Channel → Bound → SchedulerState
+proceed_by_bound s c bound = put_frame (with_queue s c (without_first (queue s c))) (frame_of_bound c bound)
+
+-- whether a call, if there is one, asks for a bound that can be put
+abbrev pub can_call_bound : SchedulerState → Channel → Option Call → Bool
+can_call_bound s c o = is_bound_call o && can_call_proceed s c o
+
+-- the bound of a call that is the first of its channel is put, and its ticket is noticed
+pub record Bounds (notice : Notice) (old new : SchedulerState) : Type 0 where
+  pub call : Call
+  pub bound : Bound
+  pub ticket : notice.ticket ≡ call.ticket
+  pub outcome : notice.outcome ≡ Completed
+  pub first : front old notice.channel ≡ Some call
+  pub ask : call.ask ≡ End bound
+  pub ready : can_bound old notice.channel bound ≡ true
+  pub after : new ≡ proceed_by_bound old notice.channel bound
+
+-- a call that can proceed is completed, or its caller is notified
+abbrev pub Steps : Notice → SchedulerState → SchedulerState → Type 0
+Steps notice old new = Completes notice old new ⊎ (Bounds notice old new ⊎ Notifies notice old new)
+
 -- the bytes of the message of a frame, if there is one
 abbrev pub begun_by : Option Frame → ℕ → ℕ
 begun_by None begun = begun
 begun_by (Some f) begun = message_len f
 
+-- how many frames left the outbound queue, once the first one leaves, if there is one
+abbrev pub left_by : Option Frame → ℕ → ℕ
+left_by None left = left
+left_by (Some f) left = count_after left
+
 -- the first frame leaves the outbound queue: its message is begun, and that before it is written
 abbrev pub take_frame : SchedulerState → SchedulerState
-take_frame s = record s { peer = without_next s.peer; begun = begun_by (next s.peer) s.begun }
+take_frame s = record s { peer = without_next s.peer; begun = begun_by (next s.peer) s.begun; left = left_by (next s.peer) s.left }
 
 -- of the message that is begun at most so many bytes are not written yet
 abbrev pub write : SchedulerState → ℕ → SchedulerState
 write s left = record s { begun = min left s.begun }
 
+-- whether what a call asks for will never proceed: a message or a permit needs what never comes, or its book refuses a bound
+abbrev pub is_hopeless_ask : PeerState → Channel → Ask → Bool
+is_hopeless_ask p c (End bound) = is_some (bound_refusal (client p c) bound)
+is_hopeless_ask p c ask = is_never (needs p c (ask_len ask))
+
 -- whether a call, if there is one, will never proceed
 abbrev pub is_hopeless_call : PeerState → Channel → Option Call → Bool
 is_hopeless_call p c None = false
-is_hopeless_call p c (Some call) = is_never (needs p c (call_len call))
+is_hopeless_call p c (Some call) = is_hopeless_ask p c call.ask
 
 -- whether the first call of a channel will never proceed
 abbrev pub is_hopeless : SchedulerState → Channel → Bool
@@ -433,6 +536,10 @@ pub record KeepsSlots (p : PeerState) (asides : List Aside) : Type 0 where
 abbrev pub KeepsGuarantees : PeerState → List Aside → Type 0
 KeepsGuarantees p asides = (c : Channel) → Covers (client p c) (aside_on asides c)
 
+-- what the permits of each channel set aside may be sent, where one is out
+abbrev pub KeepsPermits : PeerState → List Aside → Type 0
+KeepsPermits p asides = (c : Channel) → AllowsPermits (client p c) (aside_on asides c)
+
 -- the bytes of the greatest message
 abbrev pub greatest_message : ℕ
 greatest_message = 1048576
@@ -459,6 +566,7 @@ pub record AreSchedulerFields (p : PeerState) (queues : List QueueState) (asides
   pub slots : KeepsSlots p asides
   pub some : p.slots ≤ max_slots
   pub guarantees : KeepsGuarantees p asides
+  pub allowed : KeepsPermits p asides
   pub bytes : FitsBytes p.waiting begun exempt
   pub short : AllByRecursion IsShort p.waiting
   pub small : begun ≤ greatest_message

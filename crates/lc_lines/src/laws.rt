@@ -1,20 +1,26 @@
 //! Laws over the definitions, each the contract of a function that does nothing.
-ghost use Rattle.lc_lines.specs.Order.{CallsProceedInOrder, ProceedingKeepsOrder};
+ghost use Rattle.lc_lines.specs.Order.{CallsProceedInOrder, ProceedingKeepsOrder, BoundsKeepTheirPlaces};
 ghost use Rattle.lc_lines.specs.Blocking.{NoHeadOfLineBlocking, FirstCallsWaitForBytes};
 ghost use Rattle.lc_lines.specs.Runs.{RunsAreCalls};
 ghost use Rattle.lc_lines.specs.Fair.{EachSendsOnceMeanwhile, EachCallIsCounted};
-ghost use Rattle.lc_lines.specs.Honoured.{PermitsAreHonoured, EachCallLeavesPermits};
+ghost use Rattle.lc_lines.specs.Passed.{PassedChannelsAreSpared};
 
 /// Whatever calls proceeded, those of each channel are the first of its wait queue, in their order; each is noticed,
-/// and the message that it left is queued once, whole, behind all earlier messages of its channel.
+/// and the message that it left, or its bound, is queued once, whole, behind all that its channel queued earlier.
 pub fn calls_proceed_in_order()
     ensures { CallsProceedInOrder }
 {}
 
-/// The messages of a channel that are queued, and those of its calls that wait, in this order, are the same before and
-/// after calls proceed.
+/// The messages of a channel that are queued and its bounds, and those of its calls that wait, in this order, are the
+/// same before and after calls proceed.
 pub fn proceeding_keeps_order()
     ensures { ProceedingKeepsOrder }
+{}
+
+/// Whatever calls proceeded, a call that bounds what its channel sends passes no message of an earlier call of the
+/// channel, and no message of a later one passes the bound.
+pub fn bounds_keep_their_places()
+    ensures { BoundsKeepTheirPlaces }
 {}
 
 /// Whatever calls of other channels wait, or were notified and do not come, and whatever their permits hold: where no message is unwritten, a first call
@@ -39,19 +45,14 @@ pub fn each_sends_once_meanwhile()
     ensures { EachSendsOnceMeanwhile }
 {}
 
+/// While a channel is passed, another channel sends nothing more of which a message is queued: so each other channel
+/// passes it once at most, until its call comes or a frame leaves the outbound queue.
+pub fn passed_channels_are_spared()
+    ensures { PassedChannelsAreSpared }
+{}
+
 /// Each call counts the turns so: one more where a channel sent or was granted a permit, and none where all else
-/// happened, a message that was sent by a permit, too.
+/// happened, a message that was sent by a permit and a bound, too.
 pub fn each_call_is_counted()
     ensures { EachCallIsCounted }
-{}
-
-/// Where a channel is not finished, and its limit on sending leaves what permits set aside, a message within its permit
-/// is refused for want of memory alone.
-pub fn permits_are_honoured()
-    ensures { PermitsAreHonoured }
-{}
-
-/// So it is on each channel at first, and no call ends it but a finish of the channel and a limit on its sending.
-pub fn each_call_leaves_permits()
-    ensures { EachCallLeavesPermits }
 {}

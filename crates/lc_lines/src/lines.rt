@@ -18,10 +18,11 @@ ghost use Rattle.lc_lines.specs.Queue.{waits};
 ghost use Rattle.lc_lines.specs.Permits.{is_permit};
 ghost use Rattle.lc_book.specs.Client.{spend_refusal};
 ghost use Rattle.lc_lines.specs.declared.queue.Ask.TheVariants.{Offer};
-ghost use Rattle.lc_lines.specs.Scheduler.{IsSchedulerAnswer, IsSettled, NoneIsHopeless, queue, start, join, complete, complete_progress, IsCompleteAnswer, progress_of, cancel, IsCallAnswer, IsAttemptAnswer, attempt, try_send, aside, free, for_good, IsReserveAnswer, reserve, try_reserve, IsReservedAnswer, send_reserved, give_back, frame_of_control, control_refusal, honour_refusal, honour, put_frame, take_frame, write, KeepsSlots, KeepsGuarantees, FitsBytes};
+ghost use Rattle.lc_lines.specs.Scheduler.{IsSchedulerAnswer, IsSettled, NoneIsHopeless, queue, start, join, complete, complete_progress, IsCompleteAnswer, progress_of, cancel, IsCallAnswer, IsAttemptAnswer, attempt, try_send, aside, free, for_good, IsReserveAnswer, reserve, try_reserve, IsReservedAnswer, send_reserved, give_back, frame_of_control, control_refusal, honour_refusal, honour, put_frame, take_frame, write, KeepsSlots, KeepsGuarantees, KeepsPermits, FitsBytes, IsHonoured, IsBoundAnswer, bound_progress, start_bound};
 ghost use Rattle.lc_lines.specs.Lines.{new_lines, Runs, Settles, NoticesNext, DeliversAndSettles, with_scheduler};
 
 use crate::permits::Aside;
+use crate::queue::Bound;
 use crate::scheduler::{Attempt, Control, Notice, Progress, Scheduler};
 use circular_buffer::HeapCircularBuffer;
 use lc_book::{Refusal, Violation};
@@ -104,6 +105,7 @@ impl Lines {
         ensures value { result.now ≡ self.now.scheduler.peer }
         ensures slots { KeepsSlots self.now.scheduler.peer self.now.scheduler.asides }
         ensures guarantees { KeepsGuarantees self.now.scheduler.peer self.now.scheduler.asides }
+        ensures permits { KeepsPermits self.now.scheduler.peer self.now.scheduler.asides }
         ensures bytes { FitsBytes self.now.scheduler.peer.waiting self.now.scheduler.begun self.now.scheduler.exempt }
     {
         self.scheduler.peer()
@@ -228,7 +230,8 @@ impl Lines {
     /// Sends a message by a permit of so many bytes, which is used up: whatever is queued and whatever waits, the message
     /// enters the outbound queue, and the guarantees that it leaves unused are free again. Refused by 15, 1, 2 and 3, by
     /// 4 where the message is longer than the permit or no such permit is out, and by 14 where memory is refused; then
-    /// nothing changed, and the permit is out still.
+    /// nothing changed, and the permit is out still. A message of 1 byte or more that is no longer than its permit or
+    /// than its version allows is refused by 14 alone.
     pub fn send_reserved(
         &mut self,
         channel: Channel,
@@ -236,6 +239,7 @@ impl Lines {
         body: &[u8],
     ) -> Result<(), Refusal>
         ensures answer { IsReservedAnswer self.old.scheduler channel len (length body.now) (result_err result) }
+        ensures honoured { IsHonoured self.old.scheduler channel len (length body.now) (result_err result) }
         ensures refused { OnErr result (self.new ≡ self.old) }
         ensures sends { OnOk result (Settles (with_scheduler self.old (send_reserved self.old.scheduler channel len body.now)) self.new) }
         ensures settled { length self.new.notices < self.new.entries → IsSettled self.new.scheduler }
@@ -257,8 +261,33 @@ impl Lines {
         was_out
     }
 
+    /// A call to bound what a channel sends from here on, by a ticket of the caller's choice: to limit its bytes, or to
+    /// finish the channel. The frame of the bound is put at once where no call of the channel waits, no permit of it is
+    /// out, and a slot is free for a control frame; else the call waits, and its ticket is noticed once the frame is put.
+    /// So no message of an earlier call or permit follows the bound, and none of a later one precedes it. A limit is
+    /// refused by 15, 7 and 8, a finish by 17 and 15, and both by 14 where the call would wait and memory is refused;
+    /// then nothing changed. A call that waits is given up as hopeless once it is the first of its channel and its book
+    /// refuses it: the channel was finished, or an earlier limit leaves less than this bound.
+    pub fn bound(
+        &mut self,
+        channel: Channel,
+        ticket: u64,
+        bound: Bound,
+    ) -> Result<Progress, Refusal>
+        ensures answer { IsBoundAnswer self.old.scheduler channel bound (result_err result) }
+        ensures progress { IfOk result (λ progress. progress ≡ bound_progress self.old.scheduler channel bound) }
+        ensures refused { OnErr result (self.new ≡ self.old) }
+        ensures bounds { OnOk result (Settles (with_scheduler self.old (start_bound self.old.scheduler channel ticket bound)) self.new) }
+        ensures settled { length self.new.notices < self.new.entries → IsSettled self.new.scheduler }
+    {
+        let progress = self.scheduler.bound(channel, ticket, bound)?;
+        settle(&mut self.scheduler, &mut self.notices);
+        Ok(progress)
+    }
+
     /// Gives up the first call of a ticket that waits: nothing of it was sent, and nothing will be. The answer is whether
-    /// one waited; where none did, its message entered the outbound queue, and stays there, or its permit was granted.
+    /// one waited; where none did, its message or its bound entered the outbound queue, and stays there, or its permit
+    /// was granted.
     pub fn cancel(&mut self, channel: Channel, ticket: u64) -> bool
         ensures waited { result ≡ waits ticket (queue self.old.scheduler channel).calls }
         ensures after { Settles (with_scheduler self.old (cancel self.old.scheduler channel ticket)) self.new }
@@ -352,7 +381,7 @@ impl Lines {
         settle(&mut self.scheduler, &mut self.notices);
     }
 
-    /// The next notice: of a call whose message entered the outbound queue, or of an offer that can proceed; and where
+    /// The next notice: of a call that was completed, or of an offer that can proceed; and where
     /// there is none of these, of a first call that will never proceed, and is given up. Where there is none at all, no
     /// call that can proceed waits without having been notified, and no first call never will.
     pub fn next_notice(&mut self) -> Option<Notice>

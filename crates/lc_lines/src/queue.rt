@@ -1,12 +1,21 @@
 //! The wait queue of a channel.
-ghost use Rattle.std.specs.Prelude.{◌≡◌, ◌++◌, ◌∷◌, [], ◌==◌, if◌then◌else◌, is_ok, length, slice_get};
+ghost use Rattle.std.specs.Prelude.{◌≡◌, ◌++◌, ◌∷◌, [], ◌==◌, ◌&&◌, if◌then◌else◌, is_ok, length, slice_get};
 ghost use Rattle.std.specs.Option.{option_copied};
-ghost use Rattle.lc_lines.specs.Queue.{empty_queue, call_len, is_offer, first_waiting, place_of, waits, without_first, without_ticket};
+ghost use Rattle.lc_lines.specs.Queue.{empty_queue, call_len, is_offer, is_bound, first_waiting, place_of, waits, without_first, without_ticket};
 
 use lc_frame::Body;
 use std::alloc::Global;
 use std::collections::VecDeque;
 use std::marker::Model;
+
+/// A bound on what a channel sends from here on.
+#[derive(Clone, Copy)]
+pub enum Bound {
+    /// At most so many bytes.
+    Limit(u64),
+    /// Nothing: the channel is finished.
+    Finish,
+}
 
 /// What a call that waits asks for.
 #[derive(Drop)]
@@ -17,6 +26,8 @@ pub enum Ask {
     Offer(usize),
     /// To be granted a permit for a message of so many bytes.
     Permit(usize),
+    /// To bound what the channel sends.
+    End(Bound),
 }
 
 /// A call that waits, by the ticket that its caller gave it.
@@ -32,10 +43,11 @@ pub struct WaitQueue {
     calls: VecDeque<Call>,
     last: u64,
     notified: bool,
+    noted: u64,
 }
 
 impl Call {
-    /// How many bytes its message has, or its permit.
+    /// How many bytes its message has, or its permit; a bound has none.
     #[inline]
     pub fn len(&self) -> usize
         ensures { result ≡ call_len self.now }
@@ -43,6 +55,7 @@ impl Call {
         match &self.ask {
             Ask::Message(body) => body.as_slice().len(),
             Ask::Offer(len) | Ask::Permit(len) => *len,
+            Ask::End(_) => 0,
         }
     }
 
@@ -52,8 +65,19 @@ impl Call {
         ensures { result ≡ is_offer self.now.ask }
     {
         match &self.ask {
-            Ask::Message(_) | Ask::Permit(_) => false,
+            Ask::Message(_) | Ask::Permit(_) | Ask::End(_) => false,
             Ask::Offer(_) => true,
+        }
+    }
+
+    /// Whether it asks to bound what its channel sends.
+    #[inline]
+    pub fn is_bound(&self) -> bool
+        ensures { result ≡ is_bound self.now.ask }
+    {
+        match &self.ask {
+            Ask::Message(_) | Ask::Offer(_) | Ask::Permit(_) => false,
+            Ask::End(_) => true,
         }
     }
 }
@@ -64,6 +88,7 @@ impl Drop for WaitQueue {
             calls: _,
             last: _,
             notified: _,
+            noted: _,
         } = self;
     }
 }
@@ -73,7 +98,7 @@ impl Model for WaitQueue {
 
     ghost Value = { QueueState };
 
-    ghost view = { λ queue. record { calls = queue.calls.items; last = queue.last; notified = queue.notified } };
+    ghost view = { λ queue. record { calls = queue.calls.items; last = queue.last; notified = queue.notified; noted = queue.noted } };
 }
 
 // The place of the first call of a ticket, or how many calls there are.
@@ -97,6 +122,7 @@ impl WaitQueue {
             calls: VecDeque::new(alloc),
             last: 0,
             notified: false,
+            noted: 0,
         }
     }
 
@@ -157,12 +183,23 @@ impl WaitQueue {
         }
     }
 
-    /// Notes whether the first call was notified and has not come since.
+    /// Notes whether the first call was notified and has not come since, where so many frames have left the outbound
+    /// queue.
     #[inline]
-    pub fn note_notified(&mut self, notified: bool)
-        ensures { self.new ≡ record self.old { notified = notified } }
+    pub fn note_notified(&mut self, notified: bool, left: u64)
+        ensures { self.new ≡ record self.old { notified = notified; noted = left } }
     {
         self.notified = notified;
+        self.noted = left;
+    }
+
+    /// Whether the first call was notified and has not come since, and that was noted where so many frames had left the
+    /// outbound queue.
+    #[inline]
+    pub fn is_fresh(&self, left: u64) -> bool
+        ensures { result ≡ (self.now.notified && self.now.noted == left) }
+    {
+        self.notified && self.noted == left
     }
 
     /// Notes when the channel took a turn.

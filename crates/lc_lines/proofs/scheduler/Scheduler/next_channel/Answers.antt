@@ -2,7 +2,7 @@ use Rattle.std.proofs.Common.{◌≡◌, if◌then◌else◌, Option, Some, ap, 
 use Rattle.lc_frame.specs.declared.channel.Channel.{Channel}
 use Rattle.lc_frame.specs.declared.channel.Channel.TheVariants.{Reconciliation, Data, Overlap, Capability, AreaOfInterest, PayloadRequest}
 use Rattle.lc_lines.specs.Scheduler.{next_channel, can_front_proceed}
-use Rattle.lc_lines.proofs.Next.{next_is_able, next_fits, next_has_turn, next_is_settled}
+use Rattle.lc_lines.proofs.Next.{next_proceeds, next_is_settled}
 use Rattle.lc_lines.proofs.scheduler.Scheduler.next_channel.Goals as goal
 
 pub returns : goal.returns
@@ -15,4 +15,4 @@ returns c =
     let four = c.or_next-next-5.ensures ∙ ap (λ (other : Option Channel). or Overlap other) three in
     let five = c.or_next-next-6.ensures ∙ ap (λ (other : Option Channel). or Data other) four in
     let is : c.or_next.result ≡ next_channel s = c.or_next.ensures ∙ ap (λ (other : Option Channel). or Reconciliation other) five in
-    record { able = next_is_able s c.or_next.result is; bytes = next_fits s c.or_next.result is; turn = next_has_turn s c.or_next.result is; settled = next_is_settled s c.or_next.result is }
+    record { proceeds = next_proceeds s c.or_next.result is; settled = next_is_settled s c.or_next.result is }

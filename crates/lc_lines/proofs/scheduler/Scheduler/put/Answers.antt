@@ -22,8 +22,8 @@ invariant_of-self c =
     let h = c.self.inside.asides in
     let body = c.args.body in
     let len : length c.as_slice-len.result.now ≡ length body = ap length c.as_slice-len.ensures in
-    let old : SchedulerState = record { peer = p; queues = c.self.inside.queues; asides = h; sent = c.self.inside.sent; begun = c.self.inside.begun; exempt = c.self.inside.exempt } in
-    let able : (has_guarantees old c.args.channel (length body) ≡ true) × (has_slot p h c.args.channel ≡ true) = subst (λ (s : SchedulerState). (has_guarantees s c.args.channel (length body) ≡ true) × (has_slot s.peer s.asides c.args.channel ≡ true)) (sym c.self.view_is) (first_of_both (has_guarantees c.args.self.now c.args.channel (length body)) (has_slot c.args.self.now.peer c.args.self.now.asides c.args.channel) c.requires.able, second_of_both (has_guarantees c.args.self.now c.args.channel (length body)) (has_slot c.args.self.now.peer c.args.self.now.asides c.args.channel) c.requires.able) in
+    let old : SchedulerState = record { peer = p; queues = c.self.inside.queues; asides = h; sent = c.self.inside.sent; begun = c.self.inside.begun; exempt = c.self.inside.exempt; left = c.self.inside.left } in
+    let able : (has_guarantees old c.args.channel (length body) ≡ true) × (has_slot p h c.args.channel ≡ true) = subst (λ (s : SchedulerState). (has_guarantees s c.args.channel (length body) ≡ true) × (has_slot s.peer s.asides c.args.channel ≡ true)) (sym c.self.view_is) (first_of_both (has_guarantees c.args.self.now c.args.channel (length body)) (has_slot c.args.self.now.peer c.args.self.now.asides c.args.channel) c.requires.accepted, second_of_both (has_guarantees c.args.self.now c.args.channel (length body)) (has_slot c.args.self.now.peer c.args.self.now.asides c.args.channel) c.requires.accepted) in
     let free_is : nat_le (length body) (free old c.args.channel) ≡ true = second_of_both (is_none (spend_refusal (client p c.args.channel) (length body))) (nat_le (length body) (free old c.args.channel)) able.0 in
     let bytes : fits (message_bytes p.waiting + c.self.inside.begun) (length body) ≡ true = subst (λ (s : SchedulerState). fits (unwritten s) (length body) ≡ true) (sym c.self.view_is) c.requires.bytes in
     let allowed = none_is (spend_refusal (client p c.args.channel) (length body)) (first_of_both (is_none (spend_refusal (client p c.args.channel) (length body))) (nat_le (length body) (free old c.args.channel)) able.0) in
