@@ -1,5 +1,7 @@
 //! What is tested, and the comparisons that all tests make.
+mod bounds;
 mod laws;
+mod permits;
 mod plays;
 
 use std::alloc::Global;

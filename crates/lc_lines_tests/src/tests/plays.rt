@@ -2,11 +2,13 @@
 //! `offer CHANNEL TICKET LENGTH`, `complete CHANNEL TICKET LENGTH`, `cancel CHANNEL TICKET`, `reserve CHANNEL TICKET
 //! LENGTH`, `tryreserve CHANNEL LENGTH`, `use CHANNEL PERMIT LENGTH` (a message by a permit), `back CHANNEL PERMIT`,
 //! `aside CHANNEL` (the permits, their guarantees, and the guarantees that are free), `issued CHANNEL AMOUNT` (guarantees
-//! arrive), `pleaded CHANNEL TARGET` (a plead arrives), `honour CHANNEL`, `absolve CHANNEL AMOUNT`, `limit CHANNEL BOUND`, `finish CHANNEL`, `out` (the next frame is taken), `left
-//! BYTES` (of the message that was taken last), `notice`.
+//! arrive), `pleaded CHANNEL TARGET` (a plead arrives), `limited CHANNEL BOUND` (a limit on receiving arrives), `honour
+//! CHANNEL`, `absolve CHANNEL AMOUNT`, `receiving CHANNEL BOUND` (a limit on receiving is put), `limit CHANNEL TICKET
+//! BOUND` and `finish CHANNEL TICKET` (bounds on sending), `out` (the next frame is taken), `left BYTES` (of the message
+//! that was taken last), `notice`.
 use super::{Subject, answers, same};
 use lc_frame::{Channel, Frame, FrameRef, Version};
-use lc_lines::{Aside, Attempt, Control, Lines, NOTICES, Notice, Outcome, Progress};
+use lc_lines::{Aside, Attempt, Bound, Control, Lines, NOTICES, Notice, Outcome, Progress};
 use lc_peer::{Config, Needs, PeerFault, Refusal};
 use std::alloc::Global;
 use std::str::SplitWhitespace;
@@ -14,16 +16,21 @@ use std::test::Fail;
 
 /// A session's calls.
 #[derive(Drop)]
-struct Play {
+pub(super) struct Play {
     lines: Lines,
 }
 
 // A session of so many slots.
-fn session(alloc: Global, slots: u32) -> Result<Play, PeerFault> {
+pub(super) fn session(alloc: Global, slots: u32) -> Result<Play, PeerFault> {
+    session_as(alloc, Version::Two, slots)
+}
+
+// The same, on streams of a version.
+pub(super) fn session_as(alloc: Global, version: Version, slots: u32) -> Result<Play, PeerFault> {
     let lines = Lines::new(
         alloc,
         Config {
-            version: Version::Two,
+            version,
             capacities: [64; 7],
             slots,
         },
@@ -171,9 +178,34 @@ impl Play {
         self.control(alloc, Control::Absolve { channel, amount })
     }
 
-    fn limit(&mut self, alloc: Global, words: &mut SplitWhitespace) -> Option<String> {
+    fn receiving(&mut self, alloc: Global, words: &mut SplitWhitespace) -> Option<String> {
         let (channel, bound) = (channel(words)?, number(words)?);
-        self.control(alloc, Control::LimitSending { channel, bound })
+        self.control(alloc, Control::LimitReceiving { channel, bound })
+    }
+
+    fn limit(&mut self, alloc: Global, words: &mut SplitWhitespace) -> Option<String> {
+        let (channel, ticket) = (channel(words)?, number(words)?);
+        let bound = Bound::Limit(number(words)?);
+        self.bound(alloc, channel, ticket, bound)
+    }
+
+    fn finish(&mut self, alloc: Global, words: &mut SplitWhitespace) -> Option<String> {
+        let (channel, ticket) = (channel(words)?, number(words)?);
+        self.bound(alloc, channel, ticket, Bound::Finish)
+    }
+
+    fn bound(
+        &mut self,
+        alloc: Global,
+        channel: Channel,
+        ticket: u64,
+        bound: Bound,
+    ) -> Option<String> {
+        match self.lines.bound(channel, ticket, bound) {
+            Ok(Progress::Proceeded) => text(alloc, "proceeded"),
+            Ok(Progress::Waits) => text(alloc, "waits"),
+            Err(refusal) => refused(alloc, refusal),
+        }
     }
 
     fn issued(&mut self, alloc: Global, words: &mut SplitWhitespace) -> Option<String> {
@@ -198,6 +230,20 @@ impl Play {
         }
     }
 
+    fn limited(&mut self, alloc: Global, words: &mut SplitWhitespace) -> Option<String> {
+        let (channel, bound) = (channel(words)?, number(words)?);
+        if bound > 1 << 62 {
+            return None;
+        }
+        match self
+            .lines
+            .arrive(FrameRef::LimitReceiving { channel, bound })
+        {
+            Ok(()) => text(alloc, "arrived"),
+            Err(_) => text(alloc, "violated"),
+        }
+    }
+
     fn honour(&mut self, alloc: Global, words: &mut SplitWhitespace) -> Option<String> {
         match self.lines.honour(channel(words)?) {
             Ok(Some(amount)) => format!(in alloc; "absolved {amount}").ok(),
@@ -207,16 +253,15 @@ impl Play {
         }
     }
 
-    fn finish(&mut self, alloc: Global, words: &mut SplitWhitespace) -> Option<String> {
-        let channel = channel(words)?;
-        self.control(alloc, Control::Finish { channel })
-    }
-
     fn out(&mut self, alloc: Global) -> Option<String> {
         match self.lines.next_out()? {
             Frame::Send { channel, body } => {
                 format!(in alloc; "{} {}", channel.number(), body.as_slice().len()).ok()
             }
+            Frame::LimitSending { channel, bound } => {
+                format!(in alloc; "limit {} {bound}", channel.number()).ok()
+            }
+            Frame::Finish { channel } => format!(in alloc; "finish {}", channel.number()).ok(),
             _ => text(alloc, "control"),
         }
     }
@@ -257,7 +302,9 @@ impl Subject for Play {
             "back" => self.back(alloc, &mut words),
             "aside" => self.aside(alloc, &mut words),
             "absolve" => self.absolve(alloc, &mut words),
+            "receiving" => self.receiving(alloc, &mut words),
             "limit" => self.limit(alloc, &mut words),
+            "limited" => self.limited(alloc, &mut words),
             "issued" => self.issued(alloc, &mut words),
             "pleaded" => self.pleaded(alloc, &mut words),
             "honour" => self.honour(alloc, &mut words),
@@ -374,6 +421,108 @@ notice => nothing
 out => 2 2
 ";
 
+// The offer of a channel that eight messages of another one followed, as many as are queued behind one in 16 slots: until
+// it is completed, no other channel takes a shared slot.
+const PASSED: &str = "issued 1 100 => arrived
+issued 2 100 => arrived
+issued 3 100 => arrived
+send 2 1 1 => proceeded
+out => 2 1
+send 2 2 1 => proceeded
+out => 2 1
+send 2 3 1 => proceeded
+out => 2 1
+send 2 4 1 => proceeded
+out => 2 1
+send 2 5 1 => proceeded
+out => 2 1
+send 2 6 1 => proceeded
+out => 2 1
+send 2 7 1 => proceeded
+out => 2 1
+send 2 8 1 => proceeded
+out => 2 1
+offer 1 9 3 => waits
+notice => 1 9 notified
+send 2 10 1 => proceeded
+send 2 11 1 => waits
+send 3 12 1 => proceeded
+send 3 13 1 => waits
+notice => nothing
+complete 1 9 3 => proceeded
+notice => 2 11 completed
+notice => 3 13 completed
+notice => nothing
+";
+
+// The same until a frame leaves the queue, though the offer does not come.
+const PASSED_UNTIL_WRITTEN: &str = "issued 1 100 => arrived
+issued 2 100 => arrived
+issued 3 100 => arrived
+send 2 1 1 => proceeded
+out => 2 1
+send 2 2 1 => proceeded
+out => 2 1
+send 2 3 1 => proceeded
+out => 2 1
+send 2 4 1 => proceeded
+out => 2 1
+send 2 5 1 => proceeded
+out => 2 1
+send 2 6 1 => proceeded
+out => 2 1
+send 2 7 1 => proceeded
+out => 2 1
+send 2 8 1 => proceeded
+out => 2 1
+offer 1 9 3 => waits
+notice => 1 9 notified
+send 2 10 1 => proceeded
+send 3 11 1 => proceeded
+send 3 12 1 => waits
+send 2 13 1 => waits
+cancel 2 13 => waited
+out => 2 1
+notice => 3 12 completed
+notice => nothing
+send 3 14 1 => proceeded
+complete 1 9 3 => proceeded
+";
+
+// A channel is passed after seven messages of another one and one that is queued, not after six; and where nothing is
+// queued no slot is kept.
+const NOT_PASSED: &str = "issued 1 100 => arrived
+issued 2 100 => arrived
+issued 3 100 => arrived
+send 2 1 1 => proceeded
+out => 2 1
+send 2 2 1 => proceeded
+out => 2 1
+send 2 3 1 => proceeded
+out => 2 1
+send 2 4 1 => proceeded
+out => 2 1
+send 2 5 1 => proceeded
+out => 2 1
+send 2 6 1 => proceeded
+out => 2 1
+offer 1 9 3 => waits
+notice => 1 9 notified
+send 2 10 1 => proceeded
+send 2 11 1 => proceeded
+send 2 12 1 => waits
+cancel 1 9 => waited
+notice => 2 12 completed
+out => 2 1
+out => 2 1
+out => 2 1
+reserve 2 13 1 => granted
+offer 1 14 3 => waits
+notice => 1 14 notified
+send 2 15 1 => proceeded
+send 2 16 1 => waits
+";
+
 // An offer that cannot proceed any more, once its message is handed over, waits again at its place.
 const AGAIN: &str = "issued 1 100 => arrived
 issued 2 200000 => arrived
@@ -396,258 +545,17 @@ out => 1 60
 // A call that will never proceed is given up, one after another.
 const HOPELESS: &str = "send 1 1 5 => waits
 send 1 2 6 => waits
-finish 1 => put
+limited 1 4 => arrived
 notice => 1 1 hopeless
 notice => 1 2 hopeless
 notice => nothing
-send 1 3 5 => refused 15
-send 2 4 0 => refused 1
-send 2 5 1048577 => refused 2
-out => control
+finish 1 3 => proceeded
+send 1 4 5 => refused 15
+send 2 5 0 => refused 1
+send 2 6 1048577 => refused 2
+out => finish 1
 out => nothing
 ";
-
-// A permit holds its guarantees and a slot until it is used or given back: 16 slots, of which 2 are shared.
-const PERMITS: &str = "issued 1 100 => arrived
-issued 2 100 => arrived
-reserve 1 1 60 => granted
-aside 1 => 1 60 40
-send 1 2 41 => waits
-try 1 1 => lacks a slot
-reserve 2 3 10 => granted
-reserve 2 4 10 => granted
-tryreserve 2 10 => granted
-tryreserve 2 10 => lacks a slot
-aside 2 => 3 30 70
-reserve 2 5 70 => waits
-absolve 2 71 => refused 6 70
-absolve 2 101 => refused 6 100
-use 1 60 61 => refused 4 60
-use 1 61 1 => refused 4 0
-use 1 60 0 => refused 1
-use 2 10 10 => sent
-notice => nothing
-out => 2 10
-notice => 2 5 completed
-aside 2 => 3 90 0
-use 1 60 20 => sent
-aside 1 => 0 0 80
-notice => nothing
-back 1 60 => was not out
-use 1 60 20 => refused 4 0
-out => 1 20
-notice => 1 2 completed
-back 2 10 => was out
-notice => nothing
-aside 2 => 2 80 10
-back 2 70 => was out
-use 2 10 10 => sent
-aside 2 => 0 0 80
-absolve 2 81 => refused 6 80
-absolve 2 80 => put
-out => 1 41
-out => 2 10
-out => control
-out => nothing
-";
-
-// A channel's permit leaves its own slot, and the channels' own slots are not taken: 14 slots, of which none is shared.
-const OWN: &str = "issued 1 100 => arrived
-issued 2 100 => arrived
-reserve 1 1 5 => granted
-reserve 1 2 5 => waits
-send 2 3 5 => proceeded
-send 2 4 5 => waits
-use 1 5 5 => sent
-notice => nothing
-out => 2 5
-notice => 2 4 completed
-out => 1 5
-notice => 1 2 completed
-cancel 1 2 => did not wait
-send 1 5 5 => waits
-cancel 1 5 => waited
-reserve 1 6 5 => waits
-cancel 1 6 => waited
-back 1 5 => was out
-notice => nothing
-send 1 7 5 => proceeded
-";
-
-// The message of a permit enters whatever is queued, and its bytes count then. A permit that is out counts none.
-const EXEMPT: &str = "issued 1 200000 => arrived
-issued 2 200000 => arrived
-reserve 1 1 60000 => granted
-send 2 2 65536 => proceeded
-reserve 1 3 1 => waits
-use 1 60000 60000 => sent
-notice => nothing
-send 2 4 5536 => waits
-out => 2 65536
-left 5536 => noted
-notice => nothing
-left 5535 => noted
-notice => 1 3 completed
-notice => nothing
-left 1 => noted
-notice => nothing
-left 0 => noted
-notice => 2 4 completed
-out => 1 60000
-out => 2 5536
-out => nothing
-";
-
-// Calls that ask for permits and for messages take turns, and those of a channel keep their order. A message by a permit
-// takes no turn.
-const TURNS: &str = "reserve 1 1 10 => waits
-send 1 2 10 => waits
-offer 1 3 10 => waits
-reserve 1 4 5 => waits
-issued 1 19 => arrived
-notice => 1 1 completed
-notice => nothing
-issued 1 11 => arrived
-notice => 1 2 completed
-notice => 1 3 notified
-complete 1 3 10 => proceeded
-notice => nothing
-issued 1 5 => arrived
-notice => 1 4 completed
-out => 1 10
-out => 1 10
-use 1 5 5 => sent
-use 1 10 10 => sent
-out => 1 5
-out => 1 10
-";
-
-// A limit leaves what permits set aside before it, unless it is set lower meanwhile; a finish ends their use.
-const LIMITS: &str = "issued 1 100 => arrived
-limit 1 50 => put
-reserve 1 1 30 => granted
-aside 1 => 1 30 20
-try 1 21 => lacks 1
-try 1 51 => refused 3
-try 1 20 => sent
-aside 1 => 1 30 0
-send 1 2 30 => waits
-use 1 30 29 => sent
-notice => 1 2 hopeless
-tryreserve 1 1 => granted
-limit 1 0 => put
-use 1 1 1 => refused 3
-back 1 1 => was out
-issued 2 9 => arrived
-reserve 2 3 9 => granted
-finish 2 => put
-use 2 9 9 => refused 15
-aside 2 => 1 9 0
-back 2 9 => was out
-reserve 2 4 9 => refused 15
-tryreserve 3 0 => refused 1
-reserve 3 5 1048577 => refused 2
-tryreserve 3 7 => lacks 7
-";
-
-// Control frames leave the slots of permits and the channels' own: 14 slots, of which none is shared.
-const CONTROLS: &str = "issued 1 100 => arrived
-issued 2 100 => arrived
-reserve 1 1 5 => granted
-limit 0 7 => put
-limit 0 6 => put
-limit 0 5 => put
-limit 0 4 => put
-limit 0 3 => put
-limit 0 2 => put
-limit 0 1 => put
-limit 0 0 => refused 13
-absolve 1 96 => refused 6 95
-absolve 1 95 => refused 13
-pleaded 1 94 => arrived
-honour 1 => refused 13
-use 1 5 5 => sent
-limit 0 0 => refused 13
-send 2 2 5 => proceeded
-limit 0 0 => refused 13
-out => control
-limit 0 0 => put
-";
-
-// An honour takes nothing that permits set aside, and keeps the plead where it would.
-const HONOURS: &str = "issued 1 100 => arrived
-honour 1 => absolved nothing
-pleaded 1 20 => arrived
-reserve 1 1 30 => granted
-honour 1 => refused 6 70
-use 1 30 5 => sent
-honour 1 => absolved 75
-aside 1 => 0 0 20
-honour 1 => absolved nothing
-out => 1 5
-out => control
-out => nothing
-reserve 1 2 20 => granted
-pleaded 1 10 => arrived
-honour 1 => refused 6 0
-back 1 20 => was out
-honour 1 => absolved 10
-out => control
-reserve 1 3 10 => granted
-pleaded 1 10 => arrived
-honour 1 => absolved nothing
-finish 1 => put
-honour 1 => refused 15
-";
-
-#[test]
-fn an_honour_spares_permits(rt: HostRuntime) -> Result<(), Fail> {
-    let alloc = rt.alloc();
-    answers(&rt, alloc, &mut session(alloc, 14)?, HONOURS);
-    Ok(())
-}
-
-#[test]
-fn a_permit_holds_guarantees_and_a_slot(rt: HostRuntime) -> Result<(), Fail> {
-    let alloc = rt.alloc();
-    answers(&rt, alloc, &mut session(alloc, 16)?, PERMITS);
-    Ok(())
-}
-
-#[test]
-fn a_permit_takes_its_channels_own_slot(rt: HostRuntime) -> Result<(), Fail> {
-    let alloc = rt.alloc();
-    answers(&rt, alloc, &mut session(alloc, 14)?, OWN);
-    Ok(())
-}
-
-#[test]
-fn control_frames_leave_slots_to_permits(rt: HostRuntime) -> Result<(), Fail> {
-    let alloc = rt.alloc();
-    answers(&rt, alloc, &mut session(alloc, 14)?, CONTROLS);
-    Ok(())
-}
-
-#[test]
-fn a_permit_is_used_whatever_is_queued(rt: HostRuntime) -> Result<(), Fail> {
-    let alloc = rt.alloc();
-    answers(&rt, alloc, &mut session(alloc, 64)?, EXEMPT);
-    Ok(())
-}
-
-#[test]
-fn permits_are_granted_in_line(rt: HostRuntime) -> Result<(), Fail> {
-    let alloc = rt.alloc();
-    answers(&rt, alloc, &mut session(alloc, 64)?, TURNS);
-    Ok(())
-}
-
-#[test]
-fn a_limit_or_a_finish_ends_permits(rt: HostRuntime) -> Result<(), Fail> {
-    let alloc = rt.alloc();
-    answers(&rt, alloc, &mut session(alloc, 64)?, LIMITS);
-    Ok(())
-}
 
 #[test]
 fn a_channel_has_a_slot_of_its_own(rt: HostRuntime) -> Result<(), Fail> {
@@ -674,6 +582,15 @@ fn long_messages_wait_for_bytes(rt: HostRuntime) -> Result<(), Fail> {
 fn an_offer_is_completed_once_it_is_notified(rt: HostRuntime) -> Result<(), Fail> {
     let alloc = rt.alloc();
     answers(&rt, alloc, &mut session(alloc, 16)?, OFFERS);
+    Ok(())
+}
+
+#[test]
+fn a_burst_of_others_does_not_pass_an_offer(rt: HostRuntime) -> Result<(), Fail> {
+    let alloc = rt.alloc();
+    for script in [PASSED, PASSED_UNTIL_WRITTEN, NOT_PASSED] {
+        answers(&rt, alloc, &mut session(alloc, 16)?, script);
+    }
     Ok(())
 }
 
