@@ -25,7 +25,7 @@ use std::time::Clock;
 /// How many frames may wait to go out.
 const SLOTS: u32 = 16;
 
-/// How many bytes a read of the socket brings at most, where the pump asks for 512.
+/// How many bytes a read of the socket brings at most, where the pump asks for few.
 const READ_AHEAD: usize = 65_536;
 
 /// What a sync came to.

@@ -47,7 +47,7 @@ consumes_kept (Some a) (Some b) k = sym k
 pub record SoFar {T : Type 0} (arrives : T → Frame → T → Type 0) (before after : Option (List ℕ)) (held : Stored) (old : T) (intake : IntakeState) (new : T) (turns : ℕ) : Type 0 where
   pub read : List ℕ
   pub consumed : Consumes before after read
-  pub few : length read ≤ 512 * turns
+  pub few : length read ≤ 4096 * turns
   pub some : turns ≤ length read
   pub bytes : All (λ b. b < 256) (held.bytes ++ read)
   pub arrived : AllArrive arrives old (frames_of (fed held read)) new
@@ -110,7 +110,7 @@ more_bytes : (held read y : List ℕ) → All (λ b. b < 256) (held ++ read) →
 more_bytes held read y fits more = subst (λ (xs : List ℕ). All (λ b. b < 256) xs) (append_assoc held read y) (All-append (λ (b : ℕ). b < 256) (held ++ read) y fits more)
 
 -- one read more, all of which was taken
-pub reads_on : {T : Type 0} (arrives : T → Frame → T → Type 0) (violates : Violation → T → Frame → T → Type 0) {a b c : Option (List ℕ)} {held : Stored} {old p q : T} {i : IntakeState} {turns : ℕ} (j : IntakeState) (y piece : List ℕ) (d : Delivery) → SoFar arrives a b held old i p turns → Consumes b c y → piece ≡ y → 0 < length y → length y ≤ 512 → All (λ b. b < 256) piece → DeliversTo arrives violates p i.held piece q j.held d → d.stop ≡ None → j.stop ≡ d.stop → SoFar arrives a c held old j q (turns + 1)
+pub reads_on : {T : Type 0} (arrives : T → Frame → T → Type 0) (violates : Violation → T → Frame → T → Type 0) {a b c : Option (List ℕ)} {held : Stored} {old p q : T} {i : IntakeState} {turns : ℕ} (j : IntakeState) (y piece : List ℕ) (d : Delivery) → SoFar arrives a b held old i p turns → Consumes b c y → piece ≡ y → 0 < length y → length y ≤ 4096 → All (λ b. b < 256) piece → DeliversTo arrives violates p i.held piece q j.held d → d.stop ≡ None → j.stop ≡ d.stop → SoFar arrives a c held old j q (turns + 1)
 reads_on {T} arrives violates {a} {b} {c} {held} {old} {p} {q} {i} {turns} j y piece d s consumed same more less fits delivers none stop =
     let came = subst (λ (o : Option Stop). ArriveUpTo arrives violates p (frames_of (fed i.held piece)) d.frames (violation_of o) q) none delivers.came in
     let leaves : LeavesRest (fed i.held piece) piece j.held d.taken = subst (λ (o : Option Stop). Leaves o (fed i.held piece) piece j.held d.taken d.frames) none delivers.leaves in
@@ -129,7 +129,7 @@ reads_on {T} arrives violates {a} {b} {c} {held} {old} {p} {q} {i} {turns} j y p
     }
 
 -- one read more, whose bytes are the first of memory that was filled, and by which no frame became whole. It counts where it gave any
-pub reads_filled : {T : Type 0} (arrives : T → Frame → T → Type 0) (violates : Violation → T → Frame → T → Type 0) {a b c : Option (List ℕ)} {held : Stored} {old p : T} {i : IntakeState} {turns : ℕ} (k : ℕ) (j : IntakeState) (n : ℕ) (memory : List ℕ) → SoFar arrives a b held old i p turns → Consumes b c (take n memory) → k ≤ n → n ≤ 512 * k → n ≤ length memory → All (λ b. b < 256) memory → All (λ b. b < 256) j.held.bytes → j.held ≡ fed i.held (take n memory) → IsUndecided j.held → j.stop ≡ i.stop → SoFar arrives a c held old j p (turns + k)
+pub reads_filled : {T : Type 0} (arrives : T → Frame → T → Type 0) (violates : Violation → T → Frame → T → Type 0) {a b c : Option (List ℕ)} {held : Stored} {old p : T} {i : IntakeState} {turns : ℕ} (k : ℕ) (j : IntakeState) (n : ℕ) (memory : List ℕ) → SoFar arrives a b held old i p turns → Consumes b c (take n memory) → k ≤ n → n ≤ 4096 * k → n ≤ length memory → All (λ b. b < 256) memory → All (λ b. b < 256) j.held.bytes → j.held ≡ fed i.held (take n memory) → IsUndecided j.held → j.stop ≡ i.stop → SoFar arrives a c held old j p (turns + k)
 reads_filled {T} arrives violates {a} {b} {c} {held} {old} {p} {i} {turns} k j n memory s consumed more less within fits held_fits grown undecided stop =
     let y = take n memory in
     let len = length-take-le n memory within in
@@ -172,7 +172,7 @@ ends_stopped (stops.Fault fault) text piece rest held taken frames read max_read
 ends_stopped (stops.Violated violation) text piece rest held taken frames read max_reads e h = tt
 
 -- one read more, in which the stream was given up
-pub reads_stop : {T : Type 0} (arrives : T → Frame → T → Type 0) (violates : Violation → T → Frame → T → Type 0) {a b c : Option (List ℕ)} {held : Stored} {old p q : T} {i : IntakeState} {turns : ℕ} (max_reads : ℕ) (j : IntakeState) (y piece : List ℕ) (d : Delivery) (stop : Stop) → SoFar arrives a b held old i p turns → turns < max_reads → Consumes b c y → piece ≡ y → length y ≤ 512 → All (λ b. b < 256) piece → DeliversTo arrives violates p i.held piece q j.held d → d.stop ≡ Some stop → j.stop ≡ d.stop → ReadsInto arrives violates a c held old j q max_reads (end_of stop)
+pub reads_stop : {T : Type 0} (arrives : T → Frame → T → Type 0) (violates : Violation → T → Frame → T → Type 0) {a b c : Option (List ℕ)} {held : Stored} {old p q : T} {i : IntakeState} {turns : ℕ} (max_reads : ℕ) (j : IntakeState) (y piece : List ℕ) (d : Delivery) (stop : Stop) → SoFar arrives a b held old i p turns → turns < max_reads → Consumes b c y → piece ≡ y → length y ≤ 4096 → All (λ b. b < 256) piece → DeliversTo arrives violates p i.held piece q j.held d → d.stop ≡ Some stop → j.stop ≡ d.stop → ReadsInto arrives violates a c held old j q max_reads (end_of stop)
 reads_stop {T} arrives violates {a} {b} {c} {held} {old} {p} {q} {i} {turns} max_reads j y piece d stop s left consumed same less fits delivers is kept =
     let stopped = subst (λ (o : Option Stop). ArriveUpTo arrives violates p (frames_of (fed i.held piece)) d.frames (violation_of o) q) (is ∙ stop_of_end stop) delivers.came in
     let here = subst (λ (xs : List ℕ). ArriveUpTo arrives violates p (frames_of (fed i.held xs)) d.frames (violation_of (stop_of (end_of stop))) q) same stopped in

@@ -19,9 +19,9 @@ use Rattle.lc_driver.specs.declared.counts.Counts.{Counts}
 use Rattle.lc_driver.specs.Counts.{count_up, count_on, CountsCall}
 use Rattle.lc_peer.specs.Intake.{IntakeState}
 
--- the bytes asked for per read
+-- the most bytes asked for per read
 abbrev pub max_read : ℕ
-max_read = 512
+max_read = 4096
 
 -- what a counted read into memory gave, and what it left of the reader
 abbrev pub ReadGives : Option ℕ → List ℕ → Option (List ℕ) → Option (List ℕ) → Counts → Counts → Type 0

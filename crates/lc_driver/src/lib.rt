@@ -9,10 +9,11 @@
 //! Between calls the buffer holds the rest of the greeting or of one frame at most.
 //!
 //! `Intake` is a `StreamDecoder` and the reason why the stream was given up, if it was. `read_in` reads
-//! into 512 bytes of its own and passes them to `deliver_to`; inside a frame that lacks more than that it
-//! reads directly behind what the decoder has stored. `RingIntake` (both are an `IntakeFor` a sink) knows
-//! the rings of its sink, and stores no message that is longer than its ring, since such a message breaks
-//! the rules whatever follows. A `Link` has a `RingIntake`.
+//! into 512 bytes of its own, and a `Link` into the 4,096 that it has, and passes them to `deliver_to`.
+//! Inside a frame that lacks more than 512 bytes both read up to 4,096 directly behind what the decoder
+//! has stored. `RingIntake` (both are an `IntakeFor` a sink) knows the rings of its sink, and stores no
+//! message that is longer than its ring, since such a message breaks the rules whatever follows. A `Link`
+//! has a `RingIntake`.
 //!
 //! Each of the three loops is written once, for a peer and for programs that have bytes, or a sink of
 //! frames, of their own: `write_all` (in `writing.rt`) writes bytes until all are written, `deliver_to`
@@ -38,6 +39,6 @@ pub use device::{ReadDevice, WriteDevice};
 pub use lc_peer::Intake;
 pub use link::Link;
 pub use outgo::Outgo;
-pub use reading::{ReadEnd, read_in, read_into};
+pub use reading::{MOST_READ, ReadEnd, read_in, read_into};
 pub use uninterrupted::Uninterrupted;
 pub use writing::{WriteFault, write_all, write_out};

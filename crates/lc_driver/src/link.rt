@@ -9,25 +9,29 @@ ghost use Rattle.lc_peer.specs.Offending.{ShowsHead, last_byte};
 ghost use Rattle.lc_peer.specs.RingIntake.{IsKept};
 ghost use Rattle.lc_driver.specs.Outgo.{new_outgo};
 ghost use Rattle.lc_driver.specs.Writing.{Writes, CountsWrites, written_in};
-ghost use Rattle.lc_driver.specs.Reading.{Reads, CountsReads, CountsAll, EndsInput, end_of};
+ghost use Rattle.lc_driver.specs.Reading.{max_read, Reads, CountsReads, CountsAll, EndsInput, end_of};
 
 use crate::counted::{CountedRead, CountedWrite};
 use crate::outgo::Outgo;
-use crate::reading::{ReadEnd, read_by};
+use crate::reading::{MOST_READ, ReadEnd, read_by};
 use crate::writing::{WriteFault, write_out};
 use lc_peer::{Config, FrameHead, Peer, PeerFault, RingIntake, Stop};
 use std::alloc::Global;
+use std::fmt;
+use std::fmt::{Debug, Formatter};
 
 /// A peer with its outgoing and its incoming stream as one value. The peer's own calls are made on
 /// `peer`; the invariants keep that what goes out is written in the peer's version, and that of what
 /// comes no message longer than its ring is kept.
-#[derive(Debug)]
 pub struct Link {
     pub peer: Peer,
     outgo: Outgo,
     intake: RingIntake,
+    // What a read gave, until it is delivered.
+    memory: Vec<u8>,
     ghost one_version: { outgo.version ≡ peer.version },
     ghost own_rings: { peer.capacities ≡ intake.rings },
+    ghost whole_memory: { length memory.items ≡ max_read },
 }
 
 // One call, wherever a link is dropped.
@@ -37,7 +41,18 @@ impl Drop for Link {
             peer: _,
             outgo: _,
             intake: _,
+            memory: _,
         } = self;
+    }
+}
+
+impl Debug for Link {
+    fn fmt<W: fmt::Write>(&self, f: &mut Formatter<W>) -> fmt::Result {
+        f.debug_struct("Link")
+            .field("peer", &self.peer)
+            .field("outgo", &self.outgo)
+            .field("intake", &self.intake)
+            .finish_non_exhaustive()
     }
 }
 
@@ -57,10 +72,14 @@ impl Link {
         let Ok(intake) = RingIntake::new(alloc, config.capacities) else {
             return Err(PeerFault::OutOfMemory);
         };
+        let Ok(memory) = vec![in alloc; 0u8; MOST_READ] else {
+            return Err(PeerFault::OutOfMemory);
+        };
         Ok(Link {
             peer,
             outgo,
             intake,
+            memory,
         })
     }
 
@@ -91,7 +110,7 @@ impl Link {
         write_out(&mut self.peer, &mut self.outgo, writer)
     }
 
-    /// Reads up to `max_reads` times and lets each whole frame arrive, as
+    /// Reads up to `max_reads` times, each time up to 4,096 bytes, and lets each whole frame arrive, as
     /// [`read_in`](crate::read_in) does.
     pub fn read_in<R: CountedRead>(&mut self, reader: &mut R, max_reads: u64) -> ReadEnd
         ensures given_up { IfSome self.old.intake.stop (λ stop. (result ≡ end_of stop) × (self.new.peer ≡ self.old.peer) × (reader.new ≡ reader.old) × (self.new.intake ≡ self.old.intake)) }
@@ -102,7 +121,8 @@ impl Link {
         ensures spent { CountsAll result max_reads (R.counts reader.old) (R.counts reader.new) }
         ensures outgo { self.new.outgo ≡ self.old.outgo }
     {
-        read_by(&mut self.peer, reader, &mut self.intake, max_reads)
+        let (peer, intake) = (&mut self.peer, &mut self.intake);
+        read_by(peer, reader, intake, &mut self.memory, max_reads)
     }
 
     /// How many bytes of the incoming stream are kept, which are no whole frame yet: never more than
@@ -129,8 +149,9 @@ impl Link {
         self.intake.begun()
     }
 
-    /// The frame that broke the rules, after a violation; `None` where no frame is held whole. What it
-    /// might have carried [`Peer::allowed`] answers.
+    /// The head of the frame that broke the rules, after a violation, F2 or F3; `None` where neither a
+    /// whole frame nor a number that is out of range is held. What a frame might have carried
+    /// [`Peer::allowed`] answers.
     pub fn offending(&self) -> Option<FrameHead>
         ensures { ShowsHead result self.now.intake.held }
     {

@@ -1,14 +1,17 @@
 //! Reading what comes to a peer, or to another sink.
 ghost use Rattle.std.specs.Prelude.{◌≡◌, ◌+◌, ◌<◌, ◌≤◌, length, All, None, IfSome};
 ghost use Rattle.lc_peer.specs.Intake.{IntakeState, IntakeEnds};
-ghost use Rattle.lc_driver.specs.Reading.{EndsHere, Reads, ReadsInto, CountsReads, CountsAll, EndsInput, end_of};
+ghost use Rattle.lc_driver.specs.Reading.{EndsHere, max_read, Reads, ReadsInto, CountsReads, CountsAll, EndsInput, end_of};
 
 use crate::counted::CountedRead;
 use lc_frame::{Fill, Filled, FrameFault};
 use lc_peer::{FrameSink, Intake, IntakeFor, Peer, Stop, Violation};
 
-/// The bytes asked for per read.
+/// The bytes that `read_in` asks for per read, but inside a frame that lacks more.
 const READ_LEN: usize = 512;
+
+/// The most bytes that are asked for per read.
+pub const MOST_READ: usize = 4_096;
 
 /// Why reading ended.
 #[must_use]
@@ -71,15 +74,19 @@ fn input_end(end: Option<Stop>) -> ReadEnd
     }
 }
 
-/// What `read_in` does, at any sink and by any intake that suits it.
+/// What `read_in` does, at any sink, by any intake that suits it, and through any memory of at most
+/// [`MOST_READ`] bytes: the more it has, the fewer frames are cut.
 pub fn read_into<C, S: FrameSink<C>, I: IntakeFor<C, S>, R: CountedRead>(
     sink: &mut S,
     context: &C,
     reader: &mut R,
     intake: &mut I,
+    memory: &mut [u8],
     max_reads: u64,
 ) -> ReadEnd
-    requires { I.suits (I.state intake.old).rings sink.old }
+    requires suits { I.suits (I.state intake.old).rings sink.old }
+    requires some { 0 < length memory.old }
+    requires most { length memory.old ≤ max_read }
     ensures given_up { IfSome (I.state intake.old).stop (λ stop. (result ≡ end_of stop) × (sink.new ≡ sink.old) × (reader.new ≡ reader.old) × (intake.new ≡ intake.old)) }
     ensures reads { (I.state intake.old).stop ≡ None → ReadsInto S.arrived S.violated (R.remaining reader.old) (R.remaining reader.new) (I.state intake.old).held sink.old (I.state intake.new) sink.new max_reads result }
     ensures at_end { EndsInput result (R.remaining reader.new) }
@@ -95,7 +102,6 @@ pub fn read_into<C, S: FrameSink<C>, I: IntakeFor<C, S>, R: CountedRead>(
     }
     // What was counted fits a count.
     let _calls = reader.calls();
-    let mut buffer = [0; READ_LEN];
     'reads: for _ in 0..max_reads {
         match intake.fill(&ByReads, reader) {
             Filled::Took(0) => return input_end(intake.end()),
@@ -103,9 +109,9 @@ pub fn read_into<C, S: FrameSink<C>, I: IntakeFor<C, S>, R: CountedRead>(
             Filled::Failed => return ReadEnd::ReadFailed,
             Filled::Few => {}
         }
-        match reader.read_counted(&mut buffer) {
+        match reader.read_counted(memory) {
             Ok(0) => return input_end(intake.end()),
-            Ok(n) => match intake.deliver(sink, context, buffer.split_at(n).0).stop {
+            Ok(n) => match intake.deliver(sink, context, memory.split_at(n).0).stop {
                 Some(stop) => return ReadEnd::from(stop),
                 None => {}
             },
@@ -115,14 +121,17 @@ pub fn read_into<C, S: FrameSink<C>, I: IntakeFor<C, S>, R: CountedRead>(
     ReadEnd::TurnsSpent
 }
 
-// What `read_in` does, by any intake that suits the peer.
+// What `read_in` does, by any intake that suits the peer, and through any memory.
 pub(crate) fn read_by<I: IntakeFor<(), Peer>, R: CountedRead>(
     peer: &mut Peer,
     reader: &mut R,
     intake: &mut I,
+    memory: &mut [u8],
     max_reads: u64,
 ) -> ReadEnd
-    requires { I.suits (I.state intake.old).rings peer.old }
+    requires suits { I.suits (I.state intake.old).rings peer.old }
+    requires some { 0 < length memory.old }
+    requires most { length memory.old ≤ max_read }
     ensures given_up { IfSome (I.state intake.old).stop (λ stop. (result ≡ end_of stop) × (peer.new ≡ peer.old) × (reader.new ≡ reader.old) × (intake.new ≡ intake.old)) }
     ensures reads { (I.state intake.old).stop ≡ None → Reads (R.remaining reader.old) (R.remaining reader.new) (I.state intake.old).held peer.old (I.state intake.new) peer.new max_reads result }
     ensures version { peer.new.version ≡ peer.old.version }
@@ -133,10 +142,10 @@ pub(crate) fn read_by<I: IntakeFor<(), Peer>, R: CountedRead>(
     ensures suits { I.suits (I.state intake.new).rings peer.new }
     ensures rings { (I.state intake.new).rings ≡ (I.state intake.old).rings }
 {
-    read_into(peer, &(), reader, intake, max_reads)
+    read_into(peer, &(), reader, intake, memory, max_reads)
 }
 
-/// Reads up to `max_reads` times, at most 512 bytes for each, and lets each whole frame arrive.
+/// Reads up to `max_reads` times, at most 4,096 bytes for each, and lets each whole frame arrive.
 ///
 /// After `Fault` and `Violated` the stream is given up: the bytes that follow are lost, every further
 /// call answers the same without a read, and the peer may still be taken from. After every other
@@ -158,5 +167,5 @@ pub fn read_in<R: CountedRead>(
     ensures calls { (R.counts reader.new).calls ≤ (R.counts reader.old).calls + max_reads }
     ensures spent { CountsAll result max_reads (R.counts reader.old) (R.counts reader.new) }
 {
-    read_by(peer, reader, intake, max_reads)
+    read_by(peer, reader, intake, &mut [0; READ_LEN], max_reads)
 }

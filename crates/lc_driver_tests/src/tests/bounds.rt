@@ -12,18 +12,22 @@ const FAULTS: [([u32; CHANNELS], u32, &str); 4] = [
     (
         [8, 8, 0, 8, 8, 0, 8],
         4,
-        "BadCapacity { channel: Overlap }: the capacity of Overlap is not 1 to 2^24",
+        "BadCapacity { channel: Overlap, capacity: 0 }: the capacity of Overlap must be in 1..=16777216, got 0",
     ),
-    ([8; CHANNELS], 0, "BadSlots: the slots are not 1 to 65,536"),
+    (
+        [8; CHANNELS],
+        0,
+        "BadSlots { slots: 0 }: slots must be in 1..=65536, got 0",
+    ),
     (
         [8; CHANNELS],
         65_537,
-        "BadSlots: the slots are not 1 to 65,536",
+        "BadSlots { slots: 65537 }: slots must be in 1..=65536, got 65537",
     ),
     (
         [8, 8, 8, 8, 8, 8, 16_777_217],
         0,
-        "BadCapacity { channel: StaticToken }: the capacity of StaticToken is not 1 to 2^24",
+        "BadCapacity { channel: StaticToken, capacity: 16777217 }: the capacity of StaticToken must be in 1..=16777216, got 16777217",
     ),
 ];
 
@@ -118,9 +122,12 @@ fn are_bad(rt: &impl Abort, alloc: Global) {
     let inbox = Inbox::new(alloc, 0).err();
     let capacity = fault(alloc, [8, 8, 8, 8, 8, 8, 0], 7);
     let slots = fault(alloc, [8; CHANNELS], 0);
-    let channel = Channel::StaticToken;
-    let bad = Some(PeerFault::BadCapacity { channel });
-    let wanted = (Some(NewFault::BadCapacity), bad, Some(PeerFault::BadSlots));
+    let bad_ring = PeerFault::BadCapacity {
+        channel: Channel::StaticToken,
+        capacity: 0,
+    };
+    let bad_slots = PeerFault::BadSlots { slots: 0 };
+    let wanted = (Some(NewFault::BadCapacity), Some(bad_ring), Some(bad_slots));
     equal(rt, "bad bounds", (inbox, capacity, slots), wanted);
 }
 

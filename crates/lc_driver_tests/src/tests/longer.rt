@@ -48,6 +48,9 @@ fn append(version: Version, frame: FrameRef<'_>, out: &mut Vec<u8>) -> Result<()
     Ok(())
 }
 
+// The most bytes that one read gives: what both sides have memory for.
+const GIVEN: usize = 512;
+
 // A reader whose first reads give so many bytes together, and no more at once.
 #[derive(Drop)]
 struct Cut<'a> {
@@ -57,10 +60,11 @@ struct Cut<'a> {
 
 impl Read for Cut<'_> {
     fn read(&mut self, buf: &mut [u8]) -> io::Result<usize> {
+        let room = buf.len().min(GIVEN);
         let most = if self.before > 0 {
-            self.before.min(buf.len())
+            self.before.min(room)
         } else {
-            buf.len()
+            room
         };
         let given = self.bytes.read(&mut buf[..most])?;
         self.before = self.before.saturating_sub(given);

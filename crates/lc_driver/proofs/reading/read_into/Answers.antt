@@ -13,7 +13,7 @@ reads-init g c =
       so_far = nothing_read g.S.FrameSink.arrived _ (g.I.IntakeFor.state c.args.intake.now) c.args.sink.now c.stop.ensures.bytes c.stop.ensures.settled (c.stop.ensures.undecided none) (sym c.stop.ensures.value ∙ none);
       counts = refl;
       calls = omega arith;
-      suits = c.requires;
+      suits = c.requires.suits;
       rings = refl;
     }
 
@@ -33,7 +33,7 @@ reads-preserved-in-Took g c =
     let took = c.in-Took.ensures.held in
     let n = c.in-Took.field-0 in
     record {
-      so_far = reads_filled g.S.FrameSink.arrived g.S.FrameSink.violated 1 (g.I.IntakeFor.state c.fill.new.self) n took.memory at.so_far took.filled.0.0 (omega (arith, c.in-Took.field-0-test.1)) (omega (arith, took.within)) (omega (arith, took.within, took.size)) took.bytes c.in-Took.ensures.bytes took.grown took.undecided c.in-Took.ensures.stop;
+      so_far = reads_filled g.S.FrameSink.arrived g.S.FrameSink.violated 1 (g.I.IntakeFor.state c.fill.new.self) n took.memory at.so_far took.filled.0.0 (omega (arith, c.in-Took.field-0-test.1)) (omega (arith, took.within, took.size.most)) took.within took.bytes c.in-Took.ensures.bytes took.grown took.undecided c.in-Took.ensures.stop;
       counts = call_goes_on (g.R.Failures.counts c.args.reader.now) (g.R.Failures.counts c.reads.reader) (g.R.Failures.counts c.fill.new.source) n _ c.in-Took.field-0-test.1 at.counts took.filled.1;
       calls = calls_count_on (g.R.Failures.counts c.args.reader.now) (g.R.Failures.counts c.reads.reader) (g.R.Failures.counts c.fill.new.source) n _ _ at.calls took.filled.1;
       suits = subst (λ (rings : List ℕ). g.I.IntakeFor.suits rings c.reads.sink) (sym c.in-Took.ensures.rings) at.suits;
