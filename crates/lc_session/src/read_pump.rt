@@ -1,15 +1,18 @@
 //! The pump that reads.
-ghost use Rattle.std.specs.Prelude.{◌≡◌, ◌+◌, ◌≤◌, None, IfSome};
+ghost use Rattle.std.specs.Prelude.{◌≡◌, ◌+◌, ◌≤◌, length, None, IfSome};
+ghost use Rattle.lc_frame.specs.declared.frame_fault.FrameFault.TheVariants.{BadTag};
+ghost use Rattle.lc_frame.specs.Stored.{HasFault};
 ghost use Rattle.lc_driver.specs.Reading.{ReadsInto, CountsReads, CountsAll, EndsInput, end_of};
 ghost use Rattle.lc_session.specs.Reading.{rings_of, Arrives, Violates, IsSameReading};
 ghost use Rattle.lc_session.specs.Heard.{HearsMore};
+ghost use Rattle.lc_peer.specs.Offending.{ShowsHead, last_byte};
 
 use crate::reading_side::ReadingSide;
 use lc_credit::CreditIn;
-use lc_driver::{CountedRead, ReadEnd, read_into};
+use lc_driver::{CountedRead, MOST_READ, ReadEnd, read_into};
 use lc_frame::CHANNELS;
 use lc_inbox::InboxIn;
-use lc_peer::RingIntake;
+use lc_peer::{FrameHead, RingIntake};
 use std::marker::Model;
 use std::sync::Wait;
 
@@ -46,7 +49,7 @@ impl ReadPump {
         ReadPump { side, intake }
     }
 
-    /// Reads up to `max_reads` times, at most 512 bytes each, and lets each whole frame arrive, as
+    /// Reads up to `max_reads` times, at most 4,096 bytes each, and lets each whole frame arrive, as
     /// `lc_driver::read_in` does at a peer. When the run ends all ends are woken, and waits for
     /// guarantees and messages are over.
     ///
@@ -68,9 +71,40 @@ impl ReadPump {
         ensures hears { HearsMore self.old self.new }
     {
         self.side.begin_run();
-        let end = read_into(&mut self.side, rt, reader, &mut self.intake, max_reads);
+        let end = read_into(
+            &mut self.side,
+            rt,
+            reader,
+            &mut self.intake,
+            &mut [0; MOST_READ],
+            max_reads,
+        );
         self.side.end_run();
         end
+    }
+
+    /// How many bytes of the stream came since the last whole frame, as [`RingIntake::begun`] counts
+    /// them.
+    pub fn begun(&self) -> usize
+        ensures { result ≡ length self.now.intake.held.bytes }
+    {
+        self.intake.begun()
+    }
+
+    /// The head of the frame that broke the rules, after a violation, F2 or F3; `None` where neither a
+    /// whole frame nor a number that is out of range is held.
+    pub fn offending(&self) -> Option<FrameHead>
+        ensures { ShowsHead result self.now.intake.held }
+    {
+        self.intake.offending()
+    }
+
+    /// The byte that is no tag, or that differs from a greeting, after `FrameFault::BadTag`.
+    pub fn bad_byte(&self) -> Option<u8>
+        ensures bad { HasFault BadTag self.now.intake.held → result ≡ last_byte self.now.intake.held }
+        ensures none { ¬ HasFault BadTag self.now.intake.held → result ≡ None }
+    {
+        self.intake.bad_byte()
     }
 
     /// The reading sides of the credits and of the inboxes, when the session ends.

@@ -18,7 +18,7 @@ use crate::tests::sides::session;
 use crate::tests::ticks::Ticks;
 use lc_driver::Counted;
 use lc_frame::{CHANNELS, Channel, Version};
-use lc_peer::Take;
+use lc_peer::{FrameHead, Take};
 use lc_session::{Parts, ReadPump, RecvEnd, Report, SendEnd, WriteEnd, WritePump, finish};
 use std::alloc::Global;
 use std::mem::replace;
@@ -255,6 +255,23 @@ fn read<R: Wait>(
     text(alloc, &end)
 }
 
+// How much came since the last whole frame, and what is wrong with it.
+fn offending(alloc: Global, pump: &ReadPump) -> Option<String> {
+    let (begun, byte) = (pump.begun(), pump.bad_byte());
+    let Some(
+        FrameHead {
+            kind,
+            channel,
+            number,
+        },
+    ) = pump.offending()
+    else {
+        return format!(in alloc; "begun {begun} {byte:?}").ok();
+    };
+    let at = channel.number();
+    format!(in alloc; "begun {begun} {kind:?} {at} {number:?} {byte:?}").ok()
+}
+
 // How a run of the writing pump ends, what it wrote, and how often it wrote and flushed.
 fn write<R: Wait>(rt: &R, alloc: Global, pump: &mut WritePump, writer: PipeWriter) -> Option<String>
     ensures { IsSamePump pump.old pump.new }
@@ -301,6 +318,7 @@ fn answer<R: Wait>(rt: &R, alloc: Global, desk: &mut Desk, call: &str) -> Option
     match verb {
         "stop" => text(alloc, &parts.session.stop()),
         "read" => read(rt, alloc, &mut parts.read_pump, &mut desk.input, rest),
+        "offending" => offending(alloc, &parts.read_pump),
         "unflushed" => write(rt, alloc, &mut parts.write_pump, unflushed(alloc)),
         "write" => write_by(rt, alloc, &mut parts.write_pump, rest),
         _ => end(rt, alloc, parts, verb, rest),

@@ -8,7 +8,7 @@ use std::sync::Wait;
 
 /// Of each: the slots of the queue, the bytes that come, the calls with what they answer, and what
 /// the report says then.
-const WORKED: [(u32, &str, &str, &str); 17] = [
+const WORKED: [(u32, &str, &str, &str); 18] = [
     // All that was put goes out in one write.
     (
         4,
@@ -258,9 +258,23 @@ const WORKED: [(u32, &str, &str, &str); 17] = [
         "4c4300",
         "read 2 1 => TurnsSpent
         read 1 1 => Fault(BadTag)
+        offending => begun 3 Some(0)
         read 10 all => Fault(BadTag)",
         "client 1 => (0, 0, 0, 0, 0)
         left => (0, 0)",
+    ),
+    // A message beyond what was guaranteed, behind one that was not: its frame is known.
+    (
+        4,
+        "11000261621100026364",
+        "issue 1 3 => Ok(())
+        offending => begun 0 None
+        read 10 all => Violated(NotGuaranteed)
+        offending => begun 5 Send 1 Some(2) None
+        server 1 => outstanding 1 buffered 2 None
+        take 1 => 6162",
+        "server 1 => (1, 0, 3)
+        left => (1, 0)",
     ),
     // A session of version One finishes no channel.
     (
