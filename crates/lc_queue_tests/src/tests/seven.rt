@@ -24,11 +24,11 @@ const CAPACITIES: [([u32; CHANNELS], &str); 4] = [
     ),
     (
         [8, 8, 0, 8, 8, 0, 8],
-        "Err(BadCapacity { channel: Overlap })",
+        "Err(BadCapacity { channel: Overlap, capacity: 0 })",
     ),
     (
         [8, 8, 8, 8, 8, 8, 16_777_217],
-        "Err(BadCapacity { channel: StaticToken })",
+        "Err(BadCapacity { channel: StaticToken, capacity: 16777217 })",
     ),
 ];
 
