@@ -5,8 +5,8 @@ use std::io;
 use std::io::{BufReader, ErrorKind};
 use std::net::{Ipv4Addr, Net, OpenListener, OpenStream, TcpListener, TcpStream};
 
-/// The bytes that a reader has room to read ahead. A pump asks for 512 at a time, so that one call of the
-/// system then serves 128 of its reads.
+/// The bytes that a reader has room to read ahead. A pump asks for 4,096 at a time, so that one call of
+/// the system then serves 16 of its reads.
 const READ_AHEAD: usize = 65_536;
 
 /// Both ends of a connection that goes one way. Nothing is ever written back on it: a writer that

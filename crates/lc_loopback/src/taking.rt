@@ -63,7 +63,9 @@ pub(crate) struct Owed {
 
 impl Owed {
     /// Nothing. From so many bytes on all are issued.
-    pub(crate) const fn new(issue_from: u32) -> Owed {
+    pub(crate) const fn new(issue_from: u32) -> Owed
+        ensures { result ≡ record { bytes = 0; issue_from = issue_from } }
+    {
         Owed {
             bytes: 0,
             issue_from,
@@ -79,6 +81,7 @@ impl Owed {
         ensures same { IsSameSide end.old end.new }
         ensures took { took end.new.seen ≡ took end.old.seen }
         ensures none { OnOk result (self.new.bytes ≡ 0) }
+        ensures kept { self.new.issue_from ≡ self.old.issue_from }
     {
         issue(rt, end, self.bytes, patience)?;
         self.bytes = 0;
@@ -96,7 +99,8 @@ impl Owed {
         ensures same { IsSameSide end.old end.new }
         ensures took { took end.new.seen ≡ took end.old.seen }
         ensures later { self.old.bytes + len < self.old.issue_from → (end.new ≡ end.old) × (self.new.bytes ≡ self.old.bytes + len) }
-        ensures owed { OnOk result (self.new.bytes < self.new.issue_from ⊎ (self.new.bytes ≡ 0)) }
+        ensures owed { OnOk result (self.new.bytes < self.old.issue_from ⊎ (self.new.bytes ≡ 0)) }
+        ensures kept { self.new.issue_from ≡ self.old.issue_from }
     {
         self.bytes = self.bytes.saturating_add(len);
         if self.bytes < self.issue_from {

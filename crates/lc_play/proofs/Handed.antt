@@ -4,9 +4,9 @@ use Rattle.std.specs.Prelude.{IsErrAnd}
 use Rattle.std.proofs.Math.Seq.{take-append_seam}
 use Rattle.std.specs.Io.KnownBytes.{Appends}
 use Rattle.lc_cli.specs.declared.fault.Status.{Status}
-use Rattle.lc_cli.specs.declared.fault.Status.TheVariants.{Done, Failed, Bad}
+use Rattle.lc_cli.specs.declared.fault.Status.TheVariants.{Done, Failed, Bad, Unread}
 use Rattle.lc_cli.specs.declared.fault.Fault.{Fault}
-use Rattle.lc_cli.specs.declared.fault.Fault.TheVariants.{Usage, BadLine, BadFrame, InputTooLong, OutOfMemory, ReadFailed, WriteFailed, LoopbackFailed}
+use Rattle.lc_cli.specs.declared.fault.Fault.TheVariants.{Usage, BadLine, CarriageReturn, BadFrame, InputTooLong, OutOfMemory, ReadFailed, WriteFailed, BrokenPipe, LoopbackFailed}
 use Rattle.lc_cli.specs.Fault.{code_of, status_of}
 use Rattle.lc_cli.specs.Replayed.{Replays}
 use Rattle.lc_cli.specs.Listed.{Lists}
@@ -18,26 +18,31 @@ use Rattle.lc_play.specs.Played.{of_memory, IsDone, shown_in, Fits, IsShort, Han
 not_done : (fault : Fault) → ¬ (code_of (status_of fault) ≡ 0)
 not_done Usage e = omega (arith, e)
 not_done (BadLine line) e = omega (arith, e)
-not_done (BadFrame number offset) e = omega (arith, e)
+not_done (CarriageReturn line) e = omega (arith, e)
+not_done (BadFrame number offset culprit) e = omega (arith, e)
 not_done InputTooLong e = omega (arith, e)
 not_done OutOfMemory e = omega (arith, e)
 not_done ReadFailed e = omega (arith, e)
 not_done WriteFailed e = omega (arith, e)
+not_done BrokenPipe e = omega (arith, e)
 not_done LoopbackFailed e = omega (arith, e)
 
 bad_code : (s : Status) → code_of s ≡ 2 → s ≡ Bad
 bad_code Done e = absurd (omega (arith, e))
 bad_code Failed e = absurd (omega (arith, e))
 bad_code Bad e = refl
+bad_code Unread e = absurd (omega (arith, e))
 
 same_status : (fault : Fault) → status_of (of_memory fault) ≡ status_of fault
 same_status Usage = refl
 same_status (BadLine line) = refl
-same_status (BadFrame number offset) = refl
+same_status (CarriageReturn line) = refl
+same_status (BadFrame number offset culprit) = refl
 same_status InputTooLong = refl
 same_status OutOfMemory = refl
 same_status ReadFailed = refl
 same_status WriteFailed = refl
+same_status BrokenPipe = refl
 same_status LoopbackFailed = refl
 
 -- what a run came to by its status

@@ -13,8 +13,8 @@ use Rattle.lc_frame.specs.Channel.{channel_count, number_of}
 use Rattle.lc_frame.specs.Stored.{nothing_stored}
 use Rattle.lc_frame.specs.Version.{greeting}
 use Rattle.lc_peer.specs.declared.config.Config.{Config}
-use Rattle.lc_peer.specs.declared.config.PeerFault.TheVariants.{BadCapacity, BadSlots}
-use Rattle.lc_peer.specs.Config.{first_bad, IsNewAnswer, new_peer}
+use Rattle.lc_peer.specs.declared.config.PeerFault.TheVariants.{BadSlots}
+use Rattle.lc_peer.specs.Config.{first_bad, bad_capacity, IsNewAnswer, new_peer}
 use Rattle.lc_peer.specs.Peer.{PeerState}
 use Rattle.lc_peer.specs.Streams.{Streams, IsPeerOf, new_streams}
 use Rattle.lc_peer.proofs.StreamsKept.{new_peers_are_of_streams}
@@ -29,12 +29,12 @@ use Rattle.lc_world.proofs.Steps.{sound_opened}
 use Rattle.lc_world.proofs.Ends.{in_step}
 
 -- one slot is no fault
-no_slots_fault : (o : Option Channel) → Some BadSlots ≡ option_or (option_map BadCapacity o) None → ⊥
-no_slots_fault None e = cc
-no_slots_fault (Some c) e = cc
+no_slots_fault : (slots : ℕ) (capacities : List ℕ) (o : Option Channel) → Some (BadSlots slots) ≡ option_or (option_map (bad_capacity capacities) o) None → ⊥
+no_slots_fault slots capacities None e = cc
+no_slots_fault slots capacities (Some c) e = cc
 
-pub no_bad_slots : (v : Version) (k : ℕ) → IsNewAnswer (record { version = v; capacities = replicate channel_count k; slots = 1 }) (Some BadSlots) → ⊥
-no_bad_slots v k h = elim h [ inl e ↦ no_slots_fault (first_bad (replicate channel_count k)) e | inr p ↦ let e = p.1 in cc ]
+pub no_bad_slots : (v : Version) (k slots : ℕ) → IsNewAnswer (record { version = v; capacities = replicate channel_count k; slots = 1 }) (Some (BadSlots slots)) → ⊥
+no_bad_slots v k slots h = elim h [ inl e ↦ no_slots_fault slots (replicate channel_count k) (first_bad (replicate channel_count k)) e | inr p ↦ let e = p.1 in cc ]
 
 -- the streams of a new peer are those of two lines on which nothing has happened
 one_capacity : (k : ℕ) (c : Channel) → slice_index (replicate channel_count k) (number_of c) ≡ k

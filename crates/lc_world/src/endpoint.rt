@@ -38,7 +38,7 @@ fn new_peer(alloc: Global, version: Version, capacity: u32) -> Result<Peer, NewF
     match Peer::new(alloc, config) {
         Ok(peer) => Ok(peer),
         Err(PeerFault::BadCapacity { .. }) => Err(NewFault::BadCapacity),
-        Err(PeerFault::BadSlots) => unreachable!(),
+        Err(PeerFault::BadSlots { .. }) => unreachable!(),
         Err(PeerFault::OutOfMemory) => Err(NewFault::OutOfMemory),
     }
 }
