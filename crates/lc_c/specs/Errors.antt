@@ -43,7 +43,7 @@ abbrev pub error_of : LcmuxError → PeerState → Option Stop → Option FrameH
 error_of error p stop None = error
 error_of error p stop (Some head) = with_head error head (allowed_by p head.channel stop)
 
--- the error names where the frame begins that is held, the head of that frame if it is whole, what it might have carried, and after a bad tag its byte
+-- the error names where the frame begins that is held, the head of that frame if it is whole or of its number if that is out of range, what it might have carried, and after a bad tag its byte
 pub record ShowsError (size : ℕ) (side : Side) (error : LcmuxError) : Type 0 where
   pub head : Option FrameHead
   pub byte : Option ℕ

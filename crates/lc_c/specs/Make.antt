@@ -18,8 +18,8 @@ use Rattle.lc_c.specs.Answers.{done, only, has_peer, bad_version, bad_capacity, 
 
 -- why there is no peer; the number that goes with a bad capacity is its channel's
 abbrev pub fault_answer : PeerFault → LcmuxAnswer
-fault_answer (BadCapacity c) = record { code = bad_capacity; number = number_of c }
-fault_answer BadSlots = only bad_slots
+fault_answer (BadCapacity c capacity) = record { code = bad_capacity; number = number_of c }
+fault_answer (BadSlots slots) = only bad_slots
 fault_answer OutOfMemory = refusal_answer refusals.OutOfMemory
 
 -- the version of a number: 1 is One, 2 is Two, and there is no other

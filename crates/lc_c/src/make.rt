@@ -44,11 +44,11 @@ fn fault_answer(fault: PeerFault) -> LcmuxAnswer
     ensures { result ≡ fault_answer fault }
 {
     match fault {
-        PeerFault::BadCapacity { channel } => LcmuxAnswer {
+        PeerFault::BadCapacity { channel, .. } => LcmuxAnswer {
             code: BAD_CAPACITY,
             number: u64::from(channel.number()),
         },
-        PeerFault::BadSlots => only(BAD_SLOTS),
+        PeerFault::BadSlots { .. } => only(BAD_SLOTS),
         PeerFault::OutOfMemory => refused(Refusal::OutOfMemory),
     }
 }
