@@ -1,6 +1,6 @@
 -- A script, line by line and field by field.
-use Rattle.std.proofs.Common.{◌≡◌, ℕ, ◌⊎◌, inl, inr, ◌+◌, ◌-◌, ◌<◌, ◌≤◌, List, [], ◌∷◌, ◌++◌, Bool, true, false, Option, Some, None, MatchOption, MatchBool, length, take, drop, slice_index, refl, sym, ap, subst, ◌∙◌, append-nil, append_assoc, arith, get_or, drop-cons, take-append-drop, add-one, Result, Ok, Err, IfOk, OnOk}
-use Rattle.std.specs.List.{flat_map, filter_map, zip, AllByRecursion}
+use Rattle.std.proofs.Common.{◌≡◌, ℕ, ◌⊎◌, inl, inr, ◌+◌, ◌-◌, ◌<◌, ◌≤◌, List, [], ◌∷◌, ◌++◌, Bool, true, false, Option, Some, None, length, take, drop, slice_index, refl, sym, ap, subst, ◌∙◌, append-nil, append_assoc, arith, drop-cons, take-append-drop, add-one, Result, Ok, Err, IfOk, OnOk}
+use Rattle.std.specs.List.{zip}
 use Rattle.std.specs.Prelude.{Contains}
 use Rattle.std.proofs.lemmas.List.Concat.{flat_map-append}
 use Rattle.std.proofs.lemmas.List.Elements.{filter_map-append}

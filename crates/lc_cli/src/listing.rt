@@ -9,7 +9,7 @@ ghost use Rattle.lc_frame.specs.Stored.{nothing_stored, IsUndecided};
 ghost use Rattle.lc_cli.specs.Lines.{frame_line, valued_line};
 ghost use Rattle.lc_cli.specs.Listed.{IsStream, Lists, ListsOn};
 
-use crate::fault::{Fault, Status};
+use crate::fault::{Culprit, Fault, Status};
 use crate::input::{MAX_INPUT, PIECE};
 use crate::output::{buffered, write_decimal, write_hex_line};
 use crate::words::{ABSOLVE, FINISH, ISSUE, LIMIT_RECEIVING, LIMIT_SENDING, PLEAD, SEND};
@@ -19,8 +19,9 @@ use std::io;
 use std::io::{Read, Write};
 
 /// Prints the frames of the stream that the input holds, of either version, to `out`, up to the
-/// first fault, whose line goes to `err`, and answers the exit status. One frame and one piece of the
-/// input are held at a time, and each frame's line is written out before a read that may wait.
+/// first fault, whose line goes to `err`, and answers the number of the status. One frame and one
+/// piece of the input are held at a time, and each frame's line is written out before a read that may
+/// wait.
 pub fn frames<R: Read, W: Write, E: Write>(
     alloc: Global,
     input: &mut R,
@@ -51,7 +52,8 @@ fn print_frames<R: Read, W: Write>(alloc: Global, input: &mut R, out: &mut W) ->
     // The frames before a fault are printed, so a failed write is met first.
     let printed = match list(alloc, input, &mut buffered) {
         Err(Fault::WriteFailed) => Err(Fault::WriteFailed),
-        read => buffered.flush().or(Err(Fault::WriteFailed)).and(read),
+        Err(Fault::BrokenPipe) => Err(Fault::BrokenPipe),
+        read => buffered.flush().map_err(Fault::of_write).and(read),
     };
     // A writer that is dropped would try once more to write what a failed write left.
     let _ = buffered.into_parts();
@@ -95,7 +97,7 @@ pub fn write_frame<W: Write>(frame: &FrameRef<'_>, out: &mut W) -> io::Result<()
 fn print_frame<W: Write>(frame: &FrameRef<'_>, out: &mut W) -> Result<(), Fault>
     ensures { OnOk result (Appends (W.contents out.old) (W.contents out.new) (frame_line (frame_of frame.now))) }
 {
-    write_frame(frame, out).or(Err(Fault::WriteFailed))
+    write_frame(frame, out).map_err(Fault::of_write)
 }
 
 fn write_sent<W: Write>(channel: Channel, body: &[u8], out: &mut W) -> io::Result<()>
@@ -167,7 +169,7 @@ impl Listing {
         let _stored = self.decoder.stored();
         let mut piece = [0u8; PIECE];
         loop {
-            out.flush().or(Err(Fault::WriteFailed))?;
+            out.flush().map_err(Fault::of_write)?;
             let count = read_piece(input, &mut piece)?;
             if count == 0 {
                 return Ok(());
@@ -251,6 +253,18 @@ impl Listing {
         Fault::BadFrame {
             number: fault.number(),
             offset: self.position.saturating_sub(self.decoder.stored()),
+            culprit: self.culprit(),
+        }
+    }
+
+    // What is at fault. Of a bad tag that is the byte that was taken last.
+    fn culprit(&self) -> Culprit {
+        if let Some(number) = self.decoder.out_of_range() {
+            return Culprit::Number(number);
+        }
+        match (self.decoder.fault(), self.decoder.bytes()) {
+            (Some(_), [.., byte]) => Culprit::Byte(*byte),
+            _ => Culprit::Unnamed,
         }
     }
 }

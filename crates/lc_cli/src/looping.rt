@@ -11,8 +11,8 @@ use std::alloc::Global;
 use std::io;
 use std::io::Write;
 
-/// Prints what two sessions carried to `out`, or the line of a failure to `err`, and answers the exit
-/// status.
+/// Prints what two sessions carried to `out`, or the line of a failure to `err`, and answers the
+/// number of the status.
 pub fn print_loopback<W: Write, E: Write>(
     alloc: Global,
     answer: Result<LoopReport, LoopFault>,
@@ -36,7 +36,7 @@ fn print_report<W: Write>(alloc: Global, report: &LoopReport, out: &mut W) -> Re
     let written = write_report(report, &mut buffered);
     // A writer that is dropped would try once more to write what a failed write left.
     let _ = buffered.into_parts();
-    written.or(Err(Fault::WriteFailed))
+    written.map_err(Fault::of_write)
 }
 
 fn write_report<W: Write>(report: &LoopReport, out: &mut W) -> io::Result<()> {

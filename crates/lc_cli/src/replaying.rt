@@ -5,7 +5,7 @@ ghost use Rattle.std.specs.Io.KnownBytes.{Appends};
 ghost use Rattle.lc_frame.specs.Bounds.{IsCapacity};
 ghost use Rattle.lc_world.specs.State.{by_side};
 ghost use Rattle.lc_world.specs.Histories.{IsHistory};
-ghost use Rattle.lc_cli.specs.Fault.{status_of};
+ghost use Rattle.lc_cli.specs.Fault.{IsCutShort, IsOfWriting, status_of};
 ghost use Rattle.lc_cli.specs.Lines.{answer_line};
 ghost use Rattle.lc_cli.specs.Replayed.{Replays};
 ghost use Rattle.lc_cli.specs.Script.{IsAScript};
@@ -38,8 +38,8 @@ pub fn replay<R: Read, W: Write, E: Write>(
 
 /// Replays the script that the input holds between two new peers, whose receiving rings have
 /// `capacity` bytes each and whose streams are both of the version. The answers go to `out`, a
-/// fault's line to `err`, and the exit status is answered. The whole script is read and checked
-/// before the first event.
+/// fault's line to `err`, and the number of the status is answered. The whole script is read and
+/// checked before the first event.
 pub fn replay_as<R: Read, W: Write, E: Write>(
     alloc: Global,
     capacity: u32,
@@ -130,20 +130,20 @@ fn answers_to(
 }
 
 fn print_answers<W: Write>(alloc: Global, answers: &[Answer], out: &mut W) -> Result<(), Fault>
-    ensures { IfErr result (λ fault. status_of fault ≡ Status.Failed) }
+    ensures { IfErr result (λ fault. IsCutShort (status_of fault)) }
 {
     let mut buffered = buffered(alloc, out)?;
     let written = write_answers(answers, &mut buffered);
     // A writer that is dropped would try once more to write what a failed write left.
     let _ = buffered.into_parts();
-    written.or(Err(Fault::WriteFailed))
+    written.map_err(Fault::of_write)
 }
 
 fn put_answers<W: Write>(answers: &[Answer], out: &mut W) -> Result<(), Fault>
     ensures prints { OnOk result (Appends (W.contents out.old) (W.contents out.new) (flat_map answer_line answers.now)) }
-    ensures failed { IfErr result (λ fault. fault ≡ Fault.WriteFailed) }
+    ensures failed { IfErr result IsOfWriting }
 {
-    write_answers(answers, out).or(Err(Fault::WriteFailed))
+    write_answers(answers, out).map_err(Fault::of_write)
 }
 
 fn write_answers<W: Write>(answers: &[Answer], out: &mut W) -> io::Result<()>

@@ -5,6 +5,8 @@ ghost use Rattle.std.specs.Fmt.{decimal};
 ghost use Rattle.lc_frame.specs.Channel.{number_of};
 ghost use Rattle.hex.specs.Hex.{decode_of};
 ghost use Rattle.lc_cli.specs.Script.{side_text, WritesBody, WritesAct, WritesEvent, IsSkipped, IsLine, IsScript};
+ghost use Rattle.lc_cli.specs.declared.fault.Status.TheVariants.{Bad};
+ghost use Rattle.lc_cli.specs.Fault.{status_of};
 ghost use Rattle.lc_cli.specs.Fields.{NoneBelow, EndsLine, IsCut, Reads, added, word_text};
 
 use crate::decoding::{decode, digit_count};
@@ -35,13 +37,24 @@ pub fn parse_script(alloc: Global, script: &[u8]) -> Result<Vec<Event>, Fault>
         number += 1;
         let (event, others) = match read_line(alloc, rest) {
             Ok(read) => read,
-            Err(LineFault::Bad) => return Err(Fault::BadLine { line: number }),
+            Err(LineFault::Bad) => return Err(bad_line(rest, number)),
             Err(LineFault::OutOfMemory) => return Err(Fault::OutOfMemory),
         };
         add(&mut events, event)?;
         rest = others;
     }
     Ok(events)
+}
+
+// The fault of the bad line that a script begins with, by how the line ends.
+fn bad_line(script: &[u8], line: u64) -> Fault
+    ensures { status_of result ≡ Bad × ¬ (result ≡ Fault.Usage) }
+{
+    let (text, _) = cut(script, end_of_line(script));
+    match text {
+        [.., b'\r'] => Fault::CarriageReturn { line },
+        _ => Fault::BadLine { line },
+    }
 }
 
 fn add(events: &mut Vec<Event>, event: Option<Event>) -> Result<(), AllocError>

@@ -2,6 +2,8 @@
 ghost use Rattle.std.specs.Prelude.{◌≡◌, IfSome};
 ghost use Rattle.lc_cli.specs.Fields.{word_text};
 
+use lc_frame::Kind;
+
 pub(crate) const ABSOLVE: &[u8] = b"absolve";
 
 pub(crate) const ARRIVE: &[u8] = b"arrive";
@@ -23,6 +25,19 @@ pub(crate) const PLEAD: &[u8] = b"plead";
 pub(crate) const SEND: &[u8] = b"send";
 
 pub(crate) const TAKE: &[u8] = b"take";
+
+/// The word of a kind of frame, in a line that names a fault.
+pub(crate) fn word_of(kind: Kind) -> &'static str {
+    match kind {
+        Kind::Send => "send",
+        Kind::Issue => "issue",
+        Kind::Absolve => "absolve",
+        Kind::Plead => "plead",
+        Kind::LimitSending => "limit-sending",
+        Kind::LimitReceiving => "limit-receiving",
+        Kind::Finish => "finish",
+    }
+}
 
 /// The word of an event.
 #[derive(Clone, Copy)]

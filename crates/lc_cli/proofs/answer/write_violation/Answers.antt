@@ -1,4 +1,4 @@
-use Rattle.std.proofs.Common.{◌≡◌, sym, ◌∙◌, arith, ap, subst, ℕ, List, [], ◌∷◌, ◌++◌, OnOk, codes}
+use Rattle.std.proofs.Common.{◌≡◌, subst, ℕ, [], ◌∷◌, ◌++◌, OnOk, codes}
 use Rattle.std.specs.Fmt.{decimal}
 use Rattle.std.specs.Io.KnownBytes.{Appends}
 use Rattle.lc_book.specs.Fault.{violation_number}

@@ -1,6 +1,3 @@
-use Rattle.std.proofs.Common.{sym, subst, ℕ, List}
-use Rattle.lc_cli.specs.Script.{IsSkipped}
-use Rattle.lc_cli.specs.Fields.{EndsLine}
 use Rattle.lc_cli.proofs.Scripts.{comment_ends, comment_lasts}
 use Rattle.lc_cli.proofs.script.behind_comment.Goals as goal
 

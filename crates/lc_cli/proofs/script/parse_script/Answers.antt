@@ -1,5 +1,5 @@
 use Rattle.std.proofs.Common.{◌≡◌, ◌<◌, rules, arith, length}
-use Rattle.lc_cli.proofs.Scripts.{ends_shorter, read_nothing, read_more, read_whole}
+use Rattle.lc_cli.proofs.Scripts.{ends_shorter, read_more, read_whole}
 use Rattle.lc_cli.proofs.script.parse_script.Goals as goal
 
 pub lines-preserved : goal.lines-preserved

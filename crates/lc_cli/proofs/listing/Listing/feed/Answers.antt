@@ -1,8 +1,7 @@
-use Rattle.std.proofs.Common.{arith, rules, ◌∙◌, ◌≡◌, ◌++◌, [], refl, ap, sym, subst, take, drop, length, List, ℕ, append-nil}
+use Rattle.std.proofs.Common.{arith, rules, ◌∙◌, ◌≡◌, ◌++◌, [], refl, ap, take, length, List, ℕ, append-nil}
 use Rattle.std.proofs.lemmas.List.{length-drop, nil_from_length}
 use Rattle.lc_cli.proofs.Listings.{lists_nothing, lists_more}
 use Rattle.lc_cli.proofs.Written.{split-parts}
-use Rattle.lc_cli.specs.Listed.{ListsOn}
 use Rattle.lc_cli.proofs.listing.Listing.feed.Goals as goal
 
 pub loop-rest-init : goal.loop-rest-init

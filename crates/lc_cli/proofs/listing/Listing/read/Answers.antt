@@ -1,4 +1,4 @@
-use Rattle.std.proofs.Common.{◌≡◌, rules, arith, [], ◌++◌, ◌∙◌, ap, subst, take, append-nil, List, ℕ}
+use Rattle.std.proofs.Common.{◌≡◌, rules, [], ◌++◌, ◌∙◌, ap, subst, take, append-nil, List, ℕ}
 use Rattle.std.specs.Io.KnownBytes.{Consumes}
 use Rattle.std.proofs.KnownBytes.{Consumes-nil, Consumes-trans}
 use Rattle.lc_cli.proofs.Listings.{lists_nothing, lists_more, lists_kept, all_came}
