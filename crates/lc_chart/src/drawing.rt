@@ -31,7 +31,7 @@ pub fn draw_script<W: Write>(
     }
     let events = events_of(alloc, script)?;
     let session = Session::new(alloc, capacity, version, events.as_slice())?;
-    draw_session(&session, events.as_slice(), out).or(Err(ChartFault::Shared(Fault::WriteFailed)))
+    draw_session(&session, events.as_slice(), out).map_err(ChartFault::of_write)
 }
 
 /// Draws the frames of a stream that is at hand. With a fault those before it are drawn.
@@ -40,7 +40,7 @@ pub fn draw_bytes<W: Write>(bytes: &[u8], out: &mut W) -> Result<(), ChartFault>
         return Err(ChartFault::Shared(Fault::InputTooLong));
     }
     let survey = Survey::new(bytes)?;
-    draw_stream(bytes, survey, out).or(Err(ChartFault::Shared(Fault::WriteFailed)))?;
+    draw_stream(bytes, survey, out).map_err(ChartFault::of_write)?;
     match survey.fault {
         Some(fault) => Err(ChartFault::Shared(fault)),
         None => Ok(()),

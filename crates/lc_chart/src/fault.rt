@@ -1,11 +1,12 @@
 //! Why a run of the program fails.
 ghost use Rattle.std.specs.Prelude.{◌≡◌};
-ghost use Rattle.lc_cli.specs.Fault.{code_of};
+ghost use Rattle.lc_cli.specs.Fault.{IsCutShort, code_of};
 ghost use Rattle.lc_chart.specs.declared.fault.ChartFault.TheVariants.{Shared};
 ghost use Rattle.lc_chart.specs.Fault.{chart_status};
 
 use lc_cli::{Fault, Status};
 use std::alloc::{AllocError, AllocFailed};
+use std::io;
 use std::io::Write;
 use thiserror::Error;
 
@@ -33,13 +34,22 @@ impl ChartFault {
         }
     }
 
-    /// Writes the fault's line, and answers its exit status. A line that cannot be written changes
-    /// no status.
+    /// Writes the fault's line, which a broken pipe does not have, and answers the number of its status.
+    /// A line that cannot be written changes no status.
     pub fn report<E: Write>(self, err: &mut E) -> u8
         ensures { result ≡ code_of (chart_status self) }
     {
-        let _ = writeln!(err, "lcmux_chart: {self}");
+        if self != ChartFault::Shared(Fault::BrokenPipe) {
+            let _ = writeln!(err, "lcmux_chart: {self}");
+        }
         self.status().code()
+    }
+
+    // Why a picture was not written to its end.
+    pub(crate) fn of_write(error: io::Error) -> ChartFault
+        ensures { IsCutShort (chart_status result) }
+    {
+        ChartFault::Shared(Fault::of_write(error))
     }
 }
 

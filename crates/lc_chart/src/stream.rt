@@ -6,8 +6,8 @@ use crate::page::{MARGIN, close, close_description, frame_mark, key, name_of, op
 use crate::session::MAX_EVENTS;
 use crate::shapes::{Paint, Point, disc, line, text};
 use crate::words::{Asked, Phrase};
-use lc_cli::Fault;
-use lc_frame::{Decoded, FrameFault, FrameRef, GREETING, Version, decode};
+use lc_cli::{Culprit, Fault};
+use lc_frame::{Decoded, FrameFault, FrameRef, GREETING, Version, decode, number_in_front};
 use std::io;
 use std::io::Write;
 
@@ -93,7 +93,7 @@ impl<'a> Frames<'a> {
         }
         // A greeting that breaks is a bad tag; one that is cut short could go on.
         if offset == 0 && GREETING.starts_with(rest) {
-            return Err(fault_at(FrameFault::Truncated, offset));
+            return Err(self.fault_here(FrameFault::Truncated));
         }
         match decode(self.version, rest) {
             Decoded::Whole { frame, used } => {
@@ -102,17 +102,55 @@ impl<'a> Frames<'a> {
                 self.offset = end;
                 Ok(Some(Placed { frame, offset, end }))
             }
-            Decoded::More => Err(fault_at(FrameFault::Truncated, offset)),
-            Decoded::Fault(fault) => Err(fault_at(fault, offset)),
+            Decoded::More => Err(self.fault_here(FrameFault::Truncated)),
+            Decoded::Fault(fault) => Err(self.fault_here(fault)),
+        }
+    }
+
+    // A fault in the next frame, or in the greeting.
+    fn fault_here(&self, fault: FrameFault) -> Fault {
+        let culprit = match fault {
+            FrameFault::BadTag => self.bad_byte(),
+            FrameFault::ZeroLength | FrameFault::BadNumber => self.bad_number(),
+            FrameFault::Truncated => Culprit::Unnamed,
+        };
+        Fault::BadFrame {
+            number: fault.number(),
+            offset: self.offset,
+            culprit,
+        }
+    }
+
+    // The byte that is no tag: at the start of a stream the first that differs from the greeting.
+    fn bad_byte(&self) -> Culprit {
+        let place = if self.offset == 0 {
+            greeting_len(self.rest)
+        } else {
+            0
+        };
+        match self.rest.get(place) {
+            Some(byte) => Culprit::Byte(*byte),
+            None => Culprit::Unnamed,
+        }
+    }
+
+    // The number that is out of range.
+    fn bad_number(&self) -> Culprit {
+        match number_in_front(self.version, self.rest) {
+            Some(number) => Culprit::Number(number),
+            None => Culprit::Unnamed,
         }
     }
 }
 
-fn fault_at(fault: FrameFault, offset: usize) -> Fault {
-    Fault::BadFrame {
-        number: fault.number(),
-        offset,
+// How many bytes are those of a greeting.
+fn greeting_len(bytes: &[u8]) -> usize {
+    for place in 0..GREETING.len() {
+        if bytes.get(place) != Some(&GREETING[place]) {
+            return place;
+        }
     }
+    GREETING.len()
 }
 
 /// Draws the frames that were counted, and the fault behind them.

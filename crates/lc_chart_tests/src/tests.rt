@@ -28,7 +28,7 @@ fn end<R: Read, W: Write>(
     out: &mut W,
 ) -> Option<String> {
     let mut err = Vec::new(alloc);
-    let status = run(alloc, arguments, input, out, &mut err);
+    let status = run(alloc, arguments, input, out, &mut err, false);
     with_status(err, status)
 }
 

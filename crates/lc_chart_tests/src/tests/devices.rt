@@ -2,6 +2,8 @@
 use super::{IDEAS, STREAM, arguments, end, same, shown};
 use lc_chart::run;
 use std::alloc::Global;
+use std::io;
+use std::io::{ErrorKind, Write};
 use std::process::Abort;
 use std::test::Fail;
 use test_devices::{Odd, Pipe, PipeReader, PipeWriter, Plan};
@@ -75,6 +77,30 @@ fn a_failed_write_ends_the_picture(rt: HostRuntime) -> Result<(), Fail> {
     Ok(())
 }
 
+// A device whose reader went away.
+#[derive(Clone, Copy)]
+struct Unread;
+
+impl Write for Unread {
+    fn write(&mut self, _buf: &[u8]) -> io::Result<usize> {
+        Err(io::Error::from(ErrorKind::BrokenPipe))
+    }
+
+    fn flush(&mut self) -> io::Result<()> {
+        Ok(())
+    }
+}
+
+#[test]
+fn a_picture_that_nobody_reads_is_no_failure(rt: HostRuntime) -> Result<(), Fail> {
+    for &(command, input) in &PICTURES {
+        let arguments = Ok(arguments(rt.alloc(), command).ok_or("no arguments")?);
+        let found = end(rt.alloc(), arguments, &mut input.as_bytes(), &mut Unread);
+        same(&rt, command, found, "= 0\n");
+    }
+    Ok(())
+}
+
 // The second read finds the end.
 #[test]
 fn a_failed_read_draws_nothing(rt: HostRuntime) -> Result<(), Fail> {
@@ -103,6 +129,7 @@ fn a_line_that_cannot_be_written_changes_no_status(rt: HostRuntime) -> Result<()
         &mut STREAM.as_bytes(),
         &mut out,
         &mut no_room.as_mut_slice(),
+        true,
     );
     assert!(rt; status == 2, "{status}");
     Ok(())

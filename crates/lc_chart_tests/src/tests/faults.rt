@@ -226,7 +226,7 @@ lcmux_chart: F4 in the frame at byte 9
         "\x21\0\0\0\x05\x71",
         "1. At byte 0: issue 5 on channel 1.
 </svg>
-lcmux_chart: F1 in the frame at byte 5
+lcmux_chart: F1 in the frame at byte 5: 0x71
 = 2",
     ),
     (
@@ -237,7 +237,7 @@ lcmux_chart: F1 in the frame at byte 5
     (
         "LCM\x03",
         "</svg>
-lcmux_chart: F1 in the frame at byte 0
+lcmux_chart: F1 in the frame at byte 0: 0x03
 = 2",
     ),
     (

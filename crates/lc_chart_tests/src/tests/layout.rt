@@ -116,8 +116,8 @@ const STREAM_LINES: &str = r#"<title id="title">A stream with 2 whole frames</ti
 <text class="in" x="140" y="152">5</text>
 <text class="soft end" x="122" y="152">byte 9</text>
 <circle class="wrong" cx="140" cy="192" r="6"/>
-<text class="bad" x="158" y="196">F1 in the frame at byte 13</text>
-lcmux_chart: F1 in the frame at byte 13
+<text class="bad" x="158" y="196">F1 in the frame at byte 13: 0x00</text>
+lcmux_chart: F1 in the frame at byte 13: 0x00
 = 2"#;
 
 #[test]
