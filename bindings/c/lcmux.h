@@ -28,8 +28,8 @@
  *    lcmux_peer_front borrows may be the body of lcmux_peer_send, also on the same peer: a send only reads it
  *    and changes no ring buffer;
  *  - the calls on one handle run one at a time, also those that take a const handle: they leave it as it was,
- *    but write to it meanwhile, so a handle is never in read-only memory. Different handles are independent, and a handle may move to
- *    another thread if something orders the two threads, such as a lock or a join;
+ *    but write to it meanwhile, so a handle is never in read-only memory. Different handles are independent, and
+ *    a handle may move to another thread if something orders the two threads, such as a lock or a join;
  *  - a struct that a call fills is at least as long as the size in it says;
  *  - no call is made from a signal handler, or in the child of a fork in a program with threads.
  *
@@ -38,6 +38,13 @@
  * peer can return LCMUX_NO_PEER, and any call on a channel LCMUX_NO_CHANNEL; the lists of the calls leave
  * these two out. The other codes of a call are listed in the order in which they are checked.
  * lcmux_peer_deliver returns a struct of its own.
+ *
+ * Structs with a size. lcmux_client, lcmux_server, lcmux_ready and lcmux_error begin with their size, which the
+ * program sets by a macro such as LCMUX_CLIENT_INIT, so that a later version can add fields at the end. The sizes of
+ * version 0.1, which are 80, 104, 288 and 64 bytes, stay accepted: a later version then leaves its later fields out.
+ * With a larger size the call leaves the bytes behind the fields that it knows unchanged. A smaller size is refused
+ * by LCMUX_BAD_SIZE. An element of the array in lcmux_ready cannot grow, since the size is that of the whole struct.
+ * All other structs, such as lcmux_front and lcmux_next, have no size and get no further fields.
  *
  * Backpressure. These refusals can pass:
  *  - LCMUX_NO_GUARANTEE: keep the message, read, and send it once enough guarantees arrived. A message that is
@@ -267,13 +274,14 @@ typedef struct lcmux_error {
     /** How many bytes of the inbound stream precede the offending frame, its preface among them. While the stream goes
      *  on, how many precede the frame that is not whole: after LCMUX_F4_TRUNCATED the one that is cut. */
     uint64_t offset;
-    /** The kind of the frame that breaks a rule, 1 to 7 as in its tag, or LCMUX_NONE with any code but a violation. */
+    /** The kind of the frame that breaks a rule, or whose number is out of range, 1 to 7 as in its tag; LCMUX_NONE with
+     *  any code but a violation, LCMUX_F2_ZERO_LENGTH and LCMUX_F3_BAD_NUMBER. */
     uint64_t kind;
     /** The channel of that frame, or LCMUX_NONE. */
     uint64_t channel;
     /** The number that the frame carries, of a message its length, or LCMUX_NONE: a Finish carries none. */
     uint64_t number;
-    /** The most that the number might have been, or LCMUX_NONE: nothing is allowed after a Finish. */
+    /** After a violation the most that the number might have been, or LCMUX_NONE: nothing is allowed after a Finish. */
     uint64_t allowed;
     /** The byte that is no tag, or that differs from the preface; LCMUX_NONE with any code but LCMUX_F1_BAD_TAG. */
     uint64_t byte;
@@ -343,7 +351,8 @@ typedef struct lcmux_server {
 /** The initial value of an lcmux_server. */
 #define LCMUX_SERVER_INIT {sizeof(lcmux_server), 0, 0, 0, 0, 0, 0, 0, 0, 0, 0, 0, 0}
 
-/** The state of a channel that the program can act on. Each field is 1 or 0. */
+/** The state of a channel that the program can act on. Each field is 1 or 0. The struct is the element of an array, so
+ *  no later version adds a field to it. */
 typedef struct lcmux_channel_ready {
     /** A message is available. */
     uint64_t message;
@@ -376,7 +385,8 @@ typedef struct lcmux_piece {
     size_t len;
 } lcmux_piece;
 
-/** A borrowed message: the bytes of the first piece, and then those of the rest. */
+/** A borrowed message: the bytes of the first piece, and then those of the rest. The struct has no size, so no later
+ *  version adds a field to it. */
 typedef struct lcmux_front {
     /** The message, up to the wrap point of its ring buffer. */
     lcmux_piece first;
@@ -385,7 +395,8 @@ typedef struct lcmux_front {
     lcmux_piece rest;
 } lcmux_front;
 
-/** A borrowed outbound frame: the first header_len bytes of header, and then those of message. */
+/** A borrowed outbound frame: the first header_len bytes of header, and then those of message. The struct has no size,
+ *  so no later version adds a field to it. */
 typedef struct lcmux_next {
     /** The tag and the number of the frame. */
     uint8_t header[9];
@@ -492,7 +503,9 @@ lcmux_answer lcmux_peer_ready(const lcmux_peer *peer, lcmux_ready *ready) LCMUX_
  *  be 0. Whole frames arrive, and the beginning of an incomplete frame is kept.
  *
  *  After a violation or a fault the frames before it have arrived, each further call consumes nothing and returns the
- *  same code, and all other calls still work. */
+ *  same code, and all other calls still work.
+ *
+ *  Codes: the violations, from LCMUX_V1_NOT_GUARANTEED on; the faults, apart from LCMUX_F4_TRUNCATED. */
 lcmux_delivery lcmux_peer_deliver(lcmux_peer *peer, const uint8_t *piece, size_t len) LCMUX_NONNULL_PEER;
 
 /** Reports whether the inbound stream may end here. Nothing changes.
@@ -523,11 +536,29 @@ lcmux_answer lcmux_peer_wants_write(const lcmux_peer *peer) LCMUX_NONNULL;
 /** Borrows the next outbound frame without copying it; the frame stays. Number: the size of the frame. The message
  *  belongs to the peer and is valid until the next lcmux_peer_sent, lcmux_peer_write or lcmux_peer_free of the peer.
  *
+ *  Each call borrows the whole frame: the peer does not remember that a part of it was written. A program that writes
+ *  to a socket counts the bytes that the socket accepted, skips them in the next attempt, and calls lcmux_peer_sent
+ *  once the frame is complete. Until then it makes no lcmux_peer_write, which would return the frame from its first
+ *  byte; other calls may be made. With writev, where the socket has accepted `written` bytes of the frame:
+ *
+ *      size_t head = written < next.header_len ? written : next.header_len, body = written - head;
+ *      struct iovec rest[2] = {{next.header + head, next.header_len - head},
+ *                              {(void *)(next.message.bytes + body), next.message.len - body}};
+ *      ssize_t count = writev(fd, rest, 2);
+ *      if (count > 0 && (written += (size_t)count) == next.header_len + next.message.len) {
+ *          lcmux_peer_sent(&peer);
+ *          written = 0;
+ *      }
+ *
+ *  examples/writev.c is a whole program. The preface of version 2 is no frame: lcmux_peer_write returns it first.
+ *
  *  Codes: LCMUX_EMPTY if no frame is pending, or if lcmux_peer_write has to return the rest of an earlier frame or of
  *  the preface first. With a code other than LCMUX_OK nothing is borrowed. */
 lcmux_answer lcmux_peer_next(const lcmux_peer *peer, lcmux_next *next) LCMUX_NONNULL;
 
-/** Counts the whole frame of lcmux_peer_next as sent and drops it. It returns what lcmux_peer_next returned. */
+/** Counts the whole frame of lcmux_peer_next as sent and drops it. Number: the size of the frame.
+ *
+ *  Codes: LCMUX_EMPTY where lcmux_peer_next returns that. */
 lcmux_answer lcmux_peer_sent(lcmux_peer *peer) LCMUX_NONNULL;
 
 /** Returns the length of the first message, which stays. Number: the length.

@@ -151,6 +151,23 @@ static void sizes(lcmux_peer *peer) {
     must(lcmux_peer_client(peer, 7, &client).code == LCMUX_NO_CHANNEL, "the channel comes first");
 }
 
+/* The sizes of 0.1 stay accepted, and nothing behind them is written, however long the structs will be. */
+static void first_sizes(lcmux_peer *peer) {
+    static const uint64_t sizes[] = {80, 104, 288, 64};
+    union { lcmux_client client; lcmux_server server; lcmux_ready ready; lcmux_error error; uint64_t words[64]; } it;
+    for (int k = 0; k < 4; k++) {
+        memset(&it, 0xa5, sizeof it);
+        it.words[0] = sizes[k];
+        lcmux_answer answer = k == 0   ? lcmux_peer_client(peer, 1, &it.client)
+                              : k == 1 ? lcmux_peer_server(peer, 1, &it.server)
+                              : k == 2 ? lcmux_peer_ready(peer, &it.ready)
+                                       : lcmux_peer_error(peer, &it.error);
+        must(answer.code == LCMUX_OK && it.words[0] == sizes[k], "a size of 0.1");
+        for (uint64_t at = 1; at < 64; at++)
+            must((it.words[at] == 0xa5a5a5a5a5a5a5a5) == (at >= sizes[k] / 8), "fills what a size of 0.1 covers");
+    }
+}
+
 /* Each balance of a channel by its name, before and after both sides finish it; and behind an empty handle. */
 static void balances(lcmux_peer *peer) {
     static const uint8_t before[] = "LCM\2\x22\0\0\0\7\x42\0\0\0\3\x62\0\0\0\0\0\0\0\x1e\x12\0\0\0\2hi\x32\0\0\0\1\x52\0\0\0\0\0\0\0\x28";
@@ -188,7 +205,8 @@ static const struct {
     {"LCM\2\x71\x71", 6, {.code = LCMUX_V9_AFTER_FINISH, .offset = 5, .kind = 7, .channel = 1, .number = LCMUX_NONE, .allowed = LCMUX_NONE, .byte = LCMUX_NONE}},
     {"\x21\0\0\0\7\x7f\x21", 7, {.code = LCMUX_F1_BAD_TAG, .offset = 5, .kind = LCMUX_NONE, .channel = LCMUX_NONE, .number = LCMUX_NONE, .allowed = LCMUX_NONE, .byte = 0x7f}},
     {"LCm\2", 4, {.code = LCMUX_F1_BAD_TAG, .offset = 0, .kind = LCMUX_NONE, .channel = LCMUX_NONE, .number = LCMUX_NONE, .allowed = LCMUX_NONE, .byte = 'm'}},
-    {"\x21\0\0\0\7\x11\0\0", 8, {.code = LCMUX_F2_ZERO_LENGTH, .offset = 5, .kind = LCMUX_NONE, .channel = LCMUX_NONE, .number = LCMUX_NONE, .allowed = LCMUX_NONE, .byte = LCMUX_NONE}},
+    {"\x21\0\0\0\7\x11\0\0", 8, {.code = LCMUX_F2_ZERO_LENGTH, .offset = 5, .kind = 1, .channel = 1, .number = 0, .allowed = LCMUX_NONE, .byte = LCMUX_NONE}},
+    {"\x21\0\0\0\7\x66\x40\0\0\0\0\0\0\1", 14, {.code = LCMUX_F3_BAD_NUMBER, .offset = 5, .kind = 6, .channel = 6, .number = (UINT64_C(1) << 62) + 1, .allowed = LCMUX_NONE, .byte = LCMUX_NONE}},
     {"LCM\2\x21\0\0\0\7\x11\0", 11, {.code = LCMUX_OK, .offset = 9, .kind = LCMUX_NONE, .channel = LCMUX_NONE, .number = LCMUX_NONE, .allowed = LCMUX_NONE, .byte = LCMUX_NONE}},
 };
 
@@ -337,6 +355,7 @@ int main(void) {
     must(lcmux_peer_pending(&peer).code == LCMUX_OK, "which leaves the peer");
     empty_buffers(&peer);
     sizes(&peer);
+    first_sizes(&peer);
     must(lcmux_peer_free(&peer).code == LCMUX_OK, "free");
     empty_handle(&peer);
     config.capacities[3] = 0;

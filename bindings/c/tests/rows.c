@@ -1,5 +1,7 @@
-/* Runs the cases of rows.txt through the library. `rows FILE` delivers the bytes of a line at once, `rows FILE 1` one
- * byte at a time, and takes and sends borrowed messages. Prints how many lines had the expected answer. */
+/* Runs the cases of rows.txt and vectors.txt through the library. `rows FILE` delivers the bytes of a line at once,
+ * `rows FILE 1` one byte at a time, and takes and sends borrowed messages. Prints how many lines had the expected
+ * answer. `rows FILE answer` prints the answer of each line of calls instead, as soon as the line is read; `-` is the
+ * standard input. */
 #include "lcmux.h"
 
 #include <inttypes.h>
@@ -17,6 +19,7 @@ struct side {
 
 static struct side sides[2];
 static size_t piece = SIZE_MAX;
+static bool answers;
 static char said[512];
 
 static void say_code(uint32_t code, uint64_t number) {
@@ -324,23 +327,26 @@ static bool run(char *line) {
     if (sscanf(line, "rings %" SCNu32 " %" SCNu32 " %" SCNu32, &capacity, &slots, &version) >= 2)
         return begin(capacity, slots, version);
     char *want = strstr(line, " => ");
-    if (!want || (*want = 0, sscanf(line, "%1s %23s %255s %31s", name, word, first, second)) < 2)
+    if (want)
+        *want = 0;
+    if (sscanf(line, "%1s %23s %255s %31s", name, word, first, second) < 2)
         return false;
     struct side *me = &sides[*name == 'B'], *other = &sides[*name == 'A'];
     if (own_call(&me->peer, word, (uint32_t)strtoull(first, NULL, 10), second, &answer))
         say_code(answer.code, answer.number);
     else if (!other_call(me, other, word, first, second))
         return false;
-    return !strcmp(said, want + 4);
+    return answers ? puts(said) >= 0 && !fflush(stdout) : want && !strcmp(said, want + 4);
 }
 
 int main(int argc, char **argv) {
     char line[512], shown[512];
     int cases = 0, lines = 0;
-    FILE *rows = argc > 1 ? fopen(argv[1], "r") : NULL;
+    FILE *rows = argc < 2 ? NULL : strcmp(argv[1], "-") ? fopen(argv[1], "r") : stdin;
     if (!rows)
         return 2;
-    if (argc > 2)
+    answers = argc > 2 && !strcmp(argv[2], "answer");
+    if (argc > 2 && !answers)
         piece = strtoull(argv[2], NULL, 10);
     while (fgets(line, sizeof line, rows)) {
         line[strcspn(line, "\n")] = 0;
@@ -360,6 +366,7 @@ int main(int argc, char **argv) {
     fclose(rows);
     for (int s = 0; s < 2; s++)
         lcmux_peer_free(&sides[s].peer);
-    printf("%d cases, %d answers\n", cases, lines);
+    if (!answers)
+        printf("%d cases, %d answers\n", cases, lines);
     return 0;
 }
