@@ -1,6 +1,8 @@
 //! Finds the archive of the peer: the file that LCMUX_ARCHIVE names, else the one that this package has for the
 //! target, else, in a clone of the repository, the one that `scripts/archive` has proved and built or kept. A proof
-//! takes minutes, so no build starts one: without an archive, only a build that links fails.
+//! takes minutes, so no build starts one: without an archive, only a build that links fails. It fails by the name of a
+//! library that no machine has, and that says what is missing. A build for docs.rs, which sets DOCS_RS, looks for no
+//! archive.
 use std::collections::BTreeSet;
 use std::ffi::OsString;
 use std::path::{Path, PathBuf};
@@ -80,7 +82,6 @@ const HEAP: [&str; 3] = ["alloc", "realloc", "dealloc"];
 
 /// The reason why no archive can be linked.
 enum Wrong {
-    NoneFits,
     Device(PathBuf, io::Error),
     NoPeer(PathBuf),
     OtherProcessor(PathBuf, u16),
@@ -91,11 +92,6 @@ enum Wrong {
 impl fmt::Display for Wrong {
     fn fmt(&self, to: &mut fmt::Formatter) -> fmt::Result {
         match self {
-            Wrong::NoneFits => write!(
-                to,
-                "this package has no archive of the peer for {}: set LCMUX_ARCHIVE to the path of one",
-                of_cargo("TARGET")
-            ),
             Wrong::Device(path, error) => write!(to, "{}: {error}", path.display()),
             Wrong::NoPeer(path) => write!(to, "{}: this is no archive of the peer", path.display()),
             Wrong::OtherProcessor(path, machine) => {
@@ -194,23 +190,30 @@ fn with_those_below<'a>(name: &'a str, rows: &'a str) -> BTreeSet<&'a str> {
     found
 }
 
-/// An archive, or the processor for which one has yet to be built.
+/// An archive, or the reason why there is none.
 enum Found {
     Archive(PathBuf),
+    /// In a clone, in which one has yet to be built for this processor.
     NoneYet(Processor),
+    /// In a package that has none for the target.
+    NoneFits,
 }
 
 fn find(processor: Option<Processor>) -> Result<Found, Wrong> {
     if let Some(path) = of_user("LCMUX_ARCHIVE") {
         return Ok(Found::Archive(path.into()));
     }
-    let processor = processor.ok_or(Wrong::NoneFits)?;
+    let Some(processor) = processor else {
+        return Ok(Found::NoneFits);
+    };
     let package = PathBuf::from(of_cargo("CARGO_MANIFEST_DIR"));
     let packaged = package.join(format!("archives/{}-linux/liblc_c.a", processor.name()));
     if packaged.exists() {
         return Ok(Found::Archive(packaged));
     }
-    let clone = Clone::around(&package).ok_or(Wrong::NoneFits)?;
+    let Some(clone) = Clone::around(&package) else {
+        return Ok(Found::NoneFits);
+    };
     clone.watch()?;
     let kept = clone.kept(processor);
     Ok(kept.map_or(Found::NoneYet(processor), Found::Archive))
@@ -303,20 +306,34 @@ fn link_to(path: &Path) -> Result<(), Wrong> {
     Ok(())
 }
 
-fn warn_of_none(processor: Processor) {
+/// The library whose absence ends a build that links without an archive: the linker prints this name.
+const MISSING: &str = "lcmux-has-no-archive-of-the-peer-set-LCMUX_ARCHIVE-to-the-path-of-one";
+
+fn warn_of_none(why: &str) {
     // This file never exists, so cargo runs the script at each build.
     is_watched(&PathBuf::from(of_cargo("OUT_DIR")).join("none-yet"));
-    println!(
-        "cargo:warning=nothing can be linked before `scripts/archive {}` has proved and built the archive of the peer, which takes some ten minutes, or LCMUX_ARCHIVE names one of a package",
-        processor.name()
-    );
+    println!("cargo:rustc-link-lib=dylib={MISSING}");
+    println!("cargo:warning=nothing can be linked before {why}");
 }
 
 fn link() -> Result<(), Wrong> {
+    if of_user("DOCS_RS").is_some() {
+        return Ok(()); // a build of the documents alone, on a machine without an archive
+    }
     match find(Processor::of_target())? {
         Found::Archive(path) => link_to(&path),
         Found::NoneYet(processor) => {
-            warn_of_none(processor);
+            warn_of_none(&format!(
+                "`scripts/archive {}` has proved and built the archive of the peer, which takes some ten minutes, or LCMUX_ARCHIVE names one of a package",
+                processor.name()
+            ));
+            Ok(())
+        }
+        Found::NoneFits => {
+            warn_of_none(&format!(
+                "LCMUX_ARCHIVE names an archive of the peer for {}: this package has none",
+                of_cargo("TARGET")
+            ));
             Ok(())
         }
     }

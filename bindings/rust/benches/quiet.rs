@@ -68,14 +68,17 @@ fn main() -> Result<(), Box<dyn Error>> {
     let (is_done, bytes, start) = (AtomicBool::new(false), AtomicU64::new(0), Instant::now());
     thread::scope(|scope| {
         for channel in Channel::ALL.into_iter().filter(|channel| *channel != QUIET) {
-            let sender = here.sender(channel).unwrap();
-            let mut receiver = there.receiver(channel).unwrap();
+            let sender = here.take_sender(channel).unwrap();
+            let mut receiver = there.take_receiver(channel).unwrap();
             let (is_done, bytes) = (&is_done, &bytes);
             scope.spawn(move || send_bulk(&sender, is_done));
             scope.spawn(move || take_bulk(&mut receiver, bytes));
         }
         thread::sleep(BEFORE);
-        let (sender, mut receiver) = (here.sender(QUIET).unwrap(), there.receiver(QUIET).unwrap());
+        let (sender, mut receiver) = (
+            here.take_sender(QUIET).unwrap(),
+            there.take_receiver(QUIET).unwrap(),
+        );
         let (before, began) = (bytes.load(Relaxed), Instant::now());
         scope.spawn(move || send_quiet(&sender, start));
         let times = take_quiet(&mut receiver, start);

@@ -52,8 +52,8 @@ fn swap(load: Load) -> Result<(), Box<dyn Error>> {
     thread::scope(|scope| {
         for (mux, _) in &mut sessions {
             for channel in Channel::ALL {
-                let sender = mux.sender(channel).unwrap();
-                let mut receiver = mux.receiver(channel).unwrap();
+                let sender = mux.take_sender(channel).unwrap();
+                let mut receiver = mux.take_receiver(channel).unwrap();
                 scope.spawn(move || send(&sender, load));
                 scope.spawn(move || take(&mut receiver, load));
             }

@@ -18,7 +18,7 @@ fn open(stream: TcpStream) -> Result<Mux, MuxFault> {
 }
 
 fn send_all(mut mux: Mux) -> Result<(), Box<dyn Error>> {
-    let sender = mux.sender(Data).unwrap();
+    let sender = mux.take_sender(Data).unwrap();
     for number in 0..MESSAGES {
         sender.send_blocking(format!("message {number}").as_bytes())?;
     }
@@ -28,7 +28,7 @@ fn send_all(mut mux: Mux) -> Result<(), Box<dyn Error>> {
 }
 
 fn take_all(mut mux: Mux) -> Result<usize, Box<dyn Error>> {
-    let (mut receiver, mut count) = (mux.receiver(Data).unwrap(), 0);
+    let (mut receiver, mut count) = (mux.take_receiver(Data).unwrap(), 0);
     while let Some(message) = receiver.recv_blocking()? {
         assert_eq!(message, format!("message {count}").as_bytes());
         count += 1;

@@ -454,7 +454,8 @@ pub struct ProtocolError {
     pub stop: Stop,
     /// How many bytes of the inbound stream precede the offending frame, its preface among them.
     pub offset: u64,
-    /// The frame that broke a rule; `None` after a fault.
+    /// The frame that broke a rule; after [`Fault::ZeroLength`] and [`Fault::BadNumber`] the one whose number is out of
+    /// range; `None` after other faults.
     pub frame: Option<FrameHead>,
     /// The most that the number of the frame might have been; `None` after [`Violation::AfterFinish`] and after a fault.
     pub allowed: Option<u64>,
@@ -491,10 +492,13 @@ impl Display for ProtocolError {
             (Stop::Violated(violation), None) => {
                 write!(f, "V{} at byte {offset}: {violation}", violation.number())
             }
-            (Stop::Fault(fault), _) => {
+            (Stop::Fault(fault), frame) => {
                 write!(f, "F{} at byte {offset}: {fault}", fault.number())?;
-                self.byte
-                    .map_or(Ok(()), |byte| write!(f, " (0x{byte:02x})"))
+                match (frame, self.byte) {
+                    (Some(frame), _) => write!(f, " ({frame})"),
+                    (None, Some(byte)) => write!(f, " (0x{byte:02x})"),
+                    (None, None) => Ok(()),
+                }
             }
         }
     }

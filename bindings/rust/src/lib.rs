@@ -15,15 +15,15 @@
 //! `examples/session.rs` runs two sessions in two processes.
 //!
 //! ```no_run
-//! use lcmux::{Channel::Data, Config, Mux, CHANNELS};
+//! use lcmux::{Channel::Data, Config, Mux};
 //! use std::{error::Error, net::TcpStream, thread};
 //!
 //! fn echo(stream: TcpStream) -> Result<(), Box<dyn Error>> {
 //!     stream.set_nodelay(true)?;
-//!     let (mut mux, driver) = Mux::new(Config::new([65_536; CHANNELS], 64))?;
+//!     let (mut mux, driver) = Mux::new(Config::default())?;
 //!     let run = thread::spawn(move || driver.run_blocking(stream.try_clone()?, stream));
 //!
-//!     let (sender, mut receiver) = (mux.sender(Data).unwrap(), mux.receiver(Data).unwrap());
+//!     let (sender, mut receiver) = (mux.take_sender(Data).unwrap(), mux.take_receiver(Data).unwrap());
 //!     while let Some(message) = receiver.recv_blocking()? {
 //!         sender.send_blocking(&message)?; // which waits until the other side has room
 //!     }
@@ -80,6 +80,7 @@
 #![deny(unsafe_code, unsafe_op_in_unsafe_fn)]
 
 mod channel;
+mod config;
 mod error;
 mod mux;
 mod peer;
@@ -87,16 +88,17 @@ mod questions;
 mod sys;
 
 pub use channel::{Channel, CHANNELS};
+pub use config::{Config, IssuePolicy, PleadPolicy};
 pub use error::{
     Fault, FrameHead, Overrun, PeerFault, ProtocolError, ReadError, Refusal, Stop, Violation,
 };
 pub use mux::{
-    Breaker, CallError, Closed, Direction, Driver, Frame, FrameKind, IssuePolicy, Message, Mux,
-    MuxConfig, MuxFault, OwnedPermit, Permit, Pipe, PleadPolicy, PollRead, PollSender, PollWrite,
-    Reader, Receiver, RecvTimeoutError, SendError, SendTimeoutError, Sender, Stats, Timeouts,
-    TryRecvError, TrySendError, WriteHalf, Writer,
+    copy, Breaker, CallError, Closed, Direction, Driver, Event, Frame, FrameKind, Message, Mux,
+    MuxFault, OwnedPermit, Permit, Pipe, PollRead, PollSender, PollWrite, Reader, Receiver,
+    RecvTimeoutError, SendError, SendTimeoutError, Sender, Stall, Stats, Timeouts, TryRecvError,
+    TrySendError, WriteHalf, Writer,
 };
-pub use peer::{ClientBook, Config, Delivery, Incoming, Peer, Progress, ServerBook, Take, Version};
+pub use peer::{ClientBook, Delivery, Incoming, Peer, Progress, ServerBook, Take, Version};
 pub use questions::{Needs, Ready};
 
 /// Returns the version of the linked library: 65,536 times its first number, plus 256 times its second, plus its

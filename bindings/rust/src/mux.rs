@@ -2,9 +2,9 @@
 mod block;
 mod blocking;
 mod closed;
-mod config;
 mod coop;
 mod driver;
+mod events;
 mod frames;
 mod io;
 mod owned_permit;
@@ -21,8 +21,8 @@ pub use closed::{
     CallError, Closed, MuxFault, RecvTimeoutError, SendError, SendTimeoutError, TryRecvError,
     TrySendError,
 };
-pub use config::{IssuePolicy, MuxConfig, PleadPolicy};
 pub use driver::Driver;
+pub use events::{Event, Stall};
 pub use frames::{Direction, Frame, FrameKind};
 pub use io::{Breaker, Pipe, PollRead, PollWrite, WriteHalf};
 pub use owned_permit::OwnedPermit;
@@ -30,10 +30,10 @@ pub use poll_sender::PollSender;
 pub use receiver::{Message, Receiver};
 pub use sender::{Permit, Sender};
 pub use stats::Stats;
-pub use stream::{Reader, Writer};
+pub use stream::{copy, Reader, Writer};
 pub use timeouts::Timeouts;
 
-use crate::{Channel, CHANNELS};
+use crate::{Channel, Config, CHANNELS};
 use block::{block_on, block_until};
 use shared::Shared;
 use state::{State, CONTROL, OWN};
@@ -64,7 +64,7 @@ use std::time::{Duration, Instant};
 ///   that time. Among the channels whose first call can proceed, the one that sent least recently is first.
 /// - **No head-of-line blocking between channels.** A message that has its guarantees finds its channel's own slot,
 ///   unless an earlier message of the same channel is under way. Calls of other channels cannot take that slot: not
-///   if they are woken and never polled, not if they hold permits, and not if they are forgotten. The message waits
+///   if they are notified and never polled, not if they hold permits, and not if they are forgotten. The message waits
 ///   for bytes of the queue at most until the driver has written what is queued.
 /// - **Fairness.** Between two messages of a channel that always has a waiting call, other channels write fewer
 ///   messages than the session has slots, provided that tasks are polled before the driver writes again. For blocked
@@ -86,8 +86,8 @@ use std::time::{Duration, Instant};
 ///
 /// # Wakers
 ///
-/// A task's waker is cloned while the session's lock is held, so its `clone` must not call the session. The waker is
-/// woken and dropped outside of the lock, by whichever call lets the task proceed. It must not panic: that call would
+/// A task's waker is cloned while the session's lock is held, so its `clone` must not call the session. The call
+/// that lets the task proceed wakes and drops the waker outside of the lock. A waker must not panic: that call would
 /// unwind and lose its result, such as a received message.
 ///
 /// # Early returns and aborted tasks
@@ -111,7 +111,7 @@ use std::time::{Duration, Instant};
 /// }
 ///
 /// let (mut mux, _driver) = Mux::new(Config::new([65_536; CHANNELS], 16))?;
-/// let sender = mux.sender(Data).unwrap();
+/// let sender = mux.take_sender(Data).unwrap();
 /// let kept = sender.clone(); // keeps the channel open when the task ends
 /// let task = thread::spawn(move || send_file("/no/such/file", &sender).map_err(|error| error.to_string()));
 /// if let Err(error) = task.join().unwrap() {
@@ -135,8 +135,8 @@ use std::time::{Duration, Instant};
 /// # other.close();
 /// let (mut mux, driver) = Mux::new(Config::new([64; CHANNELS], 16))?;
 /// let run = thread::spawn(move || driver.run_blocking(stream.try_clone()?, stream));
-/// let sender = mux.sender(Data).unwrap();
-/// assert!(mux.sender(Data).is_none()); // each handle is handed out once
+/// let sender = mux.take_sender(Data).unwrap();
+/// assert!(mux.take_sender(Data).is_none()); // each handle is handed out once
 /// sender.finish()?;
 /// mux.close();
 /// mux.closed_blocking()?;
@@ -162,26 +162,27 @@ impl Mux {
     ///
     /// - [`MuxFault::Peer`] with the error of [`Peer::new`](crate::Peer::new);
     /// - [`MuxFault::TooFewSlots`] if the slots are below [`Mux::LEAST_SLOTS`];
-    /// - [`MuxFault::BadMark`] for the first channel whose low-water mark is 0 or above the size of its ring buffer.
-    pub fn new(config: impl Into<MuxConfig>) -> Result<(Mux, Driver), MuxFault> {
-        let state = State::new(&config.into())?;
+    /// - [`MuxFault::BadMark`] for the first channel whose low-water mark is 0 or above the size of its ring buffer;
+    /// - [`MuxFault::BadLongest`] for the first channel whose longest message is empty or longer than the version allows.
+    pub fn new(config: Config) -> Result<(Mux, Driver), MuxFault> {
+        let state = State::new(&config)?;
         let shared = Arc::new(Shared::new(state));
         let mux = Mux {
             senders: Channel::ALL.map(|channel| Some(Sender::new(&shared, channel))),
             receivers: Channel::ALL.map(|channel| Some(Receiver::new(&shared, channel))),
             shared,
         };
-        let driver = Driver::new(&mux.shared);
+        let driver = Driver::new(&mux.shared, config.timeouts);
         Ok((mux, driver))
     }
 
-    /// Returns the sending handle of a channel, the first time it is called for the channel.
-    pub fn sender(&mut self, channel: Channel) -> Option<Sender> {
+    /// Takes the sending handle of a channel. Returns `None` if it was taken before: a [`Sender`] can be cloned.
+    pub fn take_sender(&mut self, channel: Channel) -> Option<Sender> {
         self.senders[channel].take()
     }
 
-    /// Returns the receiving handle of a channel, the first time it is called for the channel.
-    pub fn receiver(&mut self, channel: Channel) -> Option<Receiver> {
+    /// Takes the receiving handle of a channel. Returns `None` if it was taken before.
+    pub fn take_receiver(&mut self, channel: Channel) -> Option<Receiver> {
         self.receivers[channel].take()
     }
 
@@ -238,7 +239,11 @@ impl Mux {
     }
 
     /// Waits as [`Mux::closed_blocking`] does, for at most `timeout`. Returns `None` if the session is not over by
-    /// then.
+    /// then. A timeout that passes changes nothing: the session goes on, or goes on closing.
+    ///
+    /// # Errors
+    ///
+    /// Those of [`Mux::closed`].
     ///
     /// ```
     /// use lcmux::{Closed, Config, Mux, CHANNELS};
@@ -256,9 +261,21 @@ impl Mux {
         block_until(self.closed(), Instant::now().checked_add(timeout))
     }
 
-    /// Returns the statistics of a channel.
-    pub fn stats(&self, channel: Channel) -> Stats {
-        self.shared.with(|state| state.stats(channel))
+    /// Returns the statistics of all channels at one instant, indexed by the [`Channel`].
+    ///
+    /// ```
+    /// use lcmux::{Channel, Config, Mux};
+    ///
+    /// let (mux, _driver) = Mux::new(Config::default())?;
+    /// for (channel, stats) in Channel::ALL.into_iter().zip(mux.stats()) {
+    ///     println!("{channel:?}: {} bytes sent", stats.bytes_sent);
+    /// }
+    /// assert_eq!(mux.stats()[Channel::Data].bytes_sent, 0);
+    /// # Ok::<(), lcmux::MuxFault>(())
+    /// ```
+    pub fn stats(&self) -> [Stats; CHANNELS] {
+        self.shared
+            .with(|state| Channel::ALL.map(|channel| state.stats(channel)))
     }
 }
 

@@ -1,5 +1,5 @@
 use crate::sys::{self, Answer, Handle, Lent, Next};
-use crate::{Channel, Overrun, PeerFault, ProtocolError, ReadError, Refusal, Stop, CHANNELS};
+use crate::{Channel, Config, Overrun, PeerFault, ProtocolError, ReadError, Refusal, Stop};
 use std::fmt::{self, Formatter};
 use std::io::{self, ErrorKind, Read, Write};
 
@@ -36,6 +36,14 @@ impl Version {
         }
     }
 
+    // The length of the longest message.
+    pub(crate) fn longest_message(self) -> u32 {
+        match self {
+            Version::One => 65_535,
+            Version::Two => 1_048_576,
+        }
+    }
+
     /// Returns the version with this number, or `None` if the number is neither 1 nor 2.
     ///
     /// ```
@@ -48,46 +56,6 @@ impl Version {
             1 => Some(Version::One),
             2 => Some(Version::Two),
             _ => None,
-        }
-    }
-}
-
-/// The configuration of a peer: its version, the sizes of its ring buffers, and the slots of its outbound queue.
-///
-/// ```
-/// use lcmux::{Channel::Data, Config, CHANNELS};
-/// let mut config = Config::new([4096; CHANNELS], 64);
-/// config.capacities[Data] = 1 << 20;
-/// ```
-#[derive(Clone, Copy, Debug, PartialEq, Eq)]
-#[non_exhaustive]
-pub struct Config {
-    /// The version of the outbound stream. The inbound stream may have either version.
-    pub version: Version,
-    /// The size of each channel's receive ring buffer in bytes, 1 to 2^24, indexed by the [`Channel`].
-    pub capacities: [u32; CHANNELS],
-    /// The slots of the outbound queue, 1 to 65,536: the most frames that it holds.
-    pub slots: u32,
-}
-
-impl Config {
-    /// Makes a configuration of version One with rings of these sizes and this many slots. [`Peer::new`] validates
-    /// it.
-    ///
-    /// ```
-    /// use lcmux::{Config, Peer, Version, CHANNELS};
-    /// let mut config = Config::new([8; CHANNELS], 4);
-    /// config.version = Version::Two;
-    /// let mut wire = Vec::new();
-    /// Peer::new(&config)?.write_to(&mut wire)?;
-    /// assert_eq!(wire, [0x4c, 0x43, 0x4d, 0x02]);
-    /// # Ok::<(), Box<dyn std::error::Error>>(())
-    /// ```
-    pub fn new(capacities: [u32; CHANNELS], slots: u32) -> Config {
-        Config {
-            version: Version::One,
-            capacities,
-            slots,
         }
     }
 }
@@ -584,8 +552,6 @@ impl Peer {
     ///
     /// # Examples
     ///
-    ///
-    ///
     /// ```
     /// # use lcmux::{Channel::Data, Config, Peer, CHANNELS};
     /// # let mut peer = Peer::new(&Config::new([8; CHANNELS], 4))?;
@@ -658,7 +624,6 @@ impl Peer {
     ///
     /// # Examples
     ///
-    ///
     /// ```
     /// # use lcmux::{Channel::Data, Config, Fault, Peer, ReadError, Stop, CHANNELS};
     /// # let mut peer = Peer::new(&Config::new([8; CHANNELS], 4))?;
@@ -726,8 +691,6 @@ impl Peer {
     /// nothing was read: [`Peer::read_from`] still reads what arrived.
     ///
     /// # Examples
-    ///
-    ///
     ///
     /// ```
     /// # use lcmux::{Channel::Data, Config, Incoming, Peer, CHANNELS};

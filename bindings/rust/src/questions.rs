@@ -16,6 +16,15 @@ pub enum Needs {
     Nothing,
     /// This many more guarantees: read the inbound stream.
     Guarantees(u64),
+    /// More guarantees, for a message that is longer than all that this side ever held at once. The peer's ring buffer
+    /// has at least `most` bytes and may have no more, and then the message waits until the session ends. Only a session
+    /// knows that: [`Peer::needs`] returns [`Needs::Guarantees`] instead.
+    MoreThanEverIssued {
+        /// The guarantees that are missing now.
+        more: u64,
+        /// The most guarantees that this side held at once.
+        most: u64,
+    },
     /// A slot in the outbound queue: write pending frames.
     Slot,
     /// The message can never be sent: it is empty, it is longer than the version or a limit of either side allows, or

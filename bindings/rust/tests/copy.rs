@@ -70,10 +70,10 @@ fn a_long_copy_over_a_small_ring_needs_no_more_memory_than_a_short_one() {
     let watchdog = Watchdog::new("a long copy");
     let (here, there) = UnixStream::pair().unwrap();
     let (mut alice, mut bob) = (session(here), session(there));
-    let mut writer = alice.sender(Data).unwrap().into_writer();
-    let mut reader = bob.receiver(Data).unwrap().into_reader();
+    let mut writer = alice.take_sender(Data).unwrap().into_writer();
+    let mut reader = bob.take_receiver(Data).unwrap().into_reader();
     let copy = thread::spawn(move || {
-        let sent = io::copy(&mut Source(0), &mut writer).unwrap();
+        let sent = lcmux::copy(&mut Source(0), &mut writer, |_| {}).unwrap();
         writer.finish().unwrap();
         sent
     });
@@ -87,9 +87,9 @@ fn a_long_copy_over_a_small_ring_needs_no_more_memory_than_a_short_one() {
     assert_eq!((copy.join().unwrap(), target.0), (LEN, LEN));
     let grown = peak() - before;
     assert!(grown < 1_024, "{grown} KiB");
-    let stats = bob.stats(Data);
+    let stats = bob.stats()[Data];
     assert!(stats.most_buffered <= RING.into());
-    // An average message is not far from the 8 KiB that `io::copy` writes at once.
+    // A copy writes 16 KiB at once. How many messages these are depends on the threads, but they are no crumbs.
     let average = LEN / stats.messages_received;
-    assert!(average > Writer::LARGEST_MESSAGE as u64 / 8, "{average}");
+    assert!(average > Writer::LARGEST_MESSAGE as u64 / 32, "{average}");
 }

@@ -1,9 +1,11 @@
 //! The allocations of peers: the `malloc`, `calloc`, `realloc` and `free` of this program count the requests of a
 //! thread and refuse one of them.
-use lcmux::{Channel::Data, Config, Mux, Peer, PeerFault, PollRead, Refusal, CHANNELS};
+use lcmux::{
+    Channel::Data, Config, Mux, Peer, PeerFault, PollRead, Refusal, TrySendError, Version, CHANNELS,
+};
 use std::cell::Cell;
 use std::ffi::c_void;
-use std::io::{self, Read};
+use std::io::{self, IoSlice, Read};
 use std::sync::Arc;
 use std::task::{Context, Poll, Wake, Waker};
 use std::time::Duration;
@@ -230,7 +232,7 @@ fn a_block_keeps_its_bytes_when_it_moves_and_when_that_is_refused() {
 #[test]
 fn a_reader_allocates_nothing_for_a_message() {
     let (mut mux, mut driver) = Mux::new(Config::new([64; CHANNELS], 16)).unwrap();
-    let mut reader = mux.receiver(Data).unwrap().into_reader();
+    let mut reader = mux.take_receiver(Data).unwrap().into_reader();
     reader.set_timeout(Some(Duration::from_secs(60))); // no thread moves the bytes: it would wait for good
     let waker = Waker::from(Arc::new(Ignored));
     let mut cx = Context::from_waker(&waker);
@@ -250,6 +252,97 @@ fn a_reader_allocates_nothing_for_a_message() {
         assert!(driver.poll_write(&mut cx, &mut Vec::new()).is_pending());
     }
     assert_eq!(requests[1..], [0; 19]);
+}
+
+/// The peer allocates for each message. The memory in which slices are joined is kept, unless it is long.
+#[test]
+fn a_message_of_slices_allocates_what_one_of_one_slice_does() {
+    let (mut mux, mut driver) = Mux::new(Config::new([64; CHANNELS], 16)).unwrap();
+    let sender = mux.take_sender(Data).unwrap();
+    let waker = Waker::from(Arc::new(Ignored));
+    let mut cx = Context::from_waker(&waker);
+    let mut issued = Inbound(b"\x21\0\x10\0\0");
+    assert!(driver.poll_read(&mut cx, &mut issued).is_pending());
+    let (short, long) = ([7; 100], [7; 40_000]);
+    let mut send = |parts: [&[u8]; 2], refused| {
+        let slices = parts.map(IoSlice::new);
+        let (sent, heap) = watched(refused, || sender.try_send_vectored(&slices));
+        assert!(driver.poll_write(&mut cx, &mut Vec::new()).is_pending());
+        (sent, heap.requests, heap.live)
+    };
+    assert_eq!(send([&short, &short], 0).0, Ok(()));
+    for _ in 0..3 {
+        assert_eq!(send([&short, &short], 0), (Ok(()), 1, 1));
+    }
+    assert_eq!(send([&long, &short], 0), (Ok(()), 2, 1)); // more memory in place of the first
+    assert_eq!(send([&long, &short], 0), (Ok(()), 1, 1));
+
+    let refusal = Err(TrySendError::from(Refusal::OutOfMemory));
+    assert_eq!(send([&long, &short], 1), (refusal.clone(), 1, 0));
+    assert_eq!(send([&long, &long[1..20_000]], 1), (refusal, 1, -1));
+    assert_eq!(send([&long, &long[..20_000]], 0), (Ok(()), 2, 2));
+    assert_eq!(sender.stats().messages_sent, 7);
+}
+
+/// A message that is filled in place allocates in the peer alone, once the session has memory of its length.
+#[test]
+fn a_filled_message_allocates_what_a_message_of_slices_does() {
+    for is_owned in [false, true] {
+        let (mut mux, mut driver) = Mux::new(Config::new([64; CHANNELS], 16)).unwrap();
+        let sender = mux.take_sender(Data).unwrap();
+        let waker = Waker::from(Arc::new(Ignored));
+        let mut cx = Context::from_waker(&waker);
+        let mut issued = Inbound(b"\x21\0\x10\0\0");
+        assert!(driver.poll_read(&mut cx, &mut issued).is_pending());
+        let mut send = |len, refused| {
+            let permit = sender.try_reserve(len).unwrap();
+            let (sent, heap) = match is_owned {
+                false => watched(refused, || permit.fill(|message| message.len())),
+                true => {
+                    let permit = permit.into_owned();
+                    watched(refused, || permit.fill(|message| message.len()))
+                }
+            };
+            assert!(driver.poll_write(&mut cx, &mut Vec::new()).is_pending());
+            (sent, heap.requests, heap.live)
+        };
+        assert_eq!(send(200, 0).0, Ok(200));
+        assert_eq!(send(200, 0), (Ok(200), 1, 1));
+        assert_eq!(send(100, 0), (Ok(100), 1, 1));
+        assert_eq!(send(200, 0), (Ok(200), 1, 1));
+        // Without memory in the peer, and without memory for the message. The permit is given back.
+        let refusal = Err(Refusal::OutOfMemory.into());
+        assert_eq!(send(200, 1), (refusal.clone(), 1, 0));
+        assert_eq!(send(40_000, 1), (refusal, 1, -1));
+        assert_eq!(sender.held(), (1 << 20) - 700);
+        assert_eq!(send(40_000, 0), (Ok(40_000), 2, 2));
+        assert_eq!(sender.stats().messages_sent, 5);
+    }
+}
+
+/// Memory of more than 64 KiB is not kept for a later message.
+#[test]
+fn the_memory_of_long_slices_is_given_back() {
+    let config = Config::default().version(Version::Two);
+    let (mut mux, mut driver) = Mux::new(config).unwrap();
+    let sender = mux.take_sender(Data).unwrap();
+    let waker = Waker::from(Arc::new(Ignored));
+    let mut cx = Context::from_waker(&waker);
+    let mut issued = Inbound(b"LCM\x02\x21\0\x10\0\0");
+    assert!(driver.poll_read(&mut cx, &mut issued).is_pending());
+    let bytes = [7; 40_000];
+    let mut requests = |len| {
+        let slices = [&bytes[..], &bytes[..len]].map(IoSlice::new);
+        let (sent, heap) = watched(0, || sender.try_send_vectored(&slices));
+        assert_eq!(sent, Ok(()));
+        for _ in 0..3 {
+            let _ = driver.poll_write(&mut cx, &mut Vec::new());
+        }
+        (heap.requests, heap.live)
+    };
+    requests(40_000);
+    assert_eq!([requests(40_000), requests(40_000)], [(2, 1); 2]);
+    assert_eq!([requests(20_000), requests(20_000)], [(2, 2), (1, 1)]);
 }
 
 struct Ignored;

@@ -1,4 +1,5 @@
-//! The worked examples and hostile bytes of `bindings/rows.txt`, through the crate.
+//! The worked examples and hostile bytes of `bindings/rows.txt`, and the cases of `bindings/vectors.txt`, through the
+//! crate.
 mod common;
 
 use common::{hex, shared};
@@ -47,6 +48,7 @@ fn needed(needs: Needs) -> String {
     match needs {
         Needs::Nothing => "nothing".into(),
         Needs::Guarantees(missing) => format!("{missing} more"),
+        Needs::MoreThanEverIssued { .. } => unreachable!("a session alone says that"),
         Needs::Slot => "a slot".into(),
         Needs::Never => "never".into(),
     }
@@ -230,9 +232,10 @@ fn answer(me: &mut Side, other: &mut Side, words: &[&str], piece: usize) -> Stri
             let take = peer.take_into(channel, &mut buffer);
             taken(take, &buffer)
         }
-        "front" => peer
-            .front_len(channel)
-            .map_or("empty".into(), |len| len.to_string()),
+        "front" => match peer.front_len(channel) {
+            Some(len) => len.to_string(),
+            None => taken(peer.take_into(channel, &mut []), &[]),
+        },
         word => balances(peer, word, channel),
     }
 }
@@ -252,8 +255,8 @@ fn side(words: &[&str]) -> Side {
     }
 }
 
-fn run(piece: usize) {
-    let rows = shared("rows.txt");
+fn run(name: &str, piece: usize) {
+    let rows = shared(name);
     let mut sides: Option<(Side, Side)> = None;
     let mut answers = 0;
     for line in rows
@@ -268,7 +271,11 @@ fn run(piece: usize) {
         }
         let (a, b) = sides.as_mut().unwrap();
         let (me, other) = if words[0] == "A" { (a, b) } else { (b, a) };
-        assert_eq!(answer(me, other, &words[1..], piece), want, "{line}");
+        assert_eq!(
+            answer(me, other, &words[1..], piece),
+            want,
+            "{name}: {line}"
+        );
         answers += 1;
     }
     assert_eq!(answers, rows.matches(" => ").count());
@@ -276,10 +283,20 @@ fn run(piece: usize) {
 
 #[test]
 fn rows_whole() {
-    run(usize::MAX);
+    run("rows.txt", usize::MAX);
 }
 
 #[test]
 fn rows_a_byte_at_a_time() {
-    run(1);
+    run("rows.txt", 1);
+}
+
+#[test]
+fn vectors_whole() {
+    run("vectors.txt", usize::MAX);
+}
+
+#[test]
+fn vectors_a_byte_at_a_time() {
+    run("vectors.txt", 1);
 }

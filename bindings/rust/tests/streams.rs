@@ -682,5 +682,6 @@ fn a_read_error_says_what_befell() {
     let failed = ReadError::from(io::Error::other("the cable is cut"));
     assert_eq!(failed.to_string(), "the cable is cut");
     let stopped = peer().read_from(&mut &[0x11, 0, 0][..]).unwrap_err();
-    assert_eq!(stopped.to_string(), "F2 at byte 0: a message has length 0");
+    let want = "F2 at byte 0: a message has length 0 (a Send of 0 on Data)";
+    assert_eq!(stopped.to_string(), want);
 }

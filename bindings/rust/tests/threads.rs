@@ -4,7 +4,7 @@
 //! ThreadSanitizer recognizes the locks of std only if std is built with it, and the toolchain at hand lacks the
 //! source of std. Without that, it reports the steps of the locks as races. Miri runs no C, and is not at hand. The
 //! one unsafe module has no threads, and all shared state is behind one `Mutex`.
-use lcmux::{Channel, Closed, Config, IssuePolicy, Mux, MuxConfig, Receiver, Sender, CHANNELS};
+use lcmux::{Channel, Closed, Config, IssuePolicy, Mux, Receiver, Sender, CHANNELS};
 use std::os::unix::net::UnixStream;
 use std::sync::atomic::{AtomicBool, Ordering};
 use std::sync::Arc;
@@ -107,14 +107,14 @@ fn receive(receiver: &mut Receiver, watchdog: &Watchdog) -> Result<u32, Closed> 
 }
 
 fn side(stream: UnixStream, issue: IssuePolicy, watchdog: &Arc<Watchdog>) -> Vec<JoinHandle<()>> {
-    let mut config = MuxConfig::from(Config::new([64; CHANNELS], 16));
+    let mut config = Config::new([64; CHANNELS], 16);
     config.issue = [issue; CHANNELS];
     let (mut mux, driver) = Mux::new(config).unwrap();
     let mut threads = Vec::new();
     for channel in Channel::ALL {
-        let sender = mux.sender(channel).unwrap();
+        let sender = mux.take_sender(channel).unwrap();
         threads.push(thread::spawn(move || send(&sender).unwrap()));
-        let mut receiver = mux.receiver(channel).unwrap();
+        let mut receiver = mux.take_receiver(channel).unwrap();
         let watchdog = Arc::clone(watchdog);
         let take = move || assert_eq!(receive(&mut receiver, &watchdog), Ok(MESSAGES));
         threads.push(thread::spawn(take));

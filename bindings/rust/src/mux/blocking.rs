@@ -23,25 +23,6 @@ const TURN: Duration = Duration::from_millis(10);
 
 /// Drivers on threads.
 impl Driver {
-    /// Sets the timeouts of a session on threads. The default is [`Timeouts::default`].
-    ///
-    /// ```
-    /// use lcmux::{Config, Mux, Timeouts, CHANNELS};
-    /// use std::{net::TcpStream, time::Duration};
-    ///
-    /// fn run(stream: TcpStream) -> Result<(), Box<dyn std::error::Error>> {
-    ///     let (mux, mut driver) = Mux::new(Config::new([65_536; CHANNELS], 64))?;
-    ///     let mut timeouts = Timeouts::default();
-    ///     timeouts.idle = Some(Duration::from_secs(60));
-    ///     driver.set_timeouts(timeouts);
-    ///     driver.run_blocking(stream.try_clone()?, stream)?;
-    ///     Ok(())
-    /// }
-    /// ```
-    pub fn set_timeouts(&mut self, timeouts: Timeouts) {
-        self.timeouts = timeouts.kept();
-    }
-
     /// Runs the session on this thread, which reads, and on a thread of its own, which writes. Both block in their
     /// calls of the transport. If nothing is pending, the writing thread flushes and then blocks until a frame is.
     /// The call returns once both directions ended, or the session failed.
@@ -49,7 +30,7 @@ impl Driver {
     /// For a socket, pass the stream twice: `driver.run_blocking(stream.try_clone()?, stream)`. Set no timeouts on
     /// the socket: an expired read timeout fails the session, as any error but an interruption does, and the driver
     /// itself sets the write timeout by [`WriteHalf::set_write_timeout`]. The writing thread checks the
-    /// [timeouts](Driver::set_timeouts) of the session. If the session fails or is aborted, the shutdown handle from
+    /// [timeouts](crate::Timeouts) of the session. If the session fails or is aborted, the shutdown handle from
     /// [`WriteHalf::breaker`] ends the blocked calls.
     ///
     /// The socket must block: over one that does not, the session fails by the first read that finds nothing. For a
@@ -119,8 +100,8 @@ impl Driver {
     /// stream.set_read_timeout(Some(Duration::from_millis(5)))?; // stands for a TLS stream
     /// let (mut mux, driver) = Mux::new(Config::new([64; CHANNELS], 16))?;
     /// let run = thread::spawn(move || driver.run_unsplit(stream, Duration::ZERO));
-    /// mux.sender(Data).unwrap().send_blocking(b"hello")?;
-    /// # let mut receiver = bob.receiver(Data).unwrap();
+    /// mux.take_sender(Data).unwrap().send_blocking(b"hello")?;
+    /// # let mut receiver = bob.take_receiver(Data).unwrap();
     /// # assert_eq!(receiver.recv_blocking()?, Some(b"hello".to_vec()));
     /// # bob.close();
     /// mux.close();
@@ -138,7 +119,8 @@ impl Driver {
         let heard = Arc::new(Heard::new());
         let mut writer = Timed::new(stream, &shared, self.timeouts, Blocked::BetweenCalls);
         loop {
-            let until = Instant::now().checked_add(interval);
+            let begin = Instant::now();
+            let until = begin.checked_add(interval);
             let turn = poll_fn(|cx| -> Poll<Result<(), Closed>> {
                 let written = self.poll_write(cx, &mut writer)?;
                 let mut reader = Noted {
@@ -153,7 +135,8 @@ impl Driver {
             if block_until(turn, until).is_some() {
                 return result(&shared);
             }
-            writer.check_timeouts(&heard, self.is_written());
+            // A thread that stood still has not looked for what arrived meanwhile, which is no silence of the peer.
+            writer.check_timeouts(&heard, self.is_written(), begin);
         }
     }
 }
@@ -188,12 +171,12 @@ fn write_until_the_end<W: WriteHalf>(mut writing: Writing, mut writer: Timed<W>,
         match block_until(poll_fn(|cx| writing.poll(cx, &mut writer)), until) {
             Some(Ok(())) => break,
             Some(Err(_)) => return,
-            None => writer.check_timeouts(heard, writing.is_written()),
+            None => writer.check_timeouts(heard, writing.is_written(), Instant::now()),
         }
     }
     let shared = Arc::clone(&writer.shared);
     while block_until(Over::new(&shared), writer.next_check(heard)).is_none() {
-        writer.check_timeouts(heard, true);
+        writer.check_timeouts(heard, true, Instant::now());
     }
 }
 
@@ -205,12 +188,15 @@ impl Timeouts {
     }
 }
 
-/// The time of the last read that returned bytes.
+/// The time of the last read that returned bytes. A peer that has ended its stream sends nothing any more, which is no
+/// silence.
 struct Heard {
     begin: Instant,
-    /// Milliseconds after `begin`.
+    /// Milliseconds after `begin`, or [`ENDED`].
     after: AtomicU64,
 }
+
+const ENDED: u64 = u64::MAX;
 
 impl Heard {
     fn new() -> Heard {
@@ -220,13 +206,20 @@ impl Heard {
         }
     }
 
-    fn note(&self) {
-        let after = self.begin.elapsed().as_millis() as u64;
+    fn note(&self, count: usize) {
+        let after = match count {
+            0 => ENDED,
+            _ => self.begin.elapsed().as_millis() as u64,
+        };
         self.after.store(after, Relaxed);
     }
 
-    fn last(&self) -> Instant {
-        self.begin + Duration::from_millis(self.after.load(Relaxed))
+    /// The time at which the peer has been silent for too long.
+    fn deadline(&self, idle: Option<Duration>) -> Option<Instant> {
+        match self.after.load(Relaxed) {
+            ENDED => None,
+            millis => after(self.begin + Duration::from_millis(millis), idle),
+        }
     }
 }
 
@@ -239,8 +232,8 @@ struct Noted<R> {
 impl<R: Read> PollRead for Noted<R> {
     fn poll_read(&mut self, _: &mut Context<'_>, buffer: &mut [u8]) -> Poll<io::Result<usize>> {
         let read = self.reader.read(buffer);
-        if matches!(read, Ok(1..)) {
-            self.heard.note();
+        if let Ok(count) = read {
+            self.heard.note(count);
         }
         Poll::Ready(read)
     }
@@ -300,7 +293,7 @@ impl<W: WriteHalf> Timed<W> {
 
     /// The next time at which a timeout may expire.
     fn next_check(&self, heard: &Heard) -> Option<Instant> {
-        let silent = after(heard.last(), self.timeouts.idle);
+        let silent = heard.deadline(self.timeouts.idle);
         let next = match self.ended {
             Some(ended) => after(ended, self.timeouts.grace),
             None => after(self.wrote, self.timeouts.keep_alive),
@@ -308,10 +301,10 @@ impl<W: WriteHalf> Timed<W> {
         silent.into_iter().chain(next).min()
     }
 
-    /// Fails the session if a timeout expired, or enqueues a frame that keeps it alive.
-    fn check_timeouts(&mut self, heard: &Heard, is_written: bool) {
-        let (now, timeouts) = (Instant::now(), self.timeouts);
-        if is_past(after(heard.last(), timeouts.idle), now) {
+    /// Fails the session if a timeout had expired at this time, or enqueues a frame that keeps it alive.
+    fn check_timeouts(&mut self, heard: &Heard, is_written: bool, now: Instant) {
+        let timeouts = self.timeouts;
+        if is_past(heard.deadline(timeouts.idle), now) {
             self.expire(Timeouts::SILENT);
         } else if self
             .ended

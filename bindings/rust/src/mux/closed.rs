@@ -58,6 +58,47 @@ impl Closed {
         }
     }
 
+    /// Returns whether this is an end in order: this side closed the session, or the peer did. Every other reason is a
+    /// failure.
+    ///
+    /// ```
+    /// use lcmux::{Closed, Receiver};
+    ///
+    /// /// Receives until the channel or the session ends, and reports failures alone.
+    /// fn drain(receiver: &mut Receiver) -> Result<(), Closed> {
+    ///     loop {
+    ///         match receiver.recv_blocking() {
+    ///             Ok(Some(message)) => println!("{} bytes", message.len()),
+    ///             Ok(None) => return Ok(()),
+    ///             Err(closed) if closed.is_clean() => return Ok(()),
+    ///             Err(closed) => return Err(closed),
+    ///         }
+    ///     }
+    /// }
+    /// # let _ = drain;
+    /// ```
+    pub fn is_clean(&self) -> bool {
+        matches!(self, Closed::Local | Closed::Remote)
+    }
+
+    /// Returns the reason in an error of a [`Reader`](crate::Reader) or a [`Writer`](crate::Writer), also of those of
+    /// `lcmux-tokio` and `lcmux-futures`, if the session has ended.
+    ///
+    /// ```
+    /// use lcmux::{Channel::Data, Closed, Config, Mux};
+    /// use std::io::Read;
+    ///
+    /// let (mut mux, driver) = Mux::new(Config::default())?;
+    /// let mut reader = mux.take_receiver(Data).unwrap().into_reader();
+    /// drop(driver); // this aborts the session
+    /// let error = reader.read(&mut [0; 8]).unwrap_err();
+    /// assert_eq!(Closed::of_io(&error), Some(&Closed::Aborted));
+    /// # Ok::<(), lcmux::MuxFault>(())
+    /// ```
+    pub fn of_io(error: &io::Error) -> Option<&Closed> {
+        error.get_ref()?.downcast_ref()
+    }
+
     pub(crate) fn result(self) -> Result<(), Closed> {
         match self {
             Closed::Local => Ok(()),
@@ -147,7 +188,7 @@ impl From<Closed> for io::Error {
 /// use lcmux::{CallError, Channel::Data, Config, Mux, Refusal, CHANNELS};
 ///
 /// let (mut mux, _driver) = Mux::new(Config::new([64; CHANNELS], 16))?;
-/// let receiver = mux.receiver(Data).unwrap();
+/// let receiver = mux.take_receiver(Data).unwrap();
 /// let refused = receiver.issue(1); // the policy issued the whole ring
 /// assert_eq!(refused, Err(CallError::Refused(Refusal::NoRoom { room: 0 })));
 /// # Ok::<(), lcmux::MuxFault>(())
@@ -161,6 +202,16 @@ pub enum CallError {
     Closed(Closed),
 }
 
+impl CallError {
+    /// Returns the reason why the session has ended, if it has.
+    pub fn closed(&self) -> Option<&Closed> {
+        match self {
+            CallError::Closed(closed) => Some(closed),
+            CallError::Refused(_) => None,
+        }
+    }
+}
+
 impl Display for CallError {
     fn fmt(&self, f: &mut Formatter<'_>) -> fmt::Result {
         match self {
@@ -172,10 +223,7 @@ impl Display for CallError {
 
 impl Error for CallError {
     fn source(&self) -> Option<&(dyn Error + 'static)> {
-        match self {
-            CallError::Closed(closed) => closed.source(),
-            CallError::Refused(_) => None,
-        }
+        self.closed()?.source()
     }
 }
 
@@ -197,7 +245,7 @@ impl From<Closed> for CallError {
 /// use lcmux::{Channel::Data, Config, Mux, Refusal, SendError, CHANNELS};
 ///
 /// let (mut mux, _driver) = Mux::new(Config::new([64; CHANNELS], 16))?;
-/// let sender = mux.sender(Data).unwrap();
+/// let sender = mux.take_sender(Data).unwrap();
 /// let sent = sender.send_blocking(&[0; 65_536]);
 /// assert_eq!(sent, Err(SendError::Refused(Refusal::BodyTooLong)));
 /// # Ok::<(), lcmux::MuxFault>(())
@@ -215,8 +263,28 @@ pub enum SendError {
         /// The guarantees that the receiver may still issue.
         left: u64,
     },
+    /// The peer issued fewer guarantees than the [longest message](crate::Config::longest) that the application stated:
+    /// its ring buffer is too small for the channel.
+    RingTooSmall {
+        /// The stated length.
+        longest: u32,
+        /// The most guarantees that this side held at once.
+        most: u64,
+    },
     /// The session is closed or over; or guarantees are missing, and the peer closed the session and issues no more.
     Closed(Closed),
+}
+
+impl SendError {
+    /// Returns the reason why the session, or the part of it that the call needs, has ended, if it has.
+    pub fn closed(&self) -> Option<&Closed> {
+        match self {
+            SendError::Closed(closed) => Some(closed),
+            SendError::Refused(_) | SendError::Unwanted { .. } | SendError::RingTooSmall { .. } => {
+                None
+            }
+        }
+    }
 }
 
 impl Display for SendError {
@@ -227,6 +295,10 @@ impl Display for SendError {
                 f,
                 "the message is longer than the guarantees that are held and those that the peer may still issue (held {held}, left {left})"
             ),
+            SendError::RingTooSmall { longest, most } => write!(
+                f,
+                "the peer issued at most {most} guarantees at once, and the longest message of the channel has {longest} bytes"
+            ),
             SendError::Closed(closed) => closed.fmt(f),
         }
     }
@@ -234,10 +306,7 @@ impl Display for SendError {
 
 impl Error for SendError {
     fn source(&self) -> Option<&(dyn Error + 'static)> {
-        match self {
-            SendError::Closed(closed) => closed.source(),
-            SendError::Refused(_) | SendError::Unwanted { .. } => None,
-        }
+        self.closed()?.source()
     }
 }
 
@@ -260,7 +329,7 @@ impl From<Closed> for SendError {
 /// use lcmux::{Channel::Data, Config, Mux, Needs, TrySendError, CHANNELS};
 ///
 /// let (mut mux, _driver) = Mux::new(Config::new([64; CHANNELS], 16))?;
-/// let reserved = mux.sender(Data).unwrap().try_reserve(5).err();
+/// let reserved = mux.take_sender(Data).unwrap().try_reserve(5).err();
 /// assert_eq!(reserved, Some(TrySendError::Full(Needs::Guarantees(5))));
 /// # Ok::<(), lcmux::MuxFault>(())
 /// ```
@@ -274,12 +343,26 @@ pub enum TrySendError {
     Failed(SendError),
 }
 
+impl TrySendError {
+    /// Returns the reason why the session, or the part of it that the call needs, has ended, if it has.
+    pub fn closed(&self) -> Option<&Closed> {
+        match self {
+            TrySendError::Failed(error) => error.closed(),
+            TrySendError::Full(_) => None,
+        }
+    }
+}
+
 impl Display for TrySendError {
     fn fmt(&self, f: &mut Formatter<'_>) -> fmt::Result {
         match self {
             TrySendError::Full(Needs::Guarantees(more)) => {
                 write!(f, "the message needs {more} more guarantees")
             }
+            TrySendError::Full(Needs::MoreThanEverIssued { more, most }) => write!(
+                f,
+                "the message needs {more} more guarantees, and is longer than the {most} that were ever held at once"
+            ),
             TrySendError::Full(_) => {
                 f.write_str("the message has to wait for a slot in the outbound queue")
             }
@@ -290,10 +373,7 @@ impl Display for TrySendError {
 
 impl Error for TrySendError {
     fn source(&self) -> Option<&(dyn Error + 'static)> {
-        match self {
-            TrySendError::Failed(error) => error.source(),
-            TrySendError::Full(_) => None,
-        }
+        self.closed()?.source()
     }
 }
 
@@ -311,7 +391,7 @@ impl<E: Into<SendError>> From<E> for TrySendError {
 /// use std::time::Duration;
 ///
 /// let (mut mux, _driver) = Mux::new(Config::new([64; CHANNELS], 16))?;
-/// let sender = mux.sender(Data).unwrap();
+/// let sender = mux.take_sender(Data).unwrap();
 /// let sent = sender.send_timeout(b"hello", Duration::from_millis(1));
 /// assert_eq!(sent, Err(SendTimeoutError::Timeout));
 /// # Ok::<(), lcmux::MuxFault>(())
@@ -325,6 +405,16 @@ pub enum SendTimeoutError {
     Failed(SendError),
 }
 
+impl SendTimeoutError {
+    /// Returns the reason why the session, or the part of it that the call needs, has ended, if it has.
+    pub fn closed(&self) -> Option<&Closed> {
+        match self {
+            SendTimeoutError::Failed(error) => error.closed(),
+            SendTimeoutError::Timeout => None,
+        }
+    }
+}
+
 impl Display for SendTimeoutError {
     fn fmt(&self, f: &mut Formatter<'_>) -> fmt::Result {
         match self {
@@ -336,10 +426,7 @@ impl Display for SendTimeoutError {
 
 impl Error for SendTimeoutError {
     fn source(&self) -> Option<&(dyn Error + 'static)> {
-        match self {
-            SendTimeoutError::Failed(error) => error.source(),
-            SendTimeoutError::Timeout => None,
-        }
+        self.closed()?.source()
     }
 }
 
@@ -355,7 +442,7 @@ impl From<SendError> for SendTimeoutError {
 /// use lcmux::{Channel::Data, Closed, Config, Mux, TryRecvError, CHANNELS};
 ///
 /// let (mut mux, driver) = Mux::new(Config::new([64; CHANNELS], 16))?;
-/// let mut receiver = mux.receiver(Data).unwrap();
+/// let mut receiver = mux.take_receiver(Data).unwrap();
 /// assert_eq!(receiver.try_recv(), Err(TryRecvError::Empty));
 /// drop(driver);
 /// assert_eq!(receiver.try_recv(), Err(TryRecvError::Closed(Closed::Aborted)));
@@ -370,6 +457,16 @@ pub enum TryRecvError {
     Closed(Closed),
 }
 
+impl TryRecvError {
+    /// Returns the reason why the session has ended, if it has.
+    pub fn closed(&self) -> Option<&Closed> {
+        match self {
+            TryRecvError::Closed(closed) => Some(closed),
+            TryRecvError::Empty => None,
+        }
+    }
+}
+
 impl Display for TryRecvError {
     fn fmt(&self, f: &mut Formatter<'_>) -> fmt::Result {
         match self {
@@ -381,10 +478,7 @@ impl Display for TryRecvError {
 
 impl Error for TryRecvError {
     fn source(&self) -> Option<&(dyn Error + 'static)> {
-        match self {
-            TryRecvError::Closed(closed) => closed.source(),
-            TryRecvError::Empty => None,
-        }
+        self.closed()?.source()
     }
 }
 
@@ -401,7 +495,7 @@ impl From<Closed> for TryRecvError {
 /// use std::time::Duration;
 ///
 /// let (mut mux, _driver) = Mux::new(Config::new([64; CHANNELS], 16))?;
-/// let mut receiver = mux.receiver(Data).unwrap();
+/// let mut receiver = mux.take_receiver(Data).unwrap();
 /// let taken = receiver.recv_timeout(Duration::from_millis(1));
 /// assert_eq!(taken, Err(RecvTimeoutError::Timeout));
 /// # Ok::<(), lcmux::MuxFault>(())
@@ -415,6 +509,16 @@ pub enum RecvTimeoutError {
     Closed(Closed),
 }
 
+impl RecvTimeoutError {
+    /// Returns the reason why the session has ended, if it has.
+    pub fn closed(&self) -> Option<&Closed> {
+        match self {
+            RecvTimeoutError::Closed(closed) => Some(closed),
+            RecvTimeoutError::Timeout => None,
+        }
+    }
+}
+
 impl Display for RecvTimeoutError {
     fn fmt(&self, f: &mut Formatter<'_>) -> fmt::Result {
         match self {
@@ -426,10 +530,7 @@ impl Display for RecvTimeoutError {
 
 impl Error for RecvTimeoutError {
     fn source(&self) -> Option<&(dyn Error + 'static)> {
-        match self {
-            RecvTimeoutError::Closed(closed) => closed.source(),
-            RecvTimeoutError::Timeout => None,
-        }
+        self.closed()?.source()
     }
 }
 
@@ -467,6 +568,16 @@ pub enum MuxFault {
         /// The size of the channel's ring buffer.
         capacity: u32,
     },
+    /// A [longest message](crate::Config::longest) is empty, or longer than the version allows. The channel is the first
+    /// such one.
+    BadLongest {
+        /// The channel.
+        channel: crate::Channel,
+        /// The stated length.
+        longest: u32,
+        /// The length of the version's longest message.
+        most: u32,
+    },
 }
 
 impl Display for MuxFault {
@@ -484,6 +595,14 @@ impl Display for MuxFault {
             } => write!(
                 f,
                 "the low-water mark of {channel:?} must be in 1..={capacity}, got {mark}"
+            ),
+            MuxFault::BadLongest {
+                channel,
+                longest,
+                most,
+            } => write!(
+                f,
+                "the longest message of {channel:?} must have 1..={most} bytes, got {longest}"
             ),
         }
     }

@@ -11,6 +11,14 @@ const IN_A_ROW: u8 = 128;
 pub(super) struct Coop(AtomicU8);
 
 impl Coop {
+    /// Counts a future that outlives the handle. The count of that future goes on where the one of the handle is, so that
+    /// a loop of such futures yields, too.
+    pub fn fork(&self) -> Coop {
+        let count = self.0.load(Relaxed);
+        self.0.store((count + 1) % (IN_A_ROW + 1), Relaxed);
+        Coop(AtomicU8::new(count))
+    }
+
     /// Polls a call of the handle, or yields before the call has begun.
     pub fn poll<T>(
         &self,

@@ -1,3 +1,4 @@
+use super::events::Event;
 use super::frames::{Cutter, Direction, Frame, Scanner};
 use super::io::{poll_uninterrupted, PollRead, PollWrite};
 use super::shared::Shared;
@@ -37,8 +38,8 @@ const PIECES: usize = 16;
 /// let (mut bob, driver) = Mux::new(Config::new([1024; CHANNELS], 16))?;
 /// let other = thread::spawn(move || driver.run_blocking(there.try_clone()?, there));
 ///
-/// alice.sender(Data).unwrap().send_blocking(b"hello")?;
-/// let mut receiver = bob.receiver(Data).unwrap();
+/// alice.take_sender(Data).unwrap().send_blocking(b"hello")?;
+/// let mut receiver = bob.take_receiver(Data).unwrap();
 /// assert_eq!(receiver.recv_blocking()?, Some(b"hello".to_vec()));
 /// alice.close();
 /// bob.close();
@@ -79,7 +80,7 @@ pub(super) struct Writing {
 }
 
 impl Driver {
-    pub(super) fn new(shared: &Arc<Shared>) -> Driver {
+    pub(super) fn new(shared: &Arc<Shared>, timeouts: Timeouts) -> Driver {
         Driver {
             reading: Reading {
                 shared: Arc::clone(shared),
@@ -101,11 +102,11 @@ impl Driver {
                 scanner: Scanner::new(Direction::Out),
                 result: None,
             },
-            timeouts: Timeouts::default(),
+            timeouts: timeouts.kept(),
         }
     }
 
-    /// Sets a hook that is called for each frame: for an outbound frame once its last byte was written, for an
+    /// Adds a hook that is called for each frame: for an outbound frame once its last byte was written, for an
     /// inbound frame once it has arrived, in the order of each direction. A frame that breaks a rule is not reported,
     /// and neither is the preface, which is no frame.
     ///
@@ -128,6 +129,44 @@ impl Driver {
         let hook = Arc::new(hook);
         self.reading.scanner.hook(hook.clone());
         self.writing.scanner.hook(hook);
+    }
+
+    /// Adds a hook that is called for each [`Event`] that is no frame: for stalls, for messages that are longer than all
+    /// that the peer ever issued at once, and for the end of the session.
+    ///
+    /// The thread or task whose call caused the event calls the hook, before that call returns and outside of every
+    /// lock, so the hook may call the session. Events of different threads may be reported in another order than that
+    /// in which they happened. The hook is dropped after the end of the session, which a handle that it owns delays as
+    /// any other does.
+    ///
+    /// # Panics
+    ///
+    /// If the hook panics, the call that caused the event does.
+    ///
+    /// # Examples
+    ///
+    /// ```
+    /// use lcmux::{Config, Mux};
+    /// let (mux, mut driver) = Mux::new(Config::default())?;
+    /// driver.on_event(|event| eprintln!("{event:?}"));
+    /// # Ok::<(), lcmux::MuxFault>(())
+    /// ```
+    pub fn on_event(&mut self, hook: impl Fn(&Event) + Send + Sync + 'static) {
+        self.shared().with(|state| state.hook(Arc::new(hook)));
+    }
+
+    /// Returns the timeouts of the session's [`Config`](crate::Config), for applications that poll the driver and run
+    /// timers of their own.
+    ///
+    /// ```
+    /// use lcmux::{Config, Mux};
+    /// use std::time::Duration;
+    /// let (mux, driver) = Mux::new(Config::default().idle(Duration::from_secs(60)))?;
+    /// assert_eq!(driver.timeouts().idle, Some(Duration::from_secs(60)));
+    /// # Ok::<(), lcmux::MuxFault>(())
+    /// ```
+    pub fn timeouts(&self) -> Timeouts {
+        self.timeouts
     }
 
     /// Sets the length from which on a message is written without a copy: for tests alone.
@@ -181,7 +220,7 @@ impl Driver {
     /// use lcmux::{Channel::Data, Config, Mux, CHANNELS};
     ///
     /// let (mut mux, driver) = Mux::new(Config::new([64; CHANNELS], 16))?;
-    /// let mut receiver = mux.receiver(Data).unwrap();
+    /// let mut receiver = mux.take_receiver(Data).unwrap();
     /// mux.close();
     /// // The message `hi` on channel 1, a limit of 0 on each channel, and the end of the stream.
     /// let mut inbound = b"\x11\0\x02hi".to_vec();

@@ -109,7 +109,7 @@ const GREETING: (u8, usize) = (0x4c, 4);
 /// Recognizes the frames of one direction.
 pub(crate) struct Scanner {
     direction: Direction,
-    hook: Option<Hook>,
+    hooks: Vec<Hook>,
     heads: Heads,
 }
 
@@ -117,27 +117,27 @@ impl Scanner {
     pub fn new(direction: Direction) -> Scanner {
         Scanner {
             direction,
-            hook: None,
+            hooks: Vec::new(),
             heads: Heads::default(),
         }
     }
 
     pub fn hook(&mut self, hook: Hook) {
-        self.hook = Some(hook);
+        self.hooks.push(hook);
     }
 
     /// Reports the frames that these bytes complete, at most `most`.
     pub fn scan(&mut self, mut bytes: &[u8], most: u64) {
-        let Some(hook) = self.hook.clone() else {
+        if self.hooks.is_empty() {
             return;
-        };
+        }
         let mut reported = 0;
         while self.heads.pass(&mut bytes) {
             let Some(frame) = self.heads.frame(self.direction) else {
                 return;
             };
             if reported < most {
-                hook(&frame);
+                self.hooks.iter().for_each(|hook| hook(&frame));
             }
             reported += 1;
         }

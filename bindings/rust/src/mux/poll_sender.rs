@@ -74,7 +74,7 @@ impl PollSender {
     }
 
     /// Polls to send a copy of the body as one message, as [`Sender::send`] does. Only the last waker is registered,
-    /// and it is woken once. The message is that of the poll that is ready: it is enqueued then, whole.
+    /// and it is notified once. The message is that of the poll that is ready: it is enqueued then, whole.
     ///
     /// # Errors
     ///
@@ -90,11 +90,11 @@ impl PollSender {
     /// # let _ = send;
     /// ```
     pub fn poll_send(&mut self, cx: &mut Context<'_>, body: &[u8]) -> Poll<Result<(), SendError>> {
-        self.poll(cx, Ask::Message(body))
+        self.poll(cx, Ask::Message(body.into()))
     }
 
     /// Polls for a permit to send one message of `len` bytes, as [`Sender::reserve`] does. Only the last waker is
-    /// registered, and it is woken once. [`Permit::into_owned`] makes the permit one that borrows nothing.
+    /// registered, and it is notified once. [`Permit::into_owned`] makes the permit one that borrows nothing.
     ///
     /// # Errors
     ///
@@ -141,7 +141,7 @@ impl PollSender {
     /// use lcmux::{Channel::Data, Config, Mux, PollSender, CHANNELS};
     ///
     /// let (mut mux, _driver) = Mux::new(Config::new([64; CHANNELS], 16))?;
-    /// let mut sender = PollSender::new(mux.sender(Data).unwrap());
+    /// let mut sender = PollSender::new(mux.take_sender(Data).unwrap());
     /// assert!(!sender.cancel());
     /// # Ok::<(), lcmux::MuxFault>(())
     /// ```

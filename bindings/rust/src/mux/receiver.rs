@@ -30,7 +30,7 @@ use std::time::{Duration, Instant};
 /// use lcmux::{Channel::Data, Closed, Config, Mux, TryRecvError, CHANNELS};
 ///
 /// let (mut mux, driver) = Mux::new(Config::new([64; CHANNELS], 16))?;
-/// let mut receiver = mux.receiver(Data).unwrap();
+/// let mut receiver = mux.take_receiver(Data).unwrap();
 /// assert_eq!(receiver.try_recv(), Err(TryRecvError::Empty));
 /// mux.abort();
 /// assert_eq!(receiver.recv_blocking(), Err(Closed::Aborted));
@@ -94,8 +94,8 @@ impl Receiver {
         poll_fn(|cx| self.poll_recv(cx)).await
     }
 
-    /// Polls for the next message, as [`Receiver::recv`] does. Only the last waker is registered, and it is woken
-    /// once. A pending poll takes nothing.
+    /// Polls for the next message, as [`Receiver::recv`] does. Only the last waker is registered, and it is
+    /// notified once. A pending poll takes nothing.
     ///
     /// # Errors
     ///
@@ -179,7 +179,7 @@ impl Receiver {
     }
 
     /// Polls for the next message and borrows it, as [`Receiver::recv_ref`] does. Only the last waker is registered,
-    /// and it is woken once. A pending poll borrows nothing.
+    /// and it is notified once. A pending poll borrows nothing.
     ///
     /// # Errors
     ///
@@ -261,7 +261,7 @@ impl Receiver {
     /// use lcmux::{Channel::Data, Config, Mux, TryRecvError, CHANNELS};
     ///
     /// let (mut mux, _driver) = Mux::new(Config::new([64; CHANNELS], 16))?;
-    /// let mut receiver = mux.receiver(Data).unwrap();
+    /// let mut receiver = mux.take_receiver(Data).unwrap();
     /// assert!(matches!(receiver.try_recv_ref(), Err(TryRecvError::Empty)));
     /// # Ok::<(), lcmux::MuxFault>(())
     /// ```
@@ -367,8 +367,8 @@ impl fmt::Debug for Receiver {
 /// # thread::spawn(move || driver.run_blocking(here.try_clone()?, here));
 /// # let (mut bob, driver) = Mux::new(Config::new([64; CHANNELS], 16))?;
 /// # thread::spawn(move || driver.run_blocking(there.try_clone()?, there));
-/// # alice.sender(Data).unwrap().send_blocking(b"hello")?;
-/// let mut receiver = bob.receiver(Data).unwrap();
+/// # alice.take_sender(Data).unwrap().send_blocking(b"hello")?;
+/// let mut receiver = bob.take_receiver(Data).unwrap();
 /// while let Some(message) = receiver.recv_ref_blocking()? {
 ///     assert_eq!(*message, *b"hello");
 /// }

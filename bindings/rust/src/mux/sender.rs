@@ -2,11 +2,12 @@ use super::block::block_until;
 use super::coop::Coop;
 use super::owned_permit::OwnedPermit;
 use super::shared::Shared;
-use super::state::{Ask, Call};
-use crate::TrySendError;
+use super::state::{Ask, Body, Call, State};
 use crate::{CallError, Channel, ClientBook, Closed, SendError, SendTimeoutError, Stats};
+use crate::{PollSender, Refusal, TrySendError};
 use std::fmt::{self, Formatter};
-use std::future::Future;
+use std::future::{poll_fn, Future};
+use std::io::IoSlice;
 use std::mem;
 use std::pin::Pin;
 use std::sync::Arc;
@@ -31,7 +32,7 @@ use std::time::{Duration, Instant};
 /// use lcmux::{Channel::Data, Config, Mux, Needs, TrySendError, CHANNELS};
 ///
 /// let (mut mux, _driver) = Mux::new(Config::new([64; CHANNELS], 16))?;
-/// let sender = mux.sender(Data).unwrap();
+/// let sender = mux.take_sender(Data).unwrap();
 /// let needs = Needs::Guarantees(5); // the peer has issued none yet
 /// assert_eq!(sender.try_send(b"hello"), Err(TrySendError::Full(needs)));
 /// # Ok::<(), lcmux::MuxFault>(())
@@ -141,6 +142,12 @@ impl Sender {
         })
     }
 
+    // The nearest length of a message that this side may send.
+    pub(super) fn within_longest(&self, len: usize) -> usize {
+        let longest = self.shared.with(|state| state.longest(self.channel));
+        len.clamp(1, longest)
+    }
+
     /// Returns the channel of this sender.
     pub fn channel(&self) -> Channel {
         self.channel
@@ -149,7 +156,8 @@ impl Sender {
     /// Sends a copy of the body as one message: 1 to 65,535 bytes, in version Two 1 to 1,048,576. It waits until the
     /// guarantees arrived and the call [can proceed](crate::Mux#scheduling). A message that can never be sent fails
     /// at once, but this side does not know the size of the peer's ring buffer: a message longer than that ring waits
-    /// until the session ends.
+    /// until the session ends. [`Stats::oversized`] shows such a wait, and [`Config::longest`](crate::Config::longest)
+    /// makes it an error at the start.
     ///
     /// After 128 messages in a row that it did not wait for, its future yields once, so that other tasks run.
     ///
@@ -164,10 +172,48 @@ impl Sender {
     ///   `Refusal::PastSendLimit` (see [`Refusal`](crate::Refusal)), or with `Refusal::OutOfMemory` if an allocation
     ///   failed and the same call may be made again.
     /// - [`SendError::Unwanted`] if the peer will not issue enough guarantees.
+    /// - [`SendError::RingTooSmall`] if the peer issued fewer than the longest message that the application stated.
     /// - [`SendError::Closed`] once the session is closed or over, and with [`Closed::Remote`] if guarantees are
     ///   missing and the peer closed the session.
     pub async fn send(&self, body: &[u8]) -> Result<(), SendError> {
-        self.sending(Ask::Message(body), false).await
+        self.sending(Ask::Message(body.into()), false).await
+    }
+
+    /// Sends a message that the call owns, such as a `Vec<u8>`, a `Box<[u8]>`, an `Arc<[u8]>` or a `Bytes`, and waits as
+    /// [`Sender::send`] does. The future has a clone of the sender and borrows nothing, so it may be spawned, or kept
+    /// while other messages are made. It is [`Send`] if the message is. The channel stays open until the future completes
+    /// or is dropped.
+    ///
+    /// The message is copied once, into the outbound queue, as that of [`Sender::send`] is, and then dropped.
+    ///
+    /// # Cancel safety
+    ///
+    /// This method is cancel safe, as [`Sender::send`] is: nothing is sent before the future completes. A future that is
+    /// dropped before drops the message, too. Clone the message if it is needed then, or wait for
+    /// [a permit](Sender::reserve) instead.
+    ///
+    /// # Errors
+    ///
+    /// Those of [`Sender::send`].
+    ///
+    /// ```
+    /// use lcmux::{SendError, Sender};
+    /// use std::future::Future;
+    ///
+    /// /// A task that sends a message, for any executor.
+    /// fn task(sender: &Sender, name: &str) -> impl Future<Output = Result<(), SendError>> + Send + 'static {
+    ///     sender.send_owned(format!("hello, {name}").into_bytes())
+    /// }
+    /// # let _ = task;
+    /// ```
+    pub fn send_owned<B: AsRef<[u8]>>(
+        &self,
+        body: B,
+    ) -> impl Future<Output = Result<(), SendError>> {
+        let mut sender = self.clone();
+        sender.coop = self.coop.fork();
+        let mut sender = PollSender::new(sender);
+        async move { poll_fn(|cx| sender.poll_send(cx, body.as_ref())).await }
     }
 
     /// Sends a message, as [`Sender::send`] does, and blocks the thread. Do not call it from a task of an executor.
@@ -176,7 +222,7 @@ impl Sender {
     ///
     /// Those of [`Sender::send`].
     pub fn send_blocking(&self, body: &[u8]) -> Result<(), SendError> {
-        self.block_for_good(Ask::Message(body))
+        self.block_for_good(Ask::Message(body.into()))
     }
 
     /// Sends a message, as [`Sender::send_blocking`] does, and waits for at most `timeout`. A message that need not
@@ -186,7 +232,7 @@ impl Sender {
     ///
     /// [`SendTimeoutError::Timeout`] if the message was not sent in that time, and those of [`Sender::send`].
     pub fn send_timeout(&self, body: &[u8], timeout: Duration) -> Result<(), SendTimeoutError> {
-        self.block(Ask::Message(body), deadline(timeout))
+        self.block(Ask::Message(body.into()), deadline(timeout))
     }
 
     /// Sends a message if it can proceed now and no call of this channel waits.
@@ -196,7 +242,54 @@ impl Sender {
     /// [`TrySendError::Full`] if it would have to wait, and those of [`Sender::send`].
     pub fn try_send(&self, body: &[u8]) -> Result<(), TrySendError> {
         self.shared
-            .with(|state| state.try_send(self.channel, Ask::Message(body)))
+            .with(|state| state.try_send(self.channel, Ask::Message(body.into())))
+    }
+
+    /// Sends the slices, one after the other, as one message: a header and its body need not be joined first. It waits
+    /// as [`Sender::send`] does. The session joins the slices in memory of its own, of which it keeps up to 64 KiB for later
+    /// messages, so each byte is copied twice.
+    ///
+    /// To wait in another way, [reserve](Sender::reserve) a permit and send with [`Permit::send_vectored`].
+    ///
+    /// # Cancel safety
+    ///
+    /// This method is cancel safe, as [`Sender::send`] is.
+    ///
+    /// # Errors
+    ///
+    /// Those of [`Sender::send`].
+    ///
+    /// ```
+    /// use lcmux::{SendError, Sender};
+    /// use std::io::IoSlice;
+    ///
+    /// async fn send_block(sender: &Sender, number: u32, block: &[u8]) -> Result<(), SendError> {
+    ///     let header = number.to_be_bytes();
+    ///     sender.send_vectored(&[IoSlice::new(&header), IoSlice::new(block)]).await
+    /// }
+    /// # let _ = send_block;
+    /// ```
+    pub async fn send_vectored(&self, slices: &[IoSlice<'_>]) -> Result<(), SendError> {
+        self.sending(Ask::Message(slices.into()), false).await
+    }
+
+    /// Sends the slices as one message, as [`Sender::send_vectored`] does, and blocks the thread.
+    ///
+    /// # Errors
+    ///
+    /// Those of [`Sender::send`].
+    pub fn send_vectored_blocking(&self, slices: &[IoSlice<'_>]) -> Result<(), SendError> {
+        self.block_for_good(Ask::Message(slices.into()))
+    }
+
+    /// Sends the slices as one message, if it can proceed now and no call of this channel waits.
+    ///
+    /// # Errors
+    ///
+    /// Those of [`Sender::try_send`].
+    pub fn try_send_vectored(&self, slices: &[IoSlice<'_>]) -> Result<(), TrySendError> {
+        self.shared
+            .with(|state| state.try_send(self.channel, Ask::Message(slices.into())))
     }
 
     /// Waits, as [`Sender::send`] does, until a message of `len` bytes can be sent, and returns a permit to send it.
@@ -288,7 +381,7 @@ impl Sender {
     /// use lcmux::{Channel::Data, Config, Mux, Needs, TrySendError, CHANNELS};
     ///
     /// let (mut mux, _driver) = Mux::new(Config::new([64; CHANNELS], 16))?;
-    /// let sender = mux.sender(Data).unwrap();
+    /// let sender = mux.take_sender(Data).unwrap();
     /// let full = TrySendError::Full(Needs::Guarantees(5)); // the peer has issued none yet
     /// assert_eq!(sender.try_reserve_owned(5).unwrap_err(), full);
     /// # Ok::<(), lcmux::MuxFault>(())
@@ -409,7 +502,7 @@ impl fmt::Debug for Sender {
 /// # thread::spawn(move || driver.run_blocking(here.try_clone()?, here));
 /// # let (_bob, driver) = Mux::new(Config::new([64; CHANNELS], 16))?;
 /// # thread::spawn(move || driver.run_blocking(there.try_clone()?, there));
-/// let sender = alice.sender(Data).unwrap();
+/// let sender = alice.take_sender(Data).unwrap();
 /// let permit = sender.reserve_blocking(60)?;
 /// assert_eq!(sender.held(), 4);
 /// permit.send(b"short")?; // and returns the other guarantees
@@ -439,6 +532,70 @@ impl Permit<'_> {
     ///   finish or a limit that this side set meanwhile (see [`Refusal`](crate::Refusal)).
     /// - [`SendError::Closed`] if the session was closed or ended meanwhile.
     pub fn send(self, body: &[u8]) -> Result<(), SendError> {
+        self.send_body(body.into())
+    }
+
+    /// Sends the slices, one after the other, as one message, as [`Permit::send`] does.
+    ///
+    /// # Errors
+    ///
+    /// Those of [`Permit::send`].
+    ///
+    /// ```
+    /// use lcmux::{SendTimeoutError, Sender};
+    /// use std::{io::IoSlice, time::Duration};
+    ///
+    /// fn send_block(sender: &Sender, number: u32, block: &[u8]) -> Result<(), SendTimeoutError> {
+    ///     let header = number.to_be_bytes();
+    ///     let permit = sender.reserve_timeout(header.len() + block.len(), Duration::from_secs(1))?;
+    ///     permit.send_vectored(&[IoSlice::new(&header), IoSlice::new(block)])?;
+    ///     Ok(())
+    /// }
+    /// # let _ = send_block;
+    /// ```
+    pub fn send_vectored(self, slices: &[IoSlice<'_>]) -> Result<(), SendError> {
+        self.send_body(slices.into())
+    }
+
+    /// Lets a closure write the message in place, sends as many bytes as the closure returns, and returns that number.
+    /// The closure gets [`len`](Permit::len) bytes, all 0, in memory of the session. So an encoder needs no buffer of
+    /// its own, and the message is copied once, into the outbound queue.
+    ///
+    /// The closure runs without the session's lock: it may take its time, and make other calls of the session.
+    ///
+    /// # Errors
+    ///
+    /// Those of [`Permit::send`] for the bytes that were written: `Refusal::EmptyBody` if the closure returns 0,
+    /// `Refusal::NoGuarantee` if it returns more than it got. The closure does not run if there is no memory for the
+    /// message, which is `Refusal::OutOfMemory`.
+    ///
+    /// # Panics
+    ///
+    /// If the closure panics: the permit is dropped then, and returns its guarantees.
+    ///
+    /// ```
+    /// use lcmux::{SendError, Sender};
+    ///
+    /// async fn send_block(sender: &Sender, number: u32, block: &[u8]) -> Result<usize, SendError> {
+    ///     let permit = sender.reserve(4 + block.len()).await?;
+    ///     permit.fill(|message| {
+    ///         message[..4].copy_from_slice(&number.to_be_bytes());
+    ///         message[4..].copy_from_slice(block);
+    ///         message.len()
+    ///     })
+    /// }
+    /// # let _ = send_block;
+    /// ```
+    pub fn fill(self, fill: impl FnOnce(&mut [u8]) -> usize) -> Result<usize, SendError> {
+        let Permit { sender, len } = self;
+        let filled = filled(&sender.shared, len, fill)?;
+        mem::forget(self);
+        sender
+            .shared
+            .with(|state| state.send_filled(sender.channel, len, filled))
+    }
+
+    fn send_body(self, body: Body) -> Result<(), SendError> {
         let Permit { sender, len } = self;
         mem::forget(self);
         sender
@@ -463,6 +620,20 @@ impl Permit<'_> {
         mem::forget(self);
         owned
     }
+}
+
+/// Lets a closure fill memory of the session, which no lock guards meanwhile. Returns it with the closure's result.
+pub(super) fn filled(
+    shared: &Shared,
+    len: usize,
+    fill: impl FnOnce(&mut [u8]) -> usize,
+) -> Result<(Vec<u8>, usize), SendError> {
+    let mut memory = shared.with(State::take_memory);
+    let exact = memory.try_reserve_exact(len);
+    exact.map_err(|_| Refusal::OutOfMemory)?;
+    memory.resize(len, 0);
+    let count = fill(&mut memory);
+    Ok((memory, count))
 }
 
 impl Drop for Permit<'_> {
@@ -495,7 +666,7 @@ mod tests {
     #[test]
     fn a_permit_that_was_granted_to_a_dropped_call_is_returned() {
         let (mut mux, _driver) = Mux::new(Config::new([64; CHANNELS], 14)).unwrap();
-        let sender = mux.sender(Data).unwrap();
+        let sender = mux.take_sender(Data).unwrap();
         let mut call = sender.sending(Ask::Permit(5), true);
         let waker = Arc::new(Noop).into();
         let polled = Pin::new(&mut call).poll(&mut Context::from_waker(&waker));

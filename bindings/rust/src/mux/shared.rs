@@ -1,3 +1,4 @@
+use super::events::{Event, Hook, Reports};
 use super::io::Breaker;
 use super::state::State;
 use crate::{Channel, Closed};
@@ -7,7 +8,7 @@ use std::sync::atomic::{AtomicBool, AtomicU8, Ordering::Relaxed, Ordering::SeqCs
 use std::sync::{Mutex, MutexGuard, PoisonError};
 use std::task::Waker;
 
-/// The actions that follow once the lock is free: wakers may run any code, also when they are dropped.
+/// The actions that follow once the lock is free: wakers and hooks may run any code, wakers also when they are dropped.
 #[derive(Default)]
 pub(crate) struct Wakes {
     /// The first waker: most calls wake only one.
@@ -15,6 +16,7 @@ pub(crate) struct Wakes {
     wakers: VecDeque<Waker>,
     stale: Vec<Waker>,
     breaker: Option<Breaker>,
+    reports: Option<Box<Reports>>,
 }
 
 impl Wakes {
@@ -33,9 +35,17 @@ impl Wakes {
         self.breaker = breaker;
     }
 
+    pub fn report(&mut self, hooks: &[Hook], event: Event) {
+        let reports = self.reports.get_or_insert_with(|| Reports::to(hooks));
+        reports.add(event);
+    }
+
     /// Takes all actions, if there are any.
     fn take(&mut self) -> Option<Wakes> {
-        let is_empty = self.next.is_none() && self.stale.is_empty() && self.breaker.is_none();
+        let is_empty = self.next.is_none()
+            && self.stale.is_empty()
+            && self.breaker.is_none()
+            && self.reports.is_none();
         (!is_empty).then(|| mem::take(self))
     }
 
@@ -46,6 +56,9 @@ impl Wakes {
         while let Some(waker) = self.next.take() {
             self.next = self.wakers.pop_front();
             waker.wake();
+        }
+        if let Some(reports) = self.reports.take() {
+            reports.call();
         }
     }
 }
@@ -162,7 +175,7 @@ mod tests {
     impl Session {
         /// A session whose first issues are written, and that lends a message on channel 2.
         fn new() -> Session {
-            let state = State::new(&Config::new([64; CHANNELS], 16).into()).unwrap();
+            let state = State::new(&Config::new([64; CHANNELS], 16)).unwrap();
             let mut session = Session {
                 shared: Shared::new(state),
                 buffer: [0; 64],

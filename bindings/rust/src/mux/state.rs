@@ -14,17 +14,17 @@ mod slots;
 mod tests;
 
 pub(crate) use receiving::Taken;
-pub(crate) use sending::{Ask, Call};
+pub(crate) use sending::{Ask, Body, Call};
 pub(crate) use slots::{CONTROL, OWN};
 
-use super::config::MuxConfig;
+use super::events::{Change, Event, Hook};
 use super::io::Breaker;
 use super::shared::Wakes;
 use super::stats::Stats;
 use crate::sys::Lent;
 use crate::{
-    Channel, ClientBook, Closed, IssuePolicy, MuxFault, Peer, PleadPolicy, ServerBook, Version,
-    CHANNELS,
+    Channel, ClientBook, Closed, Config, IssuePolicy, MuxFault, Peer, PleadPolicy, ServerBook,
+    Version, CHANNELS,
 };
 use bytes::Bytes;
 use control::{ClientOwed, Pleaded, ServerOwed};
@@ -53,6 +53,10 @@ struct Outgoing {
     claimed: usize,
     /// The number of senders of the channel, including clones.
     senders: usize,
+    /// The longest message, if the application stated one.
+    longest: Option<u32>,
+    /// The ticket of the call that was last reported as oversized.
+    reported: Option<u64>,
     policy: PleadPolicy,
     pleaded: Option<Pleaded>,
     owed: ClientOwed,
@@ -98,6 +102,8 @@ pub(crate) struct State {
     /// The shortest message that counts as long, and an upper bound of the long messages in the queue.
     borrowed_from: usize,
     long: usize,
+    /// The memory in which messages are joined from several slices, or filled: empty between two calls.
+    memory: Vec<u8>,
     /// Whether the writing half borrows the first frame of the queue.
     is_lent: bool,
     /// Whether the writing half found no frame, and pulls again, since it last took any.
@@ -133,6 +139,7 @@ pub(crate) struct State {
     over: Vec<(u64, Waker)>,
     tickets: u64,
     breaker: Option<Breaker>,
+    hooks: Vec<Hook>,
     pub(crate) wakes: Wakes,
 }
 
@@ -161,19 +168,20 @@ fn keep(place: &mut Option<Waker>, waker: &Waker, wakes: &mut Wakes) {
 }
 
 impl State {
-    pub fn new(config: &MuxConfig) -> Result<State, MuxFault> {
-        let peer = Peer::new(&config.peer)?;
+    pub fn new(config: &Config) -> Result<State, MuxFault> {
+        let peer = Peer::new(config)?;
         config.judge()?;
         let mut state = State {
             peer,
-            version: config.peer.version,
+            version: config.version,
             out: Default::default(),
             inc: Default::default(),
             stats: Default::default(),
-            slots: Slots::new(config.peer.slots as usize),
-            bytes: Bytes::new(config.peer.version),
+            slots: Slots::new(config.slots as usize),
+            bytes: Bytes::new(config.version),
             borrowed_from: BORROWED_FROM,
             long: 0,
+            memory: Vec::new(),
             is_lent: false,
             pulls_again: false,
             claimed: 0,
@@ -197,12 +205,14 @@ impl State {
             over: Vec::new(),
             tickets: 0,
             breaker: None,
+            hooks: Vec::new(),
             wakes: Wakes::default(),
         };
         for channel in Channel::ALL {
             state.inc[channel].policy = config.issue[channel];
             state.out[channel].policy = config.plead[channel];
             state.out[channel].senders = 1;
+            state.out[channel].longest = config.longest[channel];
         }
         state.settle();
         Ok(state)
@@ -212,6 +222,9 @@ impl State {
         let mut stats = self.stats[channel];
         let lacking = &self.out[channel].line.lacking;
         lacking.count(Instant::now(), &mut stats);
+        stats.oversized = self.oversized(channel);
+        stats.held = self.peer.client(channel).held;
+        stats.buffered = self.peer.server(channel).buffered;
         stats
     }
 
@@ -235,6 +248,25 @@ impl State {
     /// Returns whether the writing half waits for a frame.
     pub fn is_idle(&self) -> bool {
         self.is_idle
+    }
+
+    /// Adds a hook for events.
+    pub fn hook(&mut self, hook: Hook) {
+        self.hooks.push(hook);
+    }
+
+    // Reports an event to all hooks, once the lock is free.
+    fn report(&mut self, event: Event) {
+        if !self.hooks.is_empty() {
+            self.wakes.report(&self.hooks, event);
+        }
+    }
+
+    // The calls that the end of the session wakes leave their wait queues after it, which is no event.
+    fn report_stalls(&mut self, channel: Channel, change: Change) {
+        if !self.hooks.is_empty() && self.closed.is_none() {
+            change.events(channel).for_each(|event| self.report(event));
+        }
     }
 
     /// Sets the length from which on a message is written without a copy.
@@ -296,6 +328,10 @@ impl State {
             self.settle();
             return Pulled::Bytes(count, lent);
         }
+        debug_assert!(
+            self.bytes.is_empty(),
+            "fewer bytes are pending than were counted"
+        );
         if self.closing {
             return Pulled::End;
         }
@@ -478,8 +514,9 @@ impl State {
         }
         self.closing = true;
         self.wake_waiting();
-        self.look_everywhere(); // frames may be pending behind waiting calls, none of which will proceed
-                                // The writing half ends the stream, and may bound how long that takes.
+        // Frames may be pending behind waiting calls, none of which will proceed.
+        self.look_everywhere();
+        // The writing half ends the stream, and may bound how long that takes.
         self.wake_writer();
         self.settle();
     }
@@ -492,6 +529,9 @@ impl State {
         if reason != Closed::Local {
             self.wakes.break_by(self.breaker.take());
         }
+        self.report(Event::Closed(reason.clone().result()));
+        // A hook may own a handle of the session. The report keeps it until the lock is free.
+        self.hooks.clear();
         self.closed = Some(reason);
         for inc in &mut self.inc {
             self.wakes.wake(inc.waker.take());

@@ -1,11 +1,11 @@
-use std::time::{Duration, Instant};
+use std::time::Duration;
 
 /// The statistics of a channel, in both directions.
 ///
 /// ```
 /// use lcmux::{Channel::Data, Config, Mux, CHANNELS};
 /// let (mux, _driver) = Mux::new(Config::new([64; CHANNELS], 16))?;
-/// assert_eq!(mux.stats(Data).messages_sent, 0);
+/// assert_eq!(mux.stats()[Data].messages_sent, 0);
 /// # Ok::<(), lcmux::MuxFault>(())
 /// ```
 #[derive(Clone, Copy, Debug, Default, PartialEq, Eq)]
@@ -25,37 +25,17 @@ pub struct Stats {
     /// The time in which the first waiting call had its guarantees and waited for the outbound queue, for a slot or
     /// for its bytes, summed in the same way.
     pub waited_for_slots: Duration,
+    /// The bytes of messages that the ring buffer holds now.
+    pub buffered: u64,
     /// The most bytes of messages that the ring buffer held at once.
     pub most_buffered: u64,
-}
-
-/// What the first waiting call of a channel lacks.
-#[derive(Clone, Copy, Debug, PartialEq, Eq)]
-pub(crate) enum Lack {
-    Guarantees,
-    Slot,
-}
-
-/// Measures how long the first waiting call of a channel lacks what it lacks.
-#[derive(Debug, Default)]
-pub(crate) struct Lacking(Option<(Lack, Instant)>);
-
-impl Lacking {
-    pub fn note(&mut self, lack: Option<Lack>, stats: &mut Stats) {
-        if self.0.map(|(before, _)| before) == lack {
-            return;
-        }
-        let now = Instant::now();
-        self.count(now, stats);
-        self.0 = lack.map(|lack| (lack, now));
-    }
-
-    /// Adds the time up to now.
-    pub fn count(&self, now: Instant, stats: &mut Stats) {
-        match self.0 {
-            Some((Lack::Guarantees, since)) => stats.waited_for_guarantees += now - since,
-            Some((Lack::Slot, since)) => stats.waited_for_slots += now - since,
-            None => {}
-        }
-    }
+    /// The guarantees that the sender holds now, with those of permits.
+    pub held: u64,
+    /// The most guarantees that the sender held at once, with those of permits: the peer's ring buffer has at least as
+    /// many bytes.
+    pub most_held: u64,
+    /// The length of the message for which the first call of the sender waits, if it is longer than `most_held`: it
+    /// waits until the peer issues more at once than it ever did, for good if the peer's ring buffer is smaller. `None`
+    /// before the peer issued any.
+    pub oversized: Option<u64>,
 }

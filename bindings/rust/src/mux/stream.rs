@@ -1,7 +1,9 @@
 //! Streams of bytes over a channel: a writer cuts them into messages, and a reader joins the messages again.
+mod copy;
 mod reader;
 mod writer;
 
+pub use copy::copy;
 pub use reader::Reader;
 pub use writer::Writer;
 
@@ -31,7 +33,7 @@ fn send_error(error: SendError) -> io::Error {
     match error {
         SendError::Closed(closed) => session_error(closed),
         SendError::Refused(Refusal::OutOfMemory) => io::Error::new(ErrorKind::OutOfMemory, error),
-        SendError::Refused(_) | SendError::Unwanted { .. } => {
+        SendError::Refused(_) | SendError::Unwanted { .. } | SendError::RingTooSmall { .. } => {
             io::Error::new(ErrorKind::BrokenPipe, error)
         }
     }

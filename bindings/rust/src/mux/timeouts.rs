@@ -1,24 +1,26 @@
 use std::time::Duration;
 
-/// The timeouts of a session.
+/// The timeouts of a session, in its [`Config`](crate::Config).
 ///
-/// [`Driver::set_timeouts`](crate::Driver::set_timeouts) sets them for a session on threads, and `lcmux_tokio`
-/// accepts the same type for a session on tokio. A timeout that expires fails the session with
+/// The drivers on threads and `lcmux_tokio` observe them. [`Driver::run`](crate::Driver::run) and
+/// [`Driver::poll`](crate::Driver::poll) know no time. A timeout that expires fails the session with
 /// [`Closed::Transport`](crate::Closed::Transport), of the kind [`TimedOut`](std::io::ErrorKind::TimedOut).
 ///
 /// ```
-/// use lcmux::Timeouts;
+/// use lcmux::Config;
 /// use std::time::Duration;
 ///
-/// let mut timeouts = Timeouts::default();
-/// timeouts.idle = Some(Duration::from_secs(60));
-/// timeouts.keep_alive = Some(Duration::from_secs(20));
+/// let config = Config::default()
+///     .idle(Duration::from_secs(60))
+///     .keep_alive(Duration::from_secs(20));
+/// assert_eq!(config.timeouts.grace, Some(Duration::from_secs(30)));
 /// ```
 #[derive(Clone, Copy, Debug, PartialEq, Eq)]
 #[non_exhaustive]
 pub struct Timeouts {
     /// The longest time without an inbound byte, and the longest time in which the transport accepts none of the
-    /// pending bytes. The peer needs a [`Timeouts::keep_alive`] well below this timeout. `None` by default.
+    /// pending bytes. The peer needs a [`Timeouts::keep_alive`] well below this timeout. A peer that has ended its
+    /// stream is not silent. `None` by default.
     pub idle: Option<Duration>,
     /// The time without a write after which a frame is sent that changes nothing, as
     /// [`Driver::keep_alive`](crate::Driver::keep_alive) does. A time below a millisecond counts as one. `None` by

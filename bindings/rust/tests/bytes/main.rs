@@ -1,23 +1,27 @@
 //! Streams of bytes over a channel: sessions whose bytes are moved by hand, and sessions over sockets.
 #[allow(dead_code)]
+#[path = "../common/call.rs"]
+mod call;
+#[allow(dead_code)]
 #[path = "../common/hand.rs"]
 mod hand;
 #[path = "../common/watchdog.rs"]
 mod watchdog;
 
+mod copies;
 mod reading;
 mod threads;
 mod writing;
 
-use lcmux::{Config, MuxConfig, Version, CHANNELS};
+use lcmux::{Config, Version, CHANNELS};
 use std::error::Error;
 use std::io;
 
 /// Version Two, with rings of this size.
-fn rings(capacity: u32) -> MuxConfig {
+fn rings(capacity: u32) -> Config {
     let mut config = Config::new([capacity; CHANNELS], 16);
     config.version = Version::Two;
-    config.into()
+    config
 }
 
 const PREFACE: &[u8] = b"LCM\x02";

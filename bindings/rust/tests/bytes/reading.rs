@@ -12,7 +12,7 @@ use std::time::Duration;
 fn started(frames: &[&[u8]]) -> (Hand, Reader) {
     let mut hand = Hand::started(rings(64));
     hand.feed(&[PREFACE, &frames.concat()].concat());
-    let reader = hand.mux.receiver(Data).unwrap().into_reader();
+    let reader = hand.mux.take_receiver(Data).unwrap().into_reader();
     (hand, reader)
 }
 
@@ -243,7 +243,7 @@ fn a_reader_that_is_dropped_within_a_message_ends_its_channel_alone() {
     assert_eq!(read(&mut reader, 2).unwrap(), b"he");
     drop(reader);
     assert_eq!(hand.written(), NO_MORE);
-    let mut other = hand.mux.receiver(lcmux::Channel::Overlap).unwrap();
+    let mut other = hand.mux.take_receiver(lcmux::Channel::Overlap).unwrap();
     hand.feed(&[&frame(1, 2, 2)[..], b"hi"].concat());
     assert_eq!(other.try_recv(), Ok(Some(b"hi".to_vec())));
 }

@@ -17,7 +17,7 @@ struct Side {
     socket: UnixStream,
 }
 
-fn pair(config: MuxConfig) -> [Side; 2] {
+fn pair(config: Config) -> [Side; 2] {
     let (here, there) = UnixStream::pair().unwrap();
     [here, there].map(|stream| {
         let (mux, driver) = Mux::new(config).unwrap();
@@ -29,8 +29,8 @@ fn pair(config: MuxConfig) -> [Side; 2] {
 
 /// The writer of the first side, and the reader of the second.
 fn one_way(sides: &mut [Side; 2]) -> (Writer, Reader) {
-    let sender = sides[0].mux.sender(Data).unwrap();
-    let receiver = sides[1].mux.receiver(Data).unwrap();
+    let sender = sides[0].mux.take_sender(Data).unwrap();
+    let receiver = sides[1].mux.take_receiver(Data).unwrap();
     (sender.into_writer(), receiver.into_reader())
 }
 
@@ -71,7 +71,7 @@ fn a_stream_passes_rings_of_any_size() {
         reader.read_to_end(&mut read).unwrap();
         assert!(read == wanted, "ring {ring}");
         write.join().unwrap();
-        let stats = sides[1].mux.stats(Data);
+        let stats = sides[1].mux.stats()[Data];
         assert!(stats.most_buffered <= ring.into());
         close(sides);
     }
@@ -92,7 +92,7 @@ fn a_buffered_writer_sends_few_messages() {
         .lines()
         .map(|line| line.unwrap().parse::<u32>().unwrap());
     assert!(lines.eq(0..10_000));
-    let messages = sides[1].mux.stats(Data).messages_received;
+    let messages = sides[1].mux.stats()[Data].messages_received;
     assert!(messages <= 10, "{messages} messages");
     close(sides);
 }
@@ -103,8 +103,8 @@ fn one_direction_goes_on_after_the_other_has_ended() {
     let _watchdog = Watchdog::new("a half-close");
     let mut sides = pair(rings(16));
     let (mut writer, mut reader) = one_way(&mut sides);
-    let mut back = sides[1].mux.sender(Data).unwrap().into_writer();
-    let mut answer = sides[0].mux.receiver(Data).unwrap().into_reader();
+    let mut back = sides[1].mux.take_sender(Data).unwrap().into_writer();
+    let mut answer = sides[0].mux.take_receiver(Data).unwrap().into_reader();
     let echo = thread::spawn(move || {
         let mut read = String::new();
         reader.read_to_string(&mut read).unwrap();
@@ -164,8 +164,12 @@ fn a_reader_that_is_not_read_blocks_no_other_channel() {
         writer.write_all(&[2; 64]).unwrap();
     });
     is_full.recv().unwrap();
-    let mut writer = sides[0].mux.sender(Capability).unwrap().into_writer();
-    let mut other = sides[1].mux.receiver(Capability).unwrap().into_reader();
+    let mut writer = sides[0].mux.take_sender(Capability).unwrap().into_writer();
+    let mut other = sides[1]
+        .mux
+        .take_receiver(Capability)
+        .unwrap()
+        .into_reader();
     let write = thread::spawn(move || writer.write_all(&bytes(10_000)).unwrap());
     let mut read = Vec::new();
     other.read_to_end(&mut read).unwrap();

@@ -15,7 +15,7 @@ fn started(guarantees: u32) -> (Hand, Writer) {
     if guarantees > 0 {
         hand.feed(&issue(guarantees));
     }
-    let writer = hand.mux.sender(Data).unwrap().into_writer();
+    let writer = hand.mux.take_sender(Data).unwrap().into_writer();
     (hand, writer)
 }
 
@@ -73,7 +73,7 @@ fn a_message_has_at_most_the_largest_length() {
         assert_eq!(writer.largest_message(), set);
     }
     let (mut mux, _driver) = Mux::new(Config::new([64; CHANNELS], 16)).unwrap();
-    let mut writer = mux.sender(Data).unwrap().into_writer();
+    let mut writer = mux.take_sender(Data).unwrap().into_writer();
     writer.set_largest_message(usize::MAX);
     assert_eq!(writer.largest_message(), 65_535);
 }
@@ -114,7 +114,7 @@ fn a_dropped_write_sent_nothing_and_the_next_offers_other_bytes() {
 fn a_write_that_waits_for_bytes_of_the_queue_keeps_its_length() {
     let (mut hand, mut writer) = started(20_000);
     hand.feed(&frame(2, 2, 60_000));
-    let overlap = hand.mux.sender(Overlap).unwrap();
+    let overlap = hand.mux.take_sender(Overlap).unwrap();
     overlap.try_send(&[1; 60_000]).unwrap();
     let count = pending(&mut writer, &[2; 20_000]);
     assert_eq!(count.count(), 0);
@@ -130,7 +130,7 @@ fn a_write_that_waited_for_a_guarantee_waits_for_the_bytes_of_its_new_length() {
     let (mut hand, mut writer) = started(0);
     let count = pending(&mut writer, &[2; 20_000]);
     hand.feed(&frame(2, 2, 60_000));
-    let overlap = hand.mux.sender(Overlap).unwrap();
+    let overlap = hand.mux.take_sender(Overlap).unwrap();
     overlap.try_send(&[1; 60_000]).unwrap();
     hand.feed(&issue(20_000));
     assert_eq!(count.count(), 1);
@@ -179,7 +179,7 @@ fn a_writer_is_finished_more_than_once() {
         let mut config = Config::new([64; CHANNELS], 16);
         config.version = version;
         let mut hand = Hand::started(config);
-        let mut writer = hand.mux.sender(Data).unwrap().into_writer();
+        let mut writer = hand.mux.take_sender(Data).unwrap().into_writer();
         writer.finish().unwrap();
         let end = hand.written();
         assert!(matches!(end.len(), 1 | 9), "{end:?}");

@@ -1,68 +1,11 @@
-//! A session whose bytes the test moves by hand, and wakers that count their wake-ups.
+//! A session whose bytes the test moves by hand.
+pub use crate::call::{Call, Count};
 use crate::watchdog::Watchdog;
-use lcmux::{Channel, Closed, Config, Driver, Mux, MuxConfig, Peer, PollRead, PollWrite, CHANNELS};
-use std::future::Future;
+use lcmux::{Channel, Closed, Config, Driver, Mux, Peer, PollRead, PollWrite, CHANNELS};
 use std::io;
-use std::pin::Pin;
-use std::sync::atomic::{AtomicUsize, Ordering};
 use std::sync::Arc;
-use std::task::{Context, Poll, Wake, Waker};
+use std::task::{Context, Poll, Waker};
 use std::thread;
-
-#[derive(Default)]
-pub struct Count(AtomicUsize);
-
-impl Wake for Count {
-    fn wake(self: Arc<Count>) {
-        self.0.fetch_add(1, Ordering::Relaxed);
-    }
-}
-
-impl Count {
-    pub fn count(&self) -> usize {
-        self.0.load(Ordering::Relaxed)
-    }
-}
-
-/// A call that is polled by hand and counts its wake-ups.
-pub struct Call<'a, T> {
-    future: Pin<Box<dyn Future<Output = T> + 'a>>,
-    count: Arc<Count>,
-}
-
-impl<'a, T> Call<'a, T> {
-    pub fn new(future: impl Future<Output = T> + 'a) -> Call<'a, T> {
-        Call {
-            future: Box::pin(future),
-            count: Arc::default(),
-        }
-    }
-
-    /// A call that was polled and is pending.
-    pub fn waiting(future: impl Future<Output = T> + 'a) -> Call<'a, T> {
-        let mut call = Call::new(future);
-        assert!(call.poll().is_none());
-        call
-    }
-
-    pub fn poll(&mut self) -> Option<T> {
-        let waker = Waker::from(Arc::clone(&self.count));
-        match self.future.as_mut().poll(&mut Context::from_waker(&waker)) {
-            Poll::Ready(output) => Some(output),
-            Poll::Pending => None,
-        }
-    }
-
-    pub fn wakes(&self) -> usize {
-        self.count.count()
-    }
-
-    /// Polls a call that was woken once, and that is ready then.
-    pub fn woken(mut self) -> T {
-        assert_eq!(self.wakes(), 1);
-        self.poll().expect("it was woken")
-    }
-}
 
 /// The reason of a session with rings of 64 bytes, all of them issued, whose peer sent these bytes.
 pub fn broken(bytes: &[u8]) -> Closed {
@@ -118,7 +61,7 @@ pub struct Hand {
 }
 
 impl Hand {
-    pub fn new(config: impl Into<MuxConfig>) -> Hand {
+    pub fn new(config: Config) -> Hand {
         let (mux, driver) = Mux::new(config).unwrap();
         let test = thread::current().name().unwrap_or("a test").to_string();
         Hand {
@@ -130,7 +73,7 @@ impl Hand {
     }
 
     /// A session whose first issues are written.
-    pub fn started(config: impl Into<MuxConfig>) -> Hand {
+    pub fn started(config: Config) -> Hand {
         let mut hand = Hand::new(config);
         hand.written();
         hand

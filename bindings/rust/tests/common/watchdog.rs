@@ -3,8 +3,8 @@ use std::sync::mpsc::{self, RecvTimeoutError, Sender};
 use std::time::Duration;
 use std::{process, thread};
 
-/// Ends the whole program, with a message, if it is neither fed nor dropped within a minute: a call that hangs does
-/// not hang the gate.
+/// Ends the whole program, with a message, if it is neither fed nor dropped within five minutes: a call that hangs does
+/// not hang the gate, and a busy machine does not look like such a call.
 pub struct Watchdog {
     alive: Sender<()>,
 }
@@ -14,7 +14,7 @@ impl Watchdog {
         let (alive, watched) = mpsc::channel::<()>();
         let what = what.into();
         thread::spawn(move || loop {
-            match watched.recv_timeout(Duration::from_secs(60)) {
+            match watched.recv_timeout(Duration::from_secs(300)) {
                 Ok(()) => {}
                 Err(RecvTimeoutError::Disconnected) => return,
                 Err(RecvTimeoutError::Timeout) => {
@@ -27,7 +27,7 @@ impl Watchdog {
         Watchdog { alive }
     }
 
-    /// Restarts the minute after progress: for tests that a busy machine may slow down.
+    /// Restarts the time after progress: for tests that a busy machine may slow down.
     #[allow(dead_code)]
     pub fn feed(&self) {
         let _ = self.alive.send(());

@@ -18,9 +18,7 @@ mod watchdog;
 use choices::{shrunk, Choices};
 use ends::{recv_all, send_all, End, LONGEST, RING};
 use executor::{Executor, Yield};
-use lcmux::{
-    Channel, Closed, Config, Driver, IssuePolicy, Mux, MuxConfig, PleadPolicy, Version, CHANNELS,
-};
+use lcmux::{Channel, Closed, Config, Driver, IssuePolicy, Mux, PleadPolicy, Version, CHANNELS};
 use model::Model;
 use std::any::Any;
 use std::cell::RefCell;
@@ -81,10 +79,10 @@ fn chosen_policy(choices: &mut Choices) -> IssuePolicy {
     }
 }
 
-fn chosen_config(choices: &mut Choices, issue: [IssuePolicy; CHANNELS]) -> MuxConfig {
+fn chosen_config(choices: &mut Choices, issue: [IssuePolicy; CHANNELS]) -> Config {
     let slots = Mux::LEAST_SLOTS + choices.below(4);
-    let mut config = MuxConfig::from(Config::new([RING; CHANNELS], slots));
-    config.peer.version = match choices.below(2) {
+    let mut config = Config::new([RING; CHANNELS], slots);
+    config.version = match choices.below(2) {
         0 => Version::One,
         _ => Version::Two,
     };
@@ -138,8 +136,8 @@ impl World {
                 end(self.policies[side][channel]),
                 end(self.policies[1 - side][channel]),
             );
-            let sender = Rc::new(mux.sender(kind).unwrap());
-            let receiver = mux.receiver(kind).unwrap();
+            let sender = Rc::new(mux.take_sender(kind).unwrap());
+            let receiver = mux.take_receiver(kind).unwrap();
             let count = self.below(most);
             let send = send_all(there, sender, count);
             self.executor.spawn(format!("send {side} {channel}"), send);

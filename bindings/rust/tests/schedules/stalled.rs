@@ -1,12 +1,12 @@
-//! Callers of up to six channels stop polling their calls: for a while, forever, leaked, dropped late or holding
-//! permits. Meanwhile the seventh channel carries its messages, over streams of any capacity, and also if nothing
-//! else wakes a driver.
+//! Callers of up to six channels stop polling their calls: for a while, forever, leaked, dropped late, timed out or
+//! holding permits. Meanwhile the seventh channel carries its messages, over streams of any capacity, and also if
+//! nothing else wakes a driver: in half of the schedules the peer issues once and is silent from then on.
 use crate::choices::Choices;
 use crate::executor::{Executor, Yield};
 use crate::watchdog::Watchdog;
 use crate::wire::{wire_of, Shape};
 use crate::{asked, Shared, POLLS};
-use lcmux::{Channel, Config, Driver, Mux, Receiver, Sender, Version, CHANNELS};
+use lcmux::{Channel, Config, Driver, IssuePolicy, Mux, Receiver, Sender, Version, CHANNELS};
 use std::cell::{Cell, RefCell};
 use std::future::{poll_fn, Future};
 use std::mem;
@@ -29,14 +29,18 @@ enum Stop {
     DroppedLate,
     /// The same, but then it is polled again.
     Slow,
+    /// A call is polled whenever it is woken, up to a deadline. After that it is dropped, or kept and not polled, as
+    /// `timeout(&mut send)` keeps it.
+    TimedOut,
 }
 
-const STOPS: [Stop; 5] = [
+const STOPS: [Stop; 6] = [
     Stop::Waiting,
     Stop::Woken,
     Stop::WithPermits,
     Stop::DroppedLate,
     Stop::Slow,
+    Stop::TimedOut,
 ];
 
 #[derive(Default)]
@@ -74,6 +78,11 @@ impl Sending {
     fn is_woken(&self) -> bool {
         self.woken.0.load(Relaxed)
     }
+
+    // Polls the call if it was woken. Returns whether it waits still.
+    fn waits_on(&mut self) -> bool {
+        !self.woken.0.swap(false, Relaxed) || self.waits()
+    }
 }
 
 /// One caller, and the source of its choices.
@@ -109,24 +118,38 @@ impl Caller {
             let mut call = Sending::new(&self.sender, self.len());
             if !call.waits() {
                 Yield(false).await;
-                continue;
-            }
-            match stop {
-                Stop::Waiting if self.below(4) == 0 => return mem::forget(call),
-                Stop::Woken => {
-                    for _ in 0..200 {
-                        if call.is_woken() {
-                            return mem::forget(call);
-                        }
-                        Yield(false).await;
-                    }
-                }
-                _ => self.rest(300).await,
-            }
-            if let Stop::Slow | Stop::Waiting = stop {
+            } else if self.forgets(stop, &mut call).await {
+                return mem::forget(call);
+            } else if let Stop::Slow | Stop::Waiting = stop {
                 poll_fn(|cx| call.future.as_mut().poll(cx)).await;
             }
         }
+    }
+
+    // Whether the caller never comes back to its waiting call.
+    async fn forgets(&self, stop: Stop, call: &mut Sending) -> bool {
+        match stop {
+            Stop::Waiting if self.below(4) == 0 => return true,
+            Stop::Woken => {
+                for _ in 0..200 {
+                    if call.is_woken() {
+                        return true;
+                    }
+                    Yield(false).await;
+                }
+            }
+            Stop::TimedOut => {
+                for _ in 0..self.below(100) {
+                    if !call.waits_on() {
+                        return false;
+                    }
+                    Yield(false).await;
+                }
+                return self.below(2) == 0;
+            }
+            _ => self.rest(300).await,
+        }
+        false
     }
 
     // Occasionally the session is idle before the next message.
@@ -154,20 +177,47 @@ async fn take_in_order(mut receiver: Receiver, count: u32, is_over: Rc<Cell<bool
     is_over.set(true);
 }
 
-/// The sizes of a session: its ring, its longest message, and how many messages the seventh channel carries.
-fn sizes(choices: &mut Choices) -> (u32, u32, u32) {
-    match choices.below(8) {
-        0 => (200_000, 65_536, 40),
-        1..=3 => (300, 40, 300),
-        _ => (24, 12, 1_000),
-    }
+/// The sizes of a session, and what its peer does.
+struct Setting {
+    ring: u32,
+    longest: u32,
+    /// How many messages the seventh channel carries.
+    count: u32,
+    shape: Shape,
+    /// Whether the peer issues once, as much as its rings have, and then sends nothing.
+    is_silent: bool,
 }
 
-fn shape(choices: &mut Choices, longest: u32) -> Shape {
-    let narrow = [1, 5, 64, 200][choices.below(4) as usize];
-    Shape {
-        capacity: if longest > 100 { 10_000 } else { narrow },
-        is_steady: choices.below(2) == 0,
+impl Setting {
+    fn new(choices: &mut Choices) -> Setting {
+        let (ring, longest, count) = match choices.below(8) {
+            0 => (200_000, 65_536, 40),
+            1..=3 => (300, 40, 300),
+            _ => (24, 12, 1_000),
+        };
+        let is_silent = choices.below(2) == 0;
+        let narrow = [1, 5, 64, 200][choices.below(4) as usize];
+        Setting {
+            ring: if is_silent { ring.max(16_384) } else { ring },
+            longest,
+            count,
+            shape: Shape {
+                capacity: if longest > 100 { 10_000 } else { narrow },
+                is_steady: is_silent || choices.below(2) == 0,
+            },
+            is_silent,
+        }
+    }
+
+    // The configurations of this side and of the peer.
+    fn configs(&self, choices: &mut Choices) -> [Config; 2] {
+        let slots = Mux::LEAST_SLOTS + choices.below(12);
+        let here = Config::new([self.ring; CHANNELS], slots).version(Version::Two);
+        let mut there = here;
+        if self.is_silent {
+            there.issue = [IssuePolicy::ByCaller; CHANNELS];
+        }
+        [here, there]
     }
 }
 
@@ -176,38 +226,45 @@ fn spawn_driver(executor: &mut Executor, driver: Driver, wires: (crate::Reader, 
     executor.spawn("driver".into(), run);
 }
 
+/// Two sessions with their drivers.
+fn sides(executor: &mut Executor, choices: &Shared<Choices>, setting: &Setting) -> [Mux; 2] {
+    let configs = setting.configs(&mut choices.borrow_mut());
+    let [(to_there, from_here), (to_here, from_there)] =
+        [(); 2].map(|()| wire_of(choices, setting.shape));
+    let [(here, driver), (there, other)] = configs.map(|config| Mux::new(config).unwrap());
+    spawn_driver(executor, driver, (from_there, to_there));
+    spawn_driver(executor, other, (from_here, to_here));
+    [here, there]
+}
+
 fn play(seed: u64) {
     let mut choices = Choices::of_seed(seed);
-    let (ring, longest, count) = sizes(&mut choices);
-    let shape = shape(&mut choices, longest);
+    let setting = Setting::new(&mut choices);
     let carrying = choices.below(CHANNELS as u32) as usize;
-    let mut config = Config::new([ring; CHANNELS], Mux::LEAST_SLOTS + choices.below(12));
-    config.version = Version::Two;
     let choices = Rc::new(RefCell::new(choices));
-    let [(to_there, from_here), (to_here, from_there)] = [(); 2].map(|()| wire_of(&choices, shape));
-    let (mut here, driver) = Mux::new(config).unwrap();
-    let (mut there, other) = Mux::new(config).unwrap();
     let mut executor = Executor::new(&choices);
-    spawn_driver(&mut executor, driver, (from_there, to_there));
-    spawn_driver(&mut executor, other, (from_here, to_here));
+    let [mut here, mut there] = sides(&mut executor, &choices, &setting);
     let is_over = Rc::new(Cell::new(false));
     let mut kept = Vec::new();
     for (at, channel) in Channel::ALL.into_iter().enumerate() {
-        let sender = Rc::new(here.sender(channel).unwrap());
+        let sender = Rc::new(here.take_sender(channel).unwrap());
         kept.push(Rc::clone(&sender));
-        let receiver = there.receiver(channel).unwrap();
+        let receiver = there.take_receiver(channel).unwrap();
+        if setting.is_silent {
+            receiver.issue(setting.ring).unwrap();
+        }
         let caller = || Caller {
             choices: Rc::clone(&choices),
             sender: Rc::clone(&sender),
-            longest,
+            longest: setting.longest,
         };
         if at == carrying {
-            executor.spawn(format!("send {at}"), caller().send_all(count));
-            let take = take_in_order(receiver, count, Rc::clone(&is_over));
+            executor.spawn(format!("send {at}"), caller().send_all(setting.count));
+            let take = take_in_order(receiver, setting.count, Rc::clone(&is_over));
             executor.spawn(format!("take {at}"), take);
             continue;
         }
-        let stop = STOPS[caller().below(5) as usize];
+        let stop = STOPS[caller().below(STOPS.len() as u32) as usize];
         for _ in 0..1 + caller().below(2) {
             executor.spawn(format!("{stop:?} {at}"), caller().stop(stop));
         }

@@ -1,44 +1,49 @@
-//! The table "What each call answers" of `docs/reference/sessions.md`, cell by cell.
-use crate::hand::{broken, Call, Hand};
+//! The table "What each call answers" of `docs/reference/sessions.md`, cell by cell, also for each way into a state.
+use crate::hand::{broken, Feed, Hand};
+use crate::page::{column, ended, panic_with, Begun};
+use crate::page::{ABORTED, CLOSED, ENDED, FAILED, OPEN, OVER};
 use crate::*;
 use lcmux::Channel::{Capability, Data, Overlap};
-use lcmux::{CallError, Closed, Permit, Receiver, SendError};
-use std::fs;
+use lcmux::{Closed, PollSender, Receiver, Sender};
 use std::io::{self, ErrorKind};
-use std::path::Path;
 use std::task::{Context, Poll};
-use std::time::Duration;
-
-fn page() -> String {
-    let folder = Path::new(env!("CARGO_MANIFEST_DIR"));
-    let packed = fs::read_to_string(folder.join("tests/sessions.md"));
-    packed.unwrap_or_else(|_| {
-        fs::read_to_string(folder.join("../../docs/reference/sessions.md")).unwrap()
-    })
-}
-
-/// The rows after this heading, without the line below the first one.
-fn table(heading: &str) -> Vec<Vec<String>> {
-    let page = page();
-    let (_, behind) = page.split_once(&format!("### {heading}\n")).unwrap();
-    let rows = behind.lines().skip_while(|line| !line.starts_with('|'));
-    let rows = rows.take_while(|line| line.starts_with('|'));
-    let cells = |row: &str| {
-        row.trim_matches('|')
-            .split('|')
-            .map(|it| it.trim().into())
-            .collect()
-    };
-    rows.filter(|row| !row.starts_with("|---"))
-        .map(cells)
-        .collect()
-}
 
 /// How a session gets into a state, the state's column, and the reason that its cells mention.
 struct State {
     column: &'static str,
-    enter: fn(&mut Hand),
+    enter: fn(&mut Side),
     reason: Closed,
+}
+
+/// A session, the handles of a channel that no call uses, and whether its driver is still there.
+struct Side {
+    hand: Hand,
+    spare: Option<(Sender, Receiver)>,
+    has_driver: bool,
+}
+
+impl Side {
+    fn sender(&mut self) -> Sender {
+        self.spare.take().unwrap().0
+    }
+
+    fn drop_driver(&mut self) {
+        self.hand.driver = Mux::new(by_caller(64)).unwrap().1;
+        self.has_driver = false;
+    }
+
+    // What the driver answers: an error of either half, or success once both are done.
+    fn driven(&mut self) -> Option<Result<(), Closed>> {
+        let (read, written) = (
+            self.hand.read(&mut Feed(b"")),
+            self.hand.write(&mut Vec::new()),
+        );
+        match (read, written) {
+            (Poll::Ready(Err(closed)), _) | (_, Poll::Ready(Err(closed))) => Some(Err(closed)),
+            (Poll::Ready(Ok(())), Poll::Ready(Ok(()))) => Some(Ok(())),
+            _ => None,
+        }
+    }
 }
 
 struct Reset;
@@ -49,189 +54,116 @@ impl lcmux::PollRead for Reset {
     }
 }
 
-const OPEN: &str = "open";
-const CLOSED: &str = "after this side's `close`";
-const ENDED: &str = "the peer closed in order";
-const OVER: &str = "over, in order";
-const FAILED: &str = "cut, transport, protocol error";
-const ABORTED: &str = "aborted";
-
 // Overlap is finished first.
-fn end_in_order(hand: &mut Hand) {
+fn end_in_order(side: &mut Side) {
     let others = frames("finish 0, finish 1, finish 3, finish 4, finish 5, finish 6");
-    assert!(hand.read(&mut &others[..]).is_ready());
+    assert!(side.hand.read(&mut &others[..]).is_ready());
 }
 
-fn close_and(hand: &mut Hand, enter: fn(&mut Hand)) {
-    hand.mux.close();
-    assert!(hand.write(&mut Vec::new()).is_ready());
-    enter(hand);
+fn close(side: &mut Side) {
+    side.hand.mux.close();
+    assert!(side.hand.write(&mut Vec::new()).is_ready());
 }
 
-fn cut(hand: &mut Hand) {
-    assert!(hand.read(&mut &[][..]).is_ready());
+fn cut(side: &mut Side) {
+    assert!(side.hand.read(&mut &[][..]).is_ready());
 }
 
-fn reset(hand: &mut Hand) {
-    assert!(hand.read(&mut Reset).is_ready());
+fn reset(side: &mut Side) {
+    assert!(side.hand.read(&mut Reset).is_ready());
 }
 
-fn cut_a_frame(hand: &mut Hand) {
-    assert!(hand.read(&mut &b"\x11\0"[..]).is_ready());
+fn cut_a_frame(side: &mut Side) {
+    assert!(side.hand.read(&mut &b"\x11\0"[..]).is_ready());
 }
 
-fn break_a_rule(hand: &mut Hand) {
-    assert!(hand.read(&mut &frames("absolve 0 99")[..]).is_ready());
+fn break_a_rule(side: &mut Side) {
+    assert!(side.hand.read(&mut &frames("absolve 0 99")[..]).is_ready());
 }
 
-fn states() -> Vec<State> {
-    let reset_by_peer = || io::Error::from(ErrorKind::ConnectionReset).into();
-    let state = |column, enter, reason| State {
-        column,
+/// The states that a session reaches alike before and after its own close.
+fn failures() -> Vec<State> {
+    let failed = |enter, reason| State {
+        column: FAILED,
         enter,
         reason,
     };
+    let aborted = |enter| State {
+        column: ABORTED,
+        enter,
+        reason: Closed::Aborted,
+    };
+    let reset_by_peer = io::Error::from(ErrorKind::ConnectionReset).into();
     vec![
-        state(OPEN, |_| {}, Closed::Local),
-        state(CLOSED, |hand| hand.mux.close(), Closed::Local),
-        state(ENDED, end_in_order, Closed::Local),
-        state(OVER, |hand| close_and(hand, end_in_order), Closed::Local),
-        state(FAILED, cut, Closed::Cut),
-        state(FAILED, reset, reset_by_peer()),
-        state(FAILED, cut_a_frame, broken(b"\x11\0")),
-        state(FAILED, break_a_rule, broken(&frames("absolve 0 99"))),
-        state(FAILED, |hand| close_and(hand, cut), Closed::Cut),
-        state(FAILED, |hand| close_and(hand, reset), reset_by_peer()),
-        state(ABORTED, |hand| hand.mux.abort(), Closed::Aborted),
-        state(
-            ABORTED,
-            |hand| close_and(hand, |hand| hand.mux.abort()),
-            Closed::Aborted,
-        ),
+        failed(cut, Closed::Cut),
+        failed(reset, reset_by_peer),
+        failed(cut_a_frame, broken(b"\x11\0")),
+        failed(break_a_rule, broken(&frames("absolve 0 99"))),
+        aborted(|side| side.hand.mux.abort()),
+        aborted(Side::drop_driver),
+        aborted(|side| panic_with(side.sender())),
+        aborted(|side| panic_with(side.sender().clone())),
+        aborted(|side| panic_with(PollSender::new(side.sender()))),
+        aborted(|side| panic_with(side.spare.take().unwrap().1)),
     ]
 }
 
-/// Whether it is this reason, wherever in the stream.
-fn is_of(closed: &Closed, reason: &Closed) -> bool {
-    closed == reason || closed.stop().is_some() && closed.stop() == reason.stop()
+fn orderly() -> [State; 4] {
+    let state = |column, enter| State {
+        column,
+        enter,
+        reason: Closed::Local,
+    };
+    [
+        state(OPEN, |_| {}),
+        state(CLOSED, |side| side.hand.mux.close()),
+        state(ENDED, end_in_order),
+        state(OVER, |side| {
+            close(side);
+            end_in_order(side);
+        }),
+    ]
 }
 
-/// The cell of the page for a result.
-fn word(closed: &Closed, reason: &Closed) -> String {
-    match closed {
-        Closed::Local => "closed here".into(),
-        Closed::Remote => "closed by the peer".into(),
-        Closed::Aborted => "aborted".into(),
-        closed if is_of(closed, reason) => "reason".into(),
-        closed => format!("{closed:?}"),
-    }
-}
-
-fn sent(answer: Option<Result<(), SendError>>, reason: &Closed) -> String {
-    match answer {
-        None | Some(Ok(())) => "-".into(),
-        Some(Err(SendError::Closed(closed))) => word(&closed, reason),
-        Some(Err(error)) => format!("{error:?}"),
-    }
-}
-
-fn received(answer: Option<Result<Option<Vec<u8>>, Closed>>, reason: &Closed) -> String {
-    match answer {
-        None => "-".into(),
-        Some(Ok(Some(_))) => "the message".into(),
-        Some(Ok(None)) => "the end".into(),
-        Some(Err(closed)) => word(&closed, reason),
-    }
-}
-
-fn allowed(answer: Result<(), CallError>, reason: &Closed) -> String {
-    match answer {
-        Ok(()) | Err(CallError::Refused(_)) => "-".into(),
-        Err(CallError::Closed(closed)) => word(&closed, reason),
-        Err(error) => format!("{error:?}"),
-    }
-}
-
-/// A cell may describe two results: with guarantees and without.
-fn both(with: String, without: String) -> String {
-    match with == without {
-        true => with,
-        false => format!("{with} where guarantees are held, else {without}"),
-    }
-}
-
-/// The results of all calls in a state, in the order of the page's rows.
-fn answers(state: &State) -> Vec<String> {
-    let reason = &state.reason;
+fn assert_answers(state: &State, is_closed_before: bool) {
     let mut hand = Hand::started(by_caller(64));
-    let senders: Vec<_> = ALL.map(|it| hand.mux.sender(it).unwrap()).into();
-    let receivers = ALL.map(|it| hand.mux.receiver(it).unwrap());
+    let mut senders = Vec::from(ALL.map(|it| hand.mux.take_sender(it).unwrap()));
+    let mut receivers = Vec::from(ALL.map(|it| hand.mux.take_receiver(it).unwrap()));
     receivers.iter().for_each(|it| it.issue(9).unwrap());
     hand.written();
     // Data has a message, Overlap is finished and empty, Capability is neither.
     hand.feed(&greeted("issue 0 9, issue 1 9, send 1 6869, finish 2"));
-    let [_, mut full, mut finished, mut empty, ..] = receivers;
-    let permit: Permit = senders[0].try_reserve(1).unwrap();
-    let mut waiting = Call::waiting(senders[2].send(b"poor"));
-    let mut waiting_to_reserve = Call::waiting(senders[3].reserve(9));
-    (state.enter)(&mut hand);
-
-    let rich = sent(Call::new(senders[1].send(b"rich")).poll(), reason);
-    let poor = sent(Call::new(senders[4].send(b"poor")).poll(), reason);
-    assert_eq!(sent(waiting.poll(), reason), poor, "{}", state.column);
-    let reserved = waiting_to_reserve.poll().map(|it| it.map(drop));
-    assert_eq!(sent(reserved, reason), poor, "{}", state.column);
-    let controls = [
-        allowed(senders[1].limit(8), reason),
-        allowed(senders[1].absolve(1), reason),
-        allowed(senders[1].honour().map(drop), reason),
-        allowed(empty.issue(1), reason),
-        allowed(empty.plead(0), reason),
-        allowed(empty.limit(1), reason),
-        allowed(senders[5].finish(), reason),
-    ];
-    assert!(controls.iter().all(|it| *it == controls[0]), "{controls:?}");
-    let closed = match hand.mux.closed_timeout(Duration::ZERO) {
-        None => "-".into(),
-        Some(Ok(())) => "success".into(),
-        Some(Err(closed)) => word(&closed, reason),
+    let spare = senders.pop().zip(receivers.pop());
+    let begun = Begun::new(&senders);
+    let mut side = Side {
+        hand,
+        spare,
+        has_driver: true,
     };
-    let [control, ..] = controls;
-    let recv = |receiver: &mut Receiver| received(Call::new(receiver.recv()).poll(), reason);
-    let received = [&mut full, &mut finished, &mut empty].map(recv);
-    let [full, finished, empty] = received;
-    vec![
-        both(rich, poor),
-        sent(Some(permit.send(b"p")), reason),
-        full,
-        finished,
-        empty,
-        control,
-        closed,
-    ]
+    if is_closed_before {
+        close(&mut side);
+    }
+    (state.enter)(&mut side);
+    let what = format!("{}, {}, {is_closed_before}", state.column, state.reason);
+    let answers = begun.answers(&side.hand.mux, &mut receivers, &state.reason);
+    let cells = column(state.column);
+    for ((call, cell), answer) in cells.iter().zip(&answers) {
+        assert_eq!(answer, cell, "{call} in {what}");
+    }
+    if side.has_driver {
+        let driven = ended(side.driven(), &state.reason);
+        assert_eq!(Some(&driven), answers.last(), "the driver in {what}");
+    }
 }
 
 #[test]
 fn each_call_answers_as_the_page_says() {
-    let rows = table("What each call answers");
-    let (head, rows) = rows.split_first().unwrap();
-    assert_eq!(rows.len(), 7);
-    let mut columns = 0;
-    for state in states() {
-        let column = head.iter().position(|it| it == state.column).unwrap();
-        columns |= 1 << column;
-        for (row, answer) in rows.iter().zip(answers(&state)) {
-            // A call that returns at once is ready at its first poll. An empty cell cannot be reached; it is the end
-            // of its channel.
-            let cell = row[column].split(", at once").next().unwrap();
-            let cell = if cell.is_empty() { "the end" } else { cell };
-            assert_eq!(
-                answer, cell,
-                "{} in {}, {}",
-                row[0], state.column, state.reason
-            );
-        }
+    for state in orderly() {
+        assert_answers(&state, false);
     }
-    assert_eq!(columns, 0b111_1110, "all columns");
+    for state in failures() {
+        assert_answers(&state, false);
+        assert_answers(&state, true);
+    }
     assert_eq!([Data, Overlap, Capability].map(|it| it.number()), [1, 2, 3]);
 }

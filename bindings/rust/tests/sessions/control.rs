@@ -21,7 +21,7 @@ fn a_session_begins_with_the_room_of_all_rings() {
 
 #[test]
 fn bounds_of_a_session() {
-    let made = |config: MuxConfig| Mux::new(config).err();
+    let made = |config: Config| Mux::new(config).err();
     assert_eq!(Mux::LEAST_SLOTS, 14);
     assert_eq!(made(narrow()), None);
     assert_eq!(
@@ -45,7 +45,7 @@ fn bounds_of_a_session() {
             capacity,
         });
         assert_eq!(made(config), fault, "{mark}");
-        let receiver = Hand::new(narrow()).mux.receiver(Capability).unwrap();
+        let receiver = Hand::new(narrow()).mux.take_receiver(Capability).unwrap();
         let set = receiver.set_issue_policy(IssuePolicy::LowWater(mark));
         assert_eq!(set.err(), fault, "{mark}");
     }
@@ -71,7 +71,7 @@ fn each_policy_issues_what_was_taken() {
         let mut config = with_slots(32);
         config.issue[1] = policy;
         let mut hand = Hand::new(config);
-        let mut receiver = hand.mux.receiver(Data).unwrap();
+        let mut receiver = hand.mux.take_receiver(Data).unwrap();
         if policy == IssuePolicy::ByCaller {
             receiver.issue(64).unwrap();
         }
@@ -91,7 +91,7 @@ fn each_policy_issues_what_was_taken() {
 #[test]
 fn a_lent_message_is_room_once_it_is_dropped() {
     let mut hand = Hand::started(narrow());
-    let mut receiver = hand.mux.receiver(Data).unwrap();
+    let mut receiver = hand.mux.take_receiver(Data).unwrap();
     hand.feed(&greeted("send 1 6869, send 1 77, absolve 1 3"));
     assert_eq!(hand.written(), frames("issue 1 3"));
     for (body, issue) in [(&b"hi"[..], "issue 1 2"), (b"w", "issue 1 1")] {
@@ -112,9 +112,9 @@ fn a_lent_message_is_room_once_it_is_dropped() {
 fn what_finds_no_slot_is_joined_and_goes_before_messages() {
     let mut hand = Hand::started(by_caller(14));
     hand.feed(&greeted("issue 1 64"));
-    let sender = hand.mux.sender(Data).unwrap();
+    let sender = hand.mux.take_sender(Data).unwrap();
     let receivers: Vec<_> = ALL
-        .map(|channel| hand.mux.receiver(channel).unwrap())
+        .map(|channel| hand.mux.take_receiver(channel).unwrap())
         .into();
     sender.try_send(b"a").unwrap();
     let full = TrySendError::Full(Needs::Slot);
@@ -149,9 +149,9 @@ fn what_finds_no_slot_is_joined_and_goes_before_messages() {
 fn a_later_issue_is_counted_onto_a_plead_that_waits() {
     let mut hand = Hand::started(by_caller(14));
     hand.feed(&greeted("issue 1 1"));
-    let sender = hand.mux.sender(Data).unwrap();
+    let sender = hand.mux.take_sender(Data).unwrap();
     sender.try_send(b"a").unwrap();
-    let mut receivers = ALL.map(|channel| hand.mux.receiver(channel).unwrap());
+    let mut receivers = ALL.map(|channel| hand.mux.take_receiver(channel).unwrap());
     let issue = |receiver: &lcmux::Receiver| receiver.issue(20).unwrap();
     receivers.iter().for_each(issue);
     receivers[1].plead(10).unwrap();
@@ -165,9 +165,9 @@ fn a_later_issue_is_counted_onto_a_plead_that_waits() {
 fn what_is_owed_is_counted_in_refusals() {
     let mut hand = Hand::started(by_caller(14));
     hand.feed(&greeted("issue 1 10"));
-    let sender = hand.mux.sender(Data).unwrap();
+    let sender = hand.mux.take_sender(Data).unwrap();
     let receivers: Vec<_> = ALL
-        .map(|channel| hand.mux.receiver(channel).unwrap())
+        .map(|channel| hand.mux.take_receiver(channel).unwrap())
         .into();
     sender.try_send(b"a").unwrap();
     receivers
@@ -218,7 +218,7 @@ fn what_is_owed_is_counted_in_refusals() {
 #[test]
 fn a_plead_is_honoured_at_once_or_by_the_caller() {
     let mut hand = Hand::started(by_caller(16));
-    let sender = hand.mux.sender(Data).unwrap();
+    let sender = hand.mux.take_sender(Data).unwrap();
     hand.feed(&greeted("issue 1 20, plead 1 15"));
     assert_eq!(hand.written(), frames("absolve 1 5"));
     assert_eq!(
@@ -229,7 +229,7 @@ fn a_plead_is_honoured_at_once_or_by_the_caller() {
     let mut config = by_caller(16);
     config.plead[1] = PleadPolicy::ByCaller;
     let mut hand = Hand::started(config);
-    let sender = hand.mux.sender(Data).unwrap();
+    let sender = hand.mux.take_sender(Data).unwrap();
     hand.feed(&greeted("issue 1 20, plead 1 15"));
     assert_eq!(hand.written(), []);
     assert_eq!((sender.held(), sender.pleaded()), (20, Some(15)));
@@ -244,7 +244,7 @@ fn a_plead_is_honoured_at_once_or_by_the_caller() {
 #[test]
 fn a_policy_issues_no_more_than_was_pleaded_for() {
     let mut hand = Hand::started(with_slots(16));
-    let receiver = hand.mux.receiver(Data).unwrap();
+    let receiver = hand.mux.take_receiver(Data).unwrap();
     receiver.plead(10).unwrap();
     assert_eq!(hand.written(), frames("plead 1 10"));
     hand.feed(&greeted("absolve 1 54"));
@@ -260,7 +260,7 @@ fn a_policy_issues_no_more_than_was_pleaded_for() {
 #[test]
 fn a_policy_issues_no_more_than_a_limit_leaves() {
     let mut hand = Hand::started(with_slots(16));
-    let mut receiver = hand.mux.receiver(Data).unwrap();
+    let mut receiver = hand.mux.take_receiver(Data).unwrap();
     receiver.limit(3).unwrap();
     hand.feed(&greeted("send 1 68656c6c6f"));
     assert_eq!(receiver.try_recv(), Ok(Some(b"hello".to_vec())));
@@ -275,8 +275,8 @@ fn a_policy_issues_no_more_than_a_limit_leaves() {
 fn a_limit_that_waits_for_a_slot_bounds_what_its_policy_issues() {
     let mut hand = Hand::started(narrow());
     hand.feed(&greeted("issue 1 5, send 0 6869686968"));
-    let sender = hand.mux.sender(Data).unwrap();
-    let mut receivers = ALL.map(|channel| hand.mux.receiver(channel).unwrap());
+    let sender = hand.mux.take_sender(Data).unwrap();
+    let mut receivers = ALL.map(|channel| hand.mux.take_receiver(channel).unwrap());
     sender.try_send(b"x").unwrap();
     receivers[1..].iter().for_each(|it| it.plead(9).unwrap());
     sender.limit(3).unwrap();
@@ -292,9 +292,9 @@ fn a_limit_that_waits_for_a_slot_bounds_what_its_policy_issues() {
 fn channels_owe_in_turn() {
     let mut hand = Hand::started(by_caller(16));
     hand.feed(&greeted("issue 1 400000"));
-    let sender = hand.mux.sender(Data).unwrap();
+    let sender = hand.mux.take_sender(Data).unwrap();
     let receivers: Vec<_> = ALL
-        .map(|channel| hand.mux.receiver(channel).unwrap())
+        .map(|channel| hand.mux.take_receiver(channel).unwrap())
         .into();
     let permits = [(); 3].map(|()| sender.try_reserve(131_072).unwrap());
     for permit in permits {

@@ -147,9 +147,10 @@ fn each_reason_is_told_to_every_call_that_waits_and_to_later_ones() {
     for (end, reason, said) in ends() {
         assert_eq!(reason.to_string(), said);
         let mut hand = Hand::new(narrow());
-        let sender = hand.mux.sender(Data).unwrap();
-        let other = hand.mux.sender(Overlap).unwrap();
-        let mut receivers = [Data, Capability].map(|channel| hand.mux.receiver(channel).unwrap());
+        let sender = hand.mux.take_sender(Data).unwrap();
+        let other = hand.mux.take_sender(Overlap).unwrap();
+        let mut receivers =
+            [Data, Capability].map(|channel| hand.mux.take_receiver(channel).unwrap());
         let sends = [(&sender, b"a"), (&sender, b"b"), (&other, b"c")]
             .map(|(sender, body)| Call::waiting(sender.send(body)));
         let reserve = Call::waiting(other.reserve(3));
@@ -298,9 +299,9 @@ impl PollWrite for Log {
 #[test]
 fn a_close_writes_out_what_was_accepted_and_reads_on() {
     let mut hand = Hand::started(narrow());
-    let sender = hand.mux.sender(Data).unwrap();
-    let receiver = hand.mux.receiver(Overlap).unwrap();
-    let mut other = hand.mux.receiver(Capability).unwrap();
+    let sender = hand.mux.take_sender(Data).unwrap();
+    let receiver = hand.mux.take_receiver(Overlap).unwrap();
+    let mut other = hand.mux.take_receiver(Capability).unwrap();
     hand.feed(&greeted("issue 1 64"));
     sender.try_send(b"last").unwrap();
     receiver.limit(7).unwrap();
@@ -334,7 +335,7 @@ fn a_close_writes_out_what_was_accepted_and_reads_on() {
 #[test]
 fn no_room_is_issued_after_a_close() {
     let mut hand = Hand::started(narrow());
-    let mut receiver = hand.mux.receiver(Data).unwrap();
+    let mut receiver = hand.mux.take_receiver(Data).unwrap();
     hand.feed(&greeted("send 1 6869, send 1 77"));
     hand.mux.close();
     assert_eq!(receiver.try_recv(), Ok(Some(b"hi".to_vec())));
@@ -350,7 +351,7 @@ fn no_room_is_issued_after_a_close() {
 #[test]
 fn the_writing_half_flushes_before_it_sleeps_and_is_woken_once() {
     let mut hand = Hand::new(by_caller(16));
-    let receiver = hand.mux.receiver(Data).unwrap();
+    let receiver = hand.mux.take_receiver(Data).unwrap();
     let mut log = Log::default();
     for (issues, calls) in [(0, &["w4", "f"][..]), (2, &["w10", "f"]), (0, &[])] {
         let wakes = hand.write_wakes();
@@ -366,10 +367,10 @@ fn the_writing_half_flushes_before_it_sleeps_and_is_woken_once() {
 fn a_stream_that_ends_in_order_ends_what_waits_for_it_alone() {
     let mut hand = Hand::started(narrow());
     let (sender, other) = (
-        hand.mux.sender(Data).unwrap(),
-        hand.mux.sender(Overlap).unwrap(),
+        hand.mux.take_sender(Data).unwrap(),
+        hand.mux.take_sender(Overlap).unwrap(),
     );
-    let mut receiver = hand.mux.receiver(Data).unwrap();
+    let mut receiver = hand.mux.take_receiver(Data).unwrap();
     hand.feed(&greeted("issue 1 3, issue 2 1, send 1 6869"));
     hand.feed(&finishes());
     let poor = Call::waiting(sender.send(b"four"));
@@ -397,7 +398,7 @@ fn what_arrived_is_there_after_a_failure_and_not_after_an_abort() {
     let fault = broken(&[&greeted("send 1 6869")[..], b"\xff"].concat());
     for (bytes, last) in [("ff", fault), ("", Closed::Aborted)] {
         let mut hand = Hand::started(narrow());
-        let mut receiver = hand.mux.receiver(Data).unwrap();
+        let mut receiver = hand.mux.take_receiver(Data).unwrap();
         hand.feed(&greeted("send 1 6869"));
         match bytes {
             "" => hand.mux.abort(),
@@ -418,15 +419,15 @@ fn an_end_that_is_dropped_is_told() {
         (Version::Two, "finish 1", "limit-receiving 2 0"),
     ] {
         let mut config = by_caller(16);
-        config.peer.version = version;
+        config.version = version;
         let mut hand = Hand::started(config);
-        drop(hand.mux.sender(Data));
+        drop(hand.mux.take_sender(Data));
         assert_eq!(hand.written(), frames(sender));
-        drop(hand.mux.receiver(Overlap));
+        drop(hand.mux.take_receiver(Overlap));
         assert_eq!(hand.written(), frames(receiver));
 
         // A finish is sent only once.
-        let finished = hand.mux.sender(Capability).unwrap();
+        let finished = hand.mux.take_sender(Capability).unwrap();
         finished.finish().unwrap();
         assert_eq!(hand.written(), frames(&sender.replace(" 1", " 3")));
         let refused = finished.try_send(b"x");
@@ -444,7 +445,7 @@ fn an_end_that_is_dropped_is_told() {
 #[test]
 fn a_receiver_that_is_dropped_issues_nothing_more() {
     let mut hand = Hand::started(narrow());
-    drop(hand.mux.receiver(Data));
+    drop(hand.mux.take_receiver(Data));
     assert_eq!(hand.written(), frames("limit-receiving 1 0"));
     hand.feed(&greeted("send 1 6869, absolve 1 5"));
     assert_eq!(hand.written(), []);
@@ -457,10 +458,10 @@ fn the_last_end_that_is_dropped_closes_the_session() {
         mut driver,
         ..
     } = Hand::started(narrow());
-    let sender = mux.sender(Data).unwrap();
-    assert!(mux.sender(Data).is_none());
-    let receiver = mux.receiver(Data).unwrap();
-    assert!(mux.receiver(Data).is_none());
+    let sender = mux.take_sender(Data).unwrap();
+    assert!(mux.take_sender(Data).is_none());
+    let receiver = mux.take_receiver(Data).unwrap();
+    assert!(mux.take_receiver(Data).is_none());
     drop(mux);
     let mut log = Log::default();
     let mut write = |log: &mut Log| {
@@ -489,15 +490,15 @@ fn panicking<T: Send + 'static>(held: T) {
 fn an_end_that_a_panic_drops_aborts_the_session() {
     for which in 0..3 {
         let mut hand = Hand::started(narrow());
-        let other = hand.mux.sender(Overlap).unwrap();
+        let other = hand.mux.take_sender(Overlap).unwrap();
         let waits = Call::waiting(other.send(b"hello"));
-        let mut receiver = hand.mux.receiver(Capability).unwrap();
+        let mut receiver = hand.mux.take_receiver(Capability).unwrap();
         match which {
-            0 => panicking(hand.mux.sender(Data)),
-            1 => panicking(hand.mux.receiver(Data)),
+            0 => panicking(hand.mux.take_sender(Data)),
+            1 => panicking(hand.mux.take_receiver(Data)),
             _ => {
                 // No other handle is left in it that could abort instead.
-                let ends = |it| (hand.mux.sender(it), hand.mux.receiver(it));
+                let ends = |it| (hand.mux.take_sender(it), hand.mux.take_receiver(it));
                 let _ends = ALL.map(ends);
                 panicking(hand.mux)
             }
@@ -512,7 +513,7 @@ fn an_end_that_a_panic_drops_aborts_the_session() {
 fn a_call_that_a_panic_drops_is_given_back() {
     let mut hand = Hand::started(narrow());
     hand.feed(&greeted("issue 1 5"));
-    let sender = hand.mux.sender(Data).unwrap();
+    let sender = hand.mux.take_sender(Data).unwrap();
     let panicked = panic::catch_unwind(AssertUnwindSafe(|| {
         let _permit = sender.try_reserve(5).unwrap();
         let _call = Call::waiting(sender.send(b"hello"));
@@ -544,8 +545,8 @@ impl Wake for Panicking {
 #[test]
 fn a_waker_that_panics_keeps_no_other_asleep() {
     let mut hand = Hand::started(narrow());
-    let mut first = hand.mux.receiver(Data).unwrap();
-    let mut second = hand.mux.receiver(Overlap).unwrap();
+    let mut first = hand.mux.take_receiver(Data).unwrap();
+    let mut second = hand.mux.take_receiver(Overlap).unwrap();
     let waker = Waker::from(Arc::new(Panicking));
     assert!(first
         .poll_recv(&mut Context::from_waker(&waker))
@@ -561,9 +562,9 @@ fn a_waker_that_panics_keeps_no_other_asleep() {
 fn a_panic_inside_of_a_call_aborts_the_session() {
     let _watchdog = watchdog::Watchdog::new("a panic inside of a call");
     let mut hand = Hand::started(narrow());
-    let sender = hand.mux.sender(Data).unwrap();
+    let sender = hand.mux.take_sender(Data).unwrap();
     let waits = Call::waiting(sender.send(b"hello"));
-    let mut receiver = hand.mux.receiver(Data).unwrap();
+    let mut receiver = hand.mux.take_receiver(Data).unwrap();
     let waker = bad_waker();
     let panicked = panic::catch_unwind(AssertUnwindSafe(|| {
         let _ = receiver.poll_recv(&mut Context::from_waker(&waker));
@@ -585,10 +586,10 @@ impl Wake for Holds {
 fn a_waker_that_is_dropped_may_call_the_session() {
     let _watchdog = watchdog::Watchdog::new("a waker that is dropped");
     let mut hand = Hand::started(narrow());
-    let mut receiver = hand.mux.receiver(Data).unwrap();
-    let sender = hand.mux.sender(Overlap).unwrap();
+    let mut receiver = hand.mux.take_receiver(Data).unwrap();
+    let sender = hand.mux.take_sender(Overlap).unwrap();
     let holding = |hand: &mut Hand, channel| {
-        Waker::from(Arc::new(Holds(Mutex::new(hand.mux.sender(channel)))))
+        Waker::from(Arc::new(Holds(Mutex::new(hand.mux.take_sender(channel)))))
     };
     // Another waker replaces it.
     let waker = holding(&mut hand, Data);

@@ -1,39 +1,16 @@
 //! How the peer's stream ends over TCP, before and after this side's close, and the result of each call on threads.
+use crate::end::End;
 use crate::watchdog::Watchdog;
 use crate::*;
 use lcmux::Channel::Data;
-use lcmux::{Closed, Driver, Fault, Mux, SendError, Stop, Violation};
-use std::io::{ErrorKind, Read, Write};
+use lcmux::{Closed, Driver, Mux, SendError};
+use std::io::{Read, Write};
 use std::net::{Shutdown, TcpListener, TcpStream};
 use std::thread::{self, JoinHandle};
 use std::time::Duration;
 
-/// The last operation of the peer.
-#[derive(Clone, Copy, Debug, PartialEq)]
-enum End {
-    InOrder,
-    BetweenFrames,
-    InAFrame,
-    Reset,
-    AgainstTheRules,
-}
-
-const ENDS: [End; 5] = [
-    End::InOrder,
-    End::BetweenFrames,
-    End::InAFrame,
-    End::Reset,
-    End::AgainstTheRules,
-];
-
 fn end(end: End, mut stream: TcpStream) -> JoinHandle<()> {
-    let last = match end {
-        End::InOrder => finishes(),
-        End::InAFrame => b"\x11\0".to_vec(),
-        End::AgainstTheRules => frames("absolve 0 255"),
-        End::BetweenFrames | End::Reset => Vec::new(),
-    };
-    stream.write_all(&last).unwrap();
+    stream.write_all(end.last_bytes()).unwrap();
     match end {
         // A connection that is dropped while bytes are unread is reset.
         End::Reset => drop(stream.peek(&mut [0]).unwrap()),
@@ -46,15 +23,15 @@ fn end(end: End, mut stream: TcpStream) -> JoinHandle<()> {
     )
 }
 
-fn is_reason(end: End, closed: &Closed) -> bool {
-    match end {
-        End::InOrder => false,
-        End::BetweenFrames => *closed == Closed::Cut,
-        End::InAFrame => closed.stop() == Some(Stop::Fault(Fault::Truncated)),
-        End::Reset => {
-            matches!(closed, Closed::Transport(error) if error.kind() == ErrorKind::ConnectionReset)
+// Waits until the other side has written these bytes, its last ones. They stay unread.
+fn until_written(last: &[u8], stream: &TcpStream) {
+    let mut bytes = [0; 4096];
+    loop {
+        let count = stream.peek(&mut bytes).unwrap();
+        if bytes[..count].ends_with(last) {
+            return;
         }
-        End::AgainstTheRules => closed.stop() == Some(Stop::Violated(Violation::AbsolvedTooMuch)),
+        thread::sleep(Duration::from_millis(1));
     }
 }
 
@@ -67,15 +44,24 @@ fn ends_as_it_is(last: End, is_closed_before: bool) {
     let listener = TcpListener::bind("127.0.0.1:0").unwrap();
     let here = TcpStream::connect(listener.local_addr().unwrap()).unwrap();
     let mut there = listener.accept().unwrap().0;
-    let (mut mux, driver) = Mux::new(narrow()).unwrap();
+    let (mut mux, driver) = Mux::new(by_caller(14)).unwrap();
     let run = run(driver, here);
-    let (sender, mut receiver) = (mux.sender(Data).unwrap(), mux.receiver(Data).unwrap());
+    let (sender, mut receiver) = (
+        mux.take_sender(Data).unwrap(),
+        mux.take_receiver(Data).unwrap(),
+    );
+    receiver.issue(2).unwrap();
     there.write_all(&greeted("send 1 6869")).unwrap();
     while receiver.book().buffered < 2 {
         thread::sleep(Duration::from_millis(1));
     }
-    if is_closed_before {
-        mux.close();
+    // A reset is told once: by a read, since nothing is written after it.
+    match is_closed_before {
+        true => {
+            mux.close();
+            until_written(&finishes(), &there);
+        }
+        false => until_written(&frames("issue 1 2"), &there),
     }
     let reading = end(last, there);
     assert_eq!(receiver.recv_blocking(), Ok(Some(b"hi".to_vec())), "{what}");
@@ -94,7 +80,7 @@ fn ends_as_it_is(last: End, is_closed_before: bool) {
         assert_eq!(run.join().unwrap(), Ok(()), "{what}");
     } else {
         let over = mux.closed_blocking().unwrap_err();
-        assert!(is_reason(last, &over), "{what}: {over:?}");
+        assert!(last.is_reason(&over), "{what}: {over:?}");
         assert_eq!(received, Err(over.clone()), "{what}");
         assert_eq!(sent, SendError::Closed(over.clone()), "{what}");
         assert_eq!(run.join().unwrap(), Err(over), "{what}");
@@ -105,7 +91,7 @@ fn ends_as_it_is(last: End, is_closed_before: bool) {
 #[test]
 fn each_end_of_the_peer_is_told_for_what_it_is() {
     let _watchdog = Watchdog::new("ends of the peer");
-    for last in ENDS {
+    for last in End::ALL {
         for is_closed_before in [false, true] {
             ends_as_it_is(last, is_closed_before);
         }

@@ -28,7 +28,7 @@ const TRACES: [(Version, &str, &str); 4] = [
     ),
 ];
 
-fn traced(config: MuxConfig) -> (Hand, Arc<Mutex<Vec<String>>>) {
+fn traced(config: Config) -> (Hand, Arc<Mutex<Vec<String>>>) {
     let mut hand = Hand::new(config);
     let seen = Arc::new(Mutex::new(Vec::new()));
     let log = Arc::clone(&seen);
@@ -48,6 +48,18 @@ fn told(direction: &str, frames: &str) -> Vec<String> {
         .split(", ")
         .map(|frame| format!("{direction} {frame}"))
         .collect()
+}
+
+#[test]
+fn each_of_several_hooks_is_told() {
+    let (mut hand, first) = traced(with_slots(16));
+    let count = Arc::new(Mutex::new(0));
+    let counted = Arc::clone(&count);
+    hand.driver
+        .on_frame(move |frame| *counted.lock().unwrap() += frame.size);
+    hand.feed(&greeted("issue 1 5, issue 1 6"));
+    assert_eq!(*first.lock().unwrap(), ["In Issue 5 5", "In Issue 6 5"]);
+    assert_eq!(*count.lock().unwrap(), 10);
 }
 
 #[test]
@@ -85,11 +97,11 @@ fn written_byte_by_byte(
 fn each_frame_that_goes_out_is_told_once_it_was_written() {
     for (version, bytes, frames) in TRACES {
         let mut config = by_caller(16);
-        config.peer.version = version;
+        config.version = version;
         let (mut hand, seen) = traced(config);
         let (sender, receiver) = (
-            hand.mux.sender(Data).unwrap(),
-            hand.mux.receiver(Data).unwrap(),
+            hand.mux.take_sender(Data).unwrap(),
+            hand.mux.take_receiver(Data).unwrap(),
         );
         let other = if version == Version::One {
             &[][..]

@@ -14,11 +14,11 @@ struct Kept {
 }
 
 impl Kept {
-    fn new(config: MuxConfig) -> Kept {
+    fn new(config: Config) -> Kept {
         let mut hand = Hand::started(config);
         Kept {
-            senders: ALL.map(|channel| hand.mux.sender(channel)).into(),
-            receivers: ALL.map(|channel| hand.mux.receiver(channel)).into(),
+            senders: ALL.map(|channel| hand.mux.take_sender(channel)).into(),
+            receivers: ALL.map(|channel| hand.mux.take_receiver(channel)).into(),
             hand,
         }
     }
@@ -99,7 +99,7 @@ fn a_keep_alive_says_the_first_limit_anew() {
         }
     }
     let mut one = narrow();
-    one.peer.version = Version::One;
+    one.version = Version::One;
     let wanted = frames("limit-receiving 0 4611686018427387904");
     assert_eq!(Kept::new(one).keep_alive(), wanted);
 }
@@ -209,7 +209,7 @@ fn move_all(pieces: &mut Pieces, mut poll: impl FnMut(&mut Pieces) -> Poll<Resul
 #[test]
 fn pieces_become_longer_while_they_are_filled() {
     let mut config = with_slots(20);
-    config.peer.capacities = [500_200; CHANNELS];
+    config.capacities = [500_200; CHANNELS];
     let [mut here, mut there] = [Hand::new(config), Hand::new(config)];
     let pieces = |from: &mut Hand, to: &mut Hand| {
         let (lengths, bytes) = (Vec::new(), Vec::new());
@@ -220,8 +220,8 @@ fn pieces_become_longer_while_they_are_filled() {
         (written, pieces.lengths)
     };
     assert_eq!(pieces(&mut there, &mut here), (vec![39], vec![4096]));
-    let sender = here.mux.sender(Data).unwrap();
-    let _receiver = there.mux.receiver(Data).unwrap();
+    let sender = here.mux.take_sender(Data).unwrap();
+    let _receiver = there.mux.take_receiver(Data).unwrap();
     sender.try_send(&[7; 100]).unwrap();
     assert_eq!(pieces(&mut here, &mut there), (vec![39 + 105], vec![4096]));
     sender.try_send(&[7; 500_000 - 5]).unwrap();

@@ -22,7 +22,7 @@ fn send(channel: u8, byte: u8, len: usize) -> Vec<u8> {
 #[test]
 fn a_lent_message_stays_as_it_is_until_it_is_given_back() {
     let mut hand = Hand::started(narrow());
-    let mut receiver = hand.mux.receiver(Data).unwrap();
+    let mut receiver = hand.mux.take_receiver(Data).unwrap();
     hand.feed(&[GREETING, &send(1, 1, 40), &send(1, 2, 20)].concat());
     assert_eq!(receiver.try_recv(), Ok(Some(vec![1; 40])));
     assert_eq!(hand.written(), frames("issue 1 40"));
@@ -45,7 +45,7 @@ fn a_lent_message_stays_as_it_is_until_it_is_given_back() {
 #[test]
 fn a_lent_message_is_read_when_the_session_is_over() {
     let mut hand = Hand::started(narrow());
-    let mut receiver = hand.mux.receiver(Data).unwrap();
+    let mut receiver = hand.mux.take_receiver(Data).unwrap();
     hand.feed(&greeted("send 1 6869, send 1 77"));
     let lent = receiver.recv_ref_blocking().unwrap().unwrap();
     hand.mux.abort();
@@ -60,7 +60,7 @@ fn a_lent_message_is_read_when_the_session_is_over() {
 fn a_lent_message_that_is_forgotten_is_taken_by_the_next_call() {
     for lends in [false, true] {
         let mut hand = Hand::started(narrow());
-        let mut receiver = hand.mux.receiver(Data).unwrap();
+        let mut receiver = hand.mux.take_receiver(Data).unwrap();
         hand.feed(&greeted("send 1 6869, send 1 77, finish 1"));
         mem::forget(receiver.recv_ref_blocking().unwrap());
         assert_eq!(receiver.book().buffered, 3);
@@ -79,7 +79,7 @@ fn a_lent_message_that_is_forgotten_is_taken_by_the_next_call() {
 #[test]
 fn a_polled_borrow_waits_and_is_woken_once() {
     let mut hand = Hand::started(narrow());
-    let mut receiver = hand.mux.receiver(Data).unwrap();
+    let mut receiver = hand.mux.take_receiver(Data).unwrap();
     let counts: [Arc<hand::Count>; 2] = Default::default();
     let wakers = counts.clone().map(std::task::Waker::from);
     for waker in &wakers {
@@ -109,7 +109,7 @@ fn a_polled_borrow_waits_and_is_woken_once() {
 #[test]
 fn the_129th_polled_borrow_in_a_row_yields_once() {
     let mut hand = Hand::started(with_slots(16));
-    let mut receiver = hand.mux.receiver(Data).unwrap();
+    let mut receiver = hand.mux.take_receiver(Data).unwrap();
     hand.feed(GREETING);
     let waker = std::task::Waker::from(Arc::new(hand::Count::default()));
     let mut cx = Context::from_waker(&waker);
@@ -126,7 +126,7 @@ fn the_129th_polled_borrow_in_a_row_yields_once() {
 fn a_borrow_that_does_not_wait_for_long_has_each_answer() {
     let zero = Duration::ZERO;
     let mut hand = Hand::started(narrow());
-    let mut receiver = hand.mux.receiver(Data).unwrap();
+    let mut receiver = hand.mux.take_receiver(Data).unwrap();
     let empty = |receiver: &mut Receiver| {
         let tried = receiver.try_recv_ref().err();
         assert_eq!(tried, Some(TryRecvError::Empty));
@@ -140,7 +140,7 @@ fn a_borrow_that_does_not_wait_for_long_has_each_answer() {
     assert_eq!(*receiver.recv_ref_timeout(zero).unwrap().unwrap(), *b"w");
     assert_eq!(hand.written(), frames("issue 1 1"));
     empty(&mut receiver);
-    let mut other = hand.mux.receiver(Overlap).unwrap();
+    let mut other = hand.mux.take_receiver(Overlap).unwrap();
     hand.feed(&frames("finish 1, send 2 6869"));
     assert!(receiver.try_recv_ref().unwrap().is_none());
     assert!(receiver.recv_ref_timeout(zero).unwrap().is_none());
@@ -156,7 +156,7 @@ fn a_borrow_that_does_not_wait_for_long_has_each_answer() {
 #[test]
 fn a_message_that_arrives_in_time_is_borrowed() {
     let mut hand = Hand::started(narrow());
-    let mut receiver = hand.mux.receiver(Data).unwrap();
+    let mut receiver = hand.mux.take_receiver(Data).unwrap();
     let second = Duration::from_secs(60);
     let receiving = thread::spawn(move || {
         receiver
@@ -173,9 +173,9 @@ fn a_message_that_arrives_in_time_is_borrowed() {
 #[test]
 fn long_messages_are_received_whole() {
     let mut config = with_slots(14);
-    config.peer.capacities = [20_000; CHANNELS];
+    config.capacities = [20_000; CHANNELS];
     let mut hand = Hand::started(config);
-    let mut receiver = hand.mux.receiver(Data).unwrap();
+    let mut receiver = hand.mux.take_receiver(Data).unwrap();
     hand.feed(GREETING);
     for len in [4_095, 4_096, 4_097, 9_000] {
         hand.feed(&send(1, 7, len));
@@ -242,7 +242,7 @@ fn with_messages() -> Hand {
 fn with_messages_of(mut hand: Hand) -> Hand {
     hand.written();
     hand.feed(&greeted("issue 1 9000, issue 2 9000"));
-    let (data, overlap) = (hand.mux.sender(Data), hand.mux.sender(Overlap));
+    let (data, overlap) = (hand.mux.take_sender(Data), hand.mux.take_sender(Overlap));
     data.as_ref().unwrap().try_send(b"short").unwrap();
     overlap.as_ref().unwrap().try_send(&[7; 5_000]).unwrap();
     data.as_ref().unwrap().try_send(&[8; 4_096]).unwrap();

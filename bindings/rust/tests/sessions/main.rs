@@ -1,19 +1,29 @@
 //! Sessions whose bytes are moved by hand, so that each step is observed, and sessions with drivers over sockets.
+#[path = "../common/call.rs"]
+mod call;
 #[path = "../common/mod.rs"]
 mod common;
+#[path = "../common/end.rs"]
+mod end;
 #[path = "../common/hand.rs"]
 mod hand;
+#[path = "../common/page.rs"]
+mod page;
 #[path = "../common/watchdog.rs"]
 mod watchdog;
 
 mod answers;
+mod config;
 mod control;
 mod endings;
 mod ends;
 mod errors;
+mod events;
+mod filled;
 mod frames;
 mod keeping;
 mod lent;
+mod oversized;
 mod owned;
 mod polled;
 mod races;
@@ -22,22 +32,23 @@ mod scheduling;
 mod sending;
 mod sockets;
 mod timeouts;
+mod vectored;
 
-use lcmux::{Channel, Config, IssuePolicy, Mux, MuxConfig, Version, CHANNELS};
+use lcmux::{Channel, Config, IssuePolicy, Mux, Version, CHANNELS};
 
 /// Version Two, with rings of 64 bytes and the fewest slots: one for the messages of each channel.
-fn narrow() -> MuxConfig {
+fn narrow() -> Config {
     with_slots(Mux::LEAST_SLOTS)
 }
 
-fn with_slots(slots: u32) -> MuxConfig {
+fn with_slots(slots: u32) -> Config {
     let mut config = Config::new([64; CHANNELS], slots);
     config.version = Version::Two;
-    config.into()
+    config
 }
 
 /// The same configuration, with issues by the caller alone.
-fn by_caller(slots: u32) -> MuxConfig {
+fn by_caller(slots: u32) -> Config {
     let mut config = with_slots(slots);
     config.issue = [IssuePolicy::ByCaller; CHANNELS];
     config
@@ -116,8 +127,8 @@ fn ends_go_to_threads_and_so_do_their_calls() {
     is_shared::<lcmux::OwnedPermit>();
     is_shared::<lcmux::Mux>();
     let (mut mux, driver) = lcmux::Mux::new(narrow()).unwrap();
-    let sender = mux.sender(Channel::Data).unwrap();
-    let mut receiver = mux.receiver(Channel::Data).unwrap();
+    let sender = mux.take_sender(Channel::Data).unwrap();
+    let mut receiver = mux.take_receiver(Channel::Data).unwrap();
     call_goes(&sender.send(b"hello"));
     call_goes(&sender.reserve(5));
     call_goes(&sender.reserve_owned(5));

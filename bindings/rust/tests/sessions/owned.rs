@@ -10,7 +10,7 @@ use std::thread;
 fn with_room() -> (Hand, Sender) {
     let mut hand = Hand::started(narrow());
     hand.feed(&room_on_all());
-    let sender = hand.mux.sender(Data).unwrap();
+    let sender = hand.mux.take_sender(Data).unwrap();
     (hand, sender)
 }
 
@@ -50,7 +50,7 @@ fn a_permit_that_becomes_an_owned_one_gives_nothing_back() {
     assert_eq!((permit.len(), sender.held()), (60, 4));
     let full = Err(TrySendError::Full(Needs::Slot));
     assert_eq!(sender.try_send(b"x"), full);
-    let other = hand.mux.sender(Overlap).unwrap();
+    let other = hand.mux.take_sender(Overlap).unwrap();
     other.try_send(b"y").unwrap();
     permit.send(&[7; 60]).unwrap();
     assert_eq!(sender.held(), 4);
@@ -61,7 +61,7 @@ fn a_permit_that_becomes_an_owned_one_gives_nothing_back() {
 #[test]
 fn a_reserve_waits_for_an_owned_permit_unless_it_is_dropped() {
     let mut hand = Hand::started(narrow());
-    let sender = hand.mux.sender(Data).unwrap();
+    let sender = hand.mux.take_sender(Data).unwrap();
     let full = TrySendError::Full(Needs::Guarantees(5));
     assert_eq!(sender.try_reserve_owned(5).err(), Some(full));
     let given_up = Call::waiting(sender.reserve_owned(5));
@@ -109,7 +109,7 @@ fn an_owned_permit_that_is_forgotten_keeps_its_channel_alone() {
     let (mut hand, sender) = with_room();
     mem::forget(sender.try_reserve_owned(3).unwrap());
     drop(sender);
-    let other = hand.mux.sender(Overlap).unwrap();
+    let other = hand.mux.take_sender(Overlap).unwrap();
     other.try_send(b"y").unwrap();
     assert_eq!(hand.written(), frames("send 2 79"));
 }

@@ -14,7 +14,7 @@ fn polled() -> (Hand, PollSender) {
 
 fn polled_with(slots: u32) -> (Hand, PollSender) {
     let mut hand = Hand::started(with_slots(slots));
-    let sender = hand.mux.sender(Data).unwrap();
+    let sender = hand.mux.take_sender(Data).unwrap();
     (hand, PollSender::new(sender))
 }
 

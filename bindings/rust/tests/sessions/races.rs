@@ -58,7 +58,7 @@ fn writing_half(hand: &mut Hand, call: impl FnOnce() + Send + 'static) -> Poll<R
 fn finished() -> Hand {
     let mut hand = Hand::started(narrow());
     for channel in ALL {
-        hand.mux.sender(channel).unwrap().finish().unwrap();
+        hand.mux.take_sender(channel).unwrap().finish().unwrap();
     }
     hand.written();
     hand
@@ -105,9 +105,9 @@ fn the_last_drop_just_before_the_writing_half_waits_closes() {
 fn a_send_just_before_the_writing_half_waits_is_written() {
     let mut hand = Hand::started(narrow());
     hand.feed(&room_on_all());
-    let sender = hand.mux.sender(Data).unwrap();
+    let sender = hand.mux.take_sender(Data).unwrap();
     let _kept = sender.clone();
     let polled = writing_half(&mut hand, move || sender.try_send(b"x").unwrap());
     assert_eq!(polled, Poll::Pending);
-    assert_eq!(hand.mux.stats(Data).messages_sent, 1);
+    assert_eq!(hand.mux.stats()[Data].messages_sent, 1);
 }

@@ -13,8 +13,8 @@ use std::time::{Duration, Instant};
 #[test]
 fn a_message_wakes_the_receiver_of_its_channel_alone() {
     let mut hand = Hand::started(narrow());
-    let mut receiver = hand.mux.receiver(Data).unwrap();
-    let mut other = hand.mux.receiver(Overlap).unwrap();
+    let mut receiver = hand.mux.take_receiver(Data).unwrap();
+    let mut other = hand.mux.take_receiver(Overlap).unwrap();
     let (call, other) = (Call::waiting(receiver.recv()), Call::waiting(other.recv()));
     hand.feed(&greeted("send 1 6869")[..10]);
     assert_eq!(call.wakes(), 0);
@@ -81,7 +81,7 @@ fn messages_of_any_length_come_however_they_are_cut() {
         let mut config = Config::new([1 << 22; CHANNELS], 16);
         config.version = Version::Two;
         let mut hand = Hand::started(config);
-        let mut receiver = hand.mux.receiver(Data).unwrap();
+        let mut receiver = hand.mux.take_receiver(Data).unwrap();
         let mut stream = GREETING.to_vec();
         for len in LENGTHS {
             stream.extend([&[0x11], &(len as u32).to_be_bytes()[..]].concat());
@@ -109,7 +109,7 @@ fn messages_of_any_length_come_however_they_are_cut() {
 #[test]
 fn a_message_that_a_dropped_call_was_woken_for_is_there() {
     let mut hand = Hand::started(narrow());
-    let mut receiver = hand.mux.receiver(Data).unwrap();
+    let mut receiver = hand.mux.take_receiver(Data).unwrap();
     for lent in [false, true] {
         match lent {
             true => drop(Call::waiting(receiver.recv_ref())),
@@ -134,7 +134,7 @@ fn a_message_that_a_dropped_call_was_woken_for_is_there() {
 fn a_channel_ends_behind_its_messages() {
     for end in ["finish 1", "limit-sending 1 0"] {
         let mut hand = Hand::started(narrow());
-        let mut receiver = hand.mux.receiver(Data).unwrap();
+        let mut receiver = hand.mux.take_receiver(Data).unwrap();
         let call = Call::waiting(receiver.recv());
         hand.feed(&greeted(&format!("send 1 6869, {end}")));
         assert_eq!(call.woken(), Ok(Some(b"hi".to_vec())));
@@ -143,7 +143,7 @@ fn a_channel_ends_behind_its_messages() {
         assert!(receiver.recv_ref_blocking().unwrap().is_none());
         assert_eq!(receiver.recv_timeout(Duration::ZERO), Ok(None));
 
-        let mut receiver = hand.mux.receiver(Overlap).unwrap();
+        let mut receiver = hand.mux.take_receiver(Overlap).unwrap();
         let call = Call::waiting(receiver.recv());
         hand.feed(&frames(&end.replace(" 1", " 2")));
         assert_eq!(call.woken(), Ok(None));
@@ -153,7 +153,7 @@ fn a_channel_ends_behind_its_messages() {
 #[test]
 fn a_wait_for_a_message_times_out() {
     let mut hand = Hand::started(narrow());
-    let mut receiver = hand.mux.receiver(Data).unwrap();
+    let mut receiver = hand.mux.take_receiver(Data).unwrap();
     let (start, timeout) = (Instant::now(), Duration::from_millis(20));
     let timed_out = Err(RecvTimeoutError::Timeout);
     assert_eq!(receiver.recv_timeout(timeout), timed_out);
@@ -165,7 +165,7 @@ fn a_wait_for_a_message_times_out() {
 
 /// A receiver that took three messages, the first of which woke the writing half, before that half runs.
 fn took_three(hand: &mut Hand) -> Receiver {
-    let mut receiver = hand.mux.receiver(Data).unwrap();
+    let mut receiver = hand.mux.take_receiver(Data).unwrap();
     hand.feed(&greeted("send 1 61, send 1 6262, send 1 636363"));
     assert_eq!((hand.written(), hand.written.count()), (vec![], 0));
     for len in 1..=3 {
@@ -213,23 +213,26 @@ fn room_that_is_freed_is_issued_before_all_else() {
 }
 
 #[test]
-fn the_most_that_was_buffered_is_kept() {
+fn what_is_buffered_is_shown_and_the_most_of_it_kept() {
     let mut hand = Hand::started(narrow());
-    let mut receiver = hand.mux.receiver(Data).unwrap();
+    let mut receiver = hand.mux.take_receiver(Data).unwrap();
     hand.feed(&greeted("send 1 616263"));
     hand.feed(&frames("send 1 6465"));
+    let buffered = |receiver: &Receiver| {
+        let stats = receiver.stats();
+        (stats.buffered, stats.most_buffered)
+    };
+    assert_eq!(buffered(&receiver), (5, 5));
     while receiver.try_recv().is_ok() {}
+    assert_eq!(buffered(&receiver), (0, 5));
     hand.feed(&frames("send 1 66"));
-    assert_eq!(
-        (receiver.stats().most_buffered, receiver.book().buffered),
-        (5, 1)
-    );
+    assert_eq!(buffered(&receiver), (1, 5));
 }
 
 #[test]
 fn a_long_message_is_lent_behind_a_short_one() {
     let mut hand = Hand::started(narrow());
-    let mut receiver = hand.mux.receiver(Data).unwrap();
+    let mut receiver = hand.mux.take_receiver(Data).unwrap();
     let long = "61".repeat(50);
     hand.feed(&greeted(&format!("send 1 6869, send 1 {long}, send 1 77")));
     for want in [&b"hi"[..], &[0x61; 50], b"w"] {
@@ -242,8 +245,8 @@ fn a_long_message_is_lent_behind_a_short_one() {
 #[test]
 fn the_last_task_that_polled_is_woken() {
     let mut hand = Hand::started(narrow());
-    let sender = hand.mux.sender(Data).unwrap();
-    let mut receiver = hand.mux.receiver(Data).unwrap();
+    let sender = hand.mux.take_sender(Data).unwrap();
+    let mut receiver = hand.mux.take_receiver(Data).unwrap();
     let counts = [(); 2].map(|()| Arc::new(Count::default()));
     let count = |at: usize| counts[at].count();
     let mut send = Box::pin(sender.send(b"hello"));
@@ -276,13 +279,13 @@ impl Drop for Sends {
 #[test]
 fn a_call_within_a_call_leaves_its_wake_ups_to_it() {
     let mut hand = Hand::started(narrow());
-    let mut receiver = hand.mux.receiver(Data).unwrap();
-    let waker = Waker::from(Arc::new(Sends(hand.mux.sender(Data).unwrap())));
+    let mut receiver = hand.mux.take_receiver(Data).unwrap();
+    let waker = Waker::from(Arc::new(Sends(hand.mux.take_sender(Data).unwrap())));
     let polled = receiver.poll_recv(&mut Context::from_waker(&waker));
     assert!(polled.is_pending());
     drop(waker); // the receiver keeps one clone until it gets another waker
     let recv = thread::spawn(move || receiver.recv_blocking());
-    while hand.mux.stats(Data).waited_for_guarantees.is_zero() {
+    while hand.mux.stats()[Data].waited_for_guarantees.is_zero() {
         thread::yield_now();
     }
     hand.feed(&greeted("send 1 6869"));
@@ -300,7 +303,7 @@ fn ran() -> u64 {
 #[test]
 fn a_thread_that_waits_sleeps() {
     let mut hand = Hand::started(narrow());
-    let mut receiver = hand.mux.receiver(Data).unwrap();
+    let mut receiver = hand.mux.take_receiver(Data).unwrap();
     let before = ran();
     // An early token, such as the wake-up of an earlier call, does not keep the thread awake.
     for _ in 0..2 {
@@ -309,7 +312,7 @@ fn a_thread_that_waits_sleeps() {
         hand.feed(&greeted("send 1 6869"));
         assert_eq!(receiver.try_recv(), Ok(Some(b"hi".to_vec())));
         hand = Hand::started(narrow());
-        receiver = hand.mux.receiver(Data).unwrap();
+        receiver = hand.mux.take_receiver(Data).unwrap();
     }
     assert!(
         ran() - before < 20,

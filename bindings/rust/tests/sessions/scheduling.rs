@@ -9,7 +9,8 @@ use std::thread;
 use std::time::Duration;
 
 fn senders(hand: &mut Hand) -> Vec<Sender> {
-    ALL.map(|channel| hand.mux.sender(channel).unwrap()).into()
+    ALL.map(|channel| hand.mux.take_sender(channel).unwrap())
+        .into()
 }
 
 // The channels of the written messages of one byte each; the transport accepts this many.
@@ -96,7 +97,7 @@ fn a_channel_without_guarantees_holds_up_no_other() {
 fn a_call_that_is_dropped_notifies_the_next() {
     let mut hand = Hand::started(narrow());
     hand.feed(&room_on_all());
-    let sender = hand.mux.sender(Data).unwrap();
+    let sender = hand.mux.take_sender(Data).unwrap();
     sender.try_send(b"x").unwrap();
     let mut calls: Vec<_> = (0..7).map(|_| Call::waiting(sender.send(b"x"))).collect();
     hand.written();
@@ -198,7 +199,7 @@ fn calls_of_threads_are_completed_while_they_sleep() {
 fn a_permit_is_given_to_a_thread_that_sleeps() {
     let mut hand = Hand::started(narrow());
     hand.feed(&room_on_all());
-    let sender = &hand.mux.sender(Data).unwrap();
+    let sender = &hand.mux.take_sender(Data).unwrap();
     sender.try_send(b"x").unwrap();
     thread::scope(|scope| {
         let (go, wait) = mpsc::channel();

@@ -35,10 +35,10 @@ fn tcp_pair() -> (TcpStream, TcpStream) {
     (here, listener.accept().unwrap().0)
 }
 
-fn big() -> MuxConfig {
+fn big() -> Config {
     let mut config = Config::new([4 << 20; CHANNELS], 64);
     config.version = Version::Two;
-    config.into()
+    config
 }
 
 fn send_many(sender: Sender, count: usize) -> JoinHandle<()> {
@@ -71,8 +71,8 @@ fn two_sides_swap_more_than_sockets_hold() {
     });
     let tasks = [0, 1].map(|side| {
         let mux = &mut sides[side].0;
-        let send = send_many(mux.sender(Data).unwrap(), 300);
-        (send, take_many(mux.receiver(Data).unwrap()))
+        let send = send_many(mux.take_sender(Data).unwrap(), 300);
+        (send, take_many(mux.take_receiver(Data).unwrap()))
     });
     for (send, take) in tasks {
         send.join().unwrap();
@@ -92,11 +92,11 @@ fn what_was_accepted_arrives_when_all_is_dropped() {
     let (here, there) = tcp_pair();
     let (mut mux, driver) = Mux::new(big()).unwrap();
     let one = tcp(here, driver);
-    let sender = mux.sender(Data).unwrap();
+    let sender = mux.take_sender(Data).unwrap();
     drop(mux);
     let (mut other, driver) = Mux::new(big()).unwrap();
     let other_run = tcp(there, driver);
-    let receiver = other.receiver(Data).unwrap();
+    let receiver = other.take_receiver(Data).unwrap();
     send_many(sender, 40).join().unwrap();
     assert_eq!(take_many(receiver).join().unwrap(), 40);
     drop(other);
@@ -106,8 +106,8 @@ fn what_was_accepted_arrives_when_all_is_dropped() {
 
 // Aborts a session whose driver blocks in a read, and whose calls wait.
 fn abort(mux: &mut Mux, run: Run) {
-    let sender = mux.sender(Data).unwrap();
-    let mut receiver = mux.receiver(Data).unwrap();
+    let sender = mux.take_sender(Data).unwrap();
+    let mut receiver = mux.take_receiver(Data).unwrap();
     let send = thread::spawn(move || sender.send_blocking(b"hello"));
     let recv = thread::spawn(move || receiver.recv_blocking());
     thread::sleep(Duration::from_millis(20));
@@ -154,7 +154,7 @@ where
     let room = (1u32 << 24).to_be_bytes(); // more than the slots and the sockets hold
     let issue = [GREETING, &[0x21], &room].concat();
     there.write_all(&issue).unwrap();
-    let sender = mux.sender(Data).unwrap();
+    let sender = mux.take_sender(Data).unwrap();
     while sender
         .send_timeout(&[7; 60_000], Duration::from_millis(300))
         .is_ok()
@@ -309,7 +309,7 @@ fn a_transport_that_panics_ends_the_session_and_the_driver() {
     let _watchdog = Watchdog::new("a transport that panics");
     for by_read in [true, false] {
         let (mut mux, driver) = Mux::new(narrow()).unwrap();
-        let mut receiver = mux.receiver(Data).unwrap();
+        let mut receiver = mux.take_receiver(Data).unwrap();
         let recv = thread::spawn(move || receiver.recv_blocking());
         let run = thread::spawn(move || match by_read {
             true => driver.run_blocking(Panics, Pipe::new(io::sink())),
@@ -333,7 +333,7 @@ fn a_connection_that_is_cut_is_told() {
         let (here, mut there) = tcp_pair();
         let (mut mux, driver) = Mux::new(by_caller(16)).unwrap();
         let run = tcp(here, driver);
-        let mut receiver = mux.receiver(Overlap).unwrap();
+        let mut receiver = mux.take_receiver(Overlap).unwrap();
         let recv = thread::spawn(move || receiver.recv_blocking());
         there.read_exact(&mut [0; 4]).unwrap();
         there.write_all(bytes).unwrap();
@@ -354,8 +354,8 @@ fn a_hook_may_wait_for_the_session() {
     let _watchdog = Watchdog::new("a hook");
     let (here, mut there) = tcp_pair();
     let (mut mux, mut driver) = Mux::new(by_caller(16)).unwrap();
-    let sender = mux.sender(Data).unwrap();
-    let receiver = mux.receiver(Overlap).unwrap();
+    let sender = mux.take_sender(Data).unwrap();
+    let receiver = mux.take_receiver(Overlap).unwrap();
     driver.on_frame(move |frame| {
         if frame.channel == Overlap {
             sender.send_blocking(b"hello").unwrap();

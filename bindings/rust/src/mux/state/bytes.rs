@@ -7,13 +7,8 @@ pub(super) const AMOUNT: usize = 5;
 pub(super) const BOUND: usize = 9;
 pub(super) const FINISH: usize = 1;
 
-/// The size of the preface, which precedes all frames.
-fn greeting(version: Version) -> usize {
-    match version {
-        Version::One => 0,
-        Version::Two => 4,
-    }
-}
+/// The size of the preface, which precedes all frames in version Two.
+const PREFACE: usize = 4;
 
 /// The size of a frame's header, which precedes its message.
 fn message_header(version: Version) -> usize {
@@ -44,13 +39,20 @@ impl Bytes {
             frames: VecDeque::new(),
             messages: 0,
         };
-        bytes.enter(greeting(version), 0);
+        if version == Version::Two {
+            bytes.enter(PREFACE, 0);
+        }
         bytes
     }
 
     /// Returns how many bytes of messages are pending.
     pub fn messages(&self) -> usize {
         self.messages
+    }
+
+    /// Returns whether no bytes are pending.
+    pub fn is_empty(&self) -> bool {
+        self.frames.is_empty()
     }
 
     /// Counts a message of `len` bytes that enters the queue.

@@ -4,7 +4,7 @@
 //! message.
 use super::bytes::{AMOUNT, BOUND, FINISH};
 use super::line::Place;
-use super::{at, bit, State};
+use super::{at, bit, channels as channels_of, State};
 use crate::{CallError, Channel, IssuePolicy, Peer, PleadPolicy, Refusal, Version};
 
 /// The largest bound of a limit, which is also the most guarantees that a channel ever has: it limits nothing.
@@ -349,6 +349,9 @@ impl State {
         for channel in channels {
             if self.flush_channel(channel).is_none() {
                 self.first = at(channel);
+                channels_of(self.owing_out).for_each(|it| {
+                    self.look_at_held(it);
+                });
                 return;
             }
         }
@@ -372,11 +375,20 @@ impl State {
 
     fn flush_sender(&mut self, channel: Channel) -> Option<()> {
         self.flush_absolve(channel)?;
+        let asked = self.look_at_held(channel);
         match self.out[channel].policy {
-            PleadPolicy::AtOnce if !self.closing => self.honour_by_policy(channel)?,
+            PleadPolicy::AtOnce if !self.closing => self.honour_by_policy(channel, asked)?,
             _ => self.honour_by_call(channel)?,
         }
         self.flush_line(channel)
+    }
+
+    // Records how many guarantees are held once frames arrived. Returns the target of the pending plead.
+    fn look_at_held(&mut self, channel: Channel) -> Option<u32> {
+        let book = self.peer.client(channel);
+        let most = &mut self.stats[channel].most_held;
+        *most = book.held.max(*most);
+        book.asked
     }
 
     // A free slot for a control frame, if there is one.
@@ -466,9 +478,9 @@ impl State {
 
     // Guarantees that permits own are absolved once the permits return them. Guarantees that are issued meanwhile are
     // kept.
-    fn honour_by_policy(&mut self, channel: Channel) -> Option<()> {
+    fn honour_by_policy(&mut self, channel: Channel, asked: Option<u32>) -> Option<()> {
         self.out[channel].owed.honour = false;
-        let Some(target) = self.asked(channel) else {
+        let Some(target) = asked else {
             return Some(());
         };
         let (above, held) = (self.above(channel, target), self.held(channel));

@@ -1,5 +1,5 @@
 //! The wait queue of a sender: the waiting calls, and the limits and the finish behind them, in their order.
-use crate::mux::stats::Lacking;
+use crate::mux::events::Lacking;
 use crate::sys::Lent;
 use crate::Refusal;
 use std::collections::VecDeque;
@@ -28,9 +28,10 @@ pub(super) struct Waiter {
 }
 
 /// The request of a blocked thread, which the holder of the lock completes on its behalf. The thread lends the
-/// message: the call leaves the wait queue before the thread proceeds.
+/// message, unless it was in several slices: the call leaves the wait queue before the thread proceeds.
 pub(super) enum Left {
     Message(Lent),
+    Joined(Vec<u8>),
     Permit,
 }
 
@@ -149,6 +150,7 @@ impl Line {
 
     /// Checks whether the entries before a call, or before a new call without a ticket, allow a message of `len`
     /// bytes.
+    #[inline]
     pub fn allows(&self, len: usize, ticket: Option<u64>) -> Result<(), Refusal> {
         if self.is_first(ticket) {
             return Ok(());

@@ -6,9 +6,10 @@
 //! the next pull of the writing half. So a future that is not polled delays its own channel alone.
 use super::line::{Left, Place, Waiter};
 use super::{bit, channels, keep, State, ALL};
-use crate::mux::stats::Lack;
+use crate::mux::events::{Event, Stall};
 use crate::sys::Lent;
-use crate::{Channel, Closed, Needs, Refusal, SendError, TrySendError, Version};
+use crate::{Channel, Closed, Needs, Refusal, SendError, TrySendError};
+use std::io::IoSlice;
 use std::mem;
 use std::task::{Poll, Waker};
 
@@ -19,11 +20,67 @@ const MOST_QUEUED: usize = 65_536;
 /// The longest message that is sent on behalf of a thread: copying a longer one takes as long as waking the thread.
 const MOST_LEFT: usize = 4_096;
 
+/// The bytes of a message.
+#[derive(Clone, Copy)]
+pub(crate) enum Body<'a> {
+    Whole(&'a [u8]),
+    Slices(&'a [IoSlice<'a>]),
+}
+
+impl Body<'_> {
+    #[inline]
+    pub fn len(self) -> usize {
+        match self {
+            Body::Whole(bytes) => bytes.len(),
+            Body::Slices(slices) => slices
+                .iter()
+                .fold(0, |len: usize, slice| len.saturating_add(slice.len())),
+        }
+    }
+
+    // Appends the bytes to an empty vector.
+    fn join(self, joined: &mut Vec<u8>) -> Result<(), Refusal> {
+        let exact = joined.try_reserve_exact(self.len());
+        exact.map_err(|_| Refusal::OutOfMemory)?;
+        match self {
+            Body::Whole(bytes) => joined.extend_from_slice(bytes),
+            Body::Slices(slices) => slices
+                .iter()
+                .for_each(|slice| joined.extend_from_slice(slice)),
+        }
+        Ok(())
+    }
+
+    // The message in a form that another thread can send.
+    fn left(self) -> Option<Left> {
+        match self {
+            Body::Whole(bytes) => Some(Left::Message(Lent::from(bytes))),
+            Body::Slices(_) => {
+                let mut joined = Vec::new();
+                self.join(&mut joined).ok()?;
+                Some(Left::Joined(joined))
+            }
+        }
+    }
+}
+
+impl<'a> From<&'a [u8]> for Body<'a> {
+    fn from(bytes: &'a [u8]) -> Body<'a> {
+        Body::Whole(bytes)
+    }
+}
+
+impl<'a> From<&'a [IoSlice<'a>]> for Body<'a> {
+    fn from(slices: &'a [IoSlice<'a>]) -> Body<'a> {
+        Body::Slices(slices)
+    }
+}
+
 /// The request of a call.
 #[derive(Clone, Copy)]
 pub(crate) enum Ask<'a> {
     /// To send a message.
-    Message(&'a [u8]),
+    Message(Body<'a>),
     /// To send the next part of a stream, whose length each poll decides anew.
     Part(&'a [u8]),
     /// To reserve a permit for a message of this length.
@@ -33,7 +90,8 @@ pub(crate) enum Ask<'a> {
 impl Ask<'_> {
     pub fn len(self) -> usize {
         match self {
-            Ask::Message(body) | Ask::Part(body) => body.len(),
+            Ask::Message(body) => body.len(),
+            Ask::Part(bytes) => bytes.len(),
             Ask::Permit(len) => len,
         }
     }
@@ -51,7 +109,7 @@ impl Ask<'_> {
         match self {
             Ask::Part(_) => None,
             Ask::Message(body) if body.len() > MOST_LEFT => None,
-            Ask::Message(body) => Some(Left::Message(Lent::from(body))),
+            Ask::Message(body) => body.left(),
             Ask::Permit(_) => Some(Left::Permit),
         }
     }
@@ -136,12 +194,10 @@ impl State {
         len.min(usize::try_from(may).unwrap_or(usize::MAX)).max(1)
     }
 
-    /// Returns the length of the longest message.
-    pub fn longest(&self) -> usize {
-        match self.version {
-            Version::One => 65_535,
-            Version::Two => 1_048_576,
-        }
+    /// Returns the length of the longest message of the channel.
+    pub fn longest(&self, channel: Channel) -> usize {
+        let stated = self.out[channel].longest;
+        stated.unwrap_or(self.version.longest_message()) as usize
     }
 
     // Records that the first call of the channel was polled or cancelled. Returns whether a shared slot was kept for
@@ -174,7 +230,7 @@ impl State {
         &mut self,
         channel: Channel,
         len: usize,
-        body: &[u8],
+        body: Body,
     ) -> Result<(), SendError> {
         self.slots.release(channel);
         let answer = self.put_reserved(channel, len, body);
@@ -183,14 +239,32 @@ impl State {
         answer
     }
 
+    /// Sends the first `count` bytes of filled memory with a permit for `len` bytes, which is used up whatever the result.
+    pub fn send_filled(
+        &mut self,
+        channel: Channel,
+        len: usize,
+        (memory, count): (Vec<u8>, usize),
+    ) -> Result<usize, SendError> {
+        let sent = match memory.get(..count) {
+            Some(message) => self.send_reserved(channel, len, message.into()),
+            None => {
+                self.give_back(channel, len);
+                Err(Refusal::NoGuarantee { held: len as u64 }.into())
+            }
+        };
+        self.keep_memory(memory);
+        sent.map(|()| count)
+    }
+
     // The message precedes a pending limit and counts towards it.
-    fn put_reserved(&mut self, channel: Channel, len: usize, body: &[u8]) -> Result<(), SendError> {
+    fn put_reserved(&mut self, channel: Channel, len: usize, body: Body) -> Result<(), SendError> {
         self.is_open()?;
         self.out[channel].line.allows(body.len(), None)?;
         if body.len() > len {
             return Err(Refusal::NoGuarantee { held: len as u64 }.into());
         }
-        self.put(channel, body)?;
+        self.put_body(channel, body)?;
         self.out[channel].line.went_before(body.len() as u64);
         Ok(())
     }
@@ -220,7 +294,8 @@ impl State {
             needs => return Err(TrySendError::Full(needs)),
         }
         match ask {
-            Ask::Message(body) | Ask::Part(body) => self.put(channel, body)?,
+            Ask::Message(body) => self.put_body(channel, body)?,
+            Ask::Part(bytes) => self.put(channel, bytes)?,
             Ask::Permit(len) => self.reserve(channel, len),
         }
         Ok(())
@@ -230,6 +305,37 @@ impl State {
         self.out[channel].reserved += len as u64;
         self.slots.hold(channel);
         self.went(channel);
+    }
+
+    #[inline]
+    fn put_body(&mut self, channel: Channel, body: Body) -> Result<(), SendError> {
+        match body {
+            Body::Whole(bytes) => self.put(channel, bytes),
+            Body::Slices([only]) => self.put(channel, only),
+            Body::Slices(_) => self.put_joined(channel, body),
+        }
+    }
+
+    // The peer takes a message as one slice, so slices are joined in a vector that later messages use again.
+    #[inline(never)]
+    fn put_joined(&mut self, channel: Channel, body: Body) -> Result<(), SendError> {
+        let mut joined = self.take_memory();
+        body.join(&mut joined)?;
+        let put = self.put(channel, &joined);
+        self.keep_memory(joined);
+        put
+    }
+
+    /// Takes the memory for a message that is filled without the lock.
+    pub fn take_memory(&mut self) -> Vec<u8> {
+        mem::take(&mut self.memory)
+    }
+
+    fn keep_memory(&mut self, mut memory: Vec<u8>) {
+        if memory.capacity() <= MOST_QUEUED {
+            memory.clear();
+            self.memory = memory;
+        }
     }
 
     fn put(&mut self, channel: Channel, body: &[u8]) -> Result<(), SendError> {
@@ -265,12 +371,52 @@ impl State {
         if needs == Needs::Never {
             return Err(self.never(channel, len));
         }
+        if let Some(longest) = self.out[channel].longest {
+            self.judge_longest(channel, len, longest)?;
+        }
         self.out[channel].line.allows(len, ticket)?;
         match needs {
             Needs::Guarantees(_) if self.in_ended => Err(Closed::Remote.into()),
-            Needs::Guarantees(more) => Ok(Needs::Guarantees(more + self.set_aside(channel))),
+            Needs::Guarantees(more) => {
+                Ok(self.guarantees(channel, len, more + self.set_aside(channel)))
+            }
             _ => Ok(self.needs_beside(channel, len)),
         }
+    }
+
+    // What the application stated of its longest message holds for this one, and for the peer's ring.
+    fn judge_longest(&self, channel: Channel, len: usize, longest: u32) -> Result<(), SendError> {
+        if len > longest as usize {
+            return Err(Refusal::BodyTooLong.into());
+        }
+        match self.stats[channel].most_held {
+            most @ 1.. if most < longest.into() => Err(SendError::RingTooSmall { longest, most }),
+            _ => Ok(()),
+        }
+    }
+
+    fn guarantees(&self, channel: Channel, len: usize, more: u64) -> Needs {
+        match self.is_oversized(channel, len) {
+            true => Needs::MoreThanEverIssued {
+                more,
+                most: self.stats[channel].most_held,
+            },
+            false => Needs::Guarantees(more),
+        }
+    }
+
+    // Whether the message is longer than all that the peer ever issued at once.
+    pub(super) fn is_oversized(&self, channel: Channel, len: usize) -> bool {
+        let most = self.stats[channel].most_held;
+        most > 0 && len as u64 > most
+    }
+
+    /// Returns the length of the message for which the first call waits, if it is longer than all that the peer ever
+    /// issued at once.
+    pub fn oversized(&self, channel: Channel) -> Option<u64> {
+        let first = self.out[channel].line.first()?;
+        let is_oversized = self.is_oversized(channel, first.least);
+        is_oversized.then_some(first.least as u64)
     }
 
     // The held guarantees that the next call may not use.
@@ -284,7 +430,7 @@ impl State {
         if self.set_aside(channel) > 0 {
             let free = self.free(channel);
             if len as u64 > free {
-                return Needs::Guarantees(len as u64 - free);
+                return self.guarantees(channel, len, len as u64 - free);
             }
         }
         Needs::Nothing
@@ -337,8 +483,14 @@ impl State {
             return 0;
         }
         let firsts = channels(self.fresh).filter_map(|it| self.out[it].line.first());
-        let of_tasks = firsts.filter(|first| !first.is_thread);
+        let of_tasks = firsts.filter(|first| !self.returns_at_once(first));
         of_tasks.map(|first| first.len).sum()
+    }
+
+    // Whether the caller makes a notified call at once. A task may be polled late or never. So may a blocked thread be
+    // late that runs an event hook: a hook may take any time, and may itself wait for another channel.
+    pub(super) fn returns_at_once(&self, first: &Waiter) -> bool {
+        first.is_thread && self.hooks.is_empty()
     }
 
     pub(super) fn waits_for_bytes(&self) -> bool {
@@ -405,7 +557,7 @@ impl State {
         self.note(channel, needs);
         self.stale &= !bit(channel);
         match needs {
-            Needs::Guarantees(_) => self.able &= !bit(channel),
+            Needs::Guarantees(_) | Needs::MoreThanEverIssued { .. } => self.able &= !bit(channel),
             _ => self.able |= bit(channel),
         }
     }
@@ -448,7 +600,8 @@ impl State {
             self.owing_out |= bit(channel);
         }
         if !line.has_calls() {
-            line.lacking.note(None, &mut self.stats[channel]);
+            let change = line.lacking.note(None, &mut self.stats[channel]);
+            self.report_stalls(channel, change);
         }
         removed.and_then(|waiter| waiter.waker)
     }
@@ -456,11 +609,31 @@ impl State {
     // Measures from now on what the first waiting call lacks.
     fn note(&mut self, channel: Channel, needs: Needs) {
         let lack = match needs {
-            Needs::Guarantees(_) => Lack::Guarantees,
-            _ => Lack::Slot,
+            Needs::Guarantees(_) | Needs::MoreThanEverIssued { .. } => Stall::Guarantees,
+            _ => Stall::Slot,
         };
         let lacking = &mut self.out[channel].line.lacking;
-        lacking.note(Some(lack), &mut self.stats[channel]);
+        let change = lacking.note(Some(lack), &mut self.stats[channel]);
+        self.report_stalls(channel, change);
+        if let Needs::MoreThanEverIssued { most, .. } = needs {
+            self.report_oversized(channel, most);
+        }
+    }
+
+    // Reports the first call of the channel, once, as one that waits for more than was ever issued.
+    fn report_oversized(&mut self, channel: Channel, most_held: u64) {
+        let out = &mut self.out[channel];
+        let Some(first) = out.line.first() else {
+            return;
+        };
+        let (ticket, len) = (first.ticket, first.len as u64);
+        if out.reported.replace(ticket) != Some(ticket) {
+            self.report(Event::Oversized {
+                channel,
+                len,
+                most_held,
+            });
+        }
     }
 
     // Completes or notifies each first call that can proceed, in the order in which their channels sent least
@@ -486,7 +659,7 @@ impl State {
         // Several channels, if they never sent.
         let fits = |channel: &Channel| {
             let first = self.out[*channel].line.first();
-            first.is_some_and(|first| match first.is_thread {
+            first.is_some_and(|first| match self.returns_at_once(first) {
                 true => self.has_bytes(first.len),
                 false => self.has_bytes_beside(self.awaited(), first.len),
             })
@@ -503,25 +676,31 @@ impl State {
             return false;
         };
         let (ticket, len) = (first.ticket, first.len);
-        match left {
-            Left::Message(body) if self.put(channel, &body).is_err() => return false,
-            Left::Message(_) => {}
-            Left::Permit => self.reserve(channel, len),
+        let put = match left {
+            Left::Message(body) => self.put(channel, &body),
+            Left::Joined(body) => self.put(channel, &body),
+            Left::Permit => {
+                self.reserve(channel, len);
+                Ok(())
+            }
+        };
+        if put.is_err() {
+            return false;
         }
         let waker = self.leave_line(channel, ticket);
         self.wakes.wake(waker);
         true
     }
 
-    // Notifies the first call that it can proceed. Bytes are reserved for a thread, which always returns, and not for
-    // a future.
+    // Notifies the first call that it can proceed. Bytes are reserved for a caller that returns at once.
     fn notify(&mut self, channel: Channel) {
         self.notified |= bit(channel);
         self.fresh |= bit(channel);
-        let out = &mut self.out[channel];
-        let first = out.line.first().filter(|first| first.is_thread);
-        out.claimed = first.map_or(0, |first| first.len);
-        self.claimed += out.claimed;
+        let first = self.out[channel].line.first();
+        let first = first.filter(|first| self.returns_at_once(first));
+        let claimed = first.map_or(0, |first| first.len);
+        self.out[channel].claimed = claimed;
+        self.claimed += claimed;
         self.wake_first(channel);
     }
 

@@ -1,11 +1,10 @@
 //! Random calls of senders: those of tasks, which may be cancelled or never polled again, beside those of threads,
 //! which any change of the session may complete on their behalf; and the rules one by one.
 use super::{Ask, Call, Pulled, State, BORROWED_FROM};
-use crate::{
-    Channel, Closed, Config, MuxConfig, Needs, SendError, TrySendError, Version, CHANNELS,
-};
+use crate::{Channel, Closed, Config, Needs, SendError, TrySendError, Version, CHANNELS};
 use std::collections::VecDeque;
 use std::env;
+use std::io::IoSlice;
 use std::sync::atomic::{AtomicU64, Ordering::Relaxed};
 use std::sync::Arc;
 use std::task::{Poll, Wake, Waker};
@@ -92,7 +91,7 @@ const LONG: usize = 8;
 
 /// A session whose first issues are written.
 fn written(slots: u32) -> State {
-    let mut state = State::new(&MuxConfig::from(Config::new([64; CHANNELS], slots))).unwrap();
+    let mut state = State::new(&Config::new([64; CHANNELS], slots)).unwrap();
     state.borrow_from(LONG);
     assert!(matches!(pull(&mut state, 128), Pulled::Bytes(35, None)));
     state
@@ -333,7 +332,7 @@ impl Play {
     }
 }
 
-// Polls the call of a whole message. Returns its length.
+// Polls the call of a whole message, in two slices if its length is even. Returns its length.
 fn send(
     state: &mut State,
     caller: &Caller,
@@ -341,8 +340,13 @@ fn send(
     ticket: &mut Option<u64>,
     waker: &Waker,
 ) -> Poll<Result<usize, SendError>> {
+    let (first, rest) = body.split_at(body.len() / 2);
+    let slices = [first, rest].map(IoSlice::new);
     let mut call = Call {
-        ask: Ask::Message(body),
+        ask: Ask::Message(match body.len() % 2 {
+            0 => slices[..].into(),
+            _ => body.into(),
+        }),
         is_thread: caller.is_thread,
         ticket: *ticket,
     };
@@ -360,12 +364,12 @@ fn assert_settled(state: &mut State) {
         let Some(first) = state.out[channel].line.first() else {
             continue;
         };
-        let (ticket, len, is_thread) = (first.ticket, first.len, first.is_thread);
+        let (ticket, len, is_awaited) = (first.ticket, first.len, !state.returns_at_once(first));
         let (bit, least) = (1 << channel.number(), first.least);
         match state.lacks(channel, least, Some(ticket)) {
             Ok(Needs::Nothing) if state.notified & bit != 0 => {}
             Ok(Needs::Nothing) => {
-                let is_later = !is_thread && !state.has_bytes_beside(state.awaited(), len);
+                let is_later = is_awaited && !state.has_bytes_beside(state.awaited(), len);
                 assert!(
                     is_later || !state.fits(channel, len),
                     "{channel:?} can proceed and was not notified"
@@ -421,8 +425,8 @@ fn rich(slots: u32) -> State {
 
 /// The same in a version of the caller's.
 fn rich_in(version: Version, slots: u32) -> State {
-    let mut config = MuxConfig::from(Config::new([1; CHANNELS], slots));
-    config.peer.version = version;
+    let mut config = Config::new([1; CHANNELS], slots);
+    config.version = version;
     let mut state = State::new(&config).unwrap();
     state.borrow_from(LONG);
     assert!(matches!(
@@ -448,7 +452,7 @@ fn pull(state: &mut State, most: usize) -> Pulled {
 }
 
 fn is_sent(state: &mut State, channel: Channel, len: usize) -> bool {
-    let sent = match state.try_send(channel, Ask::Message(&vec![7; len])) {
+    let sent = match state.try_send(channel, Ask::Message(vec![7; len][..].into())) {
         Ok(()) => true,
         Err(TrySendError::Full(Needs::Slot)) => false,
         Err(other) => panic!("{other}"),
@@ -494,7 +498,7 @@ impl Waits {
     fn poll(&mut self, state: &mut State) -> Poll<Result<(), SendError>> {
         self.woken.0.store(0, Relaxed);
         let mut call = Call {
-            ask: Ask::Message(&self.body),
+            ask: Ask::Message(self.body[..].into()),
             is_thread: self.is_thread,
             ticket: self.ticket,
         };
@@ -683,7 +687,7 @@ fn permits_hold_slots() {
     assert!(!is_sent(&mut state, Overlap, 1));
     state.give_back(Data, 1);
     assert!(is_sent(&mut state, Overlap, 1), "a shared one");
-    state.send_reserved(Overlap, 1, b"x").unwrap();
+    state.send_reserved(Overlap, 1, b"x"[..].into()).unwrap();
     assert!(!is_sent(&mut state, Overlap, 1));
     assert!(!is_sent(&mut state, Data, 1));
     assert!(matches!(pull(&mut state, 128), Pulled::Bytes(18, None)));
@@ -843,11 +847,15 @@ fn an_empty_queue_leaves_no_slot_to_a_notified_task() {
 }
 
 /// Bytes of the queue are reserved for a thread that was woken to send them, until it returns or gives up, and not
-/// for a task.
+/// for a task, nor for a thread that may run a hook first.
 #[test]
 fn bytes_are_left_to_threads_that_were_woken() {
-    for is_thread in [true, false] {
+    for (is_thread, has_hook) in [(true, false), (false, false), (true, true)] {
         let mut state = rich(64);
+        if has_hook {
+            state.hook(Arc::new(|_| {}));
+        }
+        let is_left = is_thread && !has_hook;
         assert!(is_sent(&mut state, Data, 60_000));
         let mut first = Waits::new(&mut state, Overlap, 60_000, is_thread);
         let mut second = Waits::new(&mut state, Capability, 60_000, is_thread);
@@ -856,14 +864,14 @@ fn bytes_are_left_to_threads_that_were_woken() {
             Pulled::Bytes(60_005, None)
         ));
         assert_eq!((first.is_woken(), second.is_woken()), (true, false));
-        if !is_thread {
+        if !is_left {
             assert!(matches!(pull(&mut state, 1 << 20), Pulled::Soon));
             assert!(!second.is_woken());
             assert!(matches!(pull(&mut state, 1 << 20), Pulled::Idle));
             assert!(second.is_woken());
         }
-        assert_eq!(is_sent(&mut state, Data, 10_000), !is_thread);
-        if is_thread {
+        assert_eq!(is_sent(&mut state, Data, 10_000), !is_left);
+        if is_left {
             assert!(state.forget_send(Overlap, first.ticket.unwrap()));
             drop(std::mem::take(&mut state.wakes));
             assert!(second.is_woken());

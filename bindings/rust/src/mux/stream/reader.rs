@@ -50,7 +50,7 @@ use std::time::{Duration, Instant};
 /// use std::io::{ErrorKind, Read};
 ///
 /// let (mut mux, driver) = Mux::new(Config::new([64; CHANNELS], 16))?;
-/// let mut reader = mux.receiver(Data).unwrap().into_reader();
+/// let mut reader = mux.take_receiver(Data).unwrap().into_reader();
 /// drop(driver); // this aborts the session
 /// let error = reader.read(&mut [0; 8]).unwrap_err();
 /// assert_eq!(error.kind(), ErrorKind::ConnectionAborted);

@@ -58,14 +58,14 @@ use std::time::{Duration, Instant};
 /// # thread::spawn(move || driver.run_blocking(here.try_clone()?, here));
 /// # let (mut bob, driver) = Mux::new(Config::new([64; CHANNELS], 16))?;
 /// # thread::spawn(move || driver.run_blocking(there.try_clone()?, there));
-/// let mut writer = alice.sender(Data).unwrap().into_writer();
+/// let mut writer = alice.take_sender(Data).unwrap().into_writer();
 /// let copy = thread::spawn(move || -> io::Result<()> {
 ///     io::copy(&mut &[b'.'; 1_000][..], &mut writer)?; // through a ring of 64 bytes
 ///     writer.write_all(b"\nthe end")?;
 ///     writer.finish()
 /// });
 ///
-/// let reader = bob.receiver(Data).unwrap().into_reader();
+/// let reader = bob.take_receiver(Data).unwrap().into_reader();
 /// let lines: Vec<_> = reader.lines().collect::<Result<_, _>>()?;
 /// assert_eq!(lines, [".".repeat(1_000), "the end".into()]);
 /// copy.join().unwrap()?;
@@ -96,8 +96,8 @@ impl Sender {
                 channel: self.channel(),
                 ticket: None,
             },
+            largest: self.within_longest(Writer::LARGEST_MESSAGE),
             sender: self,
-            largest: Writer::LARGEST_MESSAGE,
             timeout: None,
         }
     }
@@ -113,14 +113,14 @@ impl Writer {
     }
 
     /// Sets the length of the longest message that a write sends: at least 1, at most 65,535, in version Two 1,048,576.
-    /// A length out of these bounds is replaced by the nearest one.
+    /// A length out of these bounds, or above the [longest message](crate::Config::longest) that the application stated,
+    /// is replaced by the nearest one.
     ///
     /// Longer messages cost less for each byte. The peer issues the bytes of a message again once all of them are read,
     /// so a message of up to a half or a quarter of its ring lets both sides work at the same time. Short messages of
     /// other channels wait until a long one is written.
     pub fn set_largest_message(&mut self, len: usize) {
-        let most = self.waiting.shared.with(|state| state.longest());
-        self.largest = len.clamp(1, most);
+        self.largest = self.sender.within_longest(len);
     }
 
     /// Sets how long a write of a thread waits for guarantees and for the outbound queue: for good at first. A write
