@@ -20,13 +20,16 @@ async fn main() -> Result<(), Failure> {
     let config = Config::new([64; CHANNELS], 16); // rings that hold a few words
     let (mut alice, run) = lcmux_tokio::connect(here, config)?;
     let (mut bob, other) = lcmux_tokio::connect(there, config)?;
-    let (receiver, sender) = (bob.receiver(Data).unwrap(), bob.sender(Data).unwrap());
+    let (receiver, sender) = (
+        bob.take_receiver(Data).unwrap(),
+        bob.take_sender(Data).unwrap(),
+    );
     let shouting = tokio::spawn(shout(receiver, sender));
 
     let words = ["one", "by", "one", "through", "a", "narrow", "ring"];
-    let sink = SenderSink::new(alice.sender(Data).unwrap());
+    let sink = SenderSink::new(alice.take_sender(Data).unwrap());
     let sending = tokio::spawn(stream::iter(words.map(Ok)).forward(sink));
-    let mut shouted = ReceiverStream::new(alice.receiver(Data).unwrap());
+    let mut shouted = ReceiverStream::new(alice.take_receiver(Data).unwrap());
     while let Some(word) = shouted.try_next().await? {
         println!("{}", String::from_utf8(word)?);
     }

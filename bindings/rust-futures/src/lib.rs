@@ -28,11 +28,11 @@
 //! # thread::spawn(move || driver.run_blocking(here.try_clone()?, here));
 //! # let (mut bob, driver) = Mux::new(Config::new([64; CHANNELS], 16))?;
 //! # thread::spawn(move || driver.run_blocking(there.try_clone()?, there));
-//! # let (sender, mut receiver) = (alice.sender(Data).unwrap(), alice.receiver(Data).unwrap());
+//! # let (sender, mut receiver) = (alice.take_sender(Data).unwrap(), alice.take_receiver(Data).unwrap());
 //! # sender.send_blocking(b"hello")?;
 //! # drop(sender);
 //! # tokio::runtime::Builder::new_current_thread().build()?
-//! #     .block_on(shout(bob.receiver(Data).unwrap(), bob.sender(Data).unwrap()))?;
+//! #     .block_on(shout(bob.take_receiver(Data).unwrap(), bob.take_sender(Data).unwrap()))?;
 //! # assert_eq!(receiver.recv_blocking()?, Some(b"HELLO".to_vec()));
 //! # assert_eq!(receiver.recv_blocking()?, None);
 //! # Ok::<(), Box<dyn Error>>(())
@@ -66,8 +66,8 @@
 //! # thread::spawn(move || driver.run_blocking(here.try_clone()?, here));
 //! # let (mut bob, driver) = Mux::new(Config::new([64; CHANNELS], 16))?;
 //! # thread::spawn(move || driver.run_blocking(there.try_clone()?, there));
-//! let mut writer = Writer::new(alice.sender(Data).unwrap());
-//! let mut reader = Reader::new(bob.receiver(Data).unwrap());
+//! let mut writer = Writer::new(alice.take_sender(Data).unwrap());
+//! let mut reader = Reader::new(bob.take_receiver(Data).unwrap());
 //! # thread::spawn(move || block_on(async {
 //! writer.write_all(&[b'.'; 1_000]).await?; // through a ring of 64 bytes
 //! writer.close().await?;
@@ -79,14 +79,23 @@
 //! # std::io::Result::Ok(()) })?;
 //! # Ok::<(), Box<dyn std::error::Error>>(())
 //! ```
+//!
+//! # Features
+//!
+//! `bytes` receives messages as `Bytes`: `ReceiverExt` has the calls of a receiver, and `BytesStream` is a stream of
+//! them. Sending `Bytes` needs no feature: [`SenderSink`] and `Sender::send_owned` accept whatever is `AsRef<[u8]>`.
 #![warn(missing_docs)]
 #![forbid(unsafe_code)]
 
-mod bytes;
+#[cfg(feature = "bytes")]
+mod received;
 mod sink;
 mod stream;
+mod streams_of_bytes;
 
-pub use bytes::{Reader, Writer};
 pub use lcmux;
+#[cfg(feature = "bytes")]
+pub use received::{BytesStream, ReceiverExt, RecvBytes};
 pub use sink::SenderSink;
 pub use stream::ReceiverStream;
+pub use streams_of_bytes::{Reader, Writer};

@@ -46,8 +46,8 @@ fn pair(ring: u32) -> [Mux; 2] {
 }
 
 fn one_way(sides: &mut [Mux; 2], channel: Channel) -> (Writer, Reader) {
-    let writer = Writer::new(sides[0].sender(channel).unwrap());
-    let reader = Reader::new(sides[1].receiver(channel).unwrap());
+    let writer = Writer::new(sides[0].take_sender(channel).unwrap());
+    let reader = Reader::new(sides[1].take_receiver(channel).unwrap());
     (writer, reader)
 }
 
@@ -108,8 +108,8 @@ fn a_close_ends_one_direction() {
     let _watchdog = Watchdog::new("a half-close");
     let mut sides = pair(16);
     let (mut writer, mut reader) = one_way(&mut sides, Data);
-    let mut back = Writer::new(sides[1].sender(Data).unwrap());
-    let mut answer = Reader::new(sides[0].receiver(Data).unwrap());
+    let mut back = Writer::new(sides[1].take_sender(Data).unwrap());
+    let mut answer = Reader::new(sides[0].take_receiver(Data).unwrap());
     let (mut other, mut its_reader) = one_way(&mut sides, Overlap);
     block_on(async {
         writer.write_all(b"to").await.unwrap();

@@ -1,25 +1,30 @@
 //! Streams and sinks over sessions whose bytes are moved by hand, and over sessions on threads and on tokio.
 #[allow(dead_code)] // the tests of lcmux use all of it
+#[path = "../../../rust/tests/common/call.rs"]
+mod call;
+#[allow(dead_code)] // the tests of lcmux use all of it
 #[path = "../../../rust/tests/common/hand.rs"]
 mod hand;
 #[path = "../../../rust/tests/common/watchdog.rs"]
 mod watchdog;
 
+#[cfg(feature = "bytes")]
+mod received;
 mod sink;
 mod stream;
 mod tasks;
 mod threads;
 
 use hand::{Count, Hand};
-use lcmux_futures::lcmux::{Config, MuxConfig, Version, CHANNELS};
+use lcmux_futures::lcmux::{Config, Version, CHANNELS};
 use std::sync::Arc;
 use std::task::Waker;
 
 /// Version Two, with rings of 64 bytes.
-fn with_slots(slots: u32) -> MuxConfig {
+fn with_slots(slots: u32) -> Config {
     let mut config = Config::new([64; CHANNELS], slots);
     config.version = Version::Two;
-    config.into()
+    config
 }
 
 const PREFACE: &[u8] = b"\x4c\x43\x4d\x02";

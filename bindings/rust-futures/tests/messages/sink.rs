@@ -14,7 +14,7 @@ type Body = &'static [u8];
 /// A session without guarantees, its sink of channel 1, and a clone of the sender.
 fn sink() -> (Hand, SenderSink<Body>, Sender) {
     let mut hand = started(16);
-    let sender = hand.mux.sender(Data).unwrap();
+    let sender = hand.mux.take_sender(Data).unwrap();
     (hand, SenderSink::new(sender.clone()), sender)
 }
 
@@ -92,7 +92,7 @@ fn the_last_waker_alone_is_woken() {
 #[test]
 fn a_close_flushes_and_finishes_this_direction_alone() {
     let (mut hand, mut sink, sender) = sink();
-    let mut receiver = hand.mux.receiver(Data).unwrap();
+    let mut receiver = hand.mux.take_receiver(Data).unwrap();
     drop(sender);
     sink.start_send_unpin(b"last").unwrap();
     let call = Call::waiting(sink.close());

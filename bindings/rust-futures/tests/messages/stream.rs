@@ -11,7 +11,7 @@ use std::task::{Context, Poll};
 
 fn stream() -> (Hand, ReceiverStream) {
     let mut hand = started(16);
-    let receiver = hand.mux.receiver(Data).unwrap();
+    let receiver = hand.mux.take_receiver(Data).unwrap();
     (hand, ReceiverStream::new(receiver))
 }
 

@@ -50,12 +50,12 @@ fn message(number: u8) -> Vec<u8> {
 fn messages_are_forwarded_in_their_order_and_then_the_end() {
     on_each("forward", || async {
         let [(mut alice, first), (mut bob, second)] = sessions();
-        let sink = SenderSink::new(alice.sender(Data).unwrap());
+        let sink = SenderSink::new(alice.take_sender(Data).unwrap());
         let sent = tokio::spawn(stream::iter((0..=255).map(message).map(Ok)).forward(sink));
-        let received = ReceiverStream::new(bob.receiver(Data).unwrap());
-        let back = SenderSink::new(bob.sender(Overlap).unwrap());
+        let received = ReceiverStream::new(bob.take_receiver(Data).unwrap());
+        let back = SenderSink::new(bob.take_sender(Overlap).unwrap());
         let forwarded = tokio::spawn(received.map_err(SendError::from).forward(back));
-        let back = ReceiverStream::new(alice.receiver(Overlap).unwrap());
+        let back = ReceiverStream::new(alice.take_receiver(Overlap).unwrap());
         let received: Vec<_> = back.try_collect().await.unwrap();
         assert!((0..=255).map(message).eq(received));
         assert_eq!(sent.await.unwrap(), Ok(()));
@@ -69,7 +69,7 @@ fn messages_are_forwarded_in_their_order_and_then_the_end() {
 fn several_sinks_of_one_channel_finish_it_together() {
     on_each("several sinks", || async {
         let [(mut alice, first), (mut bob, second)] = sessions();
-        let sender = alice.sender(Data).unwrap();
+        let sender = alice.take_sender(Data).unwrap();
         let tasks: Vec<_> = (0..4_u8)
             .map(|number| {
                 let messages = stream::iter((0..50).map(move |_| Ok(vec![number; 20])));
@@ -78,7 +78,7 @@ fn several_sinks_of_one_channel_finish_it_together() {
             .collect();
         drop(sender);
         let mut counts = [0; 4];
-        let mut received = ReceiverStream::new(bob.receiver(Data).unwrap());
+        let mut received = ReceiverStream::new(bob.take_receiver(Data).unwrap());
         while let Some(message) = received.try_next().await.unwrap() {
             counts[usize::from(message[0])] += 1;
         }
@@ -95,7 +95,7 @@ fn several_sinks_of_one_channel_finish_it_together() {
 fn a_select_loop_loses_no_message() {
     on_each("select", || async {
         let [(mut alice, first), (mut bob, second)] = sessions();
-        let mut sink = SenderSink::new(alice.sender(Data).unwrap());
+        let mut sink = SenderSink::new(alice.take_sender(Data).unwrap());
         let sending = tokio::spawn(async move {
             for number in 0..100 {
                 // A message is given once, and its flush is dropped often.
@@ -110,7 +110,7 @@ fn a_select_loop_loses_no_message() {
             }
             sink.close().await.unwrap();
         });
-        let mut stream = ReceiverStream::new(bob.receiver(Data).unwrap());
+        let mut stream = ReceiverStream::new(bob.take_receiver(Data).unwrap());
         let (mut received, mut dropped) = (Vec::new(), 0);
         loop {
             tokio::select! {
@@ -151,8 +151,8 @@ fn a_send_that_is_dropped_at_any_await_sends_all_or_nothing() {
     on_each("a send that is dropped", || async {
         for waits in 0.. {
             let [(mut alice, first), (mut bob, second)] = sessions();
-            let mut sink = SenderSink::new(alice.sender(Data).unwrap());
-            let received = ReceiverStream::new(bob.receiver(Data).unwrap());
+            let mut sink = SenderSink::new(alice.take_sender(Data).unwrap());
+            let received = ReceiverStream::new(bob.take_receiver(Data).unwrap());
             let received = tokio::spawn(received.try_collect::<Vec<_>>());
             let mut given = 0;
             let whole = cut(
@@ -188,8 +188,8 @@ fn a_forwarding_of_a_cut_stream_fails() {
     on_each("a cut", || async {
         let (here, there) = tokio::io::duplex(64);
         let (mut mux, run) = connect(here, with_slots(16)).unwrap();
-        let sender = mux.sender(Overlap).unwrap();
-        let received = ReceiverStream::new(mux.receiver(Data).unwrap());
+        let sender = mux.take_sender(Overlap).unwrap();
+        let received = ReceiverStream::new(mux.take_receiver(Data).unwrap());
         let forwarded = received.map_err(SendError::from);
         let forwarded = forwarded.forward(SenderSink::new(sender.clone()));
         let forwarded = tokio::spawn(forwarded);

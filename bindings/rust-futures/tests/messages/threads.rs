@@ -55,10 +55,13 @@ fn messages_are_forwarded_by_a_thread_in_their_order() {
     let _watchdog = Watchdog::new("forward on threads");
     let [(mut alice, first), (mut bob, second)] = sessions();
     let (sender, back) = (
-        alice.sender(Data).unwrap(),
-        alice.receiver(Overlap).unwrap(),
+        alice.take_sender(Data).unwrap(),
+        alice.take_receiver(Overlap).unwrap(),
     );
-    let (receiver, forth) = (bob.receiver(Data).unwrap(), bob.sender(Overlap).unwrap());
+    let (receiver, forth) = (
+        bob.take_receiver(Data).unwrap(),
+        bob.take_sender(Overlap).unwrap(),
+    );
     let messages = || (0..=255).map(message);
     let sending = thread::spawn(move || {
         let mut items = futures_util::stream::iter(messages().map(Ok));
@@ -87,8 +90,8 @@ fn messages_are_forwarded_by_a_thread_in_their_order() {
 fn a_stream_whose_peer_aborts_ends_by_an_error() {
     let _watchdog = Watchdog::new("an abort on threads");
     let [(mut alice, first), (mut bob, second)] = sessions();
-    let mut sink = SenderSink::new(alice.sender(Data).unwrap());
-    let mut stream = ReceiverStream::new(bob.receiver(Data).unwrap());
+    let mut sink = SenderSink::new(alice.take_sender(Data).unwrap());
+    let mut stream = ReceiverStream::new(bob.take_receiver(Data).unwrap());
     block_on(sink.send(message(7))).unwrap();
     assert_eq!(block_on(stream.next()), Some(Ok(message(7))));
     alice.abort();

@@ -34,7 +34,7 @@ use std::task::{Context, Poll};
 /// use lcmux_futures::{lcmux::{Channel::Data, Config, Mux, CHANNELS}, Writer};
 ///
 /// let (mut mux, _driver) = Mux::new(Config::new([64; CHANNELS], 16))?;
-/// let mut writer = Writer::new(mux.sender(Data).unwrap());
+/// let mut writer = Writer::new(mux.take_sender(Data).unwrap());
 /// writer.get_mut().set_largest_message(32);
 /// # Ok::<(), lcmux::MuxFault>(())
 /// ```
@@ -109,7 +109,7 @@ impl AsyncWrite for Writer {
 /// use lcmux_futures::{lcmux::{Channel::Data, Config, Mux, CHANNELS}, Reader};
 ///
 /// let (mut mux, _driver) = Mux::new(Config::new([64; CHANNELS], 16))?;
-/// let reader = Reader::new(mux.receiver(Data).unwrap());
+/// let reader = Reader::new(mux.take_receiver(Data).unwrap());
 /// assert_eq!(reader.get_ref().receiver().channel(), Data);
 /// # Ok::<(), lcmux::MuxFault>(())
 /// ```
