@@ -60,8 +60,8 @@ async fn take(mut receiver: Receiver, taken: Arc<AtomicU64>) {
 fn start(from: &mut Mux, to: &mut Mux, busy: usize) -> Arc<AtomicU64> {
     let taken = Arc::new(AtomicU64::new(0));
     for channel in Channel::ALL.into_iter().take(busy) {
-        tokio::spawn(send(from.sender(channel).unwrap()));
-        tokio::spawn(take(to.receiver(channel).unwrap(), Arc::clone(&taken)));
+        tokio::spawn(send(from.take_sender(channel).unwrap()));
+        tokio::spawn(take(to.take_receiver(channel).unwrap(), Arc::clone(&taken)));
     }
     taken
 }

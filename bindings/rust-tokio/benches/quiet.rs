@@ -83,11 +83,11 @@ async fn take_quiet(mut receiver: Receiver, start: Instant) -> Vec<Duration> {
 async fn send_all(stream: net::TcpStream, run: Arc<Run>) -> Result<(), Failure> {
     let (mut mux, driver) = session(stream)?;
     for channel in bulk() {
-        let sender = mux.sender(channel).unwrap();
+        let sender = mux.take_sender(channel).unwrap();
         tokio::spawn(send_bulk(sender, Arc::clone(&run)));
     }
     sleep(BEFORE).await;
-    let quiet = mux.sender(QUIET).unwrap();
+    let quiet = mux.take_sender(QUIET).unwrap();
     tokio::spawn(send_quiet(quiet, run.start)).await?;
     run.is_done.store(true, Relaxed);
     drop(mux);
@@ -97,12 +97,12 @@ async fn send_all(stream: net::TcpStream, run: Arc<Run>) -> Result<(), Failure> 
 async fn take_all(stream: net::TcpStream, name: &str, run: Arc<Run>) -> Result<(), Failure> {
     let (mut mux, driver) = session(stream)?;
     for channel in bulk() {
-        let receiver = mux.receiver(channel).unwrap();
+        let receiver = mux.take_receiver(channel).unwrap();
         tokio::spawn(take_bulk(receiver, Arc::clone(&run)));
     }
     sleep(BEFORE).await;
     let (before, began) = (run.bytes.load(Relaxed), Instant::now());
-    let quiet = mux.receiver(QUIET).unwrap();
+    let quiet = mux.take_receiver(QUIET).unwrap();
     let times = tokio::spawn(take_quiet(quiet, run.start)).await?;
     let bytes = run.bytes.load(Relaxed) - before;
     print_times(name, times, bytes, began.elapsed());

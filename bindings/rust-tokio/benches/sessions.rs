@@ -51,8 +51,11 @@ async fn swap(load: Load) -> Result<(), Box<dyn Error>> {
     let mut tasks = Vec::new();
     for (mux, _) in &mut sessions {
         for channel in Channel::ALL {
-            tasks.push(tokio::spawn(send(mux.sender(channel).unwrap(), load)));
-            tasks.push(tokio::spawn(take(mux.receiver(channel).unwrap(), load)));
+            tasks.push(tokio::spawn(send(mux.take_sender(channel).unwrap(), load)));
+            tasks.push(tokio::spawn(take(
+                mux.take_receiver(channel).unwrap(),
+                load,
+            )));
         }
     }
     for task in tasks {

@@ -62,7 +62,7 @@ async fn swap(over: &str, len: usize, count: usize) -> Result<Duration, Box<dyn 
     let mut tasks = Vec::new();
     for channel in Channel::ALL {
         for mux in &mut sessions {
-            let (sender, receiver) = (mux.sender(channel), mux.receiver(channel));
+            let (sender, receiver) = (mux.take_sender(channel), mux.take_receiver(channel));
             tasks.push(tokio::spawn(send(sender.unwrap(), len, count)));
             tasks.push(tokio::spawn(take(receiver.unwrap(), count)));
         }

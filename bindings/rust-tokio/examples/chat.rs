@@ -4,8 +4,8 @@
 //! message, and the end of the input ends the channel.
 use lcmux_tokio::connect;
 use lcmux_tokio::lcmux::Channel::{Data, StaticToken};
-use lcmux_tokio::lcmux::{Config, Receiver, Sender, CHANNELS};
-use std::{env, error::Error};
+use lcmux_tokio::lcmux::{Config, Receiver, Sender};
+use std::{env, error::Error, process};
 use tokio::io::{stdin, AsyncBufReadExt, BufReader};
 use tokio::net::{TcpListener, TcpStream};
 
@@ -54,17 +54,27 @@ async fn note(mut receipts: Receiver) -> Done {
     Ok(())
 }
 
-#[tokio::main(flavor = "current_thread")]
-async fn main() -> Done {
+async fn chat() -> Done {
     let stream = open().await?;
     stream.set_nodelay(true)?;
-    let (mut mux, run) = connect(stream, Config::new([65_536; CHANNELS], 64))?;
-    let (lines, receipts) = (mux.sender(Data).unwrap(), mux.sender(StaticToken).unwrap());
+    let (mut mux, run) = connect(stream, Config::default())?;
+    let (lines, receipts) = (
+        mux.take_sender(Data).unwrap(),
+        mux.take_sender(StaticToken).unwrap(),
+    );
     tokio::try_join!(
         say(lines),
-        hear(mux.receiver(Data).unwrap(), receipts),
-        note(mux.receiver(StaticToken).unwrap()),
+        hear(mux.take_receiver(Data).unwrap(), receipts),
+        note(mux.take_receiver(StaticToken).unwrap()),
     )?;
     mux.close();
     Ok(run.await??)
+}
+
+#[tokio::main(flavor = "current_thread")]
+async fn main() {
+    if let Err(error) = chat().await {
+        eprintln!("chat: {error}");
+        process::exit(1); // a return would wait for the thread that reads the next line
+    }
 }

@@ -3,43 +3,28 @@
 //! Run `copy listen ADDRESS FILE` in one terminal, which receives the file, and `copy connect ADDRESS FILE` in another,
 //! which sends it. The received file has its name once it is whole.
 use lcmux_tokio::lcmux::{Channel::Data, Config, Mux, Version, CHANNELS};
-use lcmux_tokio::{connect, Reader, Writer};
-use std::{env, error::Error, io, io::ErrorKind};
+use lcmux_tokio::{connect, copy_buf, Reader, Writer};
+use std::{env, error::Error, io};
 use tokio::fs::{self, File};
-use tokio::io::{AsyncBufRead, AsyncBufReadExt, AsyncWrite, AsyncWriteExt, BufReader};
+use tokio::io::{AsyncWriteExt, BufReader};
 use tokio::net::{TcpListener, TcpStream};
 
 /// How many bytes are copied between two lines of progress.
 const STEP: u64 = 1 << 20;
 
-/// Copies a stream to its end. It is `tokio::io::copy_buf` with progress: no byte leaves the buffer, which of a channel
-/// is its ring, before it is written.
-async fn copy<R, W>(from: &mut R, to: &mut W, done: &str) -> io::Result<u64>
-where
-    R: AsyncBufRead + Unpin,
-    W: AsyncWrite + Unpin,
-{
-    let mut total = 0;
-    loop {
-        let bytes = from.fill_buf().await?;
-        if bytes.is_empty() {
-            return Ok(total);
-        }
-        let count = to.write(bytes).await?;
-        if count == 0 {
-            return Err(ErrorKind::WriteZero.into());
-        }
-        from.consume(count);
-        let before = total / STEP;
-        total += count as u64;
-        if total / STEP > before {
-            eprintln!("{done} {} MiB", total / STEP);
+/// Prints a line of progress for each step: `sent 1 MiB` and so on.
+fn print_steps(done: &'static str) -> impl FnMut(u64) {
+    let mut steps = 0;
+    move |total| {
+        if total / STEP > steps {
+            steps = total / STEP;
+            eprintln!("{done} {steps} MiB");
         }
     }
 }
 
 async fn send(mux: &mut Mux, path: &str) -> io::Result<()> {
-    let sender = mux.sender(Data).expect("it is taken once");
+    let sender = mux.take_sender(Data).expect("it is taken once");
     let kept = sender.clone(); // a writer that an error drops must not end the channel
     let mut writer = Writer::new(sender);
     let sent = send_file(path, &mut writer).await;
@@ -53,16 +38,16 @@ async fn send(mux: &mut Mux, path: &str) -> io::Result<()> {
 
 async fn send_file(path: &str, writer: &mut Writer) -> io::Result<u64> {
     let mut file = BufReader::with_capacity(65_536, File::open(path).await?);
-    let sent = copy(&mut file, writer, "sent").await?;
+    let sent = copy_buf(&mut file, writer, print_steps("sent")).await?;
     writer.shutdown().await?;
     Ok(sent)
 }
 
 async fn receive(mux: &mut Mux, path: &str) -> io::Result<()> {
-    let mut reader = Reader::new(mux.receiver(Data).expect("it is taken once"));
+    let mut reader = Reader::new(mux.take_receiver(Data).expect("it is taken once"));
     let part = format!("{path}.part");
     let mut file = File::create(&part).await?;
-    let received = copy(&mut reader, &mut file, "received").await?;
+    let received = copy_buf(&mut reader, &mut file, print_steps("received")).await?;
     file.flush().await?;
     fs::rename(part, path).await?;
     println!("received {received} bytes");

@@ -1,8 +1,8 @@
 //! Many sessions in one process, over pipes in memory, with messages in both directions, and their cost: `cargo run
 //! --release --example many -- COUNT [RING [THREADS]]`, by default with rings of 64 KiB on one thread.
+use lcmux_tokio::connect;
 use lcmux_tokio::lcmux::Channel::Data;
 use lcmux_tokio::lcmux::{Closed, Config, Mux, MuxFault, Receiver, Sender, CHANNELS};
-use lcmux_tokio::{connect, SessionConfig};
 use std::{env, error::Error, fs, io};
 use tokio::io::DuplexStream;
 use tokio::runtime::Builder;
@@ -68,11 +68,11 @@ struct Side {
 }
 
 impl Side {
-    fn new(stream: DuplexStream, config: SessionConfig) -> Result<Side, MuxFault> {
+    fn new(stream: DuplexStream, config: Config) -> Result<Side, MuxFault> {
         let mut mux = connect(stream, config)?.0;
         Ok(Side {
-            sender: mux.sender(Data).unwrap(),
-            receiver: mux.receiver(Data).unwrap(),
+            sender: mux.take_sender(Data).unwrap(),
+            receiver: mux.take_receiver(Data).unwrap(),
             mux,
         })
     }
@@ -85,7 +85,7 @@ impl Side {
 }
 
 // Both sides of a session, once each has the peer's first guarantees.
-async fn pair(config: SessionConfig) -> Result<[Side; 2], Box<dyn Error>> {
+async fn pair(config: Config) -> Result<[Side; 2], Box<dyn Error>> {
     let (here, there) = tokio::io::duplex(4096);
     let sides = [Side::new(here, config)?, Side::new(there, config)?];
     for side in &sides {
@@ -102,7 +102,7 @@ async fn close(sessions: Vec<[Mux; 2]>) -> Result<(), Closed> {
     Ok(())
 }
 
-async fn many(count: usize, config: SessionConfig) -> Result<usize, Box<dyn Error>> {
+async fn many(count: usize, config: Config) -> Result<usize, Box<dyn Error>> {
     Use::now()?.print("before", count);
     let mut pairs = Vec::new();
     for _ in 0..count {
@@ -148,7 +148,7 @@ fn main() -> Result<(), Box<dyn Error>> {
         .worker_threads(threads as usize)
         .enable_time()
         .build()?;
-    let config = Config::new([ring; CHANNELS], 64).into();
+    let config = Config::new([ring; CHANNELS], 64);
     let taken = runtime.block_on(many(count as usize, config))?;
     println!("{count} sessions took {taken} messages");
     Ok(())

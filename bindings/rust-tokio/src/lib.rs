@@ -5,15 +5,15 @@
 //! calls are futures that need no particular runtime: `sender.send(&message).await?` and `receiver.recv().await?`.
 //!
 //! ```no_run
-//! use lcmux_tokio::{connect, lcmux::{Channel::Data, Config, CHANNELS}};
+//! use lcmux_tokio::{connect, lcmux::{Channel::Data, Config}};
 //! use std::error::Error;
 //! use tokio::net::TcpStream;
 //!
 //! async fn echo(stream: TcpStream) -> Result<(), Box<dyn Error>> {
 //!     stream.set_nodelay(true)?;
-//!     let (mut mux, run) = connect(stream, Config::new([65_536; CHANNELS], 64))?;
+//!     let (mut mux, run) = connect(stream, Config::default())?;
 //!
-//!     let (sender, mut receiver) = (mux.sender(Data).unwrap(), mux.receiver(Data).unwrap());
+//!     let (sender, mut receiver) = (mux.take_sender(Data).unwrap(), mux.take_receiver(Data).unwrap());
 //!     while let Some(message) = receiver.recv().await? {
 //!         sender.send(&message).await?; // waits until the peer has issued enough guarantees
 //!     }
@@ -25,13 +25,13 @@
 //! ```
 //!
 //! [`Writer`] and [`Reader`] make a stream of bytes of a channel, for `tokio::io::copy` and everything else that is
-//! written for [`AsyncWrite`] and [`AsyncRead`].
+//! written for [`AsyncWrite`] and [`AsyncRead`]. [`copy`] and [`copy_buf`] are those of tokio, with progress.
 //!
 //! # How a session ends
 //!
 //! - By [`Mux::close`], or by dropping the `Mux` and all its handles: the task writes all accepted messages, finishes
 //!   every channel, flushes the stream and shuts it down for writing. Then it reads until the peer has ended its own
-//!   direction, for at most [`Timeouts::grace`], and returns `Ok`.
+//!   direction, for at most [`Timeouts::grace`](lcmux::Timeouts::grace), and returns `Ok`.
 //! - By [`Mux::abort`], by a stream that fails or is [cut](Closed::Cut), by a peer that breaks the framing or a rule,
 //!   and by a timeout: the task drops the stream and returns the reason, as do all waiting calls.
 //! - By aborting the task, or by dropping the runtime: the session is [aborted](Closed::Aborted). Dropping the
@@ -42,53 +42,34 @@
 //! The futures of [`lcmux`] document what happens if they are dropped before they complete. All calls of the handles
 //! are cancel safe, so they may be used in a `select!` or in a task that is aborted. [`run`] is not: dropping it
 //! aborts the session.
+//!
+//! # Features
+//!
+//! `tracing` reports each session to the crate `tracing`, in a span `session` below the one in which [`connect`] is
+//! called, or in which [`run`] is polled first: each frame at the level trace, each stall of a sender at debug, a message
+//! that is longer than all that the peer ever issued at once and a failure at warn, and an end in order at info. The
+//! target is `lcmux`.
 #![warn(missing_docs)]
 #![forbid(unsafe_code)]
 
 mod alarm;
+mod copy;
 mod link;
 mod stream;
+#[cfg(feature = "tracing")]
+mod trace;
 
+pub use copy::{copy, copy_buf};
 pub use lcmux;
 
-pub use lcmux::Timeouts;
 pub use stream::{Reader, Writer};
 
-use lcmux::{Closed, Driver, Mux, MuxConfig, MuxFault};
+use lcmux::{Closed, Config, Driver, Mux, MuxFault};
 use link::Link;
 use std::future::poll_fn;
 use std::pin::pin;
 use tokio::io::{AsyncRead, AsyncWrite};
 use tokio::task::JoinHandle;
-
-/// The configuration of a session. A [`lcmux::Config`] and a [`MuxConfig`] convert into one, with the default
-/// timeouts.
-///
-/// ```
-/// use lcmux_tokio::{lcmux::{Config, CHANNELS}, SessionConfig};
-/// use std::time::Duration;
-///
-/// let mut config = SessionConfig::from(Config::new([65_536; CHANNELS], 64));
-/// config.timeouts.idle = Some(Duration::from_secs(60));
-/// ```
-#[derive(Clone, Copy, Debug, PartialEq, Eq)]
-#[non_exhaustive]
-pub struct SessionConfig {
-    /// The version, the rings, the slots and the policies of the session.
-    pub mux: MuxConfig,
-    /// The timeouts of the session. If one of them is set, as the grace is by default, the timers of the runtime must
-    /// be enabled, or the session's task panics.
-    pub timeouts: Timeouts,
-}
-
-impl<C: Into<MuxConfig>> From<C> for SessionConfig {
-    fn from(mux: C) -> SessionConfig {
-        SessionConfig {
-            mux: mux.into(),
-            timeouts: Timeouts::default(),
-        }
-    }
-}
 
 /// Makes a session over a stream, and spawns the task that moves its bytes. The task completes once both directions
 /// ended or the session failed, and has dropped the stream by then.
@@ -114,8 +95,8 @@ impl<C: Into<MuxConfig>> From<C> for SessionConfig {
 /// let (mut alice, run) = connect(here, Config::new([1024; CHANNELS], 16))?;
 /// let (mut bob, _) = connect(there, Config::new([1024; CHANNELS], 16))?;
 ///
-/// alice.sender(Data).unwrap().send(b"hello").await?;
-/// let mut receiver = bob.receiver(Data).unwrap();
+/// alice.take_sender(Data).unwrap().send(b"hello").await?;
+/// let mut receiver = bob.take_receiver(Data).unwrap();
 /// assert_eq!(receiver.recv().await?, Some(b"hello".to_vec()));
 /// alice.close();
 /// bob.close();
@@ -125,14 +106,13 @@ impl<C: Into<MuxConfig>> From<C> for SessionConfig {
 /// ```
 pub fn connect<S>(
     stream: S,
-    config: impl Into<SessionConfig>,
+    config: Config,
 ) -> Result<(Mux, JoinHandle<Result<(), Closed>>), MuxFault>
 where
     S: AsyncRead + AsyncWrite + Send + 'static,
 {
-    let SessionConfig { mux, timeouts } = config.into();
-    let (mux, driver) = Mux::new(mux)?;
-    Ok((mux, tokio::spawn(run(driver, stream, timeouts))))
+    let (mux, driver) = Mux::new(config)?;
+    Ok((mux, tokio::spawn(drive(traced(driver), stream))))
 }
 
 /// Runs a session over a stream as a future, for applications that spawn it themselves or register a [hook for each
@@ -149,28 +129,42 @@ where
 /// # Examples
 ///
 /// ```
-/// use lcmux_tokio::{lcmux::{Config, Mux, CHANNELS}, run, Timeouts};
+/// use lcmux_tokio::{lcmux::{Config, Mux}, run};
 ///
 /// # #[tokio::main(flavor = "current_thread")]
 /// # async fn main() -> Result<(), Box<dyn std::error::Error>> {
 /// let (here, there) = tokio::io::duplex(4096);
-/// let (alice, driver) = Mux::new(Config::new([1024; CHANNELS], 16))?;
-/// let (bob, other) = Mux::new(Config::new([1024; CHANNELS], 16))?;
+/// let (alice, driver) = Mux::new(Config::default())?;
+/// let (bob, other) = Mux::new(Config::default())?;
 /// alice.close();
 /// bob.close();
 /// tokio::try_join!(
-///     run(driver, here, Timeouts::default()),
-///     run(other, there, Timeouts::default()),
+///     run(driver, here),
+///     run(other, there),
 /// )?;
 /// # Ok(())
 /// # }
 /// ```
-pub async fn run<S>(mut driver: Driver, stream: S, timeouts: Timeouts) -> Result<(), Closed>
+pub async fn run<S>(driver: Driver, stream: S) -> Result<(), Closed>
+where
+    S: AsyncRead + AsyncWrite,
+{
+    drive(traced(driver), stream).await
+}
+
+#[cfg_attr(not(feature = "tracing"), allow(unused_mut))]
+fn traced(mut driver: Driver) -> Driver {
+    #[cfg(feature = "tracing")]
+    trace::attach(&mut driver);
+    driver
+}
+
+async fn drive<S>(mut driver: Driver, stream: S) -> Result<(), Closed>
 where
     S: AsyncRead + AsyncWrite,
 {
     let stream = pin!(stream);
-    let mut link = Link::new(stream, timeouts);
+    let mut link = Link::new(stream, driver.timeouts());
     poll_fn(|cx| link.poll(cx, &mut driver)).await
 }
 

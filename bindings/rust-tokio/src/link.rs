@@ -44,7 +44,6 @@ fn timed_out<T>(why: &str) -> Poll<io::Result<T>> {
 
 impl<'a, S: AsyncRead + AsyncWrite> Link<'a, S> {
     pub fn new(stream: Pin<&'a mut S>, timeouts: Timeouts) -> Link<'a, S> {
-        let timeouts = timeouts.kept();
         Link {
             stream,
             silence: timeouts.idle.map(Alarm::new),

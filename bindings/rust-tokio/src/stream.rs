@@ -40,12 +40,12 @@ use tokio::io::{AsyncBufRead, AsyncRead, AsyncWrite, ReadBuf};
 /// let (mut alice, _) = connect(here, Config::new([64; CHANNELS], 16))?;
 /// let (mut bob, _) = connect(there, Config::new([64; CHANNELS], 16))?;
 ///
-/// let mut writer = Writer::new(alice.sender(Data).unwrap());
+/// let mut writer = Writer::new(alice.take_sender(Data).unwrap());
 /// tokio::spawn(async move {
 ///     writer.write_all(&[b'.'; 1_000]).await?; // through a ring of 64 bytes
 ///     writer.shutdown().await
 /// });
-/// let mut reader = Reader::new(bob.receiver(Data).unwrap());
+/// let mut reader = Reader::new(bob.take_receiver(Data).unwrap());
 /// let mut text = String::new();
 /// reader.read_to_string(&mut text).await?;
 /// assert_eq!(text, ".".repeat(1_000));
@@ -132,12 +132,12 @@ impl AsyncWrite for Writer {
 /// # let (here, there) = tokio::io::duplex(4096);
 /// # let (mut alice, _) = connect(here, Config::new([64; CHANNELS], 16))?;
 /// # let (mut bob, _) = connect(there, Config::new([64; CHANNELS], 16))?;
-/// let sender = alice.sender(Data).unwrap();
+/// let sender = alice.take_sender(Data).unwrap();
 /// sender.send(b"one line\nan").await?;
 /// sender.send(b"other\n").await?; // the reader joins messages, whoever sent them
 /// drop(sender);
 ///
-/// let mut lines = Reader::new(bob.receiver(Data).unwrap()).lines();
+/// let mut lines = Reader::new(bob.take_receiver(Data).unwrap()).lines();
 /// assert_eq!(lines.next_line().await?, Some("one line".into()));
 /// assert_eq!(lines.next_line().await?, Some("another".into()));
 /// assert_eq!(lines.next_line().await?, None);

@@ -14,8 +14,8 @@ type Sides = [(Mux, Run); 2];
 
 /// The writer of the first side, and the reader of the second.
 fn one_way(sides: &mut Sides, channel: Channel) -> (Writer, Reader) {
-    let writer = Writer::new(sides[0].0.sender(channel).unwrap());
-    let reader = Reader::new(sides[1].0.receiver(channel).unwrap());
+    let writer = Writer::new(sides[0].0.take_sender(channel).unwrap());
+    let reader = Reader::new(sides[1].0.take_receiver(channel).unwrap());
     (writer, reader)
 }
 
@@ -101,10 +101,10 @@ fn a_long_stream_is_copied() {
             };
             assert_eq!((read.unwrap(), target.at), (LEN, LEN));
             assert_eq!(copy.await.unwrap(), LEN);
-            let stats = sides[1].0.stats(Data);
+            let stats = sides[1].0.stats()[Data];
             assert!(stats.most_buffered <= 20_000);
             let average = LEN / stats.messages_received;
-            assert!(average > 2_000, "{average} bytes a message");
+            assert!(average > 500, "{average} bytes a message");
             close(sides).await;
         }
     });
@@ -209,8 +209,8 @@ fn a_select_loop_reads_and_writes_at_once() {
         let mut sides = in_memory(rings(16));
         let tasks = [0, 1].map(|side| {
             let mux = &mut sides[side].0;
-            let writer = Writer::new(mux.sender(Data).unwrap());
-            let reader = Reader::new(mux.receiver(Data).unwrap());
+            let writer = Writer::new(mux.take_sender(Data).unwrap());
+            let reader = Reader::new(mux.take_receiver(Data).unwrap());
             tokio::spawn(both_ways(writer, reader))
         });
         for task in tasks {
@@ -226,8 +226,8 @@ fn one_direction_goes_on_after_the_other_has_ended() {
     on_each("a half-close", || async {
         let mut sides = in_memory(rings(16));
         let (mut writer, mut reader) = one_way(&mut sides, Data);
-        let mut back = Writer::new(sides[1].0.sender(Data).unwrap());
-        let mut answer = Reader::new(sides[0].0.receiver(Data).unwrap());
+        let mut back = Writer::new(sides[1].0.take_sender(Data).unwrap());
+        let mut answer = Reader::new(sides[0].0.take_receiver(Data).unwrap());
         tokio::spawn(async move {
             let mut read = String::new();
             reader.read_to_string(&mut read).await.unwrap();
@@ -275,7 +275,7 @@ fn a_dropped_writer_finishes_and_a_dropped_reader_breaks_the_pipe() {
 fn a_stream_that_is_cut_never_looks_like_its_end() {
     on_each("a stream that is cut", || async {
         let (mut mux, _run, mut there) = by_hand(rings(64), 4096);
-        let mut reader = Reader::new(mux.receiver(Data).unwrap());
+        let mut reader = Reader::new(mux.take_receiver(Data).unwrap());
         let message = [&GREETING[..], b"\x11\0\0\0\x05hello"].concat();
         there.write_all(&message).await.unwrap();
         there.shutdown().await.unwrap();
@@ -298,8 +298,8 @@ fn a_stream_that_is_cut_never_looks_like_its_end() {
 fn an_abort_ends_reads_and_writes() {
     on_each("an abort of streams", || async {
         let (mut mux, _run, _there) = by_hand(rings(64), 4096);
-        let mut reader = Reader::new(mux.receiver(Data).unwrap());
-        let mut writer = Writer::new(mux.sender(Data).unwrap());
+        let mut reader = Reader::new(mux.take_receiver(Data).unwrap());
+        let mut writer = Writer::new(mux.take_sender(Data).unwrap());
         let read = tokio::spawn(async move { reader.read(&mut [0; 8]).await });
         let write = tokio::spawn(async move { writer.write(b"hello").await });
         yield_now().await;
@@ -358,13 +358,14 @@ fn reads_and_writes_that_time_out_are_repeated() {
 #[test]
 fn lines_are_found_across_messages_and_small_writes_are_gathered() {
     on_each("lines", || async {
-        let mut sides = in_memory(rings(64));
+        // The ring has room for all lines, so that no message is cut short, whichever task is faster.
+        let mut sides = in_memory(rings(8_192));
         let (writer, reader) = one_way(&mut sides, Data);
         let write = tokio::spawn(async move {
             let mut writer = BufWriter::with_capacity(61, writer);
-            for number in 0..1_000 {
-                let line = format!("{number}\n");
-                writer.write_all(line.as_bytes()).await.unwrap();
+            let lines: String = (0..1_000).map(|number| format!("{number}\n")).collect();
+            for piece in lines.as_bytes().chunks(7) {
+                writer.write_all(piece).await.unwrap();
             }
             writer.shutdown().await.unwrap(); // and flushes
         });
@@ -375,8 +376,8 @@ fn lines_are_found_across_messages_and_small_writes_are_gathered() {
         }
         assert_eq!(lines.next_line().await.unwrap(), None);
         write.await.unwrap();
-        let messages = sides[1].0.stats(Data).messages_received;
-        assert!(messages < 300, "{messages} messages");
+        let messages = sides[1].0.stats()[Data].messages_received;
+        assert!(messages <= 70, "{messages} messages");
         close(sides).await;
     });
 }
@@ -413,8 +414,8 @@ fn a_session_runs_over_a_channel_of_another() {
         let mut outer = in_memory(rings(50));
         let streams = [0, 1].map(|side| {
             let mux = &mut outer[side].0;
-            let reader = Reader::new(mux.receiver(Data).unwrap());
-            Duplex(reader, Writer::new(mux.sender(Data).unwrap()))
+            let reader = Reader::new(mux.take_receiver(Data).unwrap());
+            Duplex(reader, Writer::new(mux.take_sender(Data).unwrap()))
         });
         let mut inner = both(streams.into(), rings(16));
         let (mut writer, mut reader) = one_way(&mut inner, Capability);

@@ -42,8 +42,8 @@ fn message(number: u8) -> Vec<u8> {
 impl Side {
     fn new(mux: &mut Mux) -> Arc<Side> {
         Arc::new(Side {
-            sender: mux.sender(Data).unwrap(),
-            receiver: Mutex::new(mux.receiver(Data).unwrap()),
+            sender: mux.take_sender(Data).unwrap(),
+            receiver: Mutex::new(mux.take_receiver(Data).unwrap()),
             sent: AtomicU8::new(0),
             taken: AtomicU8::new(0),
         })
@@ -129,11 +129,11 @@ fn a_session_whose_task_is_given_up_at_any_await_ends() {
     on_each("a session that is given up", || async {
         for waits in 0.. {
             let (here, there) = tokio::io::duplex(11);
-            let (mut mux, driver) = Mux::new(rings(16).mux).unwrap();
+            let (mut mux, driver) = Mux::new(rings(16)).unwrap();
             let (mut other, other_run) = connect(there, rings(16)).unwrap();
             let alice = Side::new(&mut mux);
             let bob = Side::new(&mut other);
-            let run = lcmux_tokio::run(driver, here, Default::default());
+            let run = lcmux_tokio::run(driver, here);
             let [mut one, another] =
                 [&alice, &bob].map(|side| tokio::spawn(Arc::clone(side).work()));
             // After the last message nothing wakes the session's task, however few its waits were.

@@ -111,8 +111,8 @@ fn the_end_comes_in_its_order() {
             .write_all(&[&GREETING[..], &issue(5)].concat())
             .await
             .unwrap();
-        mux.sender(Data).unwrap().send(b"hello").await.unwrap();
-        let mut receiver = mux.receiver(Data).unwrap();
+        mux.take_sender(Data).unwrap().send(b"hello").await.unwrap();
+        let mut receiver = mux.take_receiver(Data).unwrap();
         mux.close();
         let mut bytes = Vec::new();
         there.read_to_end(&mut bytes).await.unwrap();
@@ -155,8 +155,13 @@ fn a_long_message_is_a_slice_where_several_are_taken() {
             there.read_exact(&mut bytes).await.unwrap();
             let stream = [&GREETING[..], &issue(10_000)].concat();
             there.write_all(&stream).await.unwrap();
-            mux.sender(Data).unwrap().send(&[7; 10_000]).await.unwrap();
+            mux.take_sender(Data)
+                .unwrap()
+                .send(&[7; 10_000])
+                .await
+                .unwrap();
             mux.close();
+            there.read_to_end(&mut bytes).await.unwrap();
             drop((mux, there));
             let _ = run.await.unwrap();
             assert_eq!(log.lock().unwrap().contains('v'), is_vectored);
@@ -169,8 +174,8 @@ fn a_long_message_is_a_slice_where_several_are_taken() {
 fn what_was_accepted_arrives_when_all_is_dropped() {
     on_each("a drop", || async {
         let [(mut mux, one), (mut other_mux, other)] = both(tcp_pair().await, rings(1 << 20));
-        let sender = mux.sender(Data).unwrap();
-        let mut receiver = other_mux.receiver(Data).unwrap();
+        let sender = mux.take_sender(Data).unwrap();
+        let mut receiver = other_mux.take_receiver(Data).unwrap();
         drop((mux, other_mux));
         for number in 0..100 {
             sender.send(&vec![number; 10_000]).await.unwrap();
@@ -188,7 +193,10 @@ fn what_was_accepted_arrives_when_all_is_dropped() {
 
 /// Waiting calls of a session whose peer is silent.
 fn that_wait(mux: &mut Mux) -> JoinHandle<(SendError, Closed)> {
-    let (sender, mut receiver) = (mux.sender(Data).unwrap(), mux.receiver(Data).unwrap());
+    let (sender, mut receiver) = (
+        mux.take_sender(Data).unwrap(),
+        mux.take_receiver(Data).unwrap(),
+    );
     tokio::spawn(async move {
         let (sent, received) = tokio::join!(sender.send(b"hello"), receiver.recv());
         (sent.unwrap_err(), received.unwrap_err())
@@ -232,8 +240,13 @@ fn a_join_handle_that_is_dropped_ends_nothing() {
     on_each("a dropped handle", || async {
         let [(mut alice, one), (mut bob, other)] = in_memory(rings(64));
         drop((one, other));
-        alice.sender(Data).unwrap().send(b"hello").await.unwrap();
-        let mut receiver = bob.receiver(Data).unwrap();
+        alice
+            .take_sender(Data)
+            .unwrap()
+            .send(b"hello")
+            .await
+            .unwrap();
+        let mut receiver = bob.take_receiver(Data).unwrap();
         assert_eq!(receiver.recv().await, Ok(Some(b"hello".to_vec())));
         assert_eq!(receiver.recv().await, Ok(None));
         alice.close();
@@ -249,7 +262,10 @@ fn a_runtime_that_is_dropped_ends_its_sessions() {
     for runtime in [current_thread(), multi_thread()] {
         let _watchdog = Watchdog::new("a dropped runtime");
         let (mut mux, run, there) = runtime.block_on(async { by_hand(rings(64), 4096) });
-        let (sender, mut receiver) = (mux.sender(Data).unwrap(), mux.receiver(Data).unwrap());
+        let (sender, mut receiver) = (
+            mux.take_sender(Data).unwrap(),
+            mux.take_receiver(Data).unwrap(),
+        );
         let waits = std::thread::spawn(move || receiver.recv_blocking());
         drop(runtime);
         assert_eq!(waits.join().unwrap(), Err(Closed::Aborted));
@@ -268,10 +284,10 @@ fn a_runtime_that_is_dropped_ends_its_sessions() {
 fn a_hook_that_panics_ends_the_session() {
     on_each("a hook that panics", || async {
         let (here, mut there) = tokio::io::duplex(4096);
-        let (mut mux, mut driver) = Mux::new(rings(64).mux).unwrap();
+        let (mut mux, mut driver) = Mux::new(rings(64)).unwrap();
         driver.on_frame(|_| std::panic::resume_unwind(Box::new("a hook panics")));
-        let mut receiver = mux.receiver(Data).unwrap();
-        let run = tokio::spawn(run(driver, here, Default::default()));
+        let mut receiver = mux.take_receiver(Data).unwrap();
+        let run = tokio::spawn(run(driver, here));
         assert_eq!(receiver.recv().await, Err(Closed::Aborted));
         assert!(run.await.unwrap_err().is_panic());
         there.read_to_end(&mut Vec::new()).await.unwrap();
@@ -283,7 +299,7 @@ fn a_hook_that_panics_ends_the_session() {
 fn a_peer_that_breaks_off_is_told() {
     on_each("a peer that breaks the rules", || async {
         let mut by_caller = rings(64);
-        by_caller.mux.issue = [lcmux_tokio::lcmux::IssuePolicy::ByCaller; CHANNELS];
+        by_caller.issue = [lcmux_tokio::lcmux::IssuePolicy::ByCaller; CHANNELS];
         let (mut mux, run, mut there) = by_hand(by_caller, 4096);
         let waiting = that_wait(&mut mux);
         there.write_all(b"\x11\0\x02hi").await.unwrap();
@@ -312,11 +328,14 @@ fn a_peer_that_breaks_off_is_told() {
 fn each_direction_ends_by_itself() {
     on_each("half an end", || async {
         let [(mut alice, one), (mut bob, other)] = both(tcp_pair().await, rings(64));
-        let (sender, mut receiver) = (alice.sender(Data).unwrap(), bob.receiver(Data).unwrap());
+        let (sender, mut receiver) = (
+            alice.take_sender(Data).unwrap(),
+            bob.take_receiver(Data).unwrap(),
+        );
         sender.send(b"first").await.unwrap();
         assert_eq!(receiver.recv().await, Ok(Some(b"first".to_vec())));
         bob.close();
-        let mut overlap = alice.receiver(Overlap).unwrap();
+        let mut overlap = alice.take_receiver(Overlap).unwrap();
         assert_eq!(overlap.recv().await, Ok(None));
         sender.send(b"second").await.unwrap();
         assert_eq!(receiver.recv().await, Ok(Some(b"second".to_vec())));

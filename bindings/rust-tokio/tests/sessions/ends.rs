@@ -1,36 +1,13 @@
 //! How the peer's stream ends over TCP, before and after this side's close, and the result of each call then.
+use crate::end::End;
 use crate::*;
 use lcmux_tokio::lcmux::Channel::Data;
-use lcmux_tokio::lcmux::{Fault, SendError, Stop, Violation};
+use lcmux_tokio::lcmux::SendError;
 use std::time::Duration;
 use tokio::io::AsyncWriteExt;
 
-/// The last operation of the peer.
-#[derive(Clone, Copy, Debug, PartialEq)]
-enum End {
-    InOrder,
-    BetweenFrames,
-    InAFrame,
-    Reset,
-    AgainstTheRules,
-}
-
-const ENDS: [End; 5] = [
-    End::InOrder,
-    End::BetweenFrames,
-    End::InAFrame,
-    End::Reset,
-    End::AgainstTheRules,
-];
-
 async fn end(end: End, mut stream: TcpStream) {
-    let last: &[u8] = match end {
-        End::InOrder => &FINISHES,
-        End::InAFrame => b"\x11\0",
-        End::AgainstTheRules => b"\x30\0\0\0\xff",
-        End::BetweenFrames | End::Reset => b"",
-    };
-    stream.write_all(last).await.unwrap();
+    stream.write_all(end.last_bytes()).await.unwrap();
     match end {
         // The peer continues to read, as after a half-close.
         End::Reset => drop(stream.set_linger(Some(Duration::ZERO))),
@@ -43,22 +20,13 @@ async fn end(end: End, mut stream: TcpStream) {
     }
 }
 
-fn is_reason(end: End, closed: &Closed) -> bool {
-    match end {
-        End::InOrder => false,
-        End::BetweenFrames => *closed == Closed::Cut,
-        End::InAFrame => closed.stop() == Some(Stop::Fault(Fault::Truncated)),
-        End::Reset => {
-            matches!(closed, Closed::Transport(error) if error.kind() == ErrorKind::ConnectionReset)
-        }
-        End::AgainstTheRules => closed.stop() == Some(Stop::Violated(Violation::AbsolvedTooMuch)),
-    }
-}
-
 async fn ends_as_it_is(last: End, is_closed_before: bool) {
     let (here, mut there) = tcp_pair().await;
     let (mut mux, run) = connect(here, rings(64)).unwrap();
-    let (sender, mut receiver) = (mux.sender(Data).unwrap(), mux.receiver(Data).unwrap());
+    let (sender, mut receiver) = (
+        mux.take_sender(Data).unwrap(),
+        mux.take_receiver(Data).unwrap(),
+    );
     there.write_all(&GREETING).await.unwrap();
     there.write_all(b"\x11\0\0\0\x02hi").await.unwrap();
     while receiver.book().buffered < 2 {
@@ -86,7 +54,7 @@ async fn ends_as_it_is(last: End, is_closed_before: bool) {
         return;
     }
     let over = mux.closed().await.unwrap_err();
-    assert!(is_reason(last, &over), "{what}: {over:?}");
+    assert!(last.is_reason(&over), "{what}: {over:?}");
     assert_eq!(received, Err(over.clone()), "{what}");
     assert_eq!(sent, SendError::Closed(over.clone()), "{what}");
     assert_eq!(run.await.unwrap(), Err(over), "{what}");
@@ -94,7 +62,7 @@ async fn ends_as_it_is(last: End, is_closed_before: bool) {
 
 #[test]
 fn each_end_of_the_peer_is_told_for_what_it_is() {
-    for last in ENDS {
+    for last in End::ALL {
         for is_closed_before in [false, true] {
             on_each("an end of the peer", move || {
                 ends_as_it_is(last, is_closed_before)

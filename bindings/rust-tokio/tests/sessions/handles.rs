@@ -16,6 +16,11 @@ async fn all(mut receiver: Receiver) -> (usize, Option<Closed>) {
     }
 }
 
+/// Whether it is the end of a stream that was cut, or of a write that failed before.
+fn is_cut(closed: &Closed) -> bool {
+    matches!(closed, Closed::Cut | Closed::Transport(_))
+}
+
 struct Sides {
     mux: Mux,
     run: Run,
@@ -26,8 +31,8 @@ struct Sides {
 
 fn sides() -> (Sides, Sender) {
     let [(mut mux, run), (mut other, there)] = in_memory(rings(64));
-    let sender = mux.sender(Data).unwrap();
-    let taken = tokio::spawn(all(other.receiver(Data).unwrap()));
+    let sender = mux.take_sender(Data).unwrap();
+    let taken = tokio::spawn(all(other.take_receiver(Data).unwrap()));
     let sides = Sides {
         mux,
         run,
@@ -68,9 +73,9 @@ fn a_clone_that_a_panic_drops_aborts_the_session() {
         let sent = sender.send(b"rest").await;
         assert_eq!(sent, Err(SendError::Closed(Closed::Aborted)));
         assert_eq!(sides.run.await.unwrap(), Err(Closed::Aborted));
-        let (_, closed) = sides.taken.await.unwrap();
-        assert_eq!(closed, Some(Closed::Cut));
-        assert_eq!(sides.there.await.unwrap(), Err(Closed::Cut));
+        let closed = sides.taken.await.unwrap().1.unwrap();
+        assert!(is_cut(&closed), "{closed:?}");
+        assert_eq!(sides.there.await.unwrap(), Err(closed));
     });
 }
 
@@ -85,7 +90,7 @@ fn an_aborted_task_looks_like_an_end_unless_a_clone_is_kept() {
                 sender.send(b"half").await.unwrap();
                 pending::<()>().await;
             });
-            while sides.mux.stats(Data).messages_sent == 0 {
+            while sides.mux.stats()[Data].messages_sent == 0 {
                 tokio::task::yield_now().await;
             }
             task.abort();
@@ -94,8 +99,10 @@ fn an_aborted_task_looks_like_an_end_unless_a_clone_is_kept() {
                 sides.mux.abort();
             }
             drop(kept);
-            let closed = is_kept.then_some(Closed::Cut);
-            assert_eq!(sides.taken.await.unwrap().1, closed);
+            match sides.taken.await.unwrap().1 {
+                Some(closed) => assert!(is_kept && is_cut(&closed), "{closed:?}"),
+                None => assert!(!is_kept),
+            }
         }
     });
 }

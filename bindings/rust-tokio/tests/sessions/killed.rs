@@ -15,7 +15,7 @@ fn other_side() {
     current_thread().block_on(async {
         let stream = TcpStream::connect(address).await.unwrap();
         let (mut mux, _run) = connect(stream, rings(1 << 16)).unwrap();
-        let sender = mux.sender(Data).unwrap();
+        let sender = mux.take_sender(Data).unwrap();
         while sender.send(&[7; 10_000]).await.is_ok() {}
     });
 }
@@ -47,7 +47,7 @@ impl Drop for Other {
 }
 
 /// A session with such a process, after some messages arrived.
-async fn with_other(config: SessionConfig) -> (Mux, Run, Other) {
+async fn with_other(config: Config) -> (Mux, Run, Other) {
     let listener = TcpListener::bind("127.0.0.1:0").await.unwrap();
     let other = Other::new(listener.local_addr().unwrap().to_string());
     let (mux, run) = connect(listener.accept().await.unwrap().0, config).unwrap();
@@ -59,7 +59,7 @@ async fn with_other(config: SessionConfig) -> (Mux, Run, Other) {
 fn a_side_that_is_killed_is_no_end_of_its_channels() {
     on_each("a side that is killed", || async {
         let (mut mux, run, other) = with_other(rings(1 << 16)).await;
-        let mut receiver = mux.receiver(Data).unwrap();
+        let mut receiver = mux.take_receiver(Data).unwrap();
         for _ in 0..20 {
             assert_eq!(receiver.recv().await, Ok(Some(vec![7; 10_000])));
         }
@@ -78,19 +78,30 @@ fn a_side_that_is_killed_is_no_end_of_its_channels() {
     });
 }
 
+/// Whether a process that sends, and is then stopped, is given up. On a busy machine it may be silent before it sends.
+async fn is_given_up() -> bool {
+    let mut config = rings(1 << 16);
+    config.timeouts.idle = Some(Duration::from_secs(2));
+    let (mut mux, run, other) = with_other(config).await;
+    let mut receiver = mux.take_receiver(Data).unwrap();
+    let first = receiver.recv().await;
+    other.signal("-STOP");
+    while receiver.recv().await.is_ok() {}
+    let silent = Err(timed_out("the peer sent nothing within the timeout"));
+    assert_eq!(run.await.unwrap(), silent);
+    assert_eq!(mux.closed().await, silent);
+    first == Ok(Some(vec![7; 10_000]))
+}
+
 /// The system buffers bytes for the stopped process, so no call fails; but the process is silent.
 #[test]
 fn a_side_that_is_stopped_is_given_up() {
     on_each("a side that is stopped", || async {
-        let mut config = rings(1 << 16);
-        config.timeouts.idle = Some(Duration::from_secs(2));
-        let (mut mux, run, other) = with_other(config).await;
-        let mut receiver = mux.receiver(Data).unwrap();
-        assert_eq!(receiver.recv().await, Ok(Some(vec![7; 10_000])));
-        other.signal("-STOP");
-        while receiver.recv().await.is_ok() {}
-        let silent = Err(timed_out("the peer sent nothing within the timeout"));
-        assert_eq!(run.await.unwrap(), silent);
-        assert_eq!(mux.closed().await, silent);
+        for _ in 0..10 {
+            if is_given_up().await {
+                return;
+            }
+        }
+        panic!("it sends nothing");
     });
 }

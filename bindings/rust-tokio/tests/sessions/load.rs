@@ -40,8 +40,8 @@ async fn swap(sides: [(Mux, Run); 2], most: usize) {
     let mut tasks = Vec::new();
     for channel in Channel::ALL {
         for (from, to) in [(0, 1), (1, 0)] {
-            let sender = sides[from].0.sender(channel).unwrap();
-            let receiver = sides[to].0.receiver(channel).unwrap();
+            let sender = sides[from].0.take_sender(channel).unwrap();
+            let receiver = sides[to].0.take_receiver(channel).unwrap();
             let send = tokio::spawn(send(sender, bytes, most));
             tasks.push((send, tokio::spawn(take(receiver, most))));
         }

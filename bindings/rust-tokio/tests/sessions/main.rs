@@ -1,9 +1,18 @@
 //! Sessions over tokio's streams, on each of its runtimes.
+#[allow(dead_code)] // the tests of lcmux use all of it
+#[path = "../../../rust/tests/common/call.rs"]
+mod call;
+#[path = "../../../rust/tests/common/end.rs"]
+mod end;
+#[path = "../../../rust/tests/common/page.rs"]
+mod page;
 #[path = "../../../rust/tests/common/watchdog.rs"]
 mod watchdog;
 
+mod answers;
 mod bytes;
 mod cancelled;
+mod copies;
 mod endings;
 mod ends;
 mod handles;
@@ -13,8 +22,8 @@ mod polled;
 mod stalled;
 mod timeouts;
 
+use lcmux_tokio::connect;
 use lcmux_tokio::lcmux::{Channel, Closed, Config, Mux, Version, CHANNELS};
-use lcmux_tokio::{connect, SessionConfig};
 use std::future::Future;
 use std::io::ErrorKind;
 use tokio::io::{AsyncRead, AsyncWrite, DuplexStream};
@@ -48,21 +57,21 @@ where
 }
 
 /// Version Two, with rings of this size.
-fn rings(capacity: u32) -> SessionConfig {
+fn rings(capacity: u32) -> Config {
     let mut config = Config::new([capacity; CHANNELS], 64);
     config.version = Version::Two;
-    config.into()
+    config
 }
 
 /// Two sessions over the two ends of one stream, each with its task.
-fn both<S>(streams: (S, S), config: SessionConfig) -> [(Mux, Run); 2]
+fn both<S>(streams: (S, S), config: Config) -> [(Mux, Run); 2]
 where
     S: AsyncRead + AsyncWrite + Send + 'static,
 {
     [streams.0, streams.1].map(|stream| connect(stream, config).unwrap())
 }
 
-fn in_memory(config: SessionConfig) -> [(Mux, Run); 2] {
+fn in_memory(config: Config) -> [(Mux, Run); 2] {
     both(tokio::io::duplex(4096), config)
 }
 
@@ -77,7 +86,7 @@ async fn tcp_pair() -> (TcpStream, TcpStream) {
 }
 
 /// A session, and the other end of its stream for the test.
-fn by_hand(config: SessionConfig, room: usize) -> (Mux, Run, DuplexStream) {
+fn by_hand(config: Config, room: usize) -> (Mux, Run, DuplexStream) {
     let (here, there) = tokio::io::duplex(room);
     let (mux, run) = connect(here, config).unwrap();
     (mux, run, there)

@@ -38,8 +38,8 @@ async fn all(mut receiver: Receiver) -> Vec<Vec<u8>> {
 fn a_select_loop_over_poll_functions_loses_no_message() {
     on_each("poll functions", || async {
         let mut sides = both(tokio::io::duplex(11), rings(16));
-        let mut sender = PollSender::new(sides[0].0.sender(Data).unwrap());
-        let received = tokio::spawn(all(sides[1].0.receiver(Data).unwrap()));
+        let mut sender = PollSender::new(sides[0].0.take_sender(Data).unwrap());
+        let received = tokio::spawn(all(sides[1].0.take_receiver(Data).unwrap()));
         let mut dropped = 0;
         for number in 0..100 {
             let message = message(number);
@@ -64,7 +64,7 @@ fn a_select_loop_over_poll_functions_loses_no_message() {
 fn a_polled_call_precedes_the_later_calls_of_clones() {
     on_each("a polled call", || async {
         let (mut mux, _run, mut there) = by_hand(rings(64), 1 << 16);
-        let mut sender = PollSender::new(mux.sender(Data).unwrap());
+        let mut sender = PollSender::new(mux.take_sender(Data).unwrap());
         let clone = sender.get_ref().clone();
         tokio::select! {
             biased;
@@ -89,8 +89,8 @@ fn a_polled_call_precedes_the_later_calls_of_clones() {
 fn a_polled_call_that_is_dropped_delays_no_other() {
     on_each("a polled call that is dropped", || async {
         let mut sides = both(tokio::io::duplex(11), rings(16));
-        let sender = sides[0].0.sender(Data).unwrap();
-        let mut receiver = sides[1].0.receiver(Data).unwrap();
+        let sender = sides[0].0.take_sender(Data).unwrap();
+        let mut receiver = sides[1].0.take_receiver(Data).unwrap();
         for number in 0..10 {
             let mut polled = PollSender::new(sender.clone());
             tokio::select! {
@@ -118,8 +118,8 @@ fn a_polled_call_that_is_dropped_delays_no_other() {
 fn permits_move_to_the_task_that_sends() {
     on_each("owned permits", || async {
         let mut sides = both(tokio::io::duplex(11), rings(16));
-        let sender = sides[0].0.sender(Data).unwrap();
-        let received = tokio::spawn(all(sides[1].0.receiver(Data).unwrap()));
+        let sender = sides[0].0.take_sender(Data).unwrap();
+        let received = tokio::spawn(all(sides[1].0.take_receiver(Data).unwrap()));
         let (permits, mut queue) = mpsc::channel::<OwnedPermit>(1);
         let reserving = tokio::spawn(async move {
             for _ in 0..100 {
@@ -143,8 +143,8 @@ fn permits_move_to_the_task_that_sends() {
 fn a_permit_that_outlives_its_sender_keeps_the_channel_open() {
     on_each("a permit that outlives its sender", || async {
         let mut sides = both(tokio::io::duplex(11), rings(16));
-        let sender = sides[0].0.sender(Data).unwrap();
-        let mut receiver = sides[1].0.receiver(Data).unwrap();
+        let sender = sides[0].0.take_sender(Data).unwrap();
+        let mut receiver = sides[1].0.take_receiver(Data).unwrap();
         let permit = sender.reserve_owned(4).await.unwrap();
         let unused = sender.reserve_owned(4).await.unwrap();
         sender.send(b"first").await.unwrap();
@@ -172,7 +172,7 @@ fn a_permit_that_outlives_its_sender_keeps_the_channel_open() {
 fn a_permit_of_a_closed_session_is_refused() {
     on_each("a permit and a close", || async {
         let mut sides = both(tokio::io::duplex(11), rings(16));
-        let sender = sides[0].0.sender(Data).unwrap();
+        let sender = sides[0].0.take_sender(Data).unwrap();
         let permit = sender.reserve_owned(4).await.unwrap();
         let waiting = tokio::spawn(async move { sender.reserve_owned(16).await.err() });
         yield_now().await;

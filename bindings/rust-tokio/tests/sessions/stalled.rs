@@ -6,10 +6,9 @@ use std::future::poll_fn;
 use std::io;
 use std::mem;
 use std::pin::{pin, Pin};
-use std::sync::Arc;
+use std::sync::{mpsc, Arc};
 use std::task::{Context, Poll};
-use std::thread;
-use std::time::{Duration, Instant};
+use std::time::Duration;
 use tokio::io::ReadBuf;
 use tokio::select;
 use tokio::sync::oneshot;
@@ -42,8 +41,11 @@ async fn ask(sender: Sender, mut receiver: Receiver, count: u32) {
 
 // One task pins each upload, and answers requests on another channel in a branch of a `select!` meanwhile.
 async fn upload_and_answer(mux: &mut Mux, uploads: usize, len: usize) {
-    let (data, answers) = (mux.sender(Data).unwrap(), mux.sender(Overlap).unwrap());
-    let mut requests = mux.receiver(Overlap).unwrap();
+    let (data, answers) = (
+        mux.take_sender(Data).unwrap(),
+        mux.take_sender(Overlap).unwrap(),
+    );
+    let mut requests = mux.take_receiver(Overlap).unwrap();
     let body = vec![7; len];
     for _ in 0..uploads {
         let mut upload = pin!(data.send(&body));
@@ -69,15 +71,15 @@ fn a_select_loop_answers_while_its_upload_is_not_polled() {
         on_each("a select loop", move || async move {
             let mut config = Config::new([65_536; CHANNELS], slots);
             config.version = Version::Two;
-            let [(mut here, run), (mut there, other)] = in_memory(config.into());
-            let uploads = tokio::spawn(count(there.receiver(Data).unwrap()));
+            let [(mut here, run), (mut there, other)] = in_memory(config);
+            let uploads = tokio::spawn(count(there.take_receiver(Data).unwrap()));
             let (sender, receiver) = (
-                there.sender(Overlap).unwrap(),
-                there.receiver(Overlap).unwrap(),
+                there.take_sender(Overlap).unwrap(),
+                there.take_receiver(Overlap).unwrap(),
             );
             let asking = tokio::spawn(ask(sender, receiver, 400));
             let answering = upload_and_answer(&mut here, 500, len);
-            timeout(Duration::from_secs(30), answering)
+            timeout(Duration::from_secs(60), answering)
                 .await
                 .expect("a deadlock");
             asking.await.unwrap();
@@ -89,19 +91,15 @@ fn a_select_loop_answers_while_its_upload_is_not_polled() {
     }
 }
 
-async fn longest_ping(sender: &Sender, receiver: &mut Receiver, until: Instant) -> Duration {
-    let mut longest = Duration::ZERO;
-    while Instant::now() < until {
-        let begin = Instant::now();
+async fn ping(sender: &Sender, receiver: &mut Receiver, count: usize) {
+    for _ in 0..count {
         sender.send(b"ping").await.unwrap();
         assert_eq!(receiver.recv().await.unwrap().unwrap(), b"ping");
-        longest = longest.max(begin.elapsed());
-        sleep(Duration::from_millis(1)).await;
     }
-    longest
 }
 
-/// A send is polled for a while, and then its task works without an await: pings on another channel continue.
+/// A send is polled for a while, and then its task works without an await: pings on another channel continue. The work
+/// ends after them.
 #[test]
 fn a_timeout_beside_disk_work_holds_up_no_other_channel() {
     for len in [9, 60_000] {
@@ -110,12 +108,16 @@ fn a_timeout_beside_disk_work_holds_up_no_other_channel() {
         runtime.block_on(async {
             let [(mut here, _run), (mut there, _other)] = in_memory(rings(65_536));
             let back = echo(
-                there.sender(Overlap).unwrap(),
-                there.receiver(Overlap).unwrap(),
+                there.take_sender(Overlap).unwrap(),
+                there.take_receiver(Overlap).unwrap(),
             );
             tokio::spawn(back);
-            let (data, mut uploads) = (here.sender(Data).unwrap(), there.receiver(Data).unwrap());
+            let (data, mut uploads) = (
+                here.take_sender(Data).unwrap(),
+                there.take_receiver(Data).unwrap(),
+            );
             let (stuck, is_stuck) = oneshot::channel();
+            let (end, ends) = mpsc::channel();
             let work = tokio::spawn(async move {
                 let body = vec![7; len];
                 for _ in 0..65_536 / len {
@@ -124,22 +126,31 @@ fn a_timeout_beside_disk_work_holds_up_no_other_channel() {
                 let mut send = pin!(data.send(&body));
                 assert!(timeout(Duration::from_millis(50), &mut send).await.is_err());
                 stuck.send(()).unwrap();
-                thread::sleep(Duration::from_millis(1_500));
+                ends.recv().unwrap();
                 send.await.unwrap();
             });
             is_stuck.await.unwrap();
-            let until = Instant::now() + Duration::from_millis(1_200);
+            let (taken, are_taken) = oneshot::channel();
             let taking = tokio::spawn(async move {
-                for _ in 0..=65_536 / len {
+                for _ in 0..65_536 / len {
                     uploads.recv().await.unwrap().unwrap();
                 }
+                taken.send(()).unwrap();
+                uploads.recv().await.unwrap().unwrap();
             });
-            let (ping, mut pong) = (
-                here.sender(Overlap).unwrap(),
-                here.receiver(Overlap).unwrap(),
+            let (sender, mut receiver) = (
+                here.take_sender(Overlap).unwrap(),
+                here.take_receiver(Overlap).unwrap(),
             );
-            let longest = longest_ping(&ping, &mut pong, until).await;
-            assert!(longest < Duration::from_millis(1_000), "{longest:?}");
+            let pings = async {
+                ping(&sender, &mut receiver, 500).await;
+                are_taken.await.unwrap(); // the send has its guarantees after the next ping
+                ping(&sender, &mut receiver, 500).await;
+            };
+            timeout(Duration::from_secs(60), pings)
+                .await
+                .expect("the work holds up the pings");
+            end.send(()).unwrap();
             work.await.unwrap();
             taking.await.unwrap();
         });
@@ -154,8 +165,8 @@ fn forgotten_futures_hold_up_no_other_channel() {
             let [(mut here, _run), (mut there, _other)] = in_memory(rings(131_072));
             for channel in Channel::ALL.into_iter().filter(|it| *it != Overlap) {
                 let (sender, receiver) = (
-                    here.sender(channel).unwrap(),
-                    there.receiver(channel).unwrap(),
+                    here.take_sender(channel).unwrap(),
+                    there.take_receiver(channel).unwrap(),
                 );
                 let kept = Arc::new(sender);
                 let sender = Arc::clone(&kept);
@@ -172,16 +183,16 @@ fn forgotten_futures_hold_up_no_other_channel() {
                 tokio::spawn(count(receiver));
             }
             let back = echo(
-                there.sender(Overlap).unwrap(),
-                there.receiver(Overlap).unwrap(),
+                there.take_sender(Overlap).unwrap(),
+                there.take_receiver(Overlap).unwrap(),
             );
             tokio::spawn(back);
             let (sender, receiver) = (
-                here.sender(Overlap).unwrap(),
-                here.receiver(Overlap).unwrap(),
+                here.take_sender(Overlap).unwrap(),
+                here.take_receiver(Overlap).unwrap(),
             );
             let asking = ask(sender, receiver, 1_000);
-            timeout(Duration::from_secs(30), asking)
+            timeout(Duration::from_secs(60), asking)
                 .await
                 .expect("it hangs");
         });
@@ -245,16 +256,16 @@ fn what_is_written_is_flushed_before_the_session_waits() {
         let [(mut here, run), (mut there, other)] =
             sides.map(|side| connect(side, rings(64)).unwrap());
         let back = echo(
-            there.sender(Overlap).unwrap(),
-            there.receiver(Overlap).unwrap(),
+            there.take_sender(Overlap).unwrap(),
+            there.take_receiver(Overlap).unwrap(),
         );
         tokio::spawn(back);
         let (sender, receiver) = (
-            here.sender(Overlap).unwrap(),
-            here.receiver(Overlap).unwrap(),
+            here.take_sender(Overlap).unwrap(),
+            here.take_receiver(Overlap).unwrap(),
         );
         let asking = ask(sender, receiver, 100);
-        timeout(Duration::from_secs(10), asking)
+        timeout(Duration::from_secs(60), asking)
             .await
             .expect("it hangs");
         drop((here, there));
@@ -270,7 +281,10 @@ fn a_loop_that_is_always_ready_lets_other_tasks_run() {
     let _watchdog = Watchdog::new("a loop that is always ready");
     runtime.block_on(async {
         let [(mut here, _run), (mut there, _other)] = in_memory(rings(1 << 20));
-        let (sender, mut receiver) = (here.sender(Data).unwrap(), there.receiver(Data).unwrap());
+        let (sender, mut receiver) = (
+            here.take_sender(Data).unwrap(),
+            there.take_receiver(Data).unwrap(),
+        );
         let stored = 20_000;
         for _ in 0..stored {
             sender.send(b"x").await.unwrap();

@@ -26,19 +26,19 @@ async fn ends(run: Run, since: Instant, after: u64, with: Result<(), Closed>) {
     assert!((seconds(after)..most).contains(&over), "{over:?}");
 }
 
-fn idle(count: u64) -> SessionConfig {
+fn idle(count: u64) -> Config {
     let mut config = rings(64);
     config.timeouts.idle = Some(seconds(count));
     config
 }
 
-fn keep_alive(count: u64) -> SessionConfig {
+fn keep_alive(count: u64) -> Config {
     let mut config = rings(64);
     config.timeouts.keep_alive = Some(seconds(count));
     config
 }
 
-fn grace(count: Option<u64>) -> SessionConfig {
+fn grace(count: Option<u64>) -> Config {
     let mut config = rings(64);
     config.timeouts.grace = count.map(seconds);
     config
@@ -57,7 +57,7 @@ fn a_side_that_is_silent_is_given_up() {
     on_paused("silence", async {
         let (mut mux, run, mut there) = by_hand(idle(60), 4096);
         let begin = Instant::now();
-        let mut receiver = mux.receiver(Data).unwrap();
+        let mut receiver = mux.take_receiver(Data).unwrap();
         let waits = tokio::spawn(async move { receiver.recv().await });
         // One byte is enough, even if it completes no frame.
         for byte in GREETING {
@@ -91,7 +91,7 @@ fn a_side_that_ended_its_direction_is_not_silent() {
         there.write_all(&FINISHES).await.unwrap();
         there.shutdown().await.unwrap();
         sleep(seconds(1000)).await;
-        mux.sender(Data).unwrap().send(b"hello").await.unwrap();
+        mux.take_sender(Data).unwrap().send(b"hello").await.unwrap();
         mux.close();
         assert_eq!(run.await.unwrap(), Ok(()));
     });
@@ -104,7 +104,7 @@ fn a_side_that_stops_reading_is_given_up() {
         let (mut mux, run, mut there) = by_hand(idle(60), first_bytes().len() + 100);
         there.write_all(&GREETING).await.unwrap();
         there.write_all(&issue(4096)).await.unwrap();
-        let sender = mux.sender(Data).unwrap();
+        let sender = mux.take_sender(Data).unwrap();
         sender.send(&[7; 95]).await.unwrap();
         for _ in 0..10 {
             sleep(seconds(40)).await;
@@ -132,7 +132,7 @@ fn a_side_that_reads_slowly_is_borne() {
         let (mut mux, run, mut there) = by_hand(idle(60), first_bytes().len());
         there.write_all(&GREETING).await.unwrap();
         there.write_all(&issue(20)).await.unwrap();
-        let sender = mux.sender(Data).unwrap();
+        let sender = mux.take_sender(Data).unwrap();
         sender.send(&[7; 20]).await.unwrap();
         mux.close();
         let mut bytes = Vec::new();
@@ -165,7 +165,7 @@ fn a_frame_that_changes_nothing_goes_where_nothing_else_does() {
         sleep(seconds(72)).await;
         assert_eq!(read_now(&mut there).await, KEEP_ALIVE.repeat(4), "after 91");
         sleep(seconds(4)).await;
-        mux.sender(Data).unwrap().send(b"hello").await.unwrap(); // and is dropped after 95 seconds
+        mux.take_sender(Data).unwrap().send(b"hello").await.unwrap(); // and is dropped after 95 seconds
         sleep(seconds(19)).await;
         assert_eq!(read_now(&mut there).await, b"\x11\0\0\0\x05hello\x71");
         sleep(seconds(2)).await;
@@ -182,7 +182,10 @@ fn a_frame_that_changes_nothing_goes_where_nothing_else_does() {
 fn a_keep_alive_leaves_limits_as_they_are() {
     on_paused("keep-alives and limits", async {
         let [(mut alice, _one), (mut bob, _other)] = in_memory(keep_alive(1));
-        let (sender, mut receiver) = (alice.sender(Data).unwrap(), bob.receiver(Data).unwrap());
+        let (sender, mut receiver) = (
+            alice.take_sender(Data).unwrap(),
+            bob.take_receiver(Data).unwrap(),
+        );
         sender.limit(200).unwrap();
         receiver.limit(100).unwrap();
         for length in [60, 50, 50] {
@@ -208,8 +211,8 @@ fn two_sides_keep_each_other_alive() {
         config.timeouts.keep_alive = Some(seconds(20));
         let mut sides = in_memory(config);
         sleep(seconds(100_000)).await;
-        let sender = sides[0].0.sender(Data).unwrap();
-        let mut receiver = sides[1].0.receiver(Data).unwrap();
+        let sender = sides[0].0.take_sender(Data).unwrap();
+        let mut receiver = sides[1].0.take_receiver(Data).unwrap();
         sender.send(&[7; 64]).await.unwrap();
         assert_eq!(receiver.recv().await.unwrap(), Some(vec![7; 64]));
         close(sides).await;
@@ -221,8 +224,8 @@ fn two_sides_keep_each_other_alive() {
 fn keep_alives_leave_time_for_messages() {
     on_paused("keep-alives without a pause", async {
         let mut sides = in_memory(keep_alive(0));
-        let sender = sides[0].0.sender(Data).unwrap();
-        let mut receiver = sides[1].0.receiver(Data).unwrap();
+        let sender = sides[0].0.take_sender(Data).unwrap();
+        let mut receiver = sides[1].0.take_receiver(Data).unwrap();
         sender.send(b"hi").await.unwrap();
         assert_eq!(receiver.recv().await.unwrap(), Some(b"hi".to_vec()));
         close(sides).await;

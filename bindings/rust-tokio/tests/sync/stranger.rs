@@ -26,8 +26,12 @@ impl Stranger {
         let stream = TcpStream::connect(address).unwrap();
         let (mut mux, driver) = Mux::new(Config::new([65_536; CHANNELS], 64)).unwrap();
         let run = thread::spawn(move || driver.run_blocking(stream.try_clone()?, stream));
-        let [offers, requests, contents] = [Reconciliation, PayloadRequest, Data]
-            .map(|channel| (mux.sender(channel).unwrap(), mux.receiver(channel).unwrap()));
+        let [offers, requests, contents] = [Reconciliation, PayloadRequest, Data].map(|channel| {
+            (
+                mux.take_sender(channel).unwrap(),
+                mux.take_receiver(channel).unwrap(),
+            )
+        });
         Stranger {
             mux,
             run,
