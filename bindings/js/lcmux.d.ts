@@ -1,3 +1,19 @@
+// Types of the web platform that this file names. Each declaration is empty and merges with that of the library `dom`
+// or of `@types/node`; without either, the file compiles and these types have no members.
+declare global {
+  interface AbortSignal {}
+  interface ReadableStream<R = any> {}
+  interface Response {}
+  interface URL {}
+  interface WritableStream<W = any> {}
+  namespace WebAssembly {
+    interface Module {}
+  }
+  interface SymbolConstructor {
+    readonly asyncDispose: unique symbol;
+  }
+}
+
 /**
  * The numbers of the logical channels by their names. Each channel runs in both directions, and the two directions
  * are independent. The application chooses what it sends on which channel.
@@ -160,7 +176,10 @@ export declare class LcmuxError extends Error {
   readonly frames?: number;
   /** With a protocol error: how many bytes of the peer's stream precede the offending frame, the preface among them. */
   readonly offset?: number | bigint;
-  /** With a protocol error: the frame that broke a rule, or null after a fault. */
+  /**
+   * With a protocol error: the frame that broke a rule, after F2 and F3 the one whose number is out of range, or null
+   * after F1 and F4.
+   */
   readonly frame?: OffendingFrame | null;
   /**
    * With a protocol error: the most that the number of the frame might have been, or null after the violation V9 and
@@ -519,10 +538,13 @@ export interface Library {
 }
 
 /** The source of the module: a URL, its bytes, a response with its bytes, or a compiled module. */
-export type Source = URL | BufferSource | Response | (WebAssembly.Module & object);
+export type Source = URL | ArrayBuffer | ArrayBufferView | Response | (WebAssembly.Module & object);
 
-/** Compiles and instantiates the module, by default from the package's own file. */
-export declare function load(source?: Source | PromiseLike<Source>): Promise<Library>;
+/**
+ * Compiles and instantiates the module, by default from the package's own file. A bundler may not copy that file; then
+ * pass the module.
+ */
+export declare function load(source?: Source | PromiseLike<Source>, options?: WaitOptions): Promise<Library>;
 
 /**
  * When a channel issues the free bytes of its ring buffer as guarantees. `'at once'`: the whole ring at the
@@ -553,10 +575,13 @@ export interface SessionConfig extends Config {
   readonly issue?: IssuePolicy | readonly IssuePolicy[] | undefined;
   /** When pleads are honoured, `'at once'` by default. */
   readonly plead?: PleadPolicy | readonly PleadPolicy[] | undefined;
+  /** Aborts the session, with the signal's reason as the cause. A signal that has aborted already is thrown. */
+  readonly signal?: AbortSignal | undefined;
 }
 
 /**
- * Opens a session over two streams, which belong to the session from here on.
+ * Opens a session over two streams, which belong to the session from here on. The sessions share one instance of the
+ * module, whose memory has at most 2 GiB; a session that does not fit gets a further one.
  *
  * @throws {LcmuxError} The errors of {@link Library.peer}.
  * @throws {RangeError} If the slots are below 14, or a low-water mark is not in 1 to the size of its ring buffer.
@@ -625,14 +650,17 @@ export declare class Session {
   /**
    * Closes the session in order: rejects the waiting sends, writes all accepted messages, finishes every open
    * channel, and ends this side's stream. Messages of the peer can still be received, but no more guarantees are
-   * issued. Returns {@link closed}, which waits until the peer has closed, too.
+   * issued. Returns {@link closed}, which waits until the peer has closed, too. A signal that aborts rejects this wait
+   * with its reason; the session goes on closing. A signal that has aborted already closes nothing.
    */
-  close(): Promise<void>;
+  close(options?: WaitOptions): Promise<void>;
   /**
    * Ends the session at once. Messages that were not written are lost, and so may be written ones that the peer has
    * not read yet. Nothing more is received here.
    */
   abort(cause?: unknown): void;
+  /** Closes the session in order and waits for the peer, as {@link close}, unless it is over: for `await using`. */
+  [Symbol.asyncDispose](): Promise<void>;
 }
 
 /**
@@ -700,6 +728,22 @@ export declare class SessionChannel implements AsyncIterable<Uint8Array> {
   receive(options?: WaitOptions): Promise<Uint8Array | null>;
   /** Iterates over the messages until the channel ends. It throws what {@link receive} rejects with. */
   [Symbol.asyncIterator](): AsyncIterableIterator<Uint8Array>;
+  /** The same iteration, which the signal cancels: it then throws the signal's reason. */
+  values(options?: WaitOptions): AsyncIterableIterator<Uint8Array>;
+  /**
+   * The messages as a stream, one as each chunk, always the same object. A message is received when its reader asks for
+   * one, so backpressure reaches the peer. Cancelling it limits receiving to 0: the peer's sends that lack guarantees
+   * reject with `Never`.
+   */
+  readonly readable: ReadableStream<Uint8Array>;
+  /**
+   * A stream whose chunks are sent as messages, always the same object. A chunk is cut into messages of at most 16,384
+   * bytes, and of no more than the guarantees allow, so it proceeds over a ring buffer of any size; the peer should not
+   * rely on the cuts. A chunk is not copied while it waits: leave it unchanged until its write has resolved. Closing
+   * the stream finishes the channel. Aborting it aborts the session, since the protocol has no other end from which the
+   * peer would see that bytes are missing.
+   */
+  readonly writable: WritableStream<Uint8Array>;
   /** The free bytes of the ring buffer that may be issued now; 0 once the session is over. */
   readonly room: number;
   /**
@@ -751,6 +795,8 @@ export interface WebSocketLike {
  * in a browser, where a page may not use 1003. A message that arrives before this call is lost: in a server, call it
  * in the handler of the new connection, before any await.
  *
+ * A signal that aborts before the WebSocket is open closes it, and the call rejects with the signal's reason.
+ *
  * @throws {Error} If the WebSocket is closed, or closes before it is open.
  */
-export declare function fromWebSocket(socket: WebSocketLike): Promise<Streams>;
+export declare function fromWebSocket(socket: WebSocketLike, options?: WaitOptions): Promise<Streams>;

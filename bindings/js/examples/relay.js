@@ -12,8 +12,8 @@ const PACKAGE = new URL('..', import.meta.url);
 const TYPES = { '.html': 'text/html', '.js': 'text/javascript', '.wasm': 'application/wasm', '.txt': 'text/plain' };
 
 async function serve(request, response) {
-  const place = new URL(`.${new URL(request.url, 'http://localhost').pathname}`, PACKAGE);
   try {
+    const place = new URL(`.${new URL(request.url, 'http://localhost').pathname}`, PACKAGE);
     if (!place.href.startsWith(PACKAGE.href)) {
       throw new Error('outside');
     }

@@ -11,7 +11,7 @@ const MESSAGES = 1000;
 const config = { capacities: 64 };
 
 async function sendAll(port) {
-  const session = await open(fromSocket(connect({ port })), config);
+  const session = await open(fromSocket(connect({ port, host: '127.0.0.1' })), config);
   const data = session.channel(Channel.Data);
   for (let k = 0; k < MESSAGES; k += 1) {
     await data.send(Uint8Array.of(k >> 8, k));

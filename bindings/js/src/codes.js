@@ -130,8 +130,11 @@ function saidOf({ kind, channel, number }) {
 
 /** Returns what is wrong, behind the place: of a violation what the frame says and what was allowed. */
 function wrongOf({ code, sentence, frame, allowed, byte }) {
-  if (frame !== null) {
+  if (code < FIRST_FAULT && frame !== null) {
     return `${saidOf(frame)}, ${ALLOWED[code].replace('{n}', allowed)}`;
+  }
+  if (frame !== null) {
+    return `${sentence} (${saidOf(frame)})`;
   }
   return byte === null ? sentence : `${sentence} (0x${byte.toString(16).padStart(2, '0')})`;
 }

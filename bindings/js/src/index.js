@@ -1,10 +1,6 @@
 // Seven logical channels each way between two peers, over one ordered byte stream each way, with credit-based flow
-// control for each channel.
-export { CHANNELS, Channel } from './channel.js';
-export { Code, LcmuxError } from './codes.js';
-export { load, open } from './library.js';
-export { VERSION } from './module.js';
-export { ENDED, Peer } from './peer.js';
-export { SessionClosed } from './closed.js';
-export { Session, SessionChannel } from './session.js';
-export { fromWebSocket } from './websocket.js';
+// control for each channel. This is the entry for browsers; index-node.js is the one for Node.
+import { entriesOf } from './library.js';
+
+export * from './common.js';
+export const { load, open } = entriesOf((url, signal) => fetch(url, { signal }));

@@ -52,3 +52,10 @@ export function optionsOf(given, names, what) {
   }
   return Object.fromEntries(names.map(name => [name, given[name]]).filter(([, value]) => value !== undefined));
 }
+
+/** Returns the signal of an options object, undefined if there is none. Throws its reason if it has aborted. */
+export function signalOf(options) {
+  const signal = optionsOf(options, ['signal'], 'the options').signal ?? undefined;
+  signal?.throwIfAborted();
+  return signal;
+}

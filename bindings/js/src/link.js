@@ -103,7 +103,7 @@ export class Link {
     this.#keep(reason.kind !== 'Aborted');
     this.#senders.forEach(it => it.refuse(reason));
     this.#receivers.forEach(it => it.release());
-    this.#peer.free();
+    this.#free();
     this.#reader.cancel(reason).catch(() => {});
     this.#writer.abort(reason).catch(() => {});
     this.#ring();
@@ -258,6 +258,15 @@ export class Link {
       this.#receivers.forEach(it => it.close(isKept));
     } catch {
       this.#receivers.forEach(it => it.close(false)); // the module trapped
+    }
+  }
+
+  // A module that traps at last keeps no session from its end.
+  #free() {
+    try {
+      this.#peer.free();
+    } catch {
+      // No further call of the module is made.
     }
   }
 

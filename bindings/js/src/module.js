@@ -6,28 +6,16 @@ export const VERSION = '0.1.0';
 
 const numberOf = version => version.split('.').reduce((number, part) => number * 256 + Number(part), 0);
 
-/** Fetches the bytes of the module, or a Response with them. */
-async function fetched(source) {
-  if (!(source instanceof URL)) {
+/** Compiles a module from its bytes, or from a response with them. */
+async function compiled(source) {
+  if (source instanceof WebAssembly.Module) {
     return source;
   }
-  if (source.protocol === 'file:' && typeof process === 'object') {
-    const { readFile } = await import('node:fs/promises');
-    return readFile(source);
+  const isResponse = typeof Response === 'function' && source instanceof Response;
+  if (isResponse && !source.ok) {
+    throw new Error(`${source.url}: status ${source.status}`);
   }
-  return fetch(source);
-}
-
-async function compiled(source) {
-  const it = await fetched(await source);
-  if (it instanceof WebAssembly.Module) {
-    return it;
-  }
-  const isResponse = typeof Response === 'function' && it instanceof Response;
-  if (isResponse && !it.ok) {
-    throw new Error(`${it.url}: status ${it.status}`);
-  }
-  return WebAssembly.compile(isResponse ? await it.arrayBuffer() : it);
+  return WebAssembly.compile(isResponse ? await source.arrayBuffer() : source);
 }
 
 /** An instance of the module, with its own memory. */

@@ -1,4 +1,4 @@
-import { sizeOf } from './bytes.js';
+import { part, sizeOf } from './bytes.js';
 import { isAnswer } from './closed.js';
 import { Code, LcmuxError } from './codes.js';
 import { Line } from './line.js';
@@ -54,6 +54,39 @@ export class Outgoing {
     }
     this.#isStale ||= this.#line.isEmpty;
     return this.#line.join({ length, body: this.#link.copies.of(bytes) }, signal);
+  }
+
+  /**
+   * Sends as much of these bytes as the guarantees allow, and at most `most` of them, as one message. Returns how many,
+   * or a promise of that. The bytes of a waiting call are not copied.
+   */
+  sendPart(bytes, most, signal) {
+    this.#link.mayGoOut();
+    if (this.#isFinished) {
+      throw new LcmuxError(Code.ChannelFinished);
+    }
+    const length = this.#partOf(sizeOf(bytes), most);
+    const lack = this.#lacks(length);
+    this.#line.judge(length);
+    if (lack === 'slots' && this.#line.isEmpty && this.#link.fits(this, length)) {
+      this.#put(part(bytes, 0, length));
+      return length;
+    }
+    this.#isStale ||= this.#line.isEmpty;
+    const lengthNow = () => this.#partOf(sizeOf(bytes), most);
+    const call = {
+      body: bytes,
+      isPart: true,
+      get length() {
+        return lengthNow();
+      },
+    };
+    return this.#line.join(call, signal);
+  }
+
+  // How much of a size the guarantees allow, at least one byte, which may have to wait.
+  #partOf(size, most) {
+    return Math.min(size, most, Math.max(this.#free, 1));
   }
 
   /** The guarantees that a message may use. */
@@ -155,11 +188,16 @@ export class Outgoing {
 
   /** Completes the first call, which can proceed. */
   complete() {
-    const { body } = this.#line.call;
+    const { body, length, isPart } = this.#line.call;
     try {
-      this.#put(body);
-      this.#link.copies.free(body);
-      this.#leave().resolve();
+      if (isPart) {
+        this.#put(part(body, 0, length));
+        this.#leave().resolve(length);
+      } else {
+        this.#put(body);
+        this.#link.copies.free(body);
+        this.#leave().resolve();
+      }
     } catch (error) {
       this.#reject(error);
     }

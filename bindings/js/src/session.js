@@ -1,26 +1,23 @@
 import { bytesOf } from './bytes.js';
 import { CHANNELS } from './channel.js';
 import { SessionClosed } from './closed.js';
-import { boundOf, channelOf, optionsOf, u32 } from './judge.js';
+import { boundOf, channelOf, optionsOf, signalOf, u32 } from './judge.js';
 import { Link } from './link.js';
 import { issuePolicyOf, policiesOf } from './policy.js';
 import { LEAST_SLOTS } from './slots.js';
+import { readableOf, writableOf } from './streams.js';
+import { unlessAborted } from './waits.js';
 
-const OPTIONS = ['version', 'slots', 'capacities', 'issue', 'plead'];
+const OPTIONS = ['version', 'slots', 'capacities', 'issue', 'plead', 'signal'];
 const SLOTS = 64;
-
-/** Returns the signal that cancels a wait, undefined if there is none. */
-function signalOf(options) {
-  const signal = optionsOf(options, ['signal'], 'the options').signal ?? undefined;
-  signal?.throwIfAborted();
-  return signal;
-}
 
 /** A channel of a session: what is sent on it, and what is received, which is its iteration. */
 export class SessionChannel {
   #link;
   #sender;
   #receiver;
+  #readable;
+  #writable;
 
   constructor(link, channel) {
     this.#link = link;
@@ -89,8 +86,29 @@ export class SessionChannel {
     this.#link.control(() => this.#receiver.limit(most));
   }
 
-  async *[Symbol.asyncIterator]() {
-    for (let message; (message = await this.receive()) !== null; ) {
+  values(options) {
+    signalOf(options);
+    return this.#values(options);
+  }
+
+  [Symbol.asyncIterator]() {
+    return this.values();
+  }
+
+  get readable() {
+    return (this.#readable ??= readableOf(this));
+  }
+
+  get writable() {
+    return (this.#writable ??= writableOf(this, {
+      sendPart: (bytes, most, signal) => this.#link.change(() => this.#sender.sendPart(bytes, most, signal)),
+      ended: this.#link.ended,
+      abort: reason => this.#link.end(new SessionClosed('Aborted', reason)),
+    }));
+  }
+
+  async *#values(options) {
+    for (let message; (message = await this.receive(options)) !== null; ) {
       yield message;
     }
   }
@@ -127,28 +145,54 @@ export class Session {
     return this.#link.ended;
   }
 
-  close() {
-    return this.#link.close();
+  close(options) {
+    try {
+      const signal = signalOf(options);
+      return unlessAborted(this.#link.close(), signal);
+    } catch (error) {
+      return Promise.reject(error);
+    }
   }
 
   abort(cause) {
     this.#link.end(new SessionClosed('Aborted', cause));
   }
 }
+// Engines without `await using` have no such symbol.
+if (Symbol.asyncDispose !== undefined) {
+  Object.defineProperty(Session.prototype, Symbol.asyncDispose, {
+    value: async function () {
+      if (this.reason === null) {
+        await this.close();
+      }
+    },
+    configurable: true,
+    writable: true,
+  });
+}
 
-/** Returns the options of a session's peer, and its policies. */
+/** Returns the options of a session's peer, its policies, and the signal that aborts it. */
 function configOf(config) {
-  const { issue, plead, ...bounds } = optionsOf(config, OPTIONS, 'the options of a session');
+  const { issue, plead, signal, ...bounds } = optionsOf(config, OPTIONS, 'the options of a session');
+  signal?.throwIfAborted();
   const slots = u32(bounds.slots ?? SLOTS, 'slots');
   if (slots < LEAST_SLOTS) {
     throw new RangeError(`slots must be in ${LEAST_SLOTS}..=65536, got ${slots}`);
   }
-  return [{ ...bounds, slots }, { issue, plead }];
+  return { bounds: { ...bounds, slots }, given: { issue, plead }, signal };
+}
+
+// Aborts a session once the signal aborts.
+function obey(link, signal) {
+  const abort = () => link.end(new SessionClosed('Aborted', signal.reason));
+  signal.addEventListener('abort', abort, { once: true });
+  const forget = () => signal.removeEventListener('abort', abort);
+  link.ended.then(forget, forget);
 }
 
 /** Starts a session with a peer that `make` makes. The streams belong to the session from here on. */
 export function startSession(make, { readable, writable }, config) {
-  const [bounds, given] = configOf(config);
+  const { bounds, given, signal } = configOf(config);
   const peer = make(bounds);
   let reader;
   try {
@@ -156,6 +200,9 @@ export function startSession(make, { readable, writable }, config) {
     reader = readable.getReader();
     const link = new Link(peer, { reader, writer: writable.getWriter() }, policies);
     link.start();
+    if (signal) {
+      obey(link, signal);
+    }
     return new Session(link);
   } catch (error) {
     reader?.releaseLock();

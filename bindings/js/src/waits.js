@@ -1,5 +1,17 @@
 import { List } from './list.js';
 
+/** Settles as a promise does, or rejects with the reason of the signal once that aborts. */
+export function unlessAborted(promise, signal) {
+  if (signal === undefined) {
+    return promise;
+  }
+  return new Promise((resolve, reject) => {
+    const leave = () => reject(signal.reason);
+    signal.addEventListener('abort', leave, { once: true });
+    promise.then(resolve, reject).finally(() => signal.removeEventListener('abort', leave));
+  });
+}
+
 /** A queue of waiting promises. A promise whose signal aborts leaves it, from any position. */
 export class Waits {
   #places = new List();

@@ -1,4 +1,6 @@
 import { bytesOf, isArrayBuffer, sizeOf } from './bytes.js';
+import { signalOf } from './judge.js';
+import { unlessAborted } from './waits.js';
 
 /** The most bytes that may be pending in a WebSocket before the next write waits. */
 const HIGH = 1 << 20;
@@ -133,20 +135,27 @@ class Directions {
   }
 }
 
+const opened = socket =>
+  new Promise((resolve, reject) => {
+    socket.addEventListener('open', resolve, { once: true });
+    socket.addEventListener('close', event => reject(gone(event)), { once: true });
+  });
+
 /**
  * Returns the two streams of a WebSocket. It has no half-close, so an empty message means that its sender writes no
  * more: the peer has to use this function, too.
  */
-export async function fromWebSocket(socket) {
+export async function fromWebSocket(socket, options) {
+  const signal = signalOf(options);
   if (socket.readyState > OPEN) {
     throw new Error('the WebSocket is closed');
   }
   socket.binaryType = 'arraybuffer';
   const { readable, writable } = new Directions(socket);
   if (socket.readyState < OPEN) {
-    await new Promise((resolve, reject) => {
-      socket.addEventListener('open', resolve, { once: true });
-      socket.addEventListener('close', event => reject(gone(event)), { once: true });
+    await unlessAborted(opened(socket), signal).catch(error => {
+      socket.close();
+      throw error;
     });
   }
   return { readable, writable };

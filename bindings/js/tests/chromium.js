@@ -35,6 +35,15 @@ class Tab {
     const loaded = this.#browser.told('Page.loadEventFired', this.#session);
     await this.#browser.ask('Page.navigate', { url }, this.#session);
     await loaded;
+    // In a slow browser that may have been the empty page of a new tab.
+    for (let left = 1000; left > 0 && !(await this.#isLoaded()); left -= 1) {
+      await new Promise(resolve => setTimeout(resolve, 10));
+    }
+  }
+
+  // The answer is an error where one page takes the place of another meanwhile.
+  #isLoaded() {
+    return this.evaluate("location.href !== 'about:blank' && document.readyState === 'complete'").catch(() => false);
   }
 
   async close() {
@@ -85,6 +94,9 @@ export class Chromium {
 
   ask(method, params = {}, sessionId = undefined) {
     const id = (this.#last += 1);
+    if (this.#hasEnded) {
+      return Promise.reject(new Error('the browser has ended'));
+    }
     return new Promise((resolve, reject) => {
       this.#asked.set(id, { resolve, reject });
       this.#process.stdio[3].write(`${JSON.stringify({ id, method, params, sessionId })}\0`);
@@ -103,10 +115,17 @@ export class Chromium {
     return tab;
   }
 
+  get #hasEnded() {
+    return this.#process.exitCode !== null || this.#process.signalCode !== null;
+  }
+
+  // Processes of a browser that has ended may still write into its folder for a while.
   async stop() {
-    const ended = once(this.#process, 'exit');
-    this.ask('Browser.close').catch(() => {});
-    await ended;
-    await rm(this.#folder, { recursive: true, force: true, maxRetries: 5 });
+    if (!this.#hasEnded) {
+      const ended = once(this.#process, 'exit');
+      this.ask('Browser.close').catch(() => {});
+      await ended;
+    }
+    await rm(this.#folder, { recursive: true, force: true, maxRetries: 20 });
   }
 }

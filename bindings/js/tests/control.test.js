@@ -270,15 +270,18 @@ test('arguments are judged before anything is done', async () => {
   assert.deepEqual(await written(), []);
 });
 
-test('statistics count messages, their bytes and what calls waited for', async () => {
+test('statistics count messages, their bytes and what calls waited for', async context => {
+  // A clock that only the test moves.
+  let now = 1000;
+  Object.defineProperty(performance, 'now', { value: () => now, configurable: true });
+  context.after(() => delete performance.now);
   const there = await begin({ slots: 14 });
   const { session, data, other, put } = there;
   const none = { messagesSent: 0, bytesSent: 0, messagesReceived: 0, bytesReceived: 0, mostBuffered: 0, waitedForGuarantees: 0, waitedForSlots: 0 };
   assert.deepEqual(session.stats(Data), none);
-  const pause = () => new Promise(resolve => setTimeout(resolve, 60));
   const first = data.send(bytes(5));
-  await pause();
-  assert.ok(session.stats(Data).waitedForGuarantees >= 50);
+  now += 60;
+  assert.equal(session.stats(Data).waitedForGuarantees, 60);
   other.deliver(there.writes.splice(0).reduce((a, b) => Buffer.concat([a, b]), Buffer.alloc(0)));
   other.issue(Data, 30);
   other.send(Data, bytes(20));
@@ -287,12 +290,13 @@ test('statistics count messages, their bytes and what calls waited for', async (
   await first;
   // The second message has the own slot, so the third waits for a slot.
   const rest = [data.send(bytes(6)), data.send(bytes(7))];
+  now += 5;
   await Promise.all(rest);
   await data.receive();
   const { waitedForGuarantees, waitedForSlots, ...counted } = session.stats(Data);
   assert.deepEqual(counted, { messagesSent: 3, bytesSent: 18, messagesReceived: 1, bytesReceived: 20, mostBuffered: 30 });
-  assert.ok(waitedForGuarantees >= 50 && waitedForSlots < 50, `${waitedForGuarantees} ${waitedForSlots}`);
-  await pause();
+  assert.deepEqual([waitedForGuarantees, waitedForSlots], [60, 5]);
+  now += 60;
   assert.equal(session.stats(Data).waitedForGuarantees, waitedForGuarantees);
   assert.deepEqual(session.stats(Overlap), none);
   session.abort();

@@ -48,6 +48,35 @@ async function end(there) {
   await settled();
 }
 
+// The ways into the states that a session reaches alike before and after its own close, each with the kind of its reason.
+const FAILURES = {
+  cut: [({ comes }) => comes.close(), 'Cut'],
+  transport: [({ comes }) => comes.error(broken), 'Transport'],
+  'transport, writing': [({ goes }) => goes.error(broken), 'Transport'],
+  'a fault': [({ comes }) => comes.enqueue(Uint8Array.of(0xff)), 'Stopped'],
+  'an end within a frame': [
+    ({ comes }) => {
+      comes.enqueue(Uint8Array.of(0x21, 0));
+      comes.close();
+    },
+    'Stopped',
+  ],
+  'a violation': [({ comes }) => comes.enqueue(Uint8Array.of(0x31, 0, 1, 0, 0)), 'Stopped'],
+};
+
+const LATER = ', after its close';
+
+/** Returns the ways, each also after the close of this side. By then its stream is closed, and no write fails. */
+function beforeAndAfterClose(ways) {
+  const after = reach => async there => {
+    there.session.close().catch(() => {});
+    await settled();
+    await reach(there);
+  };
+  const later = Object.entries(ways).filter(([name]) => name !== 'transport, writing');
+  return { ...ways, ...Object.fromEntries(later.map(([name, [reach, kind]]) => [`${name}${LATER}`, [after(reach), kind]])) };
+}
+
 // The states of the columns, each with the kind of its reason, or none.
 const STATES = {
   open: { '': [() => {}, null] },
@@ -63,14 +92,8 @@ const STATES = {
       'Local',
     ],
   },
-  'cut, transport, protocol error': {
-    cut: [({ comes }) => comes.close(), 'Cut'],
-    transport: [({ comes }) => comes.error(broken), 'Transport'],
-    'transport, writing': [({ goes }) => goes.error(broken), 'Transport'],
-    'a fault': [({ comes }) => comes.enqueue(Uint8Array.of(0xff)), 'Stopped'],
-    'a violation': [({ comes }) => comes.enqueue(Uint8Array.of(0x31, 0, 1, 0, 0)), 'Stopped'],
-  },
-  aborted: { '': [({ session }) => session.abort(broken), 'Aborted'] },
+  'cut, transport, protocol error': beforeAndAfterClose(FAILURES),
+  aborted: beforeAndAfterClose({ abort: [({ session }) => session.abort(broken), 'Aborted'] }),
 };
 
 // The calls of the receiver are first.
@@ -173,6 +196,9 @@ for (const [call, ...cells] of rows.filter(([name]) => name in CALLS)) {
         await settled();
         assert.equal(there.session.reason?.kind ?? null, kind);
         const fates = await Promise.all(after(there, begun).map(fate));
+        if (name.endsWith(LATER) && call.startsWith('`send`')) {
+          assert.ok(isClosed(fates.shift().reason, 'Local'), 'close refuses the calls that wait');
+        }
         const own = { '`send`': SENDS[cell], '`issue`': CONTROLS[columns[at]] }[call.split(/[,:]/)[0]];
         const judge = own ?? judgeOf(cell, kind);
         assert.ok(judge(fates), `${JSON.stringify(fates)} ${fates.map(it => it?.reason)}`);
@@ -180,6 +206,36 @@ for (const [call, ...cells] of rows.filter(([name]) => name in CALLS)) {
     }
   }
 }
+
+// What the table of languages says of JavaScript, each with a check of it.
+const HAS = {
+  'slots, bytes and order as above': () => 'yes', // scheduling.test.js
+  'policies for issuing and pleads': ({ session }) => ('setIssuePolicy' in session.channel(Data) ? 'yes' : 'no'),
+  'endings as above': () => 'yes', // the cells above
+  'permits, borrowed messages': ({ session }) => ('reserve' in session.channel(Data) ? 'yes' : 'no'),
+  'streams of bytes over a channel': ({ session }) => (session.channel(Data).readable instanceof ReadableStream ? 'yes' : 'no'),
+  'a bound on one call': async ({ session }) => {
+    const stop = new AbortController();
+    const waits = session.channel(Data).send(bytes(9), { signal: stop.signal });
+    stop.abort();
+    return waits.then(() => 'no', error => (error.name === 'AbortError' ? 'by `AbortSignal`' : error));
+  },
+  'timeouts of the session: idle, keep-alive, grace': async () => {
+    const refused = await alone({ idle: 60 }, {}).then(() => 'yes', () => 'no');
+    return `${refused}: [what to do instead](../guides/timeouts.md#javascript)`;
+  },
+  statistics: ({ session }) => (session.stats(Data).messagesSent === 0 ? 'yes' : 'no'),
+};
+
+test('the table of languages says what a session has', async () => {
+  const [[, , , language], ...languages] = tableOf('## What each language has');
+  assert.equal(language, 'JavaScript');
+  assert.deepEqual(languages.map(([name]) => name), Object.keys(HAS));
+  const there = await begin();
+  for (const [name, , , cell] of languages) {
+    assert.equal(await HAS[name](there), cell, name);
+  }
+});
 
 test('the table of reasons names the kinds', () => {
   const [[, , , language], ...reasons] = tableOf('Every other end is a failure');

@@ -1,7 +1,9 @@
 import assert from 'node:assert/strict';
 import { test } from 'node:test';
-import { Channel, open } from 'lcmux';
-import { pipes } from './streams.js';
+import { setFlagsFromString } from 'node:v8';
+import { runInNewContext } from 'node:vm';
+import { Channel, Code, open } from 'lcmux';
+import { pipes, settled } from './streams.js';
 
 const { instantiate } = WebAssembly;
 const instances = [];
@@ -36,4 +38,41 @@ test('sessions share a module, and one that trapped is loaded anew', async () =>
   await assert.rejects(first.closed, hasTrapped);
   await hello();
   assert.equal(instances.length, 2);
+});
+
+// Opens sessions of the largest rings, of which a module has space for eight, at once.
+function openLargest(count) {
+  return Promise.all(Array.from({ length: count }, () => open(pipes()[0], { capacities: 2 ** 24 })));
+}
+
+test('a module that is full gets another one beside it, and one with free space is used again', async () => {
+  const before = instances.length;
+  WebAssembly.instantiate = forOurs(counted);
+  // The module of the test above, and two more, of which the last has one session at first.
+  const sessions = [];
+  while (instances.length - before < 2) {
+    sessions.push(...(await openLargest(1)));
+  }
+  sessions.push(...(await openLargest(7)));
+  assert.equal(instances.length - before, 2);
+  // The first session was in the first module.
+  sessions[0].abort();
+  const [again] = await openLargest(1);
+  assert.equal(instances.length - before, 2);
+  // Several that wait for a module at once share it, and those that it has no space for get a further one.
+  const more = await openLargest(12);
+  assert.equal(instances.length - before, 4);
+  [...sessions, again, ...more].forEach(it => it.abort());
+});
+
+test('modules that no session uses are dropped, apart from the last', async () => {
+  setFlagsFromString('--expose-gc');
+  const gc = runInNewContext('gc');
+  const memories = instances.splice(0).map(({ exports }) => new WeakRef(exports.memory));
+  const deadline = Date.now() + 120_000;
+  while (memories.filter(it => it.deref() !== undefined).length > 1) {
+    assert.ok(Date.now() < deadline, 'more than one memory is held');
+    await settled(); // a WeakRef keeps its target until the end of the turn
+    gc();
+  }
 });

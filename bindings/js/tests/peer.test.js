@@ -299,8 +299,8 @@ const PROTOCOL_ERRORS = {
   '4c434d0271110000000161': 'V9 at byte 5: a Send of 1 on Data, after the Finish of the channel',
   '210000000577': "F1 at byte 5: a byte names no kind or channel, or is not the greeting's (0x77)",
   '4c430d': "F1 at byte 0: a byte names no kind or channel, or is not the greeting's (0x0d)",
-  '2100000005110000': 'F2 at byte 5: a message has length 0',
-  '2100000000': 'F3 at byte 0: a number in a frame is out of its range',
+  '2100000005110000': 'F2 at byte 5: a message has length 0 (a Send of 0 on Data)',
+  '2100000000': 'F3 at byte 0: a number in a frame is out of its range (an Issue of 0 on Data)',
   '4c434d02210000000521': 'F4 at byte 9: the stream ends within a frame or a greeting',
 };
 

@@ -386,6 +386,21 @@ for (const [name, [lose, kind, isCause]] of Object.entries(LOSSES)) {
   });
 }
 
+test('a session whose module traps where its peer is freed ends all the same', async () => {
+  const there = await alone();
+  const { session, module } = there;
+  const heard = session.channel(Data).receive();
+  breakHandle(there, 0);
+  session.abort(broken);
+  const { reason } = session;
+  assert.ok(reason.kind === 'Aborted' && isBroken(reason.cause) && module.hasTrapped);
+  for (const wait of [heard, session.closed]) {
+    await assert.rejects(wait, it => it === reason);
+  }
+  await settled();
+  assert.deepEqual([there.cancelled, there.aborted], [reason, reason]);
+});
+
 test('what was there when the session was lost is still received', async () => {
   const { session, other, put, comes, exports } = await alone({ capacities: 100 }, { version: 2 });
   session.channel(Data);

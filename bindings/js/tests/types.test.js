@@ -1,6 +1,6 @@
 import assert from 'node:assert/strict';
 import { spawnSync } from 'node:child_process';
-import { mkdtempSync, readFileSync, rmSync, writeFileSync } from 'node:fs';
+import { copyFileSync, mkdtempSync, readFileSync, rmSync, writeFileSync } from 'node:fs';
 import { test } from 'node:test';
 import { fileURLToPath } from 'node:url';
 
@@ -28,6 +28,18 @@ test('an error that is expected and not there is seen', () => {
     assert.notEqual(status, 0);
     assert.match(said, /wrong\.ts\(\d+,\d+\): error TS2578: Unused '@ts-expect-error' directive\.\n$/);
     assert.equal(said.trim().split('\n').length, 1);
+  } finally {
+    rmSync(place, { recursive: true });
+  }
+});
+
+test('without the library dom the types compile, and a wrong use is seen', () => {
+  assert.deepEqual(compile(`${folder}/bare`), { status: 0, said: '' });
+  const place = mkdtempSync(`${folder}/planted-`);
+  try {
+    copyFileSync(`${folder}/bare/tsconfig.json`, `${place}/tsconfig.json`);
+    writeFileSync(`${place}/bare.ts`, readFileSync(`${folder}/bare/bare.ts`, 'utf8').replace('message.length', 'message.size'));
+    assert.match(compile(place).said, /^\S*bare\.ts\(\d+,\d+\): error TS2339: Property 'size' does not exist on type 'Uint8Array'\.\n$/);
   } finally {
     rmSync(place, { recursive: true });
   }

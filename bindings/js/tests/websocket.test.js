@@ -1,5 +1,6 @@
 import assert from 'node:assert/strict';
-import { once } from 'node:events';
+import { getEventListeners, once } from 'node:events';
+import { createServer } from 'node:net';
 import { after, before, test } from 'node:test';
 import { runInNewContext } from 'node:vm';
 import { Channel, SessionClosed, fromWebSocket, open } from 'lcmux';
@@ -102,7 +103,7 @@ for (const side of ['a server', 'a client']) {
   }
 }
 
-test('a server goes on with its other clients, whatever some of them send', { timeout: 20_000 }, async context => {
+test('a server goes on with its other clients, whatever some of them send', { timeout: 120_000 }, async context => {
   const server = new WebSocketServer({ port: 0, host: '127.0.0.1' });
   await once(server, 'listening');
   context.after(() => server.close());
@@ -268,6 +269,28 @@ test('a WebSocket that is closed has no streams', async () => {
   await assert.rejects(fromWebSocket(socket), /closed/);
   const never = new WebSocket('ws://127.0.0.1:9');
   await assert.rejects(fromWebSocket(never), /closed/);
+});
+
+test('a signal ends the wait for a WebSocket, and closes it', async context => {
+  // A server that accepts connections, and answers nothing.
+  const server = createServer(() => {}).listen(0, '127.0.0.1');
+  await once(server, 'listening');
+  context.after(() => server.close());
+  const address = `ws://127.0.0.1:${server.address().port}`;
+  const stop = new AbortController();
+  const socket = new WebSocket(address);
+  const waiting = fromWebSocket(socket, { signal: stop.signal });
+  assert.equal(await fate(waiting), null);
+  stop.abort(new Error('too slow'));
+  await assert.rejects(waiting, /too slow/);
+  assert.ok(socket.readyState >= socket.CLOSING);
+  assert.deepEqual(getEventListeners(stop.signal, 'abort'), []);
+  const later = new WebSocket(address);
+  later.on('error', () => {});
+  await assert.rejects(fromWebSocket(later, { signal: stop.signal }), /too slow/);
+  assert.equal(later.readyState, later.CONNECTING);
+  later.terminate();
+  await assert.rejects(fromWebSocket(later, stop.signal), TypeError);
 });
 
 test('a connection that ends within a message is lost', async () => {

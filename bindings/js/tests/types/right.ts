@@ -12,6 +12,7 @@ export async function peers(): Promise<void> {
   await load(new URL('https://example.org/lcmux.wasm'));
   await load(fetch('lcmux.wasm'));
   await load(new Uint8Array(1));
+  await load(undefined, { signal: new AbortController().signal });
   const config: Config = { version: 2, slots: 4, capacities: [1, 2, 3, 4, 5, 6, 7] };
   const peer: Peer = lcmux.peer(config);
   lcmux.peer({ version: undefined, slots: undefined, capacities: undefined });
@@ -69,9 +70,20 @@ export async function sessions(socket: WebSocket, tcp: object): Promise<void> {
   for await (const message of data) {
     same<typeof message, Uint8Array>(true);
   }
+  const { signal } = new AbortController();
+  for await (const message of data.values({ signal })) {
+    same<typeof message, Uint8Array>(true);
+  }
+  await fromWebSocket(socket, { signal });
+  await data.readable.pipeTo(data.writable, { signal });
+  const through: ReadableStream<Uint8Array> = data.readable.pipeThrough(session.channel(Channel.Overlap));
+  same<typeof data.readable, ReadableStream<Uint8Array>>(true);
+  same<typeof data.writable, WritableStream<Uint8Array>>(true);
+  same<ReturnType<Session[typeof Symbol.asyncDispose]>, Promise<void>>(true);
+  await through.cancel();
   same<Awaited<ReturnType<SessionChannel['receive']>>, Uint8Array | null>(true);
   const policies: IssuePolicy[] = ['at once', { lowWater: 5 }, 'by caller', 'at once', 'at once', 'at once', 'at once'];
-  const config: SessionConfig = { version: 2, slots: 14, issue: policies, plead: 'by caller' };
+  const config: SessionConfig = { version: 2, slots: 14, issue: policies, plead: 'by caller', signal };
   await open(streams, config);
   data.issue(data.room);
   data.setIssuePolicy({ lowWater: 5 });
@@ -89,7 +101,7 @@ export async function sessions(socket: WebSocket, tcp: object): Promise<void> {
   if (session.reason !== null) {
     const kind: SessionEnd = session.reason.kind;
     console.log(kind === 'Cut', new SessionClosed('Aborted').cause);
-    await session.close();
+    await session.close({ signal });
   }
   await session.closed;
 }

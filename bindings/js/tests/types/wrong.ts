@@ -77,3 +77,15 @@ lcmux.peer({ issue: 'at once' });
 const pleaded: number = data.pleaded;
 // @ts-expect-error: no such end
 new SessionClosed('closed');
+// @ts-expect-error: a signal stands in options
+data.values(new AbortController().signal);
+// @ts-expect-error: a stream is read
+data.readable = streams.readable;
+// @ts-expect-error: a stream of bytes
+data.writable.getWriter().write('hello');
+// @ts-expect-error: a controller is no signal
+session.close({ signal: new AbortController() });
+// @ts-expect-error: a peer has no signal
+lcmux.peer({ signal: new AbortController().signal });
+// @ts-expect-error: a signal stands in options
+load(undefined, new AbortController().signal);
