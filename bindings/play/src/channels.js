@@ -1,9 +1,10 @@
 // The channels: both directions of each, with the calls of either side.
 
-import { element, numberOf, say } from './dom.js';
+import { element, say } from './dom.js';
+import { judgeEdits, refuse, wholeOf } from './fields.js';
 import { RingBar } from './rings.js';
-import { bodyOf, otherSide } from './script.js';
-import { CHANNELS } from './words.js';
+import { U32, U64, bodyOf, otherSide, textOf } from './script.js';
+import { CHANNELS, bytesIn, counted } from './words.js';
 
 // Each call: its word in a script, the label of its button, and its argument.
 const OF_SENDER = [
@@ -19,7 +20,8 @@ const OF_RECEIVER = [
   ['plead', 'Plead to hold', 0],
   ['limit-receiving', 'Limit issuing to', 0],
 ];
-const MOST = { issue: 4294967295, absolve: 4294967295, plead: 4294967295 };
+
+const MOST = { issue: U32, absolve: U32, plead: U32 };
 
 /** The field beside a call's button, for a message or a number; null if the call has no argument. */
 function fieldOf(side, channel, [act, title, takes]) {
@@ -29,8 +31,9 @@ function fieldOf(side, channel, [act, title, takes]) {
   if (takes === 'message') {
     return element('input', { className: 'message', value: 'hi', 'aria-label': `Message of ${side} on channel ${channel}` });
   }
-  const most = MOST[act] ?? Number.MAX_SAFE_INTEGER;
-  return element('input', { type: 'number', min: 0, max: most, value: takes, required: true, 'aria-label': `${title}: bytes, ${side}, channel ${channel}` });
+  const field = element('input', { type: 'number', min: 0, max: MOST[act] ?? U64, value: takes, required: true, 'aria-label': `${title}: bytes, ${side}, channel ${channel}` });
+  judgeEdits(field);
+  return field;
 }
 
 /** A button that appends a line, beside the field of the line's argument. */
@@ -45,18 +48,20 @@ function callRow(side, channel, call, append) {
     if (field === null) {
       return button.act;
     }
-    const value = field.type === 'number' ? numberOf(field) : bodyOf(field.value);
+    const value = field.type === 'number' ? wholeOf(field) : bodyOf(field.value);
     return value === null ? null : `${button.act} ${value}`;
   };
   button.fillIn = line => {
-    if (field?.type === 'number') {
-      field.value = line.split(' ').at(-1);
+    const value = line.split(' ').at(-1);
+    if (field !== null) {
+      field.value = field.type === 'number' ? value : textOf(value);
+      refuse(field, null);
     }
   };
   button.addEventListener('click', () => {
     const line = button.line();
     if (line === null) {
-      field.reportValidity();
+      field.focus();
     } else {
       append(line);
     }
@@ -69,9 +74,9 @@ const bound = (text, words) => (text === '-' ? [] : [words(text)]);
 /** The limits and the plead of a direction, a line for each. */
 function factsOf(ring, from, to) {
   return [
-    ...(ring.asked === '-' ? [] : [`${to} pleads: hold at most ${ring.asked}. ${from} keeps the plead until it honours it.`]),
-    ...bound(ring.maySend, left => `${from} has limited itself: ${left} bytes more may be sent.`),
-    ...bound(ring.mayIssue, left => `${to} has limited itself: ${left} guarantees more may be issued.`),
+    ...(ring.asked === '-' ? [] : [`${to} pleads that ${from} hold at most ${counted(ring.asked, 'guarantee')}. ${from} keeps the plead until it honours it.`]),
+    ...bound(ring.maySend, left => `${from} has limited itself: it may send ${bytesIn(left)} more.`),
+    ...bound(ring.mayIssue, left => `${to} has limited itself: it may issue ${counted(left, 'guarantee')} more.`),
     ...(ring.isFinished ? [`${from} has finished the channel.`] : []),
     ...(ring.isEnded && ring.buffered === 0 ? [`The channel has ended at ${to}: takes answer “ended”.`] : []),
   ];
@@ -93,12 +98,11 @@ class Direction {
     };
     this.element = element(
       'section',
-      { className: `direction c${channel}`, 'aria-label': `From ${from} to ${this.#to} on channel ${channel}` },
+      { className: `direction c${channel} from-${from}`, 'aria-label': `From ${from} to ${this.#to} on channel ${channel}` },
       element('h4', {}, `From ${from} to ${this.#to}: the ring of ${this.#to}`),
       this.#bar.element,
       this.#facts,
-      calls(from, `${from} sends`, OF_SENDER),
-      calls(this.#to, `${this.#to} receives`, OF_RECEIVER),
+      element('div', { className: 'sides' }, calls(from, `${from} sends`, OF_SENDER), calls(this.#to, `${this.#to} receives`, OF_RECEIVER)),
     );
   }
 

@@ -40,7 +40,12 @@ export function fill(at, count, make, show) {
   Array.from(at.children).forEach(show);
 }
 
-/** Returns the number in a field, if it is valid. */
-export function numberOf(field) {
-  return field.checkValidity() && field.value !== '' ? Number(field.value) : null;
+/** Calls a function when the browser has time, and returns a function that calls it off. Safari has no idle callbacks. */
+export function whenIdle(run) {
+  if (typeof requestIdleCallback !== 'function') {
+    const timer = setTimeout(run, 50);
+    return () => clearTimeout(timer);
+  }
+  const asked = requestIdleCallback(run, { timeout: 300 });
+  return () => cancelIdleCallback(asked);
 }

@@ -3,6 +3,10 @@
 /** A script with its capacity and its version. */
 export const EMPTY = Object.freeze({ capacity: 8, version: 1, script: '' });
 
+/** The greatest amount and the greatest bound of a limit that a script can have. */
+export const U32 = 4294967295n;
+export const U64 = 18446744073709551615n;
+
 export const isEvent = line => line !== '' && !line.startsWith('#');
 
 /** Returns the lines of a script; a line feed at its end begins no line. */
@@ -51,11 +55,19 @@ export function bytesOf(hex) {
   return Uint8Array.from(text.match(/../g) ?? [], pair => parseInt(pair, 16));
 }
 
+/** Returns the number of bytes of a script's body. */
+export const lengthOf = hex => (hex === '-' ? 0 : hex.length / 2);
+
+/** Returns the text of a script's body. */
+export const textOf = hex => new TextDecoder().decode(bytesOf(hex));
+
+// The bytes of a body that are displayed.
+const SHOWN_BYTES = 24;
+
 /** Returns a body for display: its text, if it is one without control characters, else its digits. */
 export function readable(hex) {
-  const bytes = bytesOf(hex);
-  const shown = bytes.subarray(0, 24);
-  const more = bytes.length > shown.length ? '…' : '';
+  const shown = bytesOf(hex.slice(0, 2 * SHOWN_BYTES));
+  const more = lengthOf(hex) > SHOWN_BYTES ? '…' : '';
   try {
     const text = new TextDecoder('utf-8', { fatal: true }).decode(shown, { stream: more !== '' });
     if (!/\p{C}/u.test(text)) {
@@ -67,16 +79,23 @@ export function readable(hex) {
   return hexOf(shown) + more;
 }
 
-/** Returns the hash of the page that shows this. */
-export const linkOf = ({ capacity, version, script }) => new URLSearchParams({ c: capacity, v: version, s: script }).toString();
+/**
+ * Returns the hash of the page that shows this. `place` has what is not the default: the number of visible events, if
+ * some are not visible, and whether the session is on the tour.
+ */
+export function linkOf({ capacity, version, script }, { seen = null, isOnTour = false } = {}) {
+  const given = { c: capacity, v: version, s: script, ...(seen === null ? {} : { e: seen }), ...(isOnTour ? { t: 1 } : {}) };
+  return new URLSearchParams(given).toString();
+}
 
-/** Parses a hash; null if it is invalid. */
+/** Parses a hash to a session and its place; null if it is invalid. */
 export function ofLink(hash) {
   const given = new URLSearchParams(hash.replace(/^#/, ''));
   if (!given.has('s')) {
     return null;
   }
-  return { capacity: numberIn(given.get('c'), EMPTY.capacity), version: numberIn(given.get('v'), EMPTY.version), script: given.get('s') };
+  const session = { capacity: numberIn(given.get('c'), EMPTY.capacity), version: numberIn(given.get('v'), EMPTY.version), script: given.get('s') };
+  return { session, place: { seen: numberIn(given.get('e'), null), isOnTour: given.get('t') === '1' } };
 }
 
 const numberIn = (text, otherwise) => (/^\d{1,8}$/.test(text ?? '') ? Number(text) : otherwise);

@@ -1,15 +1,20 @@
 // The view of a session. Its state is a script, with the size of the rings, the version, and the number of visible
 // events.
 
+import { Address } from './address.js';
 import { Channels } from './channels.js';
-import { byId, element, numberOf, say, sayIf } from './dom.js';
+import { byId, element, say, sayIf, whenIdle } from './dom.js';
 import { Editor } from './editor.js';
+import { refuse, whyNoWhole, wholeOf } from './fields.js';
+import { Guide } from './guide.js';
 import { standingOf } from './library.js';
+import { whyBad } from './lines.js';
 import { Picture } from './picture.js';
-import { EMPTY, continuedBy, eventsOf, joined, linesOf, linkOf, ofLink, prefixOf } from './script.js';
-import { TOUR, TOUR_END, TOUR_SESSION, tourPlace, tourScript } from './tour.js';
+import { EMPTY, continuedBy, eventsOf, isEvent, linesOf, linkOf, ofLink, prefixOf } from './script.js';
+import { TOUR, TOUR_SESSION, stepBack, tourPlace, tourScript } from './tour.js';
+import { Undo } from './undo.js';
 import { Wire } from './wire.js';
-import { allowing, sentenceOf } from './words.js';
+import { allowing, counted, sentenceOf } from './words.js';
 
 // A picture of more events is so slow in a browser that it is drawn only on request.
 const DRAWN_AT_ONCE = 150;
@@ -17,21 +22,25 @@ const DRAWN_AT_ONCE = 150;
 // Changes that are typed within this many milliseconds are undone together.
 const TYPING = 1000;
 
+// Chromium's longest address has 2 MiB, and Firefox's 1 MiB.
+const LONGEST_LINK = 1000000;
+
 export class SessionView {
   #library;
   #examples;
   #state = EMPTY;
   #seen = 0;
-  #undone = [];
+  #undone = new Undo();
   #typed = 0;
-  #isOnTour = true;
-  #answers = [];
+  #replayed = null;
   #allowed = null;
   #channels;
   #wire;
   #editor;
   #picture;
-  #drawing = null;
+  #guide;
+  #address = new Address();
+  #callOff = () => {};
 
   constructor(library, examples) {
     this.#library = library;
@@ -41,12 +50,13 @@ export class SessionView {
     this.#wire = new Wire(byId('wire'), append);
     this.#editor = new Editor(byId('script'), byId('answers'), script => this.#type(script), event => this.see(event));
     this.#picture = new Picture(byId('picture'), byId('picture-words'));
+    this.#guide = new Guide(channel => this.#channels.open(channel));
     byId('example').append(element('option', { value: '' }, 'choose one'), ...examples.map(({ name, title }) => element('option', { value: name }, title)));
     this.#listen();
     byId('fit').checked = this.#picture.fits;
     const given = ofLink(location.hash);
-    this.#isOnTour = given === null;
-    this.#become(given ?? EMPTY);
+    this.#guide.isOn = given?.place.isOnTour ?? true;
+    this.#become(given?.session ?? EMPTY, given?.place.seen);
   }
 
   #listen() {
@@ -56,7 +66,7 @@ export class SessionView {
     on('at', 'input', () => this.see(Number(byId('at').value)));
     on('undo', 'click', () => this.#undo());
     on('clear', 'click', () => this.change({ ...this.#state, script: '' }));
-    on('capacity', 'change', () => this.#choose('capacity'));
+    on('capacity', 'change', () => this.#chooseCapacity());
     on('version', 'change', () => this.change({ ...this.#state, version: Number(byId('version').value) }));
     on('example', 'change', () => this.#showExample());
     on('copy', 'click', () => this.#copy());
@@ -72,11 +82,11 @@ export class SessionView {
 
   // ---- changes of the state
 
-  /** Shows another session, at its end. */
-  change(state) {
+  /** Shows another session, after this many of its events or at its end. */
+  change(state, seen) {
     this.#undone.push(this.#state);
     this.#typed = 0;
-    this.#become(state);
+    this.#become(state, seen);
   }
 
   /** Inserts lines after the visible events; they replace the rest. */
@@ -86,14 +96,14 @@ export class SessionView {
 
   /** Shows this many events. */
   see(count) {
-    this.#seen = Math.min(Math.max(count, 0), eventsOf(this.#state.script).length);
+    this.#seen = Math.min(Math.max(count, 0), this.#replayed.last);
     this.#show();
   }
 
-  #become(state) {
+  #become(state, seen = null) {
     this.#state = state;
-    this.#seen = eventsOf(state.script).length;
-    this.#show();
+    this.#replayed = this.#replay(state);
+    this.see(seen ?? this.#replayed.last);
   }
 
   #type(script) {
@@ -106,18 +116,18 @@ export class SessionView {
   }
 
   #undo() {
-    if (this.#undone.length > 0) {
+    if (!this.#undone.isEmpty) {
       this.#typed = 0;
       this.#become(this.#undone.pop());
     }
   }
 
-  #choose(id) {
-    const value = numberOf(byId(id));
-    if (value === null) {
-      byId(id).reportValidity();
+  #chooseCapacity() {
+    const digits = wholeOf(byId('capacity'));
+    if (digits === null) {
+      byId('capacity').focus();
     } else {
-      this.change({ ...this.#state, [id]: value });
+      this.change({ ...this.#state, capacity: Number(digits) });
     }
   }
 
@@ -125,7 +135,7 @@ export class SessionView {
     const example = this.#examples.find(({ name }) => name === byId('example').value);
     byId('example').value = '';
     if (example !== undefined) {
-      this.#isOnTour = false;
+      this.#guide.isOn = false;
       this.change({ capacity: example.capacity, version: example.version, script: example.script });
     }
   }
@@ -133,8 +143,9 @@ export class SessionView {
   // The address was changed by hand, or a link was followed.
   #follow() {
     const given = ofLink(location.hash);
-    if (given !== null && linkOf(given) !== linkOf(this.#state)) {
-      this.change(given);
+    if (given !== null && linkOf(given.session, given.place) !== this.#link()) {
+      this.#guide.isOn = given.place.isOnTour;
+      this.change(given.session, given.place.seen);
     }
   }
 
@@ -150,14 +161,13 @@ export class SessionView {
   // ---- the tour
 
   #leaveTour() {
-    this.#isOnTour = false;
+    this.#guide.isOn = false;
     this.#show();
   }
 
   #startTour() {
-    this.#isOnTour = true;
+    this.#guide.isOn = true;
     this.change({ ...TOUR_SESSION, script: '' });
-    this.#channels.open(1);
   }
 
   #doTour() {
@@ -169,50 +179,30 @@ export class SessionView {
     }
   }
 
-  // Goes to the beginning of the current step, or else of the one before.
   #backOnTour() {
-    const place = tourPlace(this.#now());
-    const hasBegun = place !== null && place.left.length > 0 && place.left.length < TOUR[place.step].lines.length;
-    const step = (place?.step ?? 0) - (hasBegun ? 0 : 1);
-    this.change({ ...TOUR_SESSION, script: tourScript(Math.max(step, 0)) });
-  }
-
-  #showTour() {
-    byId('tour').hidden = !this.#isOnTour;
-    byId('tour-start').hidden = this.#isOnTour;
-    const place = this.#isOnTour ? tourPlace(this.#now()) : null;
-    if (this.#isOnTour) {
-      this.#tellTour(place);
-    }
-    const next = place?.left[0];
-    for (const button of document.querySelectorAll('#view-session button')) {
-      const isNext = next !== undefined && button.act !== undefined && (next === button.act || next.startsWith(`${button.act} `));
-      if (isNext && button.line() !== next) {
-        button.fillIn?.(next);
-      }
-      button.classList.toggle('next', isNext);
-    }
-  }
-
-  #tellTour(place) {
-    byId('tour-back').disabled = place !== null && place.step === 0;
-    if (place === null) {
-      say(byId('tour-title'), 'The tour goes another way');
-      say(byId('tour-text'), 'Go on as you like, or begin the tour anew.');
-      say(byId('tour-do'), 'Begin anew');
-    } else if (place.step === TOUR.length) {
-      say(byId('tour-title'), 'That is all of it');
-      say(byId('tour-text'), TOUR_END);
-      say(byId('tour-do'), 'Begin anew');
-    } else {
-      const { idea, text } = TOUR[place.step];
-      say(byId('tour-title'), `${place.step + 1} of ${TOUR.length}: ${idea}`);
-      say(byId('tour-text'), text);
-      say(byId('tour-do'), 'Do it for me');
-    }
+    this.change({ ...TOUR_SESSION, script: tourScript(stepBack(this.#now())) });
   }
 
   // ---- the display
+
+  // Replays a session: its events and their answers, how many of them can be visible, and its fault. A fault in a line
+  // comes with the answers of the lines before it.
+  #replay(state) {
+    const events = eventsOf(state.script);
+    const { status, shown, told } = this.#library.replay(state);
+    if (status === 0) {
+      return { events, answers: linesOf(shown), last: events.length, fault: null, bad: null };
+    }
+    const number = Number(/line (\d+): bad script line/.exec(told)?.[1] ?? 0);
+    if (number === 0) {
+      return { events, answers: [], last: events.length, fault: faultInWords(told), bad: null };
+    }
+    const lines = linesOf(state.script);
+    const last = lines.slice(0, number - 1).filter(isEvent).length;
+    const before = this.#library.replay({ ...state, script: prefixOf(state.script, last) });
+    const why = whyBad(lines[number - 1]) ?? 'it is no event';
+    return { events, answers: linesOf(before.shown), last, fault: `Line ${number} of the script: ${why}.`, bad: { line: number, why } };
+  }
 
   // The visible part of the session.
   #now() {
@@ -220,72 +210,85 @@ export class SessionView {
   }
 
   #show() {
-    const { capacity, version, script } = this.#state;
-    const { status, shown, told } = this.#library.replay(this.#state);
-    const badLine = status === 0 ? null : Number(/line (\d+): bad script line/.exec(told)?.[1] ?? 0);
-    sayIf(byId('fault'), status === 0 ? null : faultInWords(told));
-    if (badLine > 0) {
-      this.#seen = Math.min(this.#seen, eventsOf(joined(linesOf(script).slice(0, badLine - 1))).length);
-    }
-    const right = this.#library.replay(this.#now());
-    this.#answers = status === 0 ? shown.split('\n').slice(0, -1) : right.shown.split('\n').slice(0, -1);
-    this.#editor.show(script, this.#answers, this.#seen, badLine);
-    byId('capacity').value = capacity;
-    byId('version').value = version;
-    byId('undo').disabled = this.#undone.length === 0;
-    if (right.status === 0) {
+    const { answers, fault, bad } = this.#replayed;
+    sayIf(byId('fault'), fault);
+    refuse(byId('script'), bad === null ? null : fault);
+    this.#showChoices();
+    if (fault === null || bad !== null) {
       const standing = standingOf(this.#library.standing(this.#now()).shown);
       this.#channels.show(standing);
       this.#wire.show(standing);
     }
     this.#showPlace();
     this.#showLink();
-    this.#showTour();
+    // These two ask for places on the screen, so that the browser lays out what has changed.
+    this.#editor.show(this.#state.script, answers, this.#seen, bad);
+    this.#guide.show(this.#now());
     this.#planPicture();
   }
 
+  // A link may have a size or a version that there is not.
+  #showChoices() {
+    const { capacity, version } = this.#state;
+    byId('capacity').value = capacity;
+    refuse(byId('capacity'), whyNoWhole(String(capacity), byId('capacity').min, byId('capacity').max));
+    byId('version').value = version;
+    refuse(byId('version'), version === 1 || version === 2 ? null : `There is no version ${version}: choose One or Two.`);
+    byId('undo').disabled = this.#undone.isEmpty;
+  }
+
   #showPlace() {
-    const events = eventsOf(this.#state.script);
+    const { events, answers, last } = this.#replayed;
     const at = byId('at');
     at.max = events.length;
     at.value = this.#seen;
     say(byId('place'), `Event ${this.#seen} of ${events.length}`);
     byId('back').disabled = this.#seen === 0;
-    byId('forward').disabled = this.#seen === events.length;
-    const answer = this.#answers[this.#seen - 1];
+    byId('forward').disabled = this.#seen === last;
+    const answer = answers[this.#seen - 1];
+    say(byId('said'), answer === undefined ? 'Nothing has happened yet.' : sentenceOf(this.#library, events[this.#seen - 1], answer));
+    this.#showAllowed(answer);
+  }
+
+  #showAllowed(answer) {
     const isRefused = /^(refused|violation)/.test(answer ?? '');
     byId('now').classList.toggle('refused', isRefused);
-    say(byId('said'), answer === undefined ? 'Nothing has happened yet.' : sentenceOf(this.#library, events[this.#seen - 1], answer));
-    const found = isRefused ? allowing(this.#library, this.#state, this.#seen - 1) : null;
+    const found = isRefused ? allowing(this.#library, this.#state, this.#seen - 1, answer) : null;
     this.#allowed = found?.session ?? null;
     byId('allowed').hidden = !isRefused;
     byId('allow').hidden = found === null;
     say(byId('allowed-text'), found === null ? 'nothing that this page knows of: the refusal is for good.' : `${found.say}.`);
   }
 
+  // A session that has left the tour is sent without it.
+  #link() {
+    const seen = this.#seen < this.#replayed.last ? this.#seen : null;
+    const isOnTour = this.#guide.isOn && tourPlace(this.#now()) !== null;
+    return linkOf(this.#state, { seen, isOnTour });
+  }
+
   #showLink() {
-    const hash = `#${linkOf(this.#state)}`;
+    const link = this.#link();
+    const isShort = link.length <= LONGEST_LINK;
+    const hash = isShort ? `#${link}` : '#';
     byId('link').href = hash;
-    say(byId('copied'), '');
-    try {
-      history.replaceState(null, '', hash);
-    } catch {
-      // A page that may not change its address keeps its own; the link has the new one.
-    }
+    byId('link').hidden = byId('copy').disabled = !isShort;
+    say(byId('copied'), isShort ? '' : 'This session is too long for a link: copy its script.');
+    this.#address.write(hash);
   }
 
   // ---- the picture
 
   // The picture is drawn after the page is shown, and only the last one that was scheduled.
   #planPicture() {
-    cancelIdleCallback(this.#drawing);
+    this.#callOff();
     const isLong = this.#seen > DRAWN_AT_ONCE;
     byId('draw').hidden = !isLong;
-    say(byId('draw'), `Draw the picture of ${this.#seen} events`);
+    say(byId('draw'), `Draw the picture of ${counted(this.#seen, 'event')}`);
     if (isLong) {
       this.#picture.clear();
     } else {
-      this.#drawing = requestIdleCallback(() => this.#draw(), { timeout: 300 });
+      this.#callOff = whenIdle(() => this.#draw());
     }
   }
 
@@ -303,5 +306,8 @@ export class SessionView {
 /** Returns the line of a fault for the page. */
 export function faultInWords(told) {
   const text = told.trim().replace(/^lcmux(_chart)?: /, '');
+  if (text === '') {
+    return 'There are versions One and Two.';
+  }
   return text.startsWith('usage') ? 'A ring has 1 to 16,777,216 bytes.' : text.charAt(0).toUpperCase() + text.slice(1);
 }

@@ -1,10 +1,12 @@
 // The view of a stream's bytes: its frames and its fault, with their offsets.
 
 import { byId, element, say } from './dom.js';
-import { placesOf } from './library.js';
+import { insertAtOnce, refuse } from './fields.js';
+import { readHex } from './hex.js';
+import { placeOf } from './library.js';
 import { Picture } from './picture.js';
-import { bytesOf, hexOf } from './script.js';
-import { bytesIn, counted, frameInWords } from './words.js';
+import { hexOf, linesOf } from './script.js';
+import { bytesIn, counted, frameInWords, grouped } from './words.js';
 
 const EXAMPLES = [
   ['', 'choose one'],
@@ -18,33 +20,45 @@ const EXAMPLES = [
 const ROWS = 500;
 const DRAWN_AT_ONCE_FRAMES = 300;
 const HEX_SHOWN = 4096;
+
+// A browser takes seconds to lay out a megabyte of digits, so longer texts are read and not kept in their field.
+const HEX_KEPT = 65536;
 const MAX_BYTES = 16777216;
 
-/** Parses bytes in hexadecimal, with spaces, commas and 0x anywhere between them; null if the text is invalid. */
-export function bytesOfHex(text) {
-  const digits = text.replace(/0x/gi, '').replace(/[\s,;:]+/g, '');
-  return /^(?:[0-9a-f]{2})*$/i.test(digits) ? bytesOf(digits) : null;
+/** Parses the number and the offset of a fault from its line, and what is at fault; null for another line. */
+export function faultOf(told) {
+  const found = /F(\d) in the frame at byte (\d+)(?:: (.+))?/.exec(told);
+  return found && { number: Number(found[1]), offset: Number(found[2]), culprit: found[3] };
 }
 
-/** Parses the number and the offset of a fault from its line; null for another line. */
-export function faultOf(told) {
-  const found = /F(\d) in the frame at byte (\d+)/.exec(told);
-  return found && { number: Number(found[1]), offset: Number(found[2]) };
+async function bytesOfFile(file) {
+  if (file.size > MAX_BYTES) {
+    return { why: `${file.name} has ${bytesIn(file.size)}, and at most ${bytesIn(MAX_BYTES)} are read.` };
+  }
+  try {
+    return { bytes: new Uint8Array(await file.arrayBuffer()) };
+  } catch {
+    return { why: `${file.name} cannot be read. A folder has no bytes.` };
+  }
 }
 
 export class StreamView {
   #library;
   #bytes = new Uint8Array(0);
-  #places = [];
+  // The lines of the frames. A megabyte has many, so only those that are shown are parsed.
+  #lines = [];
   #fault = null;
   #rows = 0;
   #picture;
+  // The number of the last text or file: a file is read while others may be given.
+  #given = 0;
 
   constructor(library) {
     this.#library = library;
     this.#picture = new Picture(byId('stream-picture'), byId('stream-picture-words'));
     byId('stream-example').append(...EXAMPLES.map(([value, title]) => element('option', { value }, title)));
-    byId('hex').addEventListener('input', () => this.#read());
+    byId('hex').addEventListener('input', () => this.#read(byId('hex').value));
+    insertAtOnce(byId('hex'), text => this.#read(text));
     byId('stream-example').addEventListener('change', () => this.#showExample());
     byId('file').addEventListener('change', () => this.#take(byId('file').files[0]));
     byId('more').addEventListener('click', () => this.#showRows(this.#rows + ROWS));
@@ -69,15 +83,22 @@ export class StreamView {
   #showExample() {
     byId('hex').value = byId('stream-example').value;
     byId('stream-example').value = '';
-    this.#read();
+    this.#read(byId('hex').value);
   }
 
-  #read() {
-    const bytes = bytesOfHex(byId('hex').value);
-    if (bytes === null) {
-      this.#clear('These are no bytes in hexadecimal: two digits for each, 0 to 9 and a to f.');
+  #read(text) {
+    this.#given += 1;
+    const { bytes, why } = readHex(text);
+    const isLong = text.length > HEX_KEPT;
+    if (isLong || text !== byId('hex').value) {
+      byId('hex').value = isLong ? '' : text;
+    }
+    refuse(byId('hex'), why === undefined ? null : `${why}${isLong ? ' The text is too long to be shown here.' : ''}`);
+    refuse(byId('file'), null);
+    if (bytes === undefined) {
+      this.#clear();
     } else {
-      this.show(bytes, '');
+      this.show(bytes, isLong ? 'The digits are too many to be shown here: ' : '');
     }
   }
 
@@ -85,17 +106,24 @@ export class StreamView {
     if (file === undefined) {
       return;
     }
-    if (file.size > MAX_BYTES) {
-      this.#clear(`${file.name} has ${bytesIn(file.size)}, and at most ${bytesIn(MAX_BYTES)} are read.`);
+    this.#given += 1;
+    const given = this.#given;
+    const { bytes, why } = await bytesOfFile(file);
+    if (given !== this.#given) {
       return;
     }
-    const bytes = new Uint8Array(await file.arrayBuffer());
+    refuse(byId('file'), why ?? null);
+    if (bytes === undefined) {
+      this.#clear();
+      return;
+    }
+    refuse(byId('hex'), null);
     byId('hex').value = bytes.length <= HEX_SHOWN ? hexOf(bytes) : '';
     this.show(bytes, `${file.name}: `);
   }
 
-  #clear(words) {
-    say(byId('stream-said'), words);
+  #clear() {
+    say(byId('stream-said'), '');
     byId('stream-found').hidden = true;
     byId('stream-drawn').hidden = true;
     this.#picture.clear();
@@ -105,13 +133,13 @@ export class StreamView {
   show(bytes, name) {
     const { shown, told } = this.#library.places(bytes);
     this.#bytes = bytes;
-    this.#places = placesOf(shown);
+    this.#lines = linesOf(shown);
     this.#fault = faultOf(told);
     if (bytes.length === 0) {
-      this.#clear('');
+      this.#clear();
       return;
     }
-    say(byId('stream-said'), `${name}${bytesIn(bytes.length)}, ${counted(this.#places.length, 'whole frame')}${this.#faultInWords(told)}`);
+    say(byId('stream-said'), `${name}${bytesIn(bytes.length)}, ${counted(this.#lines.length, 'whole frame')}${this.#faultInWords(told)}`);
     byId('stream-found').hidden = false;
     byId('frames').replaceChildren();
     this.#rows = 0;
@@ -126,20 +154,26 @@ export class StreamView {
     if (this.#fault === null) {
       return `. ${told.trim()}`;
     }
-    const { number, offset } = this.#fault;
-    return `, and then the fault F${number} in the frame at byte ${offset}: ${this.#library.sentence(200 + number)}.`;
+    return `, and then the fault F${this.#fault.number} in the frame at byte ${this.#fault.offset}: ${this.#wrong()}.`;
+  }
+
+  /** The sentence of the fault, and what is at fault. */
+  #wrong() {
+    const { number, culprit } = this.#fault;
+    const sentence = this.#library.sentence(200 + number);
+    return culprit === undefined ? sentence : `${sentence} (${culprit})`;
   }
 
   #showRows(count) {
-    const rows = this.#places.slice(this.#rows, count).map((place, at) => this.#rowOf(this.#rows + at + 1, place));
+    const rows = this.#lines.slice(this.#rows, count).map((line, at) => this.#rowOf(this.#rows + at + 1, placeOf(line)));
     byId('frames').append(...rows);
-    this.#rows = Math.min(count, this.#places.length);
-    const left = this.#places.length - this.#rows;
+    this.#rows = Math.min(count, this.#lines.length);
+    const left = this.#lines.length - this.#rows;
     if (left === 0 && this.#fault !== null) {
       byId('frames').append(this.#faultRow());
     }
     byId('more').hidden = left === 0;
-    say(byId('more'), `Show ${Math.min(left, ROWS)} of the ${left} frames left`);
+    say(byId('more'), `Show ${counted(Math.min(left, ROWS), 'more frame')} (${grouped(left)} left)`);
   }
 
   // A row of the table: its first cells, the bytes between two offsets, and their meaning.
@@ -156,7 +190,7 @@ export class StreamView {
 
   #faultRow() {
     const { number, offset } = this.#fault;
-    const said = `F${number}: ${this.#library.sentence(200 + number)}`;
+    const said = `F${number}: ${this.#wrong()}`;
     return this.#row('fault', ['fault', String(offset), ''], [offset, this.#bytes.length], element('td', {}, said));
   }
 
@@ -166,7 +200,7 @@ export class StreamView {
   }
 
   #draw() {
-    const isShort = this.#places.length <= DRAWN_AT_ONCE_FRAMES;
+    const isShort = this.#lines.length <= DRAWN_AT_ONCE_FRAMES;
     byId('stream-drawn').hidden = !isShort;
     if (isShort) {
       this.#picture.show(this.#library.stream(this.#bytes).shown);

@@ -2,7 +2,7 @@
 
 import { element, fill, say } from './dom.js';
 import { otherSide } from './script.js';
-import { bytesIn, frameInWords } from './words.js';
+import { bytesIn, counted, frameInWords } from './words.js';
 
 const SHOWN = 40;
 
@@ -34,22 +34,23 @@ class Lane {
 
   show({ version, bytes, delivered, frames }) {
     this.#bytes = bytes - delivered;
-    const words = `${this.#from} to ${this.#to}, version ${version === 2 ? 'Two' : 'One'}: ${bytesIn(bytes)} put, of which ${delivered} have come.`;
+    const words = `${this.#from} to ${this.#to}, version ${version === 2 ? 'Two' : 'One'}: ${bytesIn(bytes)} sent, ${delivered} arrived.`;
     say(this.#title, frames.length === 0 ? `${words} Nothing is on the wire.` : words);
     fill(this.#chips, Math.min(frames.length, SHOWN), () => element('li', { className: 'chip' }), (chip, at) => this.#showChip(chip, frames[at], delivered));
-    say(this.#more, frames.length > SHOWN ? `and ${frames.length - SHOWN} frames more` : '');
+    say(this.#more, frames.length > SHOWN ? `and ${counted(frames.length - SHOWN, 'more frame')}` : '');
     say(this.#all, `Deliver all (${bytesIn(this.#bytes)})`);
     this.#buttons.forEach(it => (it.disabled = this.#bytes === 0));
   }
 
   #showChip(chip, { offset, end, line }, delivered) {
     const { channel, words } = frameInWords(line);
-    const part = delivered > offset ? `, ${delivered - offset} of them have come` : '';
+    const part = delivered > offset ? `, ${delivered - offset} arrived` : '';
     const text = `${words} · ${bytesIn(end - offset)}${part}`;
     chip.className = channel === null ? 'chip plain' : `chip c${channel}`;
     const disc = channel === null ? [] : [element('span', { className: 'disc', 'aria-label': `channel ${channel}`, role: 'img' }, String(channel)), ' '];
     chip.replaceChildren(...disc, text);
-    chip.title = `bytes ${offset} to ${end - 1} of the stream of ${this.#from}`;
+    const places = end - offset === 1 ? `byte ${offset}` : `bytes ${offset} to ${end - 1}`;
+    chip.title = `${places} of the stream of ${this.#from}`;
   }
 }
 

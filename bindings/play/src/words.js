@@ -1,11 +1,17 @@
 // Events and answers in words. The text of a refusal is the library's sentence. A change that would have allowed the
 // event is searched among candidates, and only one that the library accepts is shown.
 
-import { bytesOf, continuedBy, eventsOf, fieldsOf, otherSide, prefixOf, readable } from './script.js';
+import { continuedBy, eventsOf, fieldsOf, lengthOf, otherSide, readable } from './script.js';
 
 export const CHANNELS = ['Reconciliation', 'Data', 'Overlap', 'Capability', 'AreaOfInterest', 'PayloadRequest', 'StaticToken'];
 
-export const counted = (count, one, many = `${one}s`) => `${Number(count).toLocaleString('en')} ${count === 1 || count === '1' ? one : many}`;
+const english = new Intl.NumberFormat('en');
+
+/** Returns a number, which may be a text of digits, with commas. */
+export const grouped = number => english.format(BigInt(number));
+
+/** Returns a number, which may be a text of digits, with the noun that it counts. */
+export const counted = (count, one, many = `${one}s`) => `${grouped(count)} ${BigInt(count) === 1n ? one : many}`;
 
 export const bytesIn = count => counted(count, 'byte');
 
@@ -70,21 +76,21 @@ function answerInWords({ side, act }, answer) {
   const [kind, first, , frames] = answer.split(' ');
   switch (kind) {
     case 'ok':
-      return `Accepted: the frame goes onto the wire to ${otherSide(side)}.`;
+      return `Accepted: the frame is on the wire to ${otherSide(side)}.`;
     case 'absolved':
       return `It gives ${counted(first, 'guarantee')} back, by a frame to ${otherSide(side)}.`;
     case 'arrived':
       return `A frame arrived at ${side}.`;
     case 'delivered':
-      return `${bytesIn(first)} came to ${side}, and ${counted(frames, 'frame')} became whole by that.`;
+      return `${bytesIn(first)} arrived at ${side}, and with them the end of ${counted(frames, 'frame')}.`;
     case 'took':
-      return `It took ${readable(first)}, whose ${bytesIn(bytesOf(first).length)} are room again.`;
+      return `It took ${readable(first)}, which makes ${bytesIn(lengthOf(first))} of its ring free again.`;
     case 'empty':
-      return 'No message waits.';
+      return 'No message is buffered.';
     case 'ended':
-      return 'The channel has ended: no message waits, and none will come.';
+      return 'The channel has ended: no message is buffered, and none will arrive.';
     case 'violation':
-      return `What arrived breaks the rules: ${first}.`;
+      return `What arrived breaks the rules of the protocol: ${first}.`;
     default:
       return NOTHING[act] ?? answer;
   }
@@ -111,14 +117,14 @@ function* ways(line, refusal) {
       break;
     case 3:
     case 4: {
-      const length = bytesOf(value).length;
+      const length = lengthOf(value);
       const missing = length - Number(left);
       if (refusal.number === 4) {
         const issued = [allTo(side), `${other} issue ${channel} ${missing}`, allTo(side), line];
-        yield { say: `what is on its way to ${side}, once it has come`, lines: [allTo(side), line] };
-        yield { say: `${counted(missing, 'guarantee')} more: ${other} issues them, and they arrive at ${side}`, lines: issued };
+        yield { say: `what is on the wire to ${side}, once it has arrived`, lines: [allTo(side), line] };
+        yield { say: `${counted(missing, 'guarantee')} more, issued by ${other} and arrived at ${side}`, lines: issued };
         const taken = [allTo(other), ...Array(8).fill(`${other} take ${channel}`), ...issued];
-        yield { say: `${counted(missing, 'guarantee')} more: ${other} takes messages, which makes room, issues them, and they arrive at ${side}`, lines: taken };
+        yield { say: `${counted(missing, 'guarantee')} more, issued by ${other} when it has taken messages, and arrived at ${side}`, lines: taken };
       }
       if (Number(left) > 0) {
         yield { say: `a message of at most ${bytesIn(left)}`, lines: instead(value.slice(0, 2 * Number(left))) };
@@ -151,12 +157,11 @@ function* ways(line, refusal) {
   }
 }
 
-/** Returns the first candidate that the library accepts after this many events; null if there is none. */
-export function allowing(library, session, count) {
+/** Returns the first candidate that the library accepts instead of a refused event; null if there is none. */
+export function allowing(library, session, count, answer) {
   const line = eventsOf(session.script)[count];
   const answerAt = (state, at) => library.replay(state).shown.split('\n')[at];
-  const before = { ...session, script: prefixOf(session.script, count) };
-  const refusal = refusalOf(answerAt({ ...before, script: continuedBy(session.script, count, [line]) }, count));
+  const refusal = refusalOf(answer);
   for (const { say, lines, version = session.version } of refusal ? ways(line, refusal) : []) {
     const tried = { ...session, version, script: continuedBy(session.script, count, lines) };
     if (answerAt(tried, count + lines.length - 1) === 'ok') {

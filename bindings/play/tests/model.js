@@ -249,20 +249,21 @@ function ringOf(side, channel, { sender, receiver, buffered, room }) {
 export function framesOf(bytes) {
   const view = new DataView(bytes.buffer, bytes.byteOffset, bytes.length);
   const greeting = [0x4c, 0x43, 0x4d, 0x02];
-  const told = (number, at) => `lcmux: F${number} in the frame at byte ${at}\n`;
+  const told = (number, at, culprit = '') => `lcmux: F${number} in the frame at byte ${at}${culprit}\n`;
+  const byteAt = place => `: 0x${bytes[place].toString(16).padStart(2, '0')}`;
   const lines = [];
   let [version, at] = [1, 0];
   if (bytes[0] === 0x4c) {
     const same = greeting.findIndex((byte, place) => bytes[place] !== byte);
     if (same >= 0) {
-      return { lines, told: told(same < bytes.length ? 1 : 4, 0) };
+      return { lines, told: same < bytes.length ? told(1, 0, byteAt(same)) : told(4, 0) };
     }
     [version, at] = [2, 4];
   }
   for (let end; at < bytes.length; at = end) {
     const [kind, channel] = [Object.keys(KINDS)[(bytes[at] >> 4) - 1], bytes[at] & 15];
     if (kind === undefined || channel > 6 || (kind === 'finish' && version === 1)) {
-      return { lines, told: told(1, at) };
+      return { lines, told: told(1, at, byteAt(at)) };
     }
     const width = { send: version === 1 ? 2 : 4, issue: 4, absolve: 4, plead: 4, 'limit-sending': 8, 'limit-receiving': 8, finish: 0 }[kind];
     if (at + 1 + width > bytes.length) {
@@ -272,7 +273,7 @@ export function framesOf(bytes) {
     const least = kind === 'send' || kind === 'issue' || kind === 'absolve' ? 1n : 0n;
     const most = kind === 'send' ? (version === 1 ? 65535n : 1048576n) : width === 8 ? MAX_TOTAL : 16777216n;
     if (number !== null && (number < least || number > most)) {
-      return { lines, told: told(kind === 'send' && number === 0n ? 2 : 3, at) };
+      return { lines, told: told(kind === 'send' && number === 0n ? 2 : 3, at, `: ${kind} ${channel} ${number}`) };
     }
     end = at + 1 + width + (kind === 'send' ? Number(number) : 0);
     if (end > bytes.length) {

@@ -7,14 +7,14 @@ export class Tab {
   #target;
   #session;
 
-  static async open(browser, url, { width = 1280, height = 900, dark = false } = {}) {
+  static async open(browser, url, { width = 1280, height = 900, dark = false, isPage = true } = {}) {
     const { targetId } = await browser.ask('Target.createTarget', { url: 'about:blank' });
     const { sessionId } = await browser.ask('Target.attachToTarget', { targetId, flatten: true });
     const tab = new Tab(browser, targetId, sessionId);
     await tab.ask('Page.enable');
     await tab.ask('Emulation.setDeviceMetricsOverride', { width, height, deviceScaleFactor: 1, mobile: width < 600 });
     await tab.ask('Emulation.setEmulatedMedia', { features: [{ name: 'prefers-color-scheme', value: dark ? 'dark' : 'light' }] });
-    await tab.go(url);
+    await (isPage ? tab.go(url) : tab.load('Page.navigate', { url }));
     return tab;
   }
 
@@ -31,9 +31,24 @@ export class Tab {
   }
 
   async go(url) {
+    await this.load('Page.navigate', { url });
+    await this.started();
+  }
+
+  async reload() {
+    await this.load('Page.reload');
+    await this.started();
+  }
+
+  /** Loads a page, whose scripts may not have started. */
+  async load(method, params) {
     const loaded = this.#browser.told('Page.loadEventFired', this.#session);
-    await this.ask('Page.navigate', { url });
+    await this.ask(method, params);
     await loaded;
+  }
+
+  /** Waits until the page has started or has failed to. */
+  async started() {
     await this.until(() => document.getElementById('tour-title').textContent !== '' || document.getElementById('tour').hidden || !document.getElementById('failure').hidden);
   }
 
@@ -47,9 +62,9 @@ export class Tab {
     return result.value;
   }
 
-  /** Waits until the function returns a true value in the page, for at most ten seconds. */
+  /** Waits until the function returns a true value in the page, for a minute or more. */
   async until(run, ...words) {
-    for (let left = 400; left > 0; left -= 1) {
+    for (let left = 2400; left > 0; left -= 1) {
       if (await this.run(run, ...words)) {
         return;
       }
@@ -60,7 +75,7 @@ export class Tab {
 
   /** Presses a key. */
   async press(key, { shift = false } = {}) {
-    const codes = { Tab: 9, Enter: 13, ' ': 32, ArrowLeft: 37, ArrowRight: 39, Home: 36, End: 35 };
+    const codes = { Tab: 9, Enter: 13, ' ': 32, ArrowLeft: 37, ArrowUp: 38, ArrowRight: 39, ArrowDown: 40, Home: 36, End: 35 };
     const text = { Enter: '\r', ' ': ' ' }[key];
     const it = { key, code: key === ' ' ? 'Space' : key, windowsVirtualKeyCode: codes[key], modifiers: shift ? 8 : 0 };
     await this.ask('Input.dispatchKeyEvent', { type: text === undefined ? 'rawKeyDown' : 'keyDown', text, ...it });
