@@ -7,13 +7,12 @@ const TYPES = { html: 'text/html', js: 'text/javascript', wasm: 'application/was
 
 /** Serves the page, and the files of the package. */
 async function serve(request, response) {
-  const { pathname } = new URL(request.url, 'http://localhost');
-  const path = pathname === '/' ? '/page.html' : pathname;
-  if (path !== '/page.html' && !path.startsWith('/node_modules/lcmux/')) {
-    response.writeHead(404).end();
-    return;
-  }
   try {
+    const { pathname } = new URL(request.url, 'http://localhost');
+    const path = pathname === '/' ? '/page.html' : pathname;
+    if (path !== '/page.html' && !path.startsWith('/node_modules/lcmux/')) {
+      throw new Error('outside');
+    }
     const bytes = await readFile(new URL(`.${path}`, import.meta.url));
     response.writeHead(200, { 'content-type': TYPES[path.split('.').at(-1)] }).end(bytes);
   } catch {

@@ -1,5 +1,5 @@
 use lcmux::Channel::{Data, Overlap};
-use lcmux::{Config, Mux, Receiver, SendError, Sender, CHANNELS};
+use lcmux::{Config, Mux, Receiver, SendError, Sender};
 use std::error::Error;
 use std::net::{TcpListener, TcpStream};
 use std::thread::{self, JoinHandle};
@@ -13,9 +13,7 @@ type Outcome<T> = Result<T, Box<dyn Error>>;
 /// A session whose ring for Data has 4,096 bytes, and whose other rings have 256 KiB.
 fn session(stream: TcpStream) -> Outcome<Mux> {
     stream.set_nodelay(true)?;
-    let mut rings = [262_144; CHANNELS];
-    rings[Data] = 4096;
-    let (mux, driver) = Mux::new(Config::new(rings, 64))?;
+    let (mux, driver) = Mux::new(Config::default().rings(262_144).ring(Data, 4096))?;
     thread::spawn(move || driver.run_blocking(stream.try_clone()?, stream));
     Ok(mux)
 }
@@ -50,20 +48,20 @@ fn measure(sender: &Sender, receiver: &mut Receiver) -> Outcome<f64> {
 }
 
 fn show_slow(mux: &Mux) {
-    let stats = mux.stats(Data);
+    let stats = mux.stats()[Data];
     let (messages, bytes) = (stats.messages_sent, stats.bytes_sent);
     println!("slow channel: {messages} of {SLOW} messages sent, {bytes} bytes");
 }
 
 fn main() -> Outcome<()> {
     let (mut alice, mut bob) = sessions()?;
-    let busy = alice.sender(Overlap).unwrap();
-    let mut busy_receiver = bob.receiver(Overlap).unwrap();
+    let busy = alice.take_sender(Overlap).unwrap();
+    let mut busy_receiver = bob.take_receiver(Overlap).unwrap();
     let alone = measure(&busy, &mut busy_receiver)?;
     println!("busy channel alone: about {alone:.0} MB/s");
 
-    let sending = send_slow(alice.sender(Data).unwrap());
-    while alice.stats(Data).waited_for_guarantees < Duration::from_millis(100) {
+    let sending = send_slow(alice.take_sender(Data).unwrap());
+    while alice.stats()[Data].waited_for_guarantees < Duration::from_millis(100) {
         thread::sleep(Duration::from_millis(10));
     }
     show_slow(&alice);
@@ -73,7 +71,7 @@ fn main() -> Outcome<()> {
     println!("busy channel beside it: about {beside:.0} MB/s");
     show_slow(&alice);
 
-    let mut slow_receiver = bob.receiver(Data).unwrap();
+    let mut slow_receiver = bob.take_receiver(Data).unwrap();
     let mut received = 0;
     while let Some(message) = slow_receiver.recv_blocking()? {
         assert_eq!(message, [received as u8; 64]);

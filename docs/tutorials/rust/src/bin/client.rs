@@ -1,4 +1,4 @@
-use lcmux::{Channel::Data, Config, Mux, SendError, CHANNELS};
+use lcmux::{Channel::Data, Config, Mux, SendError};
 use std::error::Error;
 use std::net::TcpStream;
 use std::{env, thread};
@@ -10,10 +10,10 @@ fn main() -> Result<(), Box<dyn Error>> {
 
     let stream = TcpStream::connect(address)?;
     stream.set_nodelay(true)?;
-    let (mut mux, driver) = Mux::new(Config::new([65_536; CHANNELS], 64))?;
+    let (mut mux, driver) = Mux::new(Config::default())?;
     let run = thread::spawn(move || driver.run_blocking(stream.try_clone()?, stream));
 
-    let sender = mux.sender(Data).unwrap();
+    let sender = mux.take_sender(Data).unwrap();
     let sending = thread::spawn(move || -> Result<(), SendError> {
         for message in &messages {
             sender.send_blocking(message.as_bytes())?;
@@ -21,7 +21,7 @@ fn main() -> Result<(), Box<dyn Error>> {
         Ok(()) // the sender is dropped here: half-close
     });
 
-    let mut receiver = mux.receiver(Data).unwrap();
+    let mut receiver = mux.take_receiver(Data).unwrap();
     while let Some(message) = receiver.recv_blocking()? {
         println!("{}", String::from_utf8_lossy(&message));
     }

@@ -1,4 +1,4 @@
-use lcmux::{Channel::Data, Config, Mux, CHANNELS};
+use lcmux::{Channel::Data, Config, Mux};
 use std::error::Error;
 use std::net::{TcpListener, TcpStream};
 use std::{env, thread};
@@ -6,11 +6,11 @@ use std::{env, thread};
 /// Sends every message back on the same channel, until the client has sent its last one.
 fn echo(stream: TcpStream) -> Result<(), Box<dyn Error>> {
     stream.set_nodelay(true)?;
-    let (mut mux, driver) = Mux::new(Config::new([65_536; CHANNELS], 64))?;
+    let (mut mux, driver) = Mux::new(Config::default())?;
     let run = thread::spawn(move || driver.run_blocking(stream.try_clone()?, stream));
 
-    let sender = mux.sender(Data).unwrap();
-    let mut receiver = mux.receiver(Data).unwrap();
+    let sender = mux.take_sender(Data).unwrap();
+    let mut receiver = mux.take_receiver(Data).unwrap();
     while let Some(message) = receiver.recv_blocking()? {
         sender.send_blocking(&message)?; // blocks while the client has no room for it
     }
@@ -18,7 +18,7 @@ fn echo(stream: TcpStream) -> Result<(), Box<dyn Error>> {
 
     mux.close();
     run.join().unwrap()?;
-    let stats = mux.stats(Data);
+    let stats = mux.stats()[Data];
     println!("echoed {} messages, {} bytes", stats.messages_sent, stats.bytes_sent);
     Ok(())
 }

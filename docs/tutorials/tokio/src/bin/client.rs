@@ -1,5 +1,5 @@
 use lcmux_tokio::connect;
-use lcmux_tokio::lcmux::{Channel::Data, Closed, Config, Receiver, SendError, Sender, CHANNELS};
+use lcmux_tokio::lcmux::{Channel::Data, Closed, Config, Receiver, SendError, Sender};
 use std::{env, error::Error};
 use tokio::net::TcpStream;
 
@@ -24,10 +24,10 @@ async fn main() -> Result<(), Box<dyn Error>> {
 
     let stream = TcpStream::connect(address).await?;
     stream.set_nodelay(true)?;
-    let (mut mux, run) = connect(stream, Config::new([65_536; CHANNELS], 64))?;
+    let (mut mux, run) = connect(stream, Config::default())?;
 
-    let sending = send(mux.sender(Data).unwrap(), words.collect());
-    let printing = print(mux.receiver(Data).unwrap());
+    let sending = send(mux.take_sender(Data).unwrap(), words.collect());
+    let printing = print(mux.take_receiver(Data).unwrap());
     let (sent, printed) = tokio::join!(sending, printing);
     sent?;
     printed?;

@@ -1,15 +1,15 @@
 use lcmux_tokio::connect;
-use lcmux_tokio::lcmux::{Channel::Data, Config, CHANNELS};
+use lcmux_tokio::lcmux::{Channel::Data, Config};
 use std::{env, error::Error};
 use tokio::net::{TcpListener, TcpStream};
 
 /// Sends every message back on the same channel, until the client has sent its last one.
 async fn echo(stream: TcpStream) -> Result<(), Box<dyn Error + Send + Sync>> {
     stream.set_nodelay(true)?;
-    let (mut mux, run) = connect(stream, Config::new([65_536; CHANNELS], 64))?;
+    let (mut mux, run) = connect(stream, Config::default())?;
 
-    let sender = mux.sender(Data).unwrap();
-    let mut receiver = mux.receiver(Data).unwrap();
+    let sender = mux.take_sender(Data).unwrap();
+    let mut receiver = mux.take_receiver(Data).unwrap();
     while let Some(message) = receiver.recv().await? {
         sender.send(&message).await?; // waits while the client has no room for it
     }
@@ -17,7 +17,7 @@ async fn echo(stream: TcpStream) -> Result<(), Box<dyn Error + Send + Sync>> {
 
     mux.close();
     run.await??;
-    let stats = mux.stats(Data);
+    let stats = mux.stats()[Data];
     println!("echoed {} messages, {} bytes", stats.messages_sent, stats.bytes_sent);
     Ok(())
 }
