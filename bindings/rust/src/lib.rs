@@ -82,6 +82,9 @@
 mod channel;
 mod config;
 mod error;
+#[cfg(feature = "simulation")]
+#[path = "simulation.rs"]
+mod hooks;
 mod mux;
 mod peer;
 mod questions;
@@ -100,6 +103,13 @@ pub use mux::{
 };
 pub use peer::{ClientBook, Delivery, Incoming, Peer, Progress, ServerBook, Take, Version};
 pub use questions::{Needs, Ready};
+
+/// The hooks of `lcmux-sim`.
+#[cfg(feature = "simulation")]
+#[doc(hidden)]
+pub mod simulation {
+    pub use crate::hooks::{set, Hook, Hooks};
+}
 
 /// Returns the version of the linked library: 65,536 times its first number, plus 256 times its second, plus its
 /// third. [`Peer::new`] refuses a library of another version than this crate's.

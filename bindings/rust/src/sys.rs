@@ -506,6 +506,14 @@ mod heap {
         fn free(at: *mut c_void);
     }
 
+    // Whether a simulator refuses the allocation. The library is answered as if the heap had no memory.
+    fn is_refused() -> bool {
+        #[cfg(feature = "simulation")]
+        return crate::hooks::refuses();
+        #[cfg(not(feature = "simulation"))]
+        false
+    }
+
     fn tried(at: *mut c_void) -> Tried {
         match at.is_null() {
             true => Tried {
@@ -518,6 +526,9 @@ mod heap {
 
     #[no_mangle]
     extern "C" fn lcmux_rs_alloc(size: usize, align: usize) -> Tried {
+        if is_refused() {
+            return tried(ptr::null_mut());
+        }
         tried(unsafe { malloc(if size == 0 { align } else { size }) })
     }
 
@@ -528,6 +539,9 @@ mod heap {
         size: usize,
         align: usize,
     ) -> Tried {
+        if is_refused() {
+            return tried(ptr::null_mut());
+        }
         tried(unsafe { realloc(at, if size == 0 { align } else { size }) })
     }
 

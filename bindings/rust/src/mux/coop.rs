@@ -5,6 +5,13 @@ use std::task::{Context, Poll};
 /// How many futures of a handle complete in a row before one yields once.
 const IN_A_ROW: u8 = 128;
 
+fn yields_by_simulator() -> bool {
+    #[cfg(feature = "simulation")]
+    return crate::hooks::yields();
+    #[cfg(not(feature = "simulation"))]
+    false
+}
+
 /// Counts the futures of a handle that complete in a row. On a runtime that polls a task until it is pending, a loop
 /// of calls that are always ready would else starve all other tasks of its thread.
 #[derive(Debug, Default)]
@@ -25,7 +32,7 @@ impl Coop {
         cx: &mut Context<'_>,
         poll: impl FnOnce(&mut Context<'_>) -> Poll<T>,
     ) -> Poll<T> {
-        if self.0.load(Relaxed) == IN_A_ROW {
+        if self.0.load(Relaxed) == IN_A_ROW || yields_by_simulator() {
             self.0.store(0, Relaxed);
             cx.waker().wake_by_ref();
             return Poll::Pending;
