@@ -200,7 +200,13 @@ async fn listen(address: &str) -> Answer<()> {
     let (mut mux, run) = connect(stream, Config::default().rings(RING))?;
     let requests = mux.take_receiver(PayloadRequest).unwrap();
     let cancels = mux.take_receiver(StaticToken).unwrap();
-    match serve(requests, cancels, mux.take_sender(Data).unwrap()).await {
+    // A server that works at its limit polls none of the client's channels, so `serve` may miss the end of the session.
+    let serve = serve(requests, cancels, mux.take_sender(Data).unwrap());
+    let served = tokio::select! {
+        served = serve => served,
+        closed = mux.closed() => closed.map(|()| 0).map_err(Into::into),
+    };
+    match served {
         Ok(cancelled) => println!("{cancelled} cancelled"),
         Err(error) => {
             mux.abort();
