@@ -116,6 +116,7 @@ pub(crate) fn shrunk(
         let before = tape.clone();
         drop_blocks(&mut tape, &mut try_tape);
         lower_numbers(&mut tape, &mut try_tape);
+        lower_counts(&mut tape, &mut try_tape);
         if tape == before {
             while tape.last() == Some(&0) {
                 tape.pop(); // each choice after the end is 0
@@ -160,6 +161,26 @@ fn lower_numbers(tape: &mut Vec<u64>, try_tape: TryTape<'_>) {
             }
         }
     }
+}
+
+// Lowers a number and removes some choices behind it: those of an element, where the number is a count of them.
+fn lower_counts(tape: &mut Vec<u64>, try_tape: TryTape<'_>) {
+    for at in 0..tape.len() {
+        while at < tape.len() && tape[at] > 0 && lower_count(tape, at, try_tape) {}
+    }
+}
+
+fn lower_count(tape: &mut Vec<u64>, at: usize, try_tape: TryTape<'_>) -> bool {
+    for width in 1..=4 {
+        for from in at + 1..(tape.len() + 1).saturating_sub(width) {
+            let mut lower = [&tape[..from], &tape[from + width..]].concat();
+            lower[at] -= 1;
+            if try_tape(tape, lower) {
+                return true;
+            }
+        }
+    }
+    false
 }
 
 #[cfg(test)]
@@ -217,6 +238,15 @@ mod tests {
         assert_eq!(shrunk(long.clone(), 5_000, fails), [9]);
         assert_eq!(shrunk(long.clone(), 600, |_| true), []);
         assert_eq!(shrunk(long.clone(), 600, |_| false), long);
+        // A count, its elements, and a number behind them.
+        let counted = |tape: &[u64]| match tape {
+            [count, rest @ ..] if *count > 2 => rest.get(*count as usize).is_some_and(|it| *it > 5),
+            _ => false,
+        };
+        assert_eq!(
+            shrunk(vec![6, 9, 8, 9, 8, 9, 8, 70], 5_000, counted),
+            [3, 0, 0, 0, 6]
+        );
         let sum = |tape: &[u64]| tape.len() == 3 && tape[1] > 300;
         assert_eq!(shrunk(vec![5_000, 70_000, 9], 600, sum), [0, 301]);
     }

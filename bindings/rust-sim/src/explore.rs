@@ -3,6 +3,7 @@ use crate::choices::{shrunk, Choices};
 use crate::faults::Faults;
 use crate::quiet::caught;
 use crate::sim::{Report, Sim};
+use crate::trace::Trace;
 use std::fmt::{self, Display, Formatter};
 use std::path::PathBuf;
 use std::{env, thread};
@@ -11,7 +12,7 @@ use std::{env, thread};
 const SEEDS: u64 = 1_000;
 
 /// The most runs in which a failure is made simpler.
-const TRIES: usize = 400;
+const TRIES: usize = 1_500;
 
 /// Runs a test by many seeds. The first one that fails is shrunk and reported.
 ///
@@ -216,7 +217,6 @@ impl Explorer {
         failure
     }
 
-    // The report. It ends with the events of the shrunk run.
     fn said(&self, failure: &Failure, long: &Report, short: &Report) -> String {
         let Failure {
             seed,
@@ -236,12 +236,25 @@ impl Explorer {
         if let Some(folder) = self.variable("LCMUX_SIM_OUT") {
             lines.push(written(short, folder.into()));
         }
-        lines.push("the last events of the shrunk run:".into());
-        let entries = short.traces.iter().flat_map(|trace| trace.entries());
-        let events: Vec<_> = entries.map(|entry| format!("    {entry}")).collect();
-        lines.extend_from_slice(&events[events.len().saturating_sub(30)..]);
+        if let Some(trace) = short.traces.last() {
+            lines.push("the shrunk run, or its last one:".into());
+            lines.extend(shown(trace));
+        }
         lines.join("\n")
     }
+}
+
+// The events of a run, without those in the middle of a long one.
+fn shown(trace: &Trace) -> Vec<String> {
+    const FIRST: usize = 40;
+    const LAST: usize = 10;
+    let entries = trace.entries().iter();
+    let mut lines: Vec<_> = entries.map(|entry| format!("    {entry}")).collect();
+    if let Some(more) = lines.len().checked_sub(FIRST + LAST + 1) {
+        let left_out = format!("    .. {} events ..", more + 1);
+        lines.splice(FIRST..FIRST + more + 1, [left_out]);
+    }
+    lines
 }
 
 fn unrepeated(failure: &Failure) -> String {

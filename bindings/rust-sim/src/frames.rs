@@ -23,6 +23,8 @@ const KINDS: [&str; 7] = [
 const SEND: u8 = 1;
 const ISSUE: u8 = 2;
 const ABSOLVE: u8 = 3;
+const PLEAD: u8 = 4;
+const LIMIT_RECEIVING: u8 = 6;
 const FINISH: u8 = 7;
 
 /// A whole frame of a stream.
@@ -154,34 +156,80 @@ enum Step<'a> {
     Arrived(Side, &'a Frame),
 }
 
-/// The frames of both sides, each when its last byte was written and when it was read.
-fn steps<'a>(trace: &Trace, frames: &'a [Vec<Frame>; 2]) -> Vec<Step<'a>> {
-    let (mut written, mut read) = ([0; 2], [0; 2]);
-    let mut next = [[0; 2]; 2];
-    let mut steps = Vec::new();
-    for entry in trace.entries() {
-        let (by, counts, which) = match entry.event {
-            Event::Wrote(count) => (entry.side, &mut written, (0, count)),
-            Event::Read(count) => (entry.side.other(), &mut read, (1, count)),
-            _ => continue,
+/// The frames of both sides that were written and that arrived, in the order of a trace.
+struct Steps<'a> {
+    frames: &'a [Vec<Frame>; 2],
+    /// How many bytes and frames each side wrote, and how many of these arrived.
+    written: [(usize, usize); 2],
+    arrived: [(usize, usize); 2],
+    steps: Vec<Step<'a>>,
+}
+
+impl<'a> Steps<'a> {
+    fn of(trace: &Trace, frames: &'a [Vec<Frame>; 2]) -> Vec<Step<'a>> {
+        let mut steps = Steps {
+            frames,
+            written: [(0, 0); 2],
+            arrived: [(0, 0); 2],
+            steps: Vec::new(),
         };
-        counts[by.at()] += which.1;
-        let at = &mut next[which.0][by.at()];
-        let rest = frames[by.at()][*at..].iter();
-        let whole: Vec<_> = rest.take_while(|it| it.end <= counts[by.at()]).collect();
-        *at += whole.len();
-        steps.extend(whole.into_iter().map(|frame| match which.0 {
-            0 => Step::Wrote(by, frame),
-            _ => Step::Arrived(by.other(), frame),
-        }));
+        for entry in trace.entries() {
+            match entry.event {
+                Event::Wrote(count) => steps.wrote(entry.side, count),
+                Event::Read(count) => steps.read(entry.side, count),
+                _ => {}
+            }
+        }
+        steps.steps
     }
-    steps
+
+    fn wrote(&mut self, side: Side, count: usize) {
+        let (bytes, frames) = &mut self.written[side.at()];
+        *bytes += count;
+        let rest = self.frames[side.at()][*frames..].iter();
+        let whole = rest.take_while(|it| it.end <= *bytes).count();
+        let end = *frames + whole;
+        self.write(side, end);
+    }
+
+    // The side writes its frames up to this one.
+    fn write(&mut self, side: Side, end: usize) {
+        let frames = &mut self.written[side.at()].1;
+        let new = self.frames[side.at()][..end].iter().skip(*frames);
+        self.steps.extend(new.map(|frame| Step::Wrote(side, frame)));
+        *frames = end.max(*frames);
+    }
+
+    fn read(&mut self, side: Side, count: usize) {
+        let by = side.other().at();
+        self.arrived[by].0 += count;
+        while let Some(frame) = self.frames[by].get(self.arrived[by].1) {
+            if frame.end > self.arrived[by].0 {
+                return;
+            }
+            if frame.kind == FINISH {
+                self.write_before_finish(side, frame.channel);
+            }
+            self.steps.push(Step::Arrived(side, frame));
+            self.arrived[by].1 += 1;
+        }
+    }
+
+    // What a receiver said of a channel was enqueued before the channel's end arrived, also if it is written later.
+    fn write_before_finish(&mut self, side: Side, channel: usize) {
+        let is_of_receiver = |it: &Frame| matches!(it.kind, ISSUE | PLEAD | LIMIT_RECEIVING);
+        let frames = &self.frames[side.at()];
+        let last = frames
+            .iter()
+            .rposition(|it| it.channel == channel && is_of_receiver(it));
+        self.write(side, last.map_or(0, |last| last + 1));
+    }
 }
 
 /// A run as a script of events.
 pub(crate) fn script(trace: &Trace) -> String {
     let frames = Side::ALL.map(|side| of_stream(trace.written(side)));
-    let steps = steps(trace, &frames);
+    let steps = Steps::of(trace, &frames);
     let mut rings = Rings::new();
     let mut capacity = 1;
     for step in &steps {

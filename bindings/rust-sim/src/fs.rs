@@ -7,14 +7,11 @@
 //!
 //! An engine imports its files by one name, and a build for the simulator gives that name to this module:
 //!
-//! ```
-//! mod engine {
-//!     #[cfg(not(test))]
-//!     pub use tokio::fs as files;
-//!     #[cfg(test)]
-//!     pub use lcmux_sim::fs as files;
-//! }
-//! # mod tokio { pub mod fs {} }
+//! ```text
+//! #[cfg(not(test))]
+//! use tokio::fs as files;
+//! #[cfg(test)]
+//! use lcmux_sim::fs as files;
 //! ```
 use crate::current::current;
 use crate::world::World;
