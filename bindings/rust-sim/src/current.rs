@@ -1,5 +1,4 @@
 //! The run of this thread, which the files and the notes of an engine belong to.
-use crate::faults::Side;
 use crate::trace::Event;
 use crate::world::{with, Shared, World};
 use lcmux::simulation::{self, Hooks};
@@ -22,7 +21,7 @@ pub(crate) fn current<T>(call: impl FnOnce(&mut World) -> T) -> Option<T> {
 /// ```
 pub fn note(text: impl Into<String>) {
     let text = text.into();
-    current(|world| world.record(Side::A, Event::Note(text)));
+    current(|world| world.record(None, Event::Note(text)));
 }
 
 /// Makes a run the one of this thread, until it is dropped.

@@ -174,9 +174,9 @@ impl<'a> Steps<'a> {
             steps: Vec::new(),
         };
         for entry in trace.entries() {
-            match entry.event {
-                Event::Wrote(count) => steps.wrote(entry.side, count),
-                Event::Read(count) => steps.read(entry.side, count),
+            match (entry.side, &entry.event) {
+                (Some(side), Event::Wrote(count)) => steps.wrote(side, *count),
+                (Some(side), Event::Read(count)) => steps.read(side, *count),
                 _ => {}
             }
         }

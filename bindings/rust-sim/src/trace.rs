@@ -36,15 +36,16 @@ pub enum Event {
 pub struct Entry {
     /// The time since the run began.
     pub at: Duration,
-    /// The side. Of a note it is A.
-    pub side: Side,
+    /// The side; `None` for a note, and for a fault of the memory or the files, which both sides share.
+    pub side: Option<Side>,
     /// The event.
     pub event: Event,
 }
 
 impl Display for Entry {
     fn fmt(&self, f: &mut Formatter<'_>) -> fmt::Result {
-        write!(f, "{:>8} ms  {}  ", self.at.as_millis(), self.side)?;
+        let side = self.side.map_or("-".into(), |side| side.to_string());
+        write!(f, "{:>8} ms  {side}  ", self.at.as_millis())?;
         match &self.event {
             Event::Wrote(count) => write!(f, "writes {count} bytes"),
             Event::Read(count) => write!(f, "reads {count} bytes"),
@@ -79,7 +80,7 @@ impl Trace {
 
     /// Returns how many bytes a side read.
     pub fn read(&self, side: Side) -> usize {
-        let of_side = self.entries.iter().filter(|it| it.side == side);
+        let of_side = self.entries.iter().filter(|it| it.side == Some(side));
         of_side
             .map(|it| match it.event {
                 Event::Read(count) => count,

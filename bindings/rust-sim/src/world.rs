@@ -162,11 +162,11 @@ impl World {
         mem::take(&mut self.trace)
     }
 
-    pub fn record(&mut self, side: Side, event: Event) {
+    pub fn record(&mut self, side: impl Into<Option<Side>>, event: Event) {
         if self.is_over {
             return;
         }
-        let at = self.now();
+        let (at, side) = (self.now(), side.into());
         self.trace.entries.push(Entry { at, side, event });
     }
 
@@ -187,7 +187,7 @@ impl World {
         let mut due = faults.filter(|it| it.kind == kind && count >= it.at);
         let refused = due.find(|it| count < it.at + it.extent).copied();
         if let Some(fault) = refused {
-            self.record(fault.side, Event::Fault(fault));
+            self.record(None, Event::Fault(fault));
         }
         refused.is_some()
     }

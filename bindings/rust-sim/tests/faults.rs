@@ -186,7 +186,9 @@ fn a_slow_reader_reads_nothing_for_its_time() {
                 continue;
             };
             assert!((1..=700).contains(&fault.extent));
-            let after = entries[at..].iter().filter(|it| it.side == fault.side);
+            let after = entries[at..]
+                .iter()
+                .filter(|it| it.side == Some(fault.side));
             let next = after
                 .clone()
                 .find(|it| matches!(it.event, Event::Read(_) | Event::ReadEnd));
@@ -257,25 +259,29 @@ fn is_refused(error: &TrySendError) -> bool {
 
 #[test]
 fn file_operations_fail() {
-    let path = std::env::temp_dir().join(format!("lcmux-sim-{}", std::process::id()));
+    let path = std::env::temp_dir();
     let mut failed = 0;
     for seed in 0..200 {
-        let write = |_stream| async {
+        let look = |_stream| async {
             let mut results = Vec::new();
             for _ in 0..20 {
-                results.push(lcmux_sim::fs::write(&path, b"hello").await);
+                results.push(lcmux_sim::fs::metadata(&path).await);
             }
             results
         };
         let faults = Faults::none().with(&[Kind::Disk]).within(16);
-        let run = Sim::new(seed, faults).run(write, |_stream| async {});
-        let errors: Vec<io::Error> = run.a.unwrap().into_iter().filter_map(Result::err).collect();
+        let run = Sim::new(seed, faults).run(look, |_stream| async {});
+        let errors: Vec<_> = run
+            .a
+            .iter()
+            .flatten()
+            .filter_map(|it| it.as_ref().err())
+            .collect();
         assert!(errors.iter().all(|it| it.raw_os_error() == Some(28)));
         assert_eq!(errors.len(), run.trace.faults().count());
         failed += errors.len();
     }
     assert!(failed > 100);
-    std::fs::remove_file(path).unwrap();
 }
 
 #[test]

@@ -1,8 +1,9 @@
 //! The listings of docs/guides/simulation.md.
-use lcmux_sim::{Explorer, Faults, Sim};
+use lcmux_sim::{Explorer, Faults, Sim, Stream};
 use lcmux_tokio::connect;
 use lcmux_tokio::lcmux::{Channel::Data, Config, Receiver, Sender};
 use std::error::Error;
+use std::future::Future;
 use std::time::Duration;
 use tokio::io::{AsyncRead, AsyncWrite};
 
@@ -23,10 +24,8 @@ async fn send_back(sender: Sender, mut receiver: Receiver) -> Answer<()> {
 /// Sends each message back. The stream is a `TcpStream` in the program, and the simulator's in its test.
 async fn echo(stream: impl AsyncRead + AsyncWrite + Send + 'static) -> Answer<()> {
     let (mut mux, run) = connect(stream, config())?;
-    let (sender, receiver) = (
-        mux.take_sender(Data).unwrap(),
-        mux.take_receiver(Data).unwrap(),
-    );
+    let sender = mux.take_sender(Data).unwrap();
+    let receiver = mux.take_receiver(Data).unwrap();
     if let Err(error) = send_back(sender, receiver).await {
         eprintln!("echo: {error}");
     }
@@ -37,10 +36,8 @@ async fn echo(stream: impl AsyncRead + AsyncWrite + Send + 'static) -> Answer<()
 /// Sends messages and receives each back. Returns how many came back.
 async fn ask(stream: impl AsyncRead + AsyncWrite + Send + 'static, count: u64) -> Answer<u64> {
     let (mut mux, run) = connect(stream, config())?;
-    let (sender, mut receiver) = (
-        mux.take_sender(Data).unwrap(),
-        mux.take_receiver(Data).unwrap(),
-    );
+    let sender = mux.take_sender(Data).unwrap();
+    let mut receiver = mux.take_receiver(Data).unwrap();
     let mut answers = 0;
     while answers < count {
         sender.send(&answers.to_be_bytes()).await?;
@@ -63,7 +60,10 @@ fn messages_come_back() {
 }
 
 /// Whatever happens, a side that succeeds has all messages. Without a fault both succeed.
-fn all_come_back(sim: &mut Sim) {
+fn all_come_back<E>(sim: &mut Sim, echo: impl FnOnce(Stream) -> E)
+where
+    E: Future<Output = Answer<()>>,
+{
     let count = sim.draw("messages", 0..=20);
     let run = sim.run(|stream| ask(stream, count), echo);
     if run.is_faultless() {
@@ -74,67 +74,41 @@ fn all_come_back(sim: &mut Sim) {
     }
 }
 
-/// The guide shows the report of this failure.
+/// The guide shows such a report.
 #[test]
 fn the_first_echo_fails_as_the_guide_says() {
-    let explorer = Explorer::new(Faults::all().within(500))
-        .seeds(10_000)
-        .ignore_environment();
-    let failure = explorer.find(all_come_back).expect("it fails by some seed");
-    let report = failure
-        .to_string()
-        .replace(&test_name(), "all_messages_come_back");
-    let guide = concat!(
-        env!("CARGO_MANIFEST_DIR"),
-        "/../../docs/guides/simulation.md"
-    );
-    match std::fs::read_to_string(guide) {
-        Ok(guide) => assert!(
-            guide.contains(&report),
-            "the guide has another report than:\n{report}"
-        ),
-        Err(error) => println!("{guide}: {error}"), // the package alone has no guides
+    let explorer = Explorer::new(Faults::all().within(500)).seeds(100_000);
+    let failure = explorer
+        .ignore_environment()
+        .find(|sim| all_come_back(sim, echo));
+    let report = failure.expect("it fails by some seed").to_string();
+    let shrunk = report.split_once("shrunk to: ").expect("it is shrunk").1;
+    for said in [
+        "a success without all messages",
+        "    messages = 1\n    1 allocations are refused after ",
+        "B  ends its direction",
+    ] {
+        assert!(shrunk.contains(said), "{report}");
     }
 }
 
-fn test_name() -> String {
-    std::thread::current().name().unwrap_or_default().into()
+/// Sends each message back. A failure ends the session before a dropped sender ends the channel in order.
+async fn careful_echo(stream: impl AsyncRead + AsyncWrite + Send + 'static) -> Answer<()> {
+    let (mut mux, run) = connect(stream, config())?;
+    let sender = mux.take_sender(Data).unwrap();
+    let receiver = mux.take_receiver(Data).unwrap();
+    if let Err(error) = send_back(sender.clone(), receiver).await {
+        mux.abort();
+        return Err(error);
+    }
+    drop(sender);
+    mux.close();
+    Ok(run.await??)
 }
 
-mod mended {
-    use super::*;
-
-    /// Sends each message back.
-    async fn echo(stream: impl AsyncRead + AsyncWrite + Send + 'static) -> Answer<()> {
-        let (mut mux, run) = connect(stream, config())?;
-        let (sender, receiver) = (
-            mux.take_sender(Data).unwrap(),
-            mux.take_receiver(Data).unwrap(),
-        );
-        let _kept = sender.clone(); // else a drop of the other one ends the channel in order
-        if let Err(error) = send_back(sender, receiver).await {
-            mux.abort();
-            return Err(error);
-        }
-        mux.close();
-        Ok(run.await??)
-    }
-
-    /// Whatever happens, a side that succeeds has all messages. Without a fault both succeed.
-    fn all_come_back(sim: &mut Sim) {
-        let count = sim.draw("messages", 0..=20);
-        let run = sim.run(|stream| ask(stream, count), echo);
-        if run.is_faultless() {
-            assert!(matches!(run.a, Some(Ok(_))) && matches!(run.b, Some(Ok(_))));
-        }
-        if let Some(Ok(answers)) = run.a {
-            assert_eq!(answers, count, "a success without all messages");
-        }
-    }
-
-    #[test]
-    fn all_messages_come_back() {
-        let faults = Faults::all().within(500);
-        Explorer::new(faults).seeds(10_000).check(all_come_back);
-    }
+#[test]
+fn all_messages_come_back() {
+    let faults = Faults::all().within(500); // they strike within the first 500 bytes or so
+    let explorer = Explorer::new(faults).seeds(10_000);
+    explorer.check(|sim| all_come_back(sim, careful_echo));
 }
