@@ -21,6 +21,16 @@ impl Random {
         ((u128::from(self.next()) * u128::from(n)) >> 64) as u64
     }
 
+    /// A number below `n`, which is above 0. Each magnitude, in powers of two, is as likely as another.
+    pub fn scaled(&mut self, n: u64) -> u64 {
+        let bits = u64::BITS - (n - 1).leading_zeros();
+        let least = match self.below(u64::from(bits) + 1) {
+            0 => return 0,
+            bit => 1 << (bit - 1),
+        };
+        least + self.below(least.min(n - least))
+    }
+
     /// Whether an event of the probability 1 to `n` occurs. It never does for 0.
     pub fn one_in(&mut self, n: u64) -> bool {
         n > 0 && self.below(n) == 0
@@ -54,38 +64,48 @@ impl Choices {
         }
     }
 
-    /// A number below `n`, which is above 0.
-    pub fn below(&mut self, n: u64) -> u64 {
+    // A choice below `n`, by the generator or from the tape.
+    fn choose(&mut self, n: u64, draw: impl FnOnce(&mut Random) -> u64) -> u64 {
         let choice = match &mut self.random {
             Some(random) => {
-                let choice = random.below(n);
+                let choice = draw(random);
                 self.tape.push(choice);
                 choice
             }
-            None => self
-                .tape
-                .get(self.at)
-                .map_or(0, |choice| *choice)
-                .min(n - 1),
+            None => self.tape.get(self.at).map_or(0, |choice| *choice),
         };
         self.at += 1;
-        choice
+        choice.min(n - 1)
+    }
+
+    /// A number below `n`, which is above 0.
+    pub fn below(&mut self, n: u64) -> u64 {
+        self.choose(n, |random| random.below(n))
     }
 
     /// 0 in half of the cases, and else a number of 1 to `most`.
     pub fn sometimes(&mut self, most: u64) -> u64 {
-        match self.below(2) {
-            1 if most > 0 => 1 + self.below(most),
+        self.choose(most + 1, |random| match random.below(2) {
+            1 if most > 0 => 1 + random.below(most),
             _ => 0,
-        }
+        })
     }
 
-    /// A number below a power of two of at most `bits`. Small numbers are as likely as large ones.
-    pub fn scaled(&mut self, bits: u32) -> u64 {
-        match self.below(u64::from(bits) + 1) {
-            0 => 0,
-            bit => (1 << (bit - 1)) + self.below(1 << (bit - 1)),
-        }
+    /// A number below `n`, which is above 0: often the first or the last one, where bugs are.
+    pub fn edgy(&mut self, n: u64) -> u64 {
+        self.choose(n, |random| match random.below(8) {
+            0 | 1 => 0,
+            7 => n - 1,
+            _ => random.below(n),
+        })
+    }
+
+    /// A number below `n`, which is above 0. In every fourth case each magnitude, in powers of two, is as likely as another.
+    pub fn early(&mut self, n: u64) -> u64 {
+        self.choose(n, |random| match random.below(4) {
+            0 => random.scaled(n),
+            _ => random.below(n),
+        })
     }
 
     /// The choices that were made.
@@ -208,24 +228,37 @@ mod tests {
         let mut tape = Choices::of_tape(made.clone());
         assert_eq!((1..100).map(|n| tape.below(n)).collect::<Vec<_>>(), made);
         assert_eq!(
-            (tape.below(9), tape.scaled(9), tape.sometimes(9)),
+            (tape.below(9), tape.early(500), tape.sometimes(9)),
             (0, 0, 0)
         );
     }
 
     #[test]
     fn numbers_of_all_scales_occur() {
-        let mut choices = Choices::of_seed(1);
+        let mut random = Random::new(1);
         let mut counts = [0; 11];
         for _ in 0..1_100 {
-            let number = choices.scaled(10);
-            assert!(number < 1 << 10);
+            let number = random.scaled(1_000);
+            assert!(number < 1_000);
             counts[(64 - number.leading_zeros()) as usize] += 1;
         }
         assert!(
             counts.iter().all(|count| (50..200).contains(count)),
             "{counts:?}"
         );
+    }
+
+    #[test]
+    fn first_and_last_numbers_are_frequent() {
+        let mut choices = Choices::of_seed(1);
+        let drawn: Vec<_> = (0..1_000).map(|_| choices.edgy(100)).collect();
+        let count = |is: fn(u64) -> bool| drawn.iter().filter(|it| is(**it)).count();
+        assert!((150..350).contains(&count(|it| it == 0)));
+        assert!((60..200).contains(&count(|it| it == 99)));
+        assert!((20..200).contains(&count(|it| (40..60).contains(&it))));
+        let halves: Vec<_> = (0..1_000).map(|_| choices.sometimes(9)).collect();
+        assert!((400..600).contains(&halves.iter().filter(|it| **it == 0).count()));
+        assert!(halves.contains(&9) && halves.iter().all(|it| *it <= 9));
     }
 
     #[test]

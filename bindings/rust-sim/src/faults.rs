@@ -139,7 +139,7 @@ pub struct Faults {
     latency: u64,
     is_timed: bool,
     kinds: u8,
-    scale: u32,
+    within: u64,
     pause: u64,
 }
 
@@ -150,7 +150,7 @@ impl Faults {
             latency: 0,
             is_timed: false,
             kinds: 0,
-            scale: 16,
+            within: 65_536,
             pause: 2_000,
         }
     }
@@ -194,10 +194,11 @@ impl Faults {
         self
     }
 
-    /// Sets the range of the bytes, and of the calls, after which faults strike: to about the size of a run, up to the next
-    /// power of two. Early bytes are as likely as late ones. Without a call it is 65,536.
+    /// Sets the bytes within which faults strike, 65,536 without a call: to about what a side writes in a run. Most are
+    /// drawn uniformly, and every fourth by its magnitude, so that the first bytes are likely, too. Of calls, those of
+    /// [`Kind::Memory`] and [`Kind::Disk`], it is at most 256.
     pub fn within(mut self, bytes: u64) -> Faults {
-        self.scale = (64 - bytes.saturating_sub(1).leading_zeros()).min(40);
+        self.within = bytes.clamp(1, 1 << 40);
         self
     }
 }
@@ -273,14 +274,14 @@ fn drawn_fault(choices: &mut Choices, faults: &Faults, kinds: &[Kind]) -> Fault 
         Kind::SlowReader => faults.pause,
         _ => 4,
     };
-    let scale = match kind {
-        Kind::Memory | Kind::Disk => faults.scale.min(9),
-        _ => faults.scale,
+    let within = match kind {
+        Kind::Memory | Kind::Disk => faults.within.min(256),
+        _ => faults.within,
     };
     Fault {
         kind,
         side: Side::ALL[choices.below(2) as usize],
-        at: choices.scaled(scale),
+        at: choices.early(within),
         extent: 1 + choices.below(most),
     }
 }

@@ -83,8 +83,8 @@ impl Sim {
         self.seed
     }
 
-    /// Draws an input of the test, such as the number of its files. The report of a failure names it, and it shrinks towards
-    /// the first number of the range.
+    /// Draws an input of the test, such as the number of its files: often the first or the last number of the range. The
+    /// report of a failure names it, and it shrinks towards the first one.
     ///
     /// # Panics
     ///
@@ -92,7 +92,7 @@ impl Sim {
     pub fn draw(&mut self, name: &str, range: RangeInclusive<u64>) -> u64 {
         let (first, last) = range.into_inner();
         assert!(first <= last, "{name}: no number is in the range");
-        let drawn = first + self.choices.below((last - first).saturating_add(1));
+        let drawn = first + self.choices.edgy((last - first).saturating_add(1));
         self.report.lines.push(format!("{name} = {drawn}"));
         drawn
     }

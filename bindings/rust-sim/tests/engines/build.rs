@@ -66,7 +66,7 @@ const RINGS: Edit = edit(
     "Config::default()\n        .rings(128)\n",
 );
 
-const BUGS: [Bug; 9] = [
+const BUGS: [Bug; 11] = [
     // A call that is given up while it waits for guarantees takes a number, which no request has.
     Bug {
         name: "calls_number",
@@ -112,6 +112,24 @@ const BUGS: [Bug; 9] = [
             "partial.rs",
             "self.file.write_all(chunk).await?;",
             "let _ = self.file.write_all(chunk).await;",
+        ),
+    },
+    // A file that a user creates meanwhile is replaced.
+    Bug {
+        name: "sync_rename",
+        edit: edit(
+            "partial.rs",
+            "fs::hard_link(&self.path, path).await",
+            "fs::rename(&self.path, path).await",
+        ),
+    },
+    // A file that a user rewrites meanwhile is sent as half the old and half the new one.
+    Bug {
+        name: "sync_changed",
+        edit: edit(
+            "serve.rs",
+            "        if chunk.is_empty() {\n            self.check().await?;\n",
+            "        if chunk.is_empty() {\n",
         ),
     },
     // The partial files of a crashed run stay.
