@@ -115,8 +115,10 @@ impl Display for Fault {
             Kind::Silence => write!(f, "silence after byte {at} of {side}"),
             Kind::Crash => write!(f, "{side} crashes after its byte {at}"),
             Kind::SlowReader => write!(f, "{side} reads nothing for {extent} ms after {at} bytes"),
-            Kind::Memory => write!(f, "{extent} allocations are refused after {at}"),
-            Kind::Disk => write!(f, "{extent} file operations fail after {at}"),
+            Kind::Memory if *extent == 1 => write!(f, "allocation {} is refused", at + 1),
+            Kind::Memory => write!(f, "allocations {} to {} are refused", at + 1, at + extent),
+            Kind::Disk if *extent == 1 => write!(f, "file operation {} fails", at + 1),
+            Kind::Disk => write!(f, "file operations {} to {} fail", at + 1, at + extent),
         }
     }
 }

@@ -85,7 +85,7 @@ fn the_first_echo_fails_as_the_guide_says() {
     let shrunk = report.split_once("shrunk to: ").expect("it is shrunk").1;
     for said in [
         "a success without all messages",
-        "    messages = 1\n    1 allocations are refused after ",
+        "    messages = 1\n    allocation ",
         "B  ends its direction",
     ] {
         assert!(shrunk.contains(said), "{report}");
