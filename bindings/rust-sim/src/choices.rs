@@ -1,4 +1,5 @@
 //! The source of all choices: a seed, or a tape of the choices of an earlier run.
+use std::collections::BTreeSet;
 
 /// The generator SplitMix64.
 #[derive(Clone, Debug)]
@@ -116,16 +117,17 @@ impl Choices {
 
 /// A simpler tape on which `fails` still holds, found in at most `tries` calls of it.
 pub(crate) fn shrunk(
-    mut tape: Vec<u64>,
+    tape: Vec<u64>,
     tries: usize,
     mut fails: impl FnMut(&[u64]) -> bool,
 ) -> Vec<u64> {
-    let mut left = tries;
+    let mut tape = trimmed(tape);
+    let mut tried = BTreeSet::from([tape.clone()]);
     let mut try_tape = |tape: &mut Vec<u64>, other: Vec<u64>| {
-        if left == 0 || other == *tape {
+        let other = trimmed(other);
+        if tried.len() > tries || !tried.insert(other.clone()) {
             return false;
         }
-        left -= 1;
         let is_simpler = fails(&other);
         if is_simpler {
             *tape = other;
@@ -138,12 +140,17 @@ pub(crate) fn shrunk(
         lower_numbers(&mut tape, &mut try_tape);
         lower_counts(&mut tape, &mut try_tape);
         if tape == before {
-            while tape.last() == Some(&0) {
-                tape.pop(); // each choice after the end is 0
-            }
             return tape;
         }
     }
+}
+
+// Each choice after the end of a tape is 0.
+fn trimmed(mut tape: Vec<u64>) -> Vec<u64> {
+    while tape.last() == Some(&0) {
+        tape.pop();
+    }
+    tape
 }
 
 /// Replaces a tape by another one if that still fails.
@@ -170,12 +177,12 @@ fn drop_blocks(tape: &mut Vec<u64>, try_tape: TryTape<'_>) {
 
 // Lowers each number as far as the run still fails, by bisection.
 fn lower_numbers(tape: &mut Vec<u64>, try_tape: TryTape<'_>) {
-    for at in 0..tape.len() {
+    for at in (0..tape.len()).rev() {
         let mut low = 0;
-        while low < tape[at] {
+        while tape.get(at).is_some_and(|number| low < *number) {
             let mut lower = tape.clone();
-            lower[at] = low + (tape[at] - low) / 2;
-            let number = lower[at];
+            let number = low + (tape[at] - low) / 2;
+            lower[at] = number;
             if !try_tape(tape, lower) {
                 low = number + 1;
             }
@@ -280,7 +287,7 @@ mod tests {
             shrunk(vec![6, 9, 8, 9, 8, 9, 8, 70], 5_000, counted),
             [3, 0, 0, 0, 6]
         );
-        let sum = |tape: &[u64]| tape.len() == 3 && tape[1] > 300;
-        assert_eq!(shrunk(vec![5_000, 70_000, 9], 600, sum), [0, 301]);
+        let second = |tape: &[u64]| tape.get(1).is_some_and(|it| *it > 300);
+        assert_eq!(shrunk(vec![5_000, 70_000, 9], 600, second), [0, 301]);
     }
 }

@@ -12,7 +12,7 @@ use std::{env, thread};
 const SEEDS: u64 = 1_000;
 
 /// The most runs in which a failure is made simpler.
-const TRIES: usize = 1_500;
+const TRIES: usize = 1_000;
 
 /// Runs a test by many seeds. The first one that fails is shrunk and reported.
 ///

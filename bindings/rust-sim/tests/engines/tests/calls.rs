@@ -18,6 +18,7 @@ macro_rules! check {
     ($engine:ident) => {
         |sim: &mut Sim| {
             use engines::$engine::driver::{client, server, Outcome, Planned};
+            sim.set_limit(Duration::from_secs(300));
             let count = sim.draw("calls", 0..=6);
             let calls: Vec<_> = (0..count)
                 .map(|number| {

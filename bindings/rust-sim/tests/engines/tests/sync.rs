@@ -319,6 +319,7 @@ fn check<F>(sim: &mut Sim, side: impl Fn(Stream, PathBuf) -> F)
 where
     F: Future<Output = Ended>,
 {
+    sim.set_limit(Duration::from_secs(1_500)); // a grace of ten minutes, and another one
     let mut test = Test::draw(sim);
     let first = test.run(sim, &side);
     test.check_first(&first);
