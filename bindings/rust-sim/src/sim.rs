@@ -149,6 +149,19 @@ impl Sim {
         B: Future,
     {
         let plan = Plan::draw(&mut self.choices, &self.faults);
+        self.run_plan(plan, a, b)
+    }
+
+    fn run_plan<A, B>(
+        &mut self,
+        plan: Plan,
+        a: impl FnOnce(Stream) -> A,
+        b: impl FnOnce(Stream) -> B,
+    ) -> Run<A::Output, B::Output>
+    where
+        A: Future,
+        B: Future,
+    {
         self.report.lines.push(plan.to_string());
         let noise = Random::new(self.noise.next());
         let runtime = runtime(self.noise.next());
@@ -326,3 +339,6 @@ async fn run_roots(
     })
     .await;
 }
+
+#[cfg(test)]
+mod tests;
