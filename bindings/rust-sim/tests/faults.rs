@@ -127,6 +127,20 @@ fn after_a_silence_nothing_arrives() {
 
 #[test]
 fn a_side_crashes_and_the_other_one_reads_an_end_or_a_reset() {
+    for seed in 0..50 {
+        let run = raw(seed, Faults::none().with(&[Kind::Crash]).within(BYTES));
+        let entries = run.trace.entries().iter();
+        let times = |is: fn(&Event) -> bool| {
+            entries
+                .clone()
+                .filter(move |it| is(&it.event))
+                .map(|it| (it.side, it.at))
+        };
+        let mut struck: Vec<_> = times(|it| matches!(it, Event::Fault(_))).collect();
+        struck.dedup(); // two crashes of one side
+        let crashed: Vec<_> = times(|it| *it == Event::Crashed).collect();
+        assert_eq!(struck, crashed, "at once");
+    }
     let mut ends = [0; 2];
     for (fault, here, there) in struck(Kind::Crash) {
         let there = there.unwrap();
@@ -278,7 +292,12 @@ fn file_operations_fail() {
             .filter_map(|it| it.as_ref().err())
             .collect();
         assert!(errors.iter().all(|it| it.raw_os_error() == Some(28)));
-        assert_eq!(errors.len(), run.trace.faults().count());
+        let mut faults: Vec<_> = run.trace.faults().collect();
+        assert_eq!(errors.len(), faults.len());
+        faults.dedup();
+        if let [fault] = faults[..] {
+            assert_eq!(errors.len() as u64, fault.extent.min(20 - fault.at));
+        }
         failed += errors.len();
     }
     assert!(failed > 100);

@@ -27,6 +27,20 @@ fn two_runs_of_a_seed_are_the_same_byte_for_byte() {
 }
 
 #[test]
+fn a_checksum_is_one_of_the_bytes_too() {
+    use tokio::io::AsyncWriteExt;
+    let checksum = |byte| {
+        let write = |mut stream: lcmux_sim::Stream| async move { stream.write_all(&[byte]).await };
+        Sim::new(1, Faults::none())
+            .run(write, |_stream| async {})
+            .trace
+            .checksum()
+    };
+    assert_eq!(checksum(7), checksum(7));
+    assert_ne!(checksum(7), checksum(8));
+}
+
+#[test]
 fn messages_arrive_or_the_session_fails_by_every_seed() {
     Explorer::new(Faults::all().within(2_000))
         .seeds(3_000)

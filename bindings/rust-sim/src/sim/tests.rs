@@ -1,6 +1,7 @@
 //! Links of a known shape.
 use super::*;
 use crate::faults::Shape;
+use std::collections::BTreeSet;
 use std::io::IoSlice;
 use tokio::io::{AsyncReadExt, AsyncWriteExt};
 
@@ -64,6 +65,44 @@ fn a_bandwidth_bounds_the_bytes_of_each_millisecond() {
         assert!(*time >= 10 + (at as u128) / 4, "byte {at} at {time}");
     }
     assert!(read[99] < 400, "{read:?}");
+
+    let shape = Shape { buffer: 0, ..shape };
+    assert_eq!(times(&sent(1, shape, 100))[1], vec![35; 100]);
+}
+
+/// Also the future of a side yields, so that one side may do more than the other one.
+#[test]
+fn the_sides_proceed_in_orders_of_the_seed() {
+    let noted = |yields, seed| {
+        let plan = Plan {
+            yields,
+            ..Plan::default()
+        };
+        let side = |name: &'static str| async move {
+            crate::note(name);
+            tokio::task::yield_now().await;
+            crate::note(name);
+        };
+        let run = Sim::new(seed, Faults::none()).run_plan(plan, |_| side("a"), |_| side("b"));
+        let entries = run.trace.entries().iter();
+        let notes = entries.filter_map(|it| match &it.event {
+            Event::Note(text) => Some(text.as_str()),
+            _ => None,
+        });
+        notes.collect::<String>()
+    };
+    let orders = |yields| {
+        (0..60)
+            .map(|seed| noted(yields, seed))
+            .collect::<BTreeSet<_>>()
+    };
+    let both_first =
+        |orders: BTreeSet<String>| ["ab", "ba"].map(|it| orders.iter().any(|o| o.starts_with(it)));
+    assert_eq!(both_first(orders(0)), [true; 2]);
+    assert!(orders(0)
+        .iter()
+        .all(|it| it.len() == 4 && it[..2] != *"aa" && it[..2] != *"bb"));
+    assert!(orders(2).contains("aabb") && orders(2).contains("bbaa"));
 }
 
 #[test]
@@ -121,7 +160,8 @@ fn partial_calls_move_a_part() {
     let whole = counts(&sent(1, Shape::default(), 1_000));
     assert!(whole[0] == 1 && whole[1] < 10, "{whole:?}"); // the reader's buffer grows
     let short = (0..20).map(|seed| counts(&sent(seed, shape, 1_000)));
-    assert!(short.into_iter().all(|it| it[0] > 1 && it[1] > whole[1]));
+    let parts = short.filter(|it| it[0] > 1 && it[1] > whole[1]).count();
+    assert!(parts > 5, "{parts}");
 }
 
 #[test]
