@@ -28,13 +28,14 @@ fn two_runs_of_a_seed_are_the_same_byte_for_byte() {
 
 #[test]
 fn a_checksum_is_one_of_the_bytes_too() {
-    use tokio::io::AsyncWriteExt;
+    use tokio::io::{AsyncReadExt, AsyncWriteExt};
     let checksum = |byte| {
-        let write = |mut stream: lcmux_sim::Stream| async move { stream.write_all(&[byte]).await };
-        Sim::new(1, Faults::none())
-            .run(write, |_stream| async {})
-            .trace
-            .checksum()
+        let run = Sim::new(1, Faults::none()).run(
+            |mut stream| async move { stream.write_all(&[byte]).await },
+            |mut stream| async move { stream.read_u8().await },
+        );
+        assert_eq!(run.b.unwrap().unwrap(), byte);
+        run.trace.checksum()
     };
     assert_eq!(checksum(7), checksum(7));
     assert_ne!(checksum(7), checksum(8));
