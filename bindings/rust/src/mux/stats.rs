@@ -23,7 +23,7 @@ pub struct Stats {
     /// that still waits counts.
     pub waited_for_guarantees: Duration,
     /// The time in which the first waiting call had its guarantees and waited for the outbound queue, for a slot or
-    /// for its bytes, summed in the same way.
+    /// for its bytes, summed in the same way. It ends once the call is notified, however late its task polls it.
     pub waited_for_slots: Duration,
     /// The bytes of messages that the ring buffer holds now.
     pub buffered: u64,

@@ -44,14 +44,54 @@ fn a_call_that_waits_is_a_stall_until_it_goes() {
     let second = Call::waiting(sender.send(b"x"));
     assert_eq!(reported.take(), ["Data lacks Guarantees"]);
     hand.feed(&greeted("issue 1 5"));
-    let now = ["Data lacked Guarantees", "Data lacks Slot"];
-    assert_eq!(reported.take(), now);
+    // It can go now, whenever it is polled.
+    assert_eq!(reported.take(), ["Data lacked Guarantees"]);
     assert_eq!(call.woken(), Ok(()));
     // The second call is the first now.
-    let now = ["Data lacked Slot", "Data lacks Guarantees"];
-    assert_eq!(reported.take(), now);
+    assert_eq!(reported.take(), ["Data lacks Guarantees"]);
     drop(second);
     assert_eq!(reported.take(), ["Data lacked Guarantees"]);
+}
+
+/// A call that has its guarantees and finds no slot, and then loses a guarantee again before it is polled.
+#[test]
+fn a_stall_becomes_another_one() {
+    let (mut hand, reported) = reporting();
+    let sender = hand.mux.take_sender(Data).unwrap();
+    hand.feed(&greeted("issue 1 9"));
+    sender.try_send(&[7; 9]).unwrap();
+    let call = Call::waiting(sender.send(b"hello"));
+    assert_eq!(reported.take(), ["Data lacks Guarantees"]);
+    hand.feed(&frames("issue 1 5"));
+    let now = ["Data lacked Guarantees", "Data lacks Slot"];
+    assert_eq!(reported.take(), now);
+    hand.written();
+    assert_eq!(reported.take(), ["Data lacked Slot"]);
+    sender.absolve(1).unwrap();
+    assert_eq!(reported.take(), ["Data lacks Guarantees"]);
+    hand.feed(&frames("issue 1 1"));
+    assert_eq!(reported.take(), ["Data lacked Guarantees"]);
+    assert_eq!(call.woken(), Ok(()));
+    assert_eq!(reported.take(), [""; 0]);
+}
+
+/// A call that is completed on behalf of its thread, and one that the thread makes itself.
+#[test]
+fn a_thread_that_waits_for_guarantees_lacks_no_slot() {
+    for len in [5, 10_000] {
+        let (mut hand, reported) = reporting();
+        let sender = hand.mux.take_sender(Data).unwrap();
+        thread::scope(|scope| {
+            let thread = scope.spawn(|| sender.send_blocking(&vec![7; len]));
+            while sender.stats().waited_for_guarantees == Duration::ZERO {
+                thread::yield_now();
+            }
+            hand.feed(&greeted(&format!("issue 1 {len}")));
+            assert_eq!(thread.join().unwrap(), Ok(()));
+        });
+        let now = ["Data lacks Guarantees", "Data lacked Guarantees"];
+        assert_eq!(reported.take(), now);
+    }
 }
 
 #[test]
@@ -79,11 +119,12 @@ fn a_stall_tells_how_long_it_was() {
     let call = Call::waiting(sender.send(b"hello"));
     thread::sleep(Duration::from_millis(20));
     hand.feed(&greeted("issue 1 5"));
+    thread::sleep(Duration::from_millis(20)); // it was notified, and its task is late
     assert_eq!(call.woken(), Ok(()));
     let waits = waits.lock().unwrap();
     let stats = sender.stats();
-    let noted = [stats.waited_for_guarantees, stats.waited_for_slots];
-    assert_eq!(*waits, noted);
+    assert_eq!(*waits, [stats.waited_for_guarantees]);
+    assert_eq!(stats.waited_for_slots, Duration::ZERO);
     assert!(waits[0] >= Duration::from_millis(20));
 }
 
@@ -161,8 +202,8 @@ fn a_hook_may_call_the_session_and_is_not_the_only_one() {
     let sender = sender.get().unwrap();
     let call = Call::waiting(sender.send(b"hello"));
     hand.feed(&greeted("issue 1 5"));
-    assert_eq!(noted.take(), ["holds 0", "holds 5", "holds 5"]);
-    assert_eq!(reported.take().len(), 3);
+    assert_eq!(noted.take(), ["holds 0", "holds 5"]);
+    assert_eq!(reported.take().len(), 2);
     drop(call);
 }
 
