@@ -153,3 +153,14 @@ fn a_message_longer_than_the_ring_and_a_failure_are_warnings() {
     let failed = "WARN root/outer/session message=the session failed error=the session was aborted";
     assert_eq!(told.with("aborted"), [failed]);
 }
+
+#[test]
+fn a_session_that_fails_before_it_runs_is_told_too() {
+    let told = told(|here, _| {
+        let (mux, driver) = Mux::new(config()).unwrap();
+        mux.abort();
+        async move { assert_eq!(run(driver, here).await, Err(Closed::Aborted)) }
+    });
+    let failed = "WARN root/session message=the session failed error=the session was aborted";
+    assert_eq!(told.with("aborted"), [failed]);
+}

@@ -65,7 +65,8 @@ pub enum Event {
         /// The most guarantees that this side held at once.
         most_held: u64,
     },
-    /// The session is over, in order or by a failure. No event follows.
+    /// The session is over, in order or by a failure. No event happens after it. One that happened before may be reported
+    /// after it: by another thread, or if a hook ended the session.
     Closed(Result<(), Closed>),
 }
 

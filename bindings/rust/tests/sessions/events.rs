@@ -219,6 +219,26 @@ fn a_hook_is_dropped_after_the_last_event() {
     assert_eq!(Arc::strong_count(&sender), 1);
 }
 
+/// As one that a session gets when it is run after it was aborted.
+#[test]
+fn a_hook_that_comes_after_the_end_is_told_of_it_and_dropped() {
+    let mut hand = Hand::started(narrow());
+    let (first, second) = (Reported::default(), Reported::default());
+    let noted = first.clone();
+    hand.driver.on_event(move |event| noted.note(event));
+    let sender = Arc::new(hand.mux.take_sender(Data).unwrap());
+    hand.mux.abort();
+    let (owned, noted) = (Arc::clone(&sender), second.clone());
+    hand.driver.on_event(move |event| {
+        assert_eq!(owned.held(), 0);
+        noted.note(event);
+    });
+    for reported in [first, second] {
+        assert_eq!(reported.take(), ["Closed(Err(Aborted))"]);
+    }
+    assert_eq!(Arc::strong_count(&sender), 1);
+}
+
 /// A thread's call is notified while the thread is in the hook that reports it as stalled: no bytes are reserved for it.
 #[test]
 fn a_hook_may_wait_for_another_channel() {
