@@ -69,7 +69,7 @@ impl Future for Sending<'_> {
         let Sending { sender, call } = &mut *self;
         match call.is_thread {
             true => sender.poll_at_once(cx, call),
-            false => sender.poll_call(cx, call),
+            false => sender.coop.poll(cx, |cx| sender.poll_at_once(cx, call)),
         }
     }
 }
@@ -108,15 +108,6 @@ impl Sender {
                 ticket: None,
             },
         }
-    }
-
-    /// Polls a call of a task, or yields to other tasks.
-    pub(super) fn poll_call(
-        &self,
-        cx: &mut Context<'_>,
-        call: &mut Call,
-    ) -> Poll<Result<(), SendError>> {
-        self.coop.poll(cx, |cx| self.poll_at_once(cx, call))
     }
 
     fn poll_at_once(&self, cx: &mut Context<'_>, call: &mut Call) -> Poll<Result<(), SendError>> {

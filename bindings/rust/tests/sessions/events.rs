@@ -1,10 +1,12 @@
 //! The events of a session: stalls, messages longer than the peer's ring, and the end.
-use crate::hand::{Call, Hand};
+use crate::hand::{Call, Count, Hand};
 use crate::*;
 use lcmux::Channel::{Data, Overlap};
-use lcmux::{Closed, Event};
+use lcmux::{Closed, Event, PollSender, SendError};
 use std::panic::{catch_unwind, AssertUnwindSafe};
+use std::sync::atomic::{AtomicBool, Ordering::Relaxed};
 use std::sync::{mpsc, Arc, Mutex, OnceLock};
+use std::task::{Context, Poll, Waker};
 use std::thread;
 use std::time::Duration;
 
@@ -286,4 +288,58 @@ fn a_hook_that_panics_delays_no_other_call() {
     assert!(aborted.is_err());
     assert_eq!(call.woken(), Err(Closed::Aborted.into()));
     assert_eq!(recv.woken(), Err(Closed::Aborted));
+}
+
+/// A session with a hook that panics at the next event if it is armed, and the switch that arms it.
+fn armed() -> (Hand, Arc<AtomicBool>) {
+    let mut hand = Hand::started(narrow());
+    let is_armed = Arc::new(AtomicBool::new(false));
+    let armed = Arc::clone(&is_armed);
+    hand.driver
+        .on_event(move |_| assert!(!armed.swap(false, Relaxed), "a hook"));
+    (hand, is_armed)
+}
+
+/// Polls once; `None` if it panics.
+fn caught(sender: &mut PollSender, body: &[u8]) -> Option<Poll<Result<(), SendError>>> {
+    let waker = Waker::from(Arc::new(Count::default()));
+    let mut cx = Context::from_waker(&waker);
+    catch_unwind(AssertUnwindSafe(|| sender.poll_send(&mut cx, body))).ok()
+}
+
+/// The call waits: it may be polled again, and leaves its slot when it is cancelled.
+#[test]
+fn a_polled_call_that_a_hook_interrupts_keeps_its_slot() {
+    let (mut hand, is_armed) = armed();
+    let sender = hand.mux.take_sender(Data).unwrap();
+    let mut polled = PollSender::new(sender.clone());
+    is_armed.store(true, Relaxed);
+    assert_eq!(caught(&mut polled, b"hello"), None);
+    assert_eq!(caught(&mut polled, b"hello"), Some(Poll::Pending));
+    assert!(polled.cancel());
+    hand.feed(&greeted("issue 1 1"));
+    assert_eq!(Call::new(sender.send(b"x")).poll(), Some(Ok(())));
+}
+
+/// The message was sent, and the next one is another.
+#[test]
+fn a_polled_call_that_a_hook_interrupts_is_not_taken_for_the_next() {
+    let (mut hand, is_armed) = armed();
+    let sender = hand.mux.take_sender(Data).unwrap();
+    let mut polled = PollSender::new(sender.clone());
+    assert_eq!(caught(&mut polled, b"one"), Some(Poll::Pending));
+    let behind = Call::waiting(sender.send(b"behind"));
+    hand.feed(&greeted("issue 1 3"));
+    is_armed.store(true, Relaxed);
+    assert_eq!(
+        caught(&mut polled, b"one"),
+        None,
+        "the next call lacks credit"
+    );
+    assert_eq!(hand.written(), frames("send 1 6f6e65"));
+    assert_eq!(caught(&mut polled, b"two"), Some(Poll::Pending));
+    drop(behind);
+    hand.feed(&frames("issue 1 3"));
+    assert_eq!(caught(&mut polled, b"two"), Some(Poll::Ready(Ok(()))));
+    assert_eq!(hand.written(), frames("send 1 74776f"));
 }
