@@ -204,7 +204,8 @@ impl Sender {
         let mut sender = self.clone();
         sender.coop = self.coop.fork();
         let mut sender = PollSender::new(sender);
-        async move { poll_fn(|cx| sender.poll_send(cx, body.as_ref())).await }
+        // The closure owns the message: if it borrowed it, the future would be `Send` only if the message were `Sync`, too.
+        async move { poll_fn(move |cx| sender.poll_send(cx, body.as_ref())).await }
     }
 
     /// Sends a message, as [`Sender::send`] does, and blocks the thread. Do not call it from a task of an executor.
