@@ -188,6 +188,11 @@ impl Driver {
         self.writing.is_written()
     }
 
+    // Whether the peer has ended its direction.
+    pub(super) fn is_read(&self) -> bool {
+        self.reading.result.is_some()
+    }
+
     /// Runs the session over a polled transport until both directions ended or the session failed; then it drops the
     /// transport.
     ///
