@@ -46,7 +46,7 @@ pub enum Event {
         /// What the call lacks.
         stall: Stall,
     },
-    /// The first call of a sender no longer lacks that: it lacks something else, it can proceed, or none waits.
+    /// The first call of a sender no longer lacks that: it lacks something else, it can proceed, it fails, or none waits.
     Resumed {
         /// The channel.
         channel: Channel,

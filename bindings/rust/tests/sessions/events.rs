@@ -96,6 +96,32 @@ fn a_thread_that_waits_for_guarantees_lacks_no_slot() {
     }
 }
 
+/// However late its task polls it. The end of the session is its only event.
+#[test]
+fn a_call_that_fails_is_no_stall_any_more() {
+    for end in ["limit-receiving 1 0", "a close", "an abort"] {
+        let (mut hand, reported) = reporting();
+        let sender = hand.mux.take_sender(Data).unwrap();
+        let call = Call::waiting(sender.send(b"hello"));
+        let mut now = vec!["Data lacks Guarantees", "Data lacked Guarantees"];
+        match end {
+            "a close" => hand.mux.close(),
+            "an abort" => {
+                hand.mux.abort();
+                now[1] = "Closed(Err(Aborted))";
+            }
+            limit => hand.feed(&greeted(limit)),
+        }
+        assert_eq!(reported.take(), now, "{end}");
+        let stats = sender.stats();
+        thread::sleep(Duration::from_millis(5));
+        assert_eq!(sender.stats(), stats, "{end}");
+        assert!(call.woken().is_err());
+        assert_eq!(sender.stats(), stats, "{end}");
+        assert_eq!(reported.take(), [""; 0], "{end}");
+    }
+}
+
 #[test]
 fn a_call_that_need_not_wait_is_no_event() {
     let (mut hand, reported) = reporting();

@@ -650,6 +650,7 @@ impl State {
         }
         for channel in channels(self.hopeless) {
             self.wake_first(channel);
+            self.note(channel, None);
         }
         for channel in channels(self.able) {
             // A call that was notified lacks nothing, however late it is polled.
@@ -722,5 +723,8 @@ impl State {
         (self.able, self.stale) = (0, ALL);
         let calls = self.out.iter_mut().flat_map(|out| out.line.calls());
         calls.for_each(|waiter| self.wakes.wake(waiter.waker.take()));
+        for channel in Channel::ALL {
+            self.note(channel, None);
+        }
     }
 }
