@@ -119,6 +119,11 @@ impl Lacking {
         }
     }
 
+    #[cfg(test)]
+    pub fn stall(&self) -> Option<Stall> {
+        self.0.map(|(stall, _)| stall)
+    }
+
     /// Adds the time up to now.
     pub fn count(&self, now: Instant, stats: &mut Stats) {
         match self.0 {
