@@ -27,6 +27,10 @@ impl Reported {
     fn take(&self) -> Vec<String> {
         std::mem::take(&mut *self.0.lock().unwrap())
     }
+
+    fn is_empty(&self) -> bool {
+        self.0.lock().unwrap().is_empty()
+    }
 }
 
 /// A session that reports its events.
@@ -85,7 +89,7 @@ fn a_thread_that_waits_for_guarantees_lacks_no_slot() {
         let sender = hand.mux.take_sender(Data).unwrap();
         thread::scope(|scope| {
             let thread = scope.spawn(|| sender.send_blocking(&vec![7; len]));
-            while sender.stats().waited_for_guarantees == Duration::ZERO {
+            while reported.is_empty() {
                 thread::yield_now();
             }
             hand.feed(&greeted(&format!("issue 1 {len}")));
