@@ -45,13 +45,13 @@ async function sendAll(bytes, sendPart, signal) {
 
 /**
  * Returns a stream whose chunks are cut into messages of a channel. `sendPart` sends the beginning of some bytes,
- * `ended` is the end of the session, and `abort` aborts it.
+ * `ended` resolves with the reason once the session is over, and `abort` aborts it.
  */
 export function writableOf(channel, { sendPart, ended, abort }) {
   const aborted = new AbortController();
   return new WritableStream({
     start(controller) {
-      ended.catch(reason => controller.error(reason));
+      ended.then(reason => controller.error(reason));
       // The stream's `abort` waits for the write under way, its signal does not. Old browsers have no signal.
       controller.signal?.addEventListener('abort', () => aborted.abort(controller.signal.reason));
     },

@@ -208,6 +208,18 @@ test('streams of a session that fails reject with its reason', async () => {
   await assert.rejects(writer.write(counted(1)), isClosed('Cut'));
 });
 
+test('a pipe whose source is idle ends with a session that is closed', async () => {
+  const [near, far] = await both();
+  let cancelled = null;
+  const idle = new ReadableStream({ cancel: reason => void (cancelled = reason) });
+  const { closed } = near.channel(Overlap).writable.getWriter();
+  const ends = Promise.allSettled([idle.pipeTo(near.channel(Data).writable), closed]);
+  await Promise.all([near.close(), far.close()]);
+  const { reason } = near;
+  assert.deepEqual((await fate(ends))?.value, Array(2).fill({ status: 'rejected', reason }));
+  assert.ok(cancelled === reason && isClosed('Local')(reason));
+});
+
 test('a signal ends an iteration, and no message is lost', async () => {
   const [near, far] = await both();
   const stop = new AbortController();
