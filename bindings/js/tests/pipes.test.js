@@ -107,6 +107,18 @@ test('what is no Uint8Array fails the stream, and not the session', async () => 
   await near.channel(Data).send(counted(1));
 });
 
+test('a chunk that is transferred between two of its messages fails the write', async () => {
+  const [near, far] = await both({ capacities: 40_000 });
+  const { writable } = near.channel(Data);
+  await settled();
+  const chunk = counted(40_000);
+  const writing = writable.getWriter().write(chunk);
+  structuredClone(chunk, { transfer: [chunk.buffer] });
+  await assert.rejects(writing, /the written chunk must not be detached/);
+  assert.equal((await far.channel(Data).receive()).length, 16_384);
+  assert.equal(near.reason, null);
+});
+
 test('a stream receives a message only when it is asked for one', async () => {
   const [near, far] = await both({ capacities: 4 });
   const { readable } = far.channel(Data);
