@@ -575,7 +575,10 @@ export interface SessionConfig extends Config {
   readonly issue?: IssuePolicy | readonly IssuePolicy[] | undefined;
   /** When pleads are honoured, `'at once'` by default. */
   readonly plead?: PleadPolicy | readonly PleadPolicy[] | undefined;
-  /** Aborts the session, with the signal's reason as the cause. A signal that has aborted already is thrown. */
+  /**
+   * Aborts the session, with the signal's reason as the cause. If the signal aborts before there is a session, that
+   * reason is the error of the call, and the streams stay the caller's.
+   */
   readonly signal?: AbortSignal | undefined;
 }
 

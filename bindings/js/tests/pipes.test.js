@@ -3,6 +3,7 @@ import assert from 'node:assert/strict';
 import { getEventListeners } from 'node:events';
 import { test } from 'node:test';
 import { Channel, Code, SessionClosed, load, open } from 'lcmux';
+import { entriesOf } from '../src/library.js';
 import { alone, fate, pipes, settled } from './streams.js';
 
 const { Data, Overlap } = Channel;
@@ -306,6 +307,20 @@ test('a signal ends the wait for a module', async () => {
   const { signal } = new AbortController();
   assert.equal((await load(undefined, { signal })).hasTrapped, false);
   assert.deepEqual(getEventListeners(signal, 'abort'), []);
+});
+
+test('a signal ends the wait of open for its module', async () => {
+  const { open: openLate } = entriesOf(() => new Promise(() => {}));
+  const stop = new AbortController();
+  const [streams] = pipes();
+  const opening = openLate(streams, { signal: stop.signal });
+  assert.equal(await fate(opening), null);
+  const reason = new Error('too slow');
+  stop.abort(reason);
+  assert.deepEqual(await fate(opening), { reason });
+  await assert.rejects(openLate(streams, { signal: stop.signal }), reason);
+  assert.deepEqual([streams.readable.locked, streams.writable.locked], [false, false]);
+  assert.deepEqual(getEventListeners(stop.signal, 'abort'), []);
 });
 
 test('a session is closed where its scope ends, and one that is over is left', async () => {
