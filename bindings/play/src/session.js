@@ -3,7 +3,7 @@
 
 import { Address } from './address.js';
 import { Channels } from './channels.js';
-import { byId, element, say, sayIf, whenIdle } from './dom.js';
+import { byId, element, passFocus, say, sayIf, whenIdle } from './dom.js';
 import { Editor } from './editor.js';
 import { refuse, whyNoWhole, wholeOf } from './fields.js';
 import { Guide } from './guide.js';
@@ -61,8 +61,8 @@ export class SessionView {
 
   #listen() {
     const on = (id, type, act) => byId(id).addEventListener(type, act);
-    on('back', 'click', () => this.see(this.#seen - 1));
-    on('forward', 'click', () => this.see(this.#seen + 1));
+    on('back', 'click', () => this.#step(-1, 'back', 'forward'));
+    on('forward', 'click', () => this.#step(1, 'forward', 'back'));
     on('at', 'input', () => this.see(Number(byId('at').value)));
     on('undo', 'click', () => this.#undo());
     on('clear', 'click', () => this.change({ ...this.#state, script: '' }));
@@ -98,6 +98,12 @@ export class SessionView {
   see(count) {
     this.#seen = Math.min(Math.max(count, 0), this.#replayed.last);
     this.#show();
+  }
+
+  // Shows one event more or less, by one of two buttons.
+  #step(by, pressed, other) {
+    this.see(this.#seen + by);
+    passFocus(byId(pressed), byId(other));
   }
 
   #become(state, seen = null) {
@@ -163,11 +169,13 @@ export class SessionView {
   #leaveTour() {
     this.#guide.isOn = false;
     this.#show();
+    passFocus(byId('tour-end'), byId('tour-start'));
   }
 
   #startTour() {
     this.#guide.isOn = true;
     this.change({ ...TOUR_SESSION, script: '' });
+    passFocus(byId('tour-start'), byId('tour-do'));
   }
 
   #doTour() {
@@ -181,6 +189,7 @@ export class SessionView {
 
   #backOnTour() {
     this.change({ ...TOUR_SESSION, script: tourScript(stepBack(this.#now())) });
+    passFocus(byId('tour-back'), byId('tour-do'));
   }
 
   // ---- the display

@@ -152,6 +152,23 @@ test('the keyboard reaches the answers and moves between them', async () => {
   assert.equal(await focused(), null);
 });
 
+test('the focus goes on where the pressed button is disabled or hidden', async () => {
+  const tab = await open(linked({ ...EMPTY, script: 'A arrive\n' }));
+  const rows = [
+    ['back', 'forward'],
+    ['forward', 'back'],
+    ['tour-start', 'tour-do'],
+    ['tour-do', 'tour-do'],
+    ['tour-back', 'tour-do'],
+    ['tour-end', 'tour-start'],
+  ];
+  for (const [pressed, focused] of rows) {
+    await tab.run(id => document.getElementById(id).focus(), pressed);
+    await tab.press('Enter');
+    assert.equal(await tab.run(() => document.activeElement.id), focused, pressed);
+  }
+});
+
 test('the facts of a channel, the wire and the frames, with a count of 1', async () => {
   const script = `B issue 1 8\nA arrive\nA limit-sending 1 1\nB limit-receiving 1 1\nB plead 1 1\nA arrive\nA arrive\n${'A absolve 1 1\n'.repeat(2)}B deliver 1\n`;
   const tab = await open(linked({ ...EMPTY, script }));
