@@ -146,10 +146,13 @@ export class SessionView {
     }
   }
 
-  // The address was changed by hand, or a link was followed.
+  // The address was changed by hand, or a link was followed. One without a session, such as that past the header, would
+  // leave none for a reload.
   #follow() {
     const given = ofLink(location.hash);
-    if (given !== null && linkOf(given.session, given.place) !== this.#link()) {
+    if (given === null) {
+      this.#showLink();
+    } else if (linkOf(given.session, given.place) !== this.#link()) {
       this.#guide.isOn = given.place.isOnTour;
       this.change(given.session, given.place.seen);
     }
