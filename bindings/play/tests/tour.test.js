@@ -115,6 +115,20 @@ test('an address without the tour shows none, and one that is followed starts it
   assert.equal(await title(tab), `2 of 12: ${TOUR[1].idea}`);
 });
 
+test('the page does not scroll away from a script that is written on the tour', async () => {
+  const tab = await open(undefined, SIZES[2]);
+  const top = () => tab.run(() => Math.round(document.getElementById('script').getBoundingClientRect().top));
+  await tab.run(() => {
+    document.getElementById('script').focus();
+    document.getElementById('script').scrollIntoView({ block: 'center' });
+  });
+  const before = await top();
+  await tab.ask('Input.insertText', { text: '# A' });
+  await tab.until(() => location.hash.includes('s=%23+A'));
+  assert.equal(await title(tab), `1 of 12: ${TOUR[0].idea}`);
+  assert.equal(await top(), before);
+});
+
 test('the link past the header leaves the session in the address', async () => {
   const tab = await open();
   await press(tab, 'Do it for me');
