@@ -68,13 +68,17 @@ export class StreamView {
   #listenToDrops() {
     const drop = byId('view-stream');
     const mark = isOver => byId('drop').classList.toggle('over', isOver);
-    drop.addEventListener('dragover', event => {
-      event.preventDefault();
-      mark(true);
-    });
+    // A text that is dropped into the field is left to the browser.
+    const onFiles = (type, act) =>
+      drop.addEventListener(type, event => {
+        if (event.dataTransfer.types.includes('Files')) {
+          event.preventDefault();
+          act(event);
+        }
+      });
+    onFiles('dragover', () => mark(true));
     drop.addEventListener('dragleave', () => mark(false));
-    drop.addEventListener('drop', event => {
-      event.preventDefault();
+    onFiles('drop', event => {
       mark(false);
       this.#take(event.dataTransfer.files[0]);
     });

@@ -124,6 +124,20 @@ test('the bytes and the file of a stream', async () => {
   await taken(tab, '#file');
 });
 
+test('a file that is dropped is the page’s, and a text the browser’s', async () => {
+  const tab = await open(linked(EMPTY));
+  await press(tab, 'The bytes of a stream');
+  const taken = isFile =>
+    tab.run(isFile => {
+      const data = new DataTransfer();
+      isFile ? data.items.add(new File([Uint8Array.of(0x21)], 'one')) : data.setData('text/plain', '21');
+      const events = ['dragover', 'drop'].map(type => new DragEvent(type, { dataTransfer: data, bubbles: true, cancelable: true }));
+      return events.map(event => !document.getElementById('hex').dispatchEvent(event));
+    }, isFile);
+  assert.deepEqual(await taken(false), [false, false]);
+  assert.deepEqual(await taken(true), [true, true]);
+});
+
 test('the keyboard reaches the answers and moves between them', async () => {
   const script = 'B issue 1 5\n# a comment\nA arrive\nA send 1 6869\nB arrive\n'.concat('B take 1\n'.repeat(96));
   const tab = await open(linked({ ...EMPTY, script }));
