@@ -79,6 +79,7 @@ test('the size of the rings, up to the greatest that the library takes', async (
   ]) {
     await fill(tab, '#capacity', value, 'change');
     assert.equal(await isRefused(tab, '#capacity', why), true, 'the focus is in the field');
+    assert.equal(await tab.run(() => document.getElementById('capacity').labels[0].textContent.trim()), 'Ring, in bytes');
   }
   await fill(tab, '#capacity', '16777216', 'change');
   await taken(tab, '#capacity');
