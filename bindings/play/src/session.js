@@ -125,6 +125,7 @@ export class SessionView {
     if (!this.#undone.isEmpty) {
       this.#typed = 0;
       this.#become(this.#undone.pop());
+      passFocus(byId('undo'), byId('clear'));
     }
   }
 

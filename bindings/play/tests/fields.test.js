@@ -170,6 +170,8 @@ test('the keyboard reaches the answers and moves between them', async () => {
 test('the focus goes on where the pressed button is disabled or hidden', async () => {
   const tab = await open(linked({ ...EMPTY, script: 'A arrive\n' }));
   const rows = [
+    ['clear', 'clear'],
+    ['undo', 'clear'],
     ['back', 'forward'],
     ['forward', 'back'],
     ['tour-start', 'tour-do'],
