@@ -70,7 +70,10 @@ export class SessionView {
     on('version', 'change', () => this.change({ ...this.#state, version: Number(byId('version').value) }));
     on('example', 'change', () => this.#showExample());
     on('copy', 'click', () => this.#copy());
-    on('allow', 'click', () => this.change(this.#allowed));
+    on('allow', 'click', () => {
+      this.change(this.#allowed);
+      passFocus(byId('allow'), byId('back'));
+    });
     on('fit', 'change', () => (this.#picture.fits = byId('fit').checked));
     on('draw', 'click', () => this.#draw());
     on('tour-do', 'click', () => this.#doTour());

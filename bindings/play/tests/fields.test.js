@@ -186,6 +186,22 @@ test('the focus goes on where the pressed button is disabled or hidden', async (
   }
 });
 
+test('the focus goes on where a refusal is allowed, nothing is on the wire, and all frames are shown', async () => {
+  const tab = await open(linked({ ...EMPTY, script: 'A send 1 61\n' }));
+  const enter = async find => {
+    await tab.run(`() => (${find})().focus()`);
+    await tab.press('Enter');
+  };
+  await enter(() => document.getElementById('allow'));
+  assert.equal(await tab.run(() => document.activeElement.id), 'back');
+  await enter(() => document.querySelectorAll('.lane')[0].querySelector('button'));
+  assert.match(await tab.run(() => document.activeElement.textContent), /^A to B, .* Nothing is on the wire\.$/);
+  await press(tab, 'The bytes of a stream');
+  await write(tab, 'hex', '2100000001'.repeat(501));
+  await enter(() => document.getElementById('more'));
+  assert.equal(await tab.run(() => document.activeElement.getAttribute('aria-label')), 'The frames');
+});
+
 test('the facts of a channel, the wire and the frames, with a count of 1', async () => {
   const script = `B issue 1 8\nA arrive\nA limit-sending 1 1\nB limit-receiving 1 1\nB plead 1 1\nA arrive\nA arrive\n${'A absolve 1 1\n'.repeat(2)}B deliver 1\n`;
   const tab = await open(linked({ ...EMPTY, script }));
