@@ -92,8 +92,9 @@ async function rollup(script, to, format, condition) {
 async function shownBy(script, policy, type) {
   const query = new URLSearchParams({ script, policy, type });
   const tab = await chromium.tab(`http://127.0.0.1:${server.address().port}/page?${query}`);
+  // A minute or more: a script that is not loaded leaves no title.
   const shown = await tab.evaluate(`(async () => {
-    while (document.title === '') await new Promise(resolve => setTimeout(resolve, 10));
+    for (let left = 6000; document.title === '' && left > 0; left -= 1) await new Promise(resolve => setTimeout(resolve, 10));
     return document.title;
   })()`);
   await tab.close();
