@@ -10,7 +10,7 @@ import type { Streams } from './lcmux.js';
  *
  * A socket that closes or fails before the end of the peer's direction fails both streams, and is never reported as
  * an end. If a stream is cancelled or aborted, the socket is destroyed, and over TCP the peer gets a reset. TLS and
- * Unix sockets have no reset: there the peer observes the end of the stream, which its session reports as `Cut`.
+ * Unix sockets have no reset: there the peer's session ends as `Cut` or `Transport`.
  *
  * @throws {Error} If the socket is destroyed, if either direction has ended, or if it decodes its bytes, by
  *   `setEncoding`.
