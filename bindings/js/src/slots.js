@@ -1,8 +1,8 @@
 // The slots of the outbound queue: how many frames it may hold, and which calls may use them.
 //
-// Seven are reserved for control frames, one belongs to each channel, for its first message that is under way, and the
-// rest is shared by the messages of all channels. No other channel takes a channel's own slot, so a message whose
-// channel has nothing under way always finds one.
+// Seven are reserved for control frames, one belongs to each channel, and the rest is shared by the messages of all
+// channels. Of the messages of a channel in the queue, one holds the channel's own slot, and each further one a shared
+// slot. No other channel takes a channel's own slot, so a message whose channel has none in the queue always finds one.
 //
 // The queue is first in, first out, so its frames are identified by numbers: the n-th frame that ever entered is still
 // queued while fewer than n have left.
@@ -23,9 +23,9 @@ export class Slots {
   // The number of frames in the queue, and of those that ever left it.
   #queued = 0;
   #left = 0;
-  // By channel: the number of the frame that last took the channel's own slot.
-  #own = CHANNELS.map(() => 0);
-  // The messages in the queue, by number and length, and the sum of their bytes.
+  // By channel: how many of its messages are in the queue.
+  #queuedOn = CHANNELS.map(() => 0);
+  // The messages in the queue, by number, channel and length, and the sum of their bytes.
   #messages = new List();
   #bytes = 0;
   // The bytes that are not written, including the rest of a message that is written in part, or a lower bound of them.
@@ -40,14 +40,11 @@ export class Slots {
     this.#queued = this.#total - placesLeft;
   }
 
-  /** Counts a message that entered the queue, into its channel's own slot if that is free. */
+  /** Counts a message that entered the queue. */
   enter(channel, length) {
     this.#queued += 1;
-    const number = this.#left + this.#queued;
-    if (this.#isOwnFree(channel)) {
-      this.#own[channel] = number;
-    }
-    this.#messages.push({ number, length });
+    this.#queuedOn[channel] += 1;
+    this.#messages.push({ number: this.#left + this.#queued, channel, length });
     this.#bytes += length;
     this.#unwritten += length;
   }
@@ -58,6 +55,7 @@ export class Slots {
     this.#left += this.#queued - queued;
     this.#queued = queued;
     for (let first; (first = this.#messages.first)?.number <= this.#left; ) {
+      this.#queuedOn[first.channel] -= 1;
       this.#bytes -= first.length;
       this.#messages.shift();
     }
@@ -84,14 +82,14 @@ export class Slots {
   }
 
   #isOwnFree(channel) {
-    return this.#own[channel] <= this.#left;
+    return this.#queuedOn[channel] === 0;
   }
 
   // The free own slots, which only their channels may take.
   get #kept() {
     let kept = 0;
-    for (const number of this.#own) {
-      kept += number <= this.#left ? 1 : 0;
+    for (const queued of this.#queuedOn) {
+      kept += queued === 0 ? 1 : 0;
     }
     return kept;
   }

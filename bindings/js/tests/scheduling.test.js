@@ -54,14 +54,16 @@ test('the example of docs/reference/sessions.md, by the slots', () => {
     places += count;
     slots.leave(count * 4, places);
   };
-  times(3, () => enters(Data)); // D1 in Data's own slot, D2 and D3 in the shared ones
+  times(3, () => enters(Data)); // in Data's own slot and in the two shared ones
   assert.equal(slots.hasFor(Data), false);
   assert.equal(slots.hasFor(Overlap), true);
-  enters(Overlap); // O1
+  enters(Overlap);
   assert.equal(slots.hasFor(Overlap), false);
-  leave(1); // D1
-  assert.deepEqual([slots.hasFor(Data), slots.hasFor(Overlap)], [true, false]);
-  leave(3);
+  leave(1); // of Data: a shared slot is free
+  assert.deepEqual([slots.hasFor(Data), slots.hasFor(Overlap)], [true, true]);
+  enters(Overlap);
+  assert.deepEqual([slots.hasFor(Data), slots.hasFor(Overlap)], [false, false]);
+  leave(4);
   assert.deepEqual([slots.hasFor(Data), slots.hasFor(Overlap)], [true, true]);
 });
 
@@ -87,18 +89,18 @@ test('each channel has a slot of its own, whatever the others have under way', a
   assert.deepEqual(await release(), [...all, ...others.map(it => `send ${it} 1`)]);
 });
 
-test('an own slot is free once its message is taken, and not once another of the channel is', async () => {
+test('of the messages of a channel one has its own slot, whichever is left', async () => {
   const { send, release } = await held({ slots: 15 });
-  await send(Data); // its own
-  await send(Data); // the shared one
+  await send(Data);
+  await send(Data);
   assert.deepEqual(await accepted([send(Data), send(Overlap), send(Overlap)]), [false, true, false]);
   assert.deepEqual(await release(), ['1', '1', '2', '1', '2'].map(it => `send ${it} 1`));
   const slots = new Slots(15);
   slots.enter(Data, 1);
   slots.enter(Data, 1);
-  slots.leave(4, 14); // the first is taken, and the second stays in the shared slot
+  slots.leave(4, 14); // the other one has Data's own slot, and the shared one is free
+  slots.enter(Overlap, 1);
   assert.deepEqual([slots.hasFor(Data), slots.hasFor(Overlap)], [true, true]);
-  slots.enter(Data, 1);
   slots.enter(Overlap, 1);
   assert.deepEqual([slots.hasFor(Data), slots.hasFor(Overlap), slots.hasFor(Capability)], [false, false, true]);
 });

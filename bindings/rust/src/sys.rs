@@ -16,6 +16,7 @@
 use crate::CHANNELS;
 use std::cell::UnsafeCell;
 use std::ffi::c_void;
+use std::io::IoSlice;
 use std::mem::size_of;
 use std::ops::Deref;
 use std::ptr::{self, NonNull};
@@ -134,19 +135,22 @@ struct Pieces {
 /// outbound frame, until that is written or counted as sent; or a slice of a caller that waits until it was read. The
 /// owner of a `Lent` that outlives a call ensures that the message stays, and that the handle is not dropped.
 #[derive(Clone, Copy, Debug, PartialEq, Eq)]
-pub(crate) struct Lent {
-    bytes: NonNull<u8>,
+pub(crate) struct Lent<T = u8> {
+    first: NonNull<T>,
     len: usize,
 }
 
-// The bytes are only read.
-unsafe impl Send for Lent {}
-unsafe impl Sync for Lent {}
+/// The slices of a message of a caller that waits until they were read.
+pub(crate) type LentSlices = Lent<IoSlice<'static>>;
+
+// What is borrowed is only read.
+unsafe impl<T: Sync> Send for Lent<T> {}
+unsafe impl<T: Sync> Sync for Lent<T> {}
 
 impl Lent {
     fn of(bytes: *const u8, len: usize) -> Option<Lent> {
-        let bytes = NonNull::new(bytes.cast_mut())?;
-        Some(Lent { bytes, len })
+        let first = NonNull::new(bytes.cast_mut())?;
+        Some(Lent { first, len })
     }
 }
 
@@ -154,18 +158,28 @@ impl Lent {
 impl From<&[u8]> for Lent {
     fn from(bytes: &[u8]) -> Lent {
         Lent {
-            bytes: NonNull::from(bytes).cast(),
+            first: NonNull::from(bytes).cast(),
             len: bytes.len(),
         }
     }
 }
 
-impl Deref for Lent {
-    type Target = [u8];
+/// The caller keeps the slices unchanged and alive while the copy is in use.
+impl From<&[IoSlice<'_>]> for LentSlices {
+    fn from(slices: &[IoSlice<'_>]) -> LentSlices {
+        Lent {
+            first: NonNull::from(slices).cast(),
+            len: slices.len(),
+        }
+    }
+}
+
+impl<T> Deref for Lent<T> {
+    type Target = [T];
 
     #[inline]
-    fn deref(&self) -> &[u8] {
-        unsafe { slice::from_raw_parts(self.bytes.as_ptr(), self.len) }
+    fn deref(&self) -> &[T] {
+        unsafe { slice::from_raw_parts(self.first.as_ptr(), self.len) }
     }
 }
 

@@ -491,8 +491,8 @@ impl fmt::Debug for Sender {
 /// The right to send one message: a permit holds guarantees and a slot until it is used or dropped.
 ///
 /// No other call of the channel uses its guarantees, and no policy absolves them. A dropped permit returns both, and
-/// notifies the calls that wait for them. The first permit of a channel holds the channel's own slot, a further one a
-/// shared slot. A permit that is kept for long delays its own channel, and no other.
+/// notifies the calls that wait for them. It holds the channel's own slot if nothing else of the channel is under way,
+/// and else a shared slot. A permit that is kept for long delays its own channel, and no other.
 ///
 /// ```
 /// use lcmux::{Channel::Data, Config, Mux, CHANNELS};

@@ -49,8 +49,6 @@ struct Outgoing {
     reserved: u64,
     /// When the channel sent last, counted in messages and permits of all channels; 0 before its first.
     went: u64,
-    /// The bytes of the queue that are reserved for its first call, of a thread that was woken to send them.
-    claimed: usize,
     /// The number of senders of the channel, including clones.
     senders: usize,
     /// The longest message, if the application stated one.
@@ -83,8 +81,6 @@ pub(crate) enum Pulled {
     Bytes(usize, Option<Lent>),
     /// No frame is pending. The writing half is woken once one is.
     Idle,
-    /// No frame is pending, and tasks that were woken are about to send: the writing half pulls again after them.
-    Soon,
     /// No frame will follow: the stream ends.
     End,
     /// The session is over.
@@ -106,10 +102,6 @@ pub(crate) struct State {
     memory: Vec<u8>,
     /// Whether the writing half borrows the first frame of the queue.
     is_lent: bool,
-    /// Whether the writing half found no frame, and pulls again, since it last took any.
-    pulls_again: bool,
-    /// The bytes of the queue that are reserved for threads that were woken to send them.
-    claimed: usize,
     /// The number of messages and permits so far.
     turns: u64,
     /// Channels whose receiver or sender may have pending control frames, as bits, and the channel that is served
@@ -183,8 +175,6 @@ impl State {
             long: 0,
             memory: Vec::new(),
             is_lent: false,
-            pulls_again: false,
-            claimed: 0,
             turns: 0,
             owing_in: ALL,
             owing_out: ALL,
@@ -324,7 +314,6 @@ impl State {
         if count > 0 {
             let len = lent.map_or(count, |message| count + message.len());
             self.bytes.take(len);
-            self.pulls_again = false;
             self.settle();
             return Pulled::Bytes(count, lent);
         }
@@ -335,22 +324,7 @@ impl State {
         if self.closing {
             return Pulled::End;
         }
-        self.pull_nothing(waker)
-    }
-
-    // The writing half gives woken tasks one turn to send. Then it is idle, and the calls that wait for the bytes of
-    // such a task are notified, too.
-    fn pull_nothing(&mut self, waker: &Waker) -> Pulled {
-        if !self.pulls_again && self.waits_for_bytes() {
-            self.pulls_again = true;
-            return Pulled::Soon;
-        }
         self.is_idle = true;
-        self.wake_senders();
-        if self.peer.wants_write() {
-            self.is_idle = false;
-            return Pulled::Soon;
-        }
         keep(&mut self.writer, waker, &mut self.wakes);
         Pulled::Idle
     }

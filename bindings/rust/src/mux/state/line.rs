@@ -1,6 +1,6 @@
 //! The wait queue of a sender: the waiting calls, and the limits and the finish behind them, in their order.
 use crate::mux::events::Lacking;
-use crate::sys::Lent;
+use crate::sys::{Lent, LentSlices};
 use crate::Refusal;
 use std::collections::VecDeque;
 use std::task::Waker;
@@ -21,17 +21,15 @@ pub(super) struct Waiter {
     pub least: usize,
     /// The waker, until it is woken.
     pub waker: Option<Waker>,
-    /// Whether a blocked thread makes the call. A woken thread always returns to it.
-    pub is_thread: bool,
     /// The request that another thread may complete on behalf of this one.
     pub left: Option<Left>,
 }
 
 /// The request of a blocked thread, which the holder of the lock completes on its behalf. The thread lends the
-/// message, unless it was in several slices: the call leaves the wait queue before the thread proceeds.
+/// message: the call leaves the wait queue before the thread proceeds.
 pub(super) enum Left {
     Message(Lent),
-    Joined(Vec<u8>),
+    Slices(LentSlices),
     Permit,
 }
 

@@ -2,12 +2,11 @@
 //!
 //! The first waiting call of a channel *can proceed* once it has its guarantees, there is a slot for it, and its
 //! bytes fit into the queue. After [`State::settle`] each such call was completed, if a thread made it, or else
-//! notified, apart from tasks whose bytes do not fit beside those of tasks that were just notified: these follow at
-//! the next pull of the writing half. So a future that is not polled delays its own channel alone.
+//! notified. So a future that is not polled delays its own channel alone.
 use super::line::{Left, Place, Waiter};
 use super::{bit, channels, keep, State, ALL};
 use crate::mux::events::{Event, Stall};
-use crate::sys::Lent;
+use crate::sys::{Lent, LentSlices};
 use crate::{Channel, Closed, Needs, Refusal, SendError, TrySendError};
 use std::io::IoSlice;
 use std::mem;
@@ -16,9 +15,6 @@ use std::task::{Poll, Waker};
 /// The most bytes of messages in the queue, if it holds more than one: a short message is written after all of them,
 /// and more would only stay there until the driver writes.
 const MOST_QUEUED: usize = 65_536;
-
-/// The longest message that is sent on behalf of a thread: copying a longer one takes as long as waking the thread.
-const MOST_LEFT: usize = 4_096;
 
 /// The bytes of a message.
 #[derive(Clone, Copy)]
@@ -52,14 +48,10 @@ impl Body<'_> {
     }
 
     // The message in a form that another thread can send.
-    fn left(self) -> Option<Left> {
+    fn left(self) -> Left {
         match self {
-            Body::Whole(bytes) => Some(Left::Message(Lent::from(bytes))),
-            Body::Slices(_) => {
-                let mut joined = Vec::new();
-                self.join(&mut joined).ok()?;
-                Some(Left::Joined(joined))
-            }
+            Body::Whole(bytes) => Left::Message(Lent::from(bytes)),
+            Body::Slices(slices) => Left::Slices(LentSlices::from(slices)),
         }
     }
 }
@@ -108,8 +100,7 @@ impl Ask<'_> {
     fn left(self) -> Option<Left> {
         match self {
             Ask::Part(_) => None,
-            Ask::Message(body) if body.len() > MOST_LEFT => None,
-            Ask::Message(body) => body.left(),
+            Ask::Message(body) => Some(body.left()),
             Ask::Permit(_) => Some(Left::Permit),
         }
     }
@@ -204,7 +195,6 @@ impl State {
     // it until then.
     fn came(&mut self, channel: Channel) -> bool {
         let was_fresh = self.fresh & bit(channel) != 0;
-        self.claimed -= mem::take(&mut self.out[channel].claimed);
         self.notified &= !bit(channel);
         self.fresh &= !bit(channel);
         was_fresh
@@ -453,7 +443,15 @@ impl State {
     // after the writing half last took frames, if other channels have sent as many messages since that channel did as
     // may precede one.
     fn has_slot(&self, channel: Channel) -> bool {
-        self.slots.is_own_free(channel) || self.slots.has_shared() && !self.leaves_shared()
+        self.with_slot() & bit(channel) != 0
+    }
+
+    // The channels for whose messages there is a slot, as bits.
+    fn with_slot(&self) -> u8 {
+        match self.slots.has_shared() && !self.leaves_shared() {
+            true => ALL,
+            false => self.slots.own_free(),
+        }
     }
 
     // A call that is polled is no longer one of those that were notified.
@@ -468,46 +466,23 @@ impl State {
     }
 
     fn has_bytes(&self, len: usize) -> bool {
-        self.has_bytes_beside(0, len)
-    }
-
-    pub(super) fn has_bytes_beside(&self, others: usize, len: usize) -> bool {
-        let taken = self.bytes.messages() + self.claimed + others;
+        let taken = self.bytes.messages();
         taken == 0 || taken + len <= MOST_QUEUED
-    }
-
-    // The bytes of the tasks that were notified since the writing half last took frames. Only the notification of
-    // another task waits for them, and not for a task that is not polled: an idle writing half awaits none.
-    pub(super) fn awaited(&self) -> usize {
-        if self.is_idle {
-            return 0;
-        }
-        let firsts = channels(self.fresh).filter_map(|it| self.out[it].line.first());
-        let of_tasks = firsts.filter(|first| !self.returns_at_once(first));
-        of_tasks.map(|first| first.len).sum()
-    }
-
-    // Whether the caller makes a notified call at once. A task may be polled late or never. So may a blocked thread be
-    // late that runs an event hook: a hook may take any time, and may itself wait for another channel.
-    pub(super) fn returns_at_once(&self, first: &Waiter) -> bool {
-        first.is_thread && self.hooks.is_empty()
-    }
-
-    pub(super) fn waits_for_bytes(&self) -> bool {
-        self.waiting_for_bytes().next().is_some()
     }
 
     fn is_its_turn(&mut self, channel: Channel) -> bool {
         self.look_at_fronts();
         let went = |channel: Channel| self.out[channel].went;
-        self.waiting_for_bytes()
-            .all(|other| went(other) >= went(channel))
+        channels(self.waiting_for_bytes()).all(|other| went(other) >= went(channel))
     }
 
-    // Channels whose first call has its guarantees and a slot and was not notified: after `settle`, it lacks bytes of
-    // the queue.
-    fn waiting_for_bytes(&self) -> impl Iterator<Item = Channel> + '_ {
-        channels(self.able & !self.notified).filter(|it| self.has_slot(*it))
+    // Channels whose first call has its guarantees and a slot and was not notified, as bits: after `settle`, it lacks
+    // bytes of the queue.
+    fn waiting_for_bytes(&self) -> u8 {
+        match self.able & !self.notified {
+            0 => 0,
+            able => able & self.with_slot(),
+        }
     }
 
     #[cold]
@@ -577,7 +552,6 @@ impl State {
                 len: call.ask.len(),
                 least: call.ask.least(),
                 waker: Some(waker.clone()),
-                is_thread: call.is_thread,
                 left: call.is_thread.then(|| call.ask.left()).flatten(),
             })),
         }
@@ -655,17 +629,14 @@ impl State {
     fn next(&mut self) -> Option<Channel> {
         self.look_at_fronts();
         let went = |channel: &Channel| self.out[*channel].went;
-        let least = self.waiting_for_bytes().map(|it| went(&it)).min()?;
+        let waiting = self.waiting_for_bytes();
+        let least = channels(waiting).map(|it| went(&it)).min()?;
         // Several channels, if they never sent.
         let fits = |channel: &Channel| {
             let first = self.out[*channel].line.first();
-            first.is_some_and(|first| match self.returns_at_once(first) {
-                true => self.has_bytes(first.len),
-                false => self.has_bytes_beside(self.awaited(), first.len),
-            })
+            first.is_some_and(|first| self.has_bytes(first.len))
         };
-        let mut waiting = self.waiting_for_bytes();
-        waiting.find(|channel| went(channel) == least && fits(channel))
+        channels(waiting).find(|channel| went(channel) == least && fits(channel))
     }
 
     // Completes the first call on behalf of its thread, if that is possible. If an allocation failed, the call itself
@@ -678,7 +649,7 @@ impl State {
         let (ticket, len) = (first.ticket, first.len);
         let put = match left {
             Left::Message(body) => self.put(channel, &body),
-            Left::Joined(body) => self.put(channel, &body),
+            Left::Slices(slices) => self.put_body(channel, Body::Slices(&slices)),
             Left::Permit => {
                 self.reserve(channel, len);
                 Ok(())
@@ -692,15 +663,10 @@ impl State {
         true
     }
 
-    // Notifies the first call that it can proceed. Bytes are reserved for a caller that returns at once.
+    // Notifies the first call that it can proceed.
     fn notify(&mut self, channel: Channel) {
         self.notified |= bit(channel);
         self.fresh |= bit(channel);
-        let first = self.out[channel].line.first();
-        let first = first.filter(|first| self.returns_at_once(first));
-        let claimed = first.map_or(0, |first| first.len);
-        self.out[channel].claimed = claimed;
-        self.claimed += claimed;
         self.wake_first(channel);
     }
 

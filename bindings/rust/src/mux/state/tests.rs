@@ -341,7 +341,8 @@ fn send(
     waker: &Waker,
 ) -> Poll<Result<usize, SendError>> {
     let (first, rest) = body.split_at(body.len() / 2);
-    let slices = [first, rest].map(IoSlice::new);
+    // The wait queue borrows the slices of a blocked thread.
+    let slices = Box::leak(Box::new([first, rest].map(IoSlice::new)));
     let mut call = Call {
         ask: Ask::Message(match body.len() % 2 {
             0 => slices[..].into(),
@@ -355,8 +356,8 @@ fn send(
     answer.map_ok(|()| body.len())
 }
 
-// The invariant between two changes: every call that can proceed was notified, apart from a task whose bytes do not fit
-// beside those of tasks that are about to send, and a call that lacks bytes waits for the writing half.
+// The invariant between two changes: every call that can proceed was notified, and a call that lacks bytes waits for
+// the writing half.
 fn assert_settled(state: &mut State) {
     let places_left = state.peer.slots_left();
     state.slots.follow(places_left);
@@ -364,20 +365,17 @@ fn assert_settled(state: &mut State) {
         let Some(first) = state.out[channel].line.first() else {
             continue;
         };
-        let (ticket, len, is_awaited) = (first.ticket, first.len, !state.returns_at_once(first));
+        let (ticket, len) = (first.ticket, first.len);
         let (bit, least) = (1 << channel.number(), first.least);
         match state.lacks(channel, least, Some(ticket)) {
             Ok(Needs::Nothing) if state.notified & bit != 0 => {}
             Ok(Needs::Nothing) => {
-                let is_later = is_awaited && !state.has_bytes_beside(state.awaited(), len);
                 assert!(
-                    is_later || !state.fits(channel, len),
+                    !state.fits(channel, len),
                     "{channel:?} can proceed and was not notified"
                 );
-                let waits_for_slot = !state.slots.is_own_free(channel) && !state.slots.has_shared();
-                let is_to_be_written = state.peer.wants_write();
-                let is_followed = is_to_be_written || state.awaited() > 0;
-                let waits = waits_for_slot || state.claimed > 0 || is_followed;
+                let waits_for_slot = state.slots.own_free() & bit == 0 && !state.slots.has_shared();
+                let waits = waits_for_slot || state.peer.wants_write();
                 assert!(waits, "{channel:?} waits for no one");
             }
             _ => assert_eq!(
@@ -593,8 +591,7 @@ fn a_channel_that_never_sent_does_not_wait_for_another_one() {
     }
 }
 
-/// A call that lacks bytes of the queue is completed for a thread, if its message is short, and else notified.
-/// Meanwhile no permit is granted.
+/// A call that lacks bytes of the queue is completed for a thread, and notified for a task. Meanwhile no permit is granted.
 #[test]
 fn a_call_that_waits_for_bytes_learns_that_they_are_free() {
     let mut state = rich(64);
@@ -608,8 +605,7 @@ fn a_call_that_waits_for_bytes_learns_that_they_are_free() {
             Pulled::Bytes(65_541, None)
         ));
         assert!(call.is_woken());
-        let is_completed = is_thread && len <= 4_096;
-        assert_eq!(state.bytes.messages(), if is_completed { len } else { 0 });
+        assert_eq!(state.bytes.messages(), if is_thread { len } else { 0 });
         assert_eq!(call.poll(&mut state), DONE);
         assert_eq!(state.bytes.messages(), len);
         assert!(matches!(pull(&mut state, 1 << 20), Pulled::Bytes(_, None)));
@@ -627,15 +623,15 @@ fn each_channel_has_a_slot_of_its_own() {
         assert!(is_sent(&mut state, channel, 1), "{channel:?} has its own");
         assert!(!is_sent(&mut state, channel, 1));
     }
-    // The first frame of six bytes had Data's own slot.
+    // Of Data's three frames of six bytes one leaves, and with it a shared slot becomes free.
     assert!(matches!(pull(&mut state, 6), Pulled::Bytes(6, None)));
-    assert!(!is_sent(&mut state, Overlap, 1), "it is no one else's");
-    assert!(is_sent(&mut state, Data, 1));
+    assert!(is_sent(&mut state, Overlap, 1));
     assert!(!is_sent(&mut state, Data, 1));
-    // The next two had the shared slots.
+    // With the other two a shared slot becomes free, and Data's own.
     assert!(matches!(pull(&mut state, 12), Pulled::Bytes(12, None)));
-    assert!(is_sent(&mut state, Overlap, 1));
-    assert!(is_sent(&mut state, Overlap, 1));
+    assert!(is_sent(&mut state, Capability, 1));
+    assert!(!is_sent(&mut state, Overlap, 1), "Data's is no one else's");
+    assert!(is_sent(&mut state, Data, 1));
     assert!(!is_sent(&mut state, Data, 1));
 }
 
@@ -650,8 +646,9 @@ fn the_example_of_the_page() {
     assert!(is_sent(&mut state, Overlap, 1));
     assert!(matches!(pull(&mut state, 6), Pulled::Bytes(6, None)));
     assert!(forgotten.is_woken());
+    assert!(is_sent(&mut state, Overlap, 1));
     let mut waits = Waits::task(&mut state, Overlap, 1);
-    assert!(matches!(pull(&mut state, 18), Pulled::Bytes(18, None)));
+    assert!(matches!(pull(&mut state, 24), Pulled::Bytes(24, None)));
     assert!(waits.is_woken());
     assert_eq!(waits.poll(&mut state), DONE);
     assert!(matches!(pull(&mut state, 18), Pulled::Bytes(6, None)));
@@ -673,7 +670,7 @@ fn control_frames_leave_the_channels_their_own_slots() {
     assert_eq!(state.peer.slots_left(), 0);
 }
 
-/// The first permit of a channel holds the channel's own slot, a second one a shared one, until it is used or dropped.
+/// One of two permits of a channel holds the channel's own slot, the other one a shared one, until they are used or dropped.
 #[test]
 fn permits_hold_slots() {
     let mut state = rich(15);
@@ -683,10 +680,13 @@ fn permits_hold_slots() {
     assert!(is_reserved(&mut state, Overlap), "its own");
     assert!(!is_sent(&mut state, Overlap, 1));
     state.give_back(Data, 1);
-    assert!(is_sent(&mut state, Data, 1), "its own");
+    assert!(is_sent(&mut state, Data, 1), "by the shared one");
     assert!(!is_sent(&mut state, Overlap, 1));
     state.give_back(Data, 1);
-    assert!(is_sent(&mut state, Overlap, 1), "a shared one");
+    assert!(
+        is_sent(&mut state, Overlap, 1),
+        "by the shared one, as Data's message has Data's own"
+    );
     state.send_reserved(Overlap, 1, b"x"[..].into()).unwrap();
     assert!(!is_sent(&mut state, Overlap, 1));
     assert!(!is_sent(&mut state, Data, 1));
@@ -846,143 +846,60 @@ fn an_empty_queue_leaves_no_slot_to_a_notified_task() {
     assert!(is_sent(&mut state, Capability, 1), "by the shared slot");
 }
 
-/// Bytes of the queue are reserved for a thread that was woken to send them, until it returns or gives up, and not
-/// for a task, nor for a thread that may run a hook first.
+/// A notification reserves no bytes: each task whose call fits is notified. The call that is made first proceeds, and the
+/// others wait again, before all channels that sent later.
 #[test]
-fn bytes_are_left_to_threads_that_were_woken() {
-    for (is_thread, has_hook) in [(true, false), (false, false), (true, true)] {
-        let mut state = rich(64);
-        if has_hook {
-            state.hook(Arc::new(|_| {}));
-        }
-        let is_left = is_thread && !has_hook;
-        assert!(is_sent(&mut state, Data, 60_000));
-        let mut first = Waits::new(&mut state, Overlap, 60_000, is_thread);
-        let mut second = Waits::new(&mut state, Capability, 60_000, is_thread);
+fn each_task_whose_call_fits_is_notified() {
+    let mut state = rich(64);
+    assert!(is_sent(&mut state, Data, 60_000));
+    let mut tasks = [
+        Waits::task(&mut state, Overlap, 60_000),
+        Waits::task(&mut state, Capability, 60_000),
+    ];
+    assert!(matches!(
+        pull(&mut state, 1 << 20),
+        Pulled::Bytes(60_005, None)
+    ));
+    assert_eq!(tasks.each_ref().map(Waits::is_woken), [true, true]);
+    assert_eq!(tasks[1].poll(&mut state), DONE);
+    assert!(tasks[0].poll(&mut state).is_pending());
+    assert!(!is_sent(&mut state, Capability, 1), "it sent later");
+    assert!(matches!(
+        pull(&mut state, 1 << 20),
+        Pulled::Bytes(60_005, None)
+    ));
+    assert!(tasks[0].is_woken());
+    assert_eq!(tasks[0].poll(&mut state), DONE);
+}
+
+/// A task that was notified and is forgotten keeps no bytes from others.
+#[test]
+fn calls_beside_a_forgotten_task_go_on() {
+    let mut state = rich(64);
+    assert!(is_sent(&mut state, Data, 60_000));
+    let forgotten = Waits::task(&mut state, Overlap, 60_000);
+    let mut thread = Waits::thread(&mut state, Capability, 60_000);
+    for _ in 0..2 {
         assert!(matches!(
             pull(&mut state, 1 << 20),
             Pulled::Bytes(60_005, None)
         ));
-        assert_eq!((first.is_woken(), second.is_woken()), (true, false));
-        if !is_left {
-            assert!(matches!(pull(&mut state, 1 << 20), Pulled::Soon));
-            assert!(!second.is_woken());
-            assert!(matches!(pull(&mut state, 1 << 20), Pulled::Idle));
-            assert!(second.is_woken());
-        }
-        assert_eq!(is_sent(&mut state, Data, 10_000), !is_left);
-        if is_left {
-            assert!(state.forget_send(Overlap, first.ticket.unwrap()));
-            drop(std::mem::take(&mut state.wakes));
-            assert!(second.is_woken());
-            assert_eq!(second.poll(&mut state), DONE);
-        } else {
-            assert!(second.poll(&mut state).is_pending());
-            assert!(first.poll(&mut state).is_pending());
-        }
-        assert!(!is_sent(&mut state, Data, 10_000));
-    }
-}
-
-/// Of the tasks that wait for bytes, as many are notified as fit together. The next one follows once one of these gave
-/// up, at the next write, and at the latest when nothing is left to write.
-#[test]
-fn tasks_are_notified_as_far_as_their_bytes_fit_together() {
-    for what_follows in ["one gives up", "both send", "both are forgotten"] {
-        let mut state = rich(64);
-        assert!(is_sent(&mut state, Reconciliation, 1));
-        assert!(is_sent(&mut state, Data, 60_000));
-        let mut tasks = [
-            Waits::task(&mut state, Overlap, 40_000),
-            Waits::task(&mut state, Capability, 25_536),
-            Waits::task(&mut state, Reconciliation, 1),
-        ];
-        assert!(matches!(
-            pull(&mut state, 1 << 20),
-            Pulled::Bytes(60_011, None)
-        ));
-        assert_eq!(tasks.each_ref().map(Waits::is_woken), [true, true, false]);
-        match what_follows {
-            "one gives up" => {
-                assert!(state.forget_send(Capability, tasks[1].ticket.unwrap()));
-                drop(std::mem::take(&mut state.wakes));
-            }
-            "both send" => {
-                assert_eq!(tasks[0].poll(&mut state), DONE);
-                assert_eq!(tasks[1].poll(&mut state), DONE);
-                assert!(!tasks[2].is_woken());
-                assert!(matches!(pull(&mut state, 1 << 20), Pulled::Bytes(_, None)));
-            }
-            _ => {
-                assert!(matches!(pull(&mut state, 1 << 20), Pulled::Soon));
-                assert!(!tasks[2].is_woken());
-                assert!(matches!(pull(&mut state, 1 << 20), Pulled::Idle));
-            }
-        }
-        assert!(tasks[2].is_woken(), "{what_follows}");
-        assert_eq!(tasks[2].poll(&mut state), DONE);
-    }
-}
-
-/// A thread that waits for bytes does not wait for those of a task, and a task waits for those of a thread once.
-#[test]
-fn a_thread_and_a_task_are_woken_whose_bytes_fit() {
-    for (of_thread, of_task, is_first_a_thread) in [(40_000, 40_000, false), (40_000, 20_000, true)]
-    {
-        let mut state = rich(64);
-        assert!(is_sent(&mut state, Data, 60_000));
-        let (thread, task) = match is_first_a_thread {
-            true => {
-                let thread = Waits::thread(&mut state, Overlap, of_thread);
-                (thread, Waits::task(&mut state, Capability, of_task))
-            }
-            false => {
-                let task = Waits::task(&mut state, Overlap, of_task);
-                (Waits::thread(&mut state, Capability, of_thread), task)
-            }
-        };
-        pull(&mut state, 1 << 20);
-        assert!(thread.is_woken() && task.is_woken());
-    }
-}
-
-/// A writing half that has nothing to write gives woken tasks one turn, each time anew. Then the calls behind them go on:
-/// a thread's message is written.
-#[test]
-fn calls_behind_a_forgotten_task_go_on_when_nothing_is_left_to_write() {
-    let mut state = rich(64);
-    let mut forgotten = Vec::new();
-    for _ in 0..2 {
-        assert!(is_sent(&mut state, Reconciliation, 1));
-        while is_sent(&mut state, Data, 60_000) {}
-        forgotten.push(Waits::task(&mut state, Overlap, 40_000));
-        forgotten.push(Waits::task(&mut state, Capability, 40_000));
-        let mut thread = Waits::thread(&mut state, Reconciliation, 10);
-        assert!(matches!(pull(&mut state, 1 << 20), Pulled::Bytes(_, None)));
-        assert!(!thread.is_woken());
-        assert!(matches!(pull(&mut state, 1 << 20), Pulled::Soon));
-        assert!(!thread.is_woken());
-        assert!(matches!(pull(&mut state, 1 << 20), Pulled::Soon));
-        assert!(thread.is_woken());
+        assert!(forgotten.is_woken() && thread.is_woken());
         assert_eq!(thread.poll(&mut state), DONE);
-        assert!(matches!(pull(&mut state, 1 << 20), Pulled::Bytes(15, None)));
-        for call in forgotten.drain(..) {
-            state.forget_send(call.channel, call.ticket.unwrap());
-        }
-        assert!(matches!(pull(&mut state, 1 << 20), Pulled::Idle));
+        thread = Waits::thread(&mut state, Capability, 60_000);
     }
 }
 
-/// A message of 4,096 bytes is sent on behalf of a thread; for a longer one the thread is woken.
+/// A message of a blocked thread is sent on its behalf, however long it is.
 #[test]
-fn a_long_message_is_sent_by_its_thread() {
-    for (len, is_sent) in [(4_096, true), (4_097, false)] {
+fn a_long_message_is_sent_for_its_thread() {
+    for len in [1, 4_097, 65_535] {
         let mut state = written(14);
         let mut call = Waits::thread(&mut state, Data, len);
-        state.deliver(&issue(Data, 8_192)).unwrap();
+        state.deliver(&issue(Data, 65_535)).unwrap();
         drop(std::mem::take(&mut state.wakes));
         assert!(call.is_woken());
-        assert_eq!(state.stats(Data).messages_sent, u64::from(is_sent));
+        assert_eq!(state.stats(Data).messages_sent, 1);
         assert_eq!(call.poll(&mut state), DONE);
         assert_eq!(state.stats(Data).messages_sent, 1);
     }
