@@ -1,5 +1,5 @@
-// Types of the web platform that this file names. Each declaration is empty and merges with that of the library `dom`
-// or of `@types/node`; without either, the file compiles and these types have no members.
+// Types of the web platform that this file names. Each declaration is empty and merges with a global one, of the
+// library `dom` or of `@types/node`; without one, the file compiles and the type has no members.
 declare global {
   interface AbortSignal {}
   interface ReadableStream<R = any> {}
