@@ -1,5 +1,5 @@
-// Types of the web platform that this file names. Each declaration is empty and merges with that of the library `dom`
-// or of `@types/node`; without either, the file compiles and these types have no members.
+// Types of the web platform that this file names. Each declaration is empty and merges with a global one, of the
+// library `dom` or of `@types/node`; without one, the file compiles and the type has no members.
 declare global {
   interface AbortSignal {}
   interface ReadableStream<R = any> {}
@@ -575,7 +575,10 @@ export interface SessionConfig extends Config {
   readonly issue?: IssuePolicy | readonly IssuePolicy[] | undefined;
   /** When pleads are honoured, `'at once'` by default. */
   readonly plead?: PleadPolicy | readonly PleadPolicy[] | undefined;
-  /** Aborts the session, with the signal's reason as the cause. A signal that has aborted already is thrown. */
+  /**
+   * Aborts the session, with the signal's reason as the cause. If the signal aborts before there is a session, that
+   * reason is the error of the call, and the streams stay the caller's.
+   */
   readonly signal?: AbortSignal | undefined;
 }
 
@@ -741,7 +744,8 @@ export declare class SessionChannel implements AsyncIterable<Uint8Array> {
    * bytes, and of no more than the guarantees allow, so it proceeds over a ring buffer of any size; the peer should not
    * rely on the cuts. A chunk is not copied while it waits: leave it unchanged until its write has resolved. Closing
    * the stream finishes the channel. Aborting it aborts the session, since the protocol has no other end from which the
-   * peer would see that bytes are missing.
+   * peer would see that bytes are missing. A stream that is open when the session ends, in order too, fails with its
+   * reason.
    */
   readonly writable: WritableStream<Uint8Array>;
   /** The free bytes of the ring buffer that may be issued now; 0 once the session is over. */

@@ -1,6 +1,8 @@
 # For find_package(lcmux CONFIG): the imported targets lcmux::lcmux, the shared library, and lcmux::static. This file lies
-# in lib/cmake/lcmux, and all that it names beside that, wherever it is.
-get_filename_component(_lcmux_prefix "${CMAKE_CURRENT_LIST_DIR}/../../.." ABSOLUTE)
+# in lib/cmake/lcmux, and all that it names beside that, wherever it is. CMake may find it by a link, such as /lib to
+# /usr/lib, beside which there is nothing else.
+get_filename_component(_lcmux_prefix "${CMAKE_CURRENT_LIST_DIR}" REALPATH)
+get_filename_component(_lcmux_prefix "${_lcmux_prefix}/../../.." ABSOLUTE)
 
 if(NOT TARGET lcmux::lcmux)
   add_library(lcmux::lcmux SHARED IMPORTED)

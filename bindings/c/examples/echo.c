@@ -12,6 +12,7 @@
 #include <errno.h>
 #include <fcntl.h>
 #include <inttypes.h>
+#include <limits.h>
 #include <netinet/in.h>
 #include <netinet/tcp.h>
 #include <poll.h>
@@ -259,7 +260,7 @@ static int listen_on(uint16_t port) {
 
 int main(int argc, char **argv) {
     sigset_t blocked, before;
-    if (argc != 3 || atoi(argv[1]) < 0 || atoi(argv[1]) > 65535 || atol(argv[2]) < 1) {
+    if (argc != 3 || atoi(argv[1]) < 0 || atoi(argv[1]) > 65535 || atol(argv[2]) < 1 || atol(argv[2]) > INT_MAX) {
         fprintf(stderr, "usage: echo PORT PATIENCE\n");
         return 2;
     }

@@ -3,6 +3,7 @@
 
 Runs the program of examples/echo.c with each of the clients, programs of examples/echo_threads.c, and with clients that
 are slow, wrong or gone. Prints what differs from what is due, and ends with status 1 then."""
+import atexit
 import errno
 import re
 import resource
@@ -46,7 +47,12 @@ class Server:
 
         given = {"preexec_fn": limit} if descriptors else {}
         self.process = subprocess.Popen([program, "0", str(patience)], stdout=subprocess.PIPE, stderr=subprocess.PIPE, text=True, **given)
+        atexit.register(self.end)  # where something differs, it would stay
         self.port = int(re.fullmatch(r"listening on 127\.0\.0\.1:(\d+)\n", self.process.stdout.readline())[1])
+
+    def end(self):
+        self.process.kill()
+        self.process.wait()
 
     def line(self):
         return self.process.stdout.readline().rstrip("\n")
@@ -260,10 +266,16 @@ def short_of_descriptors(program):
         it.close()
 
 
+def listen():
+    """A listener that waits so long for a client, and its port."""
+    listener = socket.create_server(("127.0.0.1", 0))
+    listener.settimeout(60)
+    return listener, str(listener.getsockname()[1])
+
+
 def alone(client):
     """A client whose server sends nothing, cuts it, or sends another message. It waits long for what is sent."""
-    listener = socket.create_server(("127.0.0.1", 0))
-    port = str(listener.getsockname()[1])
+    listener, port = listen()
     answers = {
         b"": "the server sends too slowly",
         b"LCM\x02" + issue(RING) + b"\x71": "the server finished the channel too early",
@@ -296,8 +308,7 @@ def ended(server, lines):
 
 def half_closed(client):
     """A client finishes all its channels and ends its direction before the server ends its own."""
-    listener = socket.create_server(("127.0.0.1", 0))
-    port = str(listener.getsockname()[1])
+    listener, port = listen()
     running = subprocess.Popen([client, port, "1", "3", "20000"], stdout=subprocess.PIPE, stderr=subprocess.STDOUT, text=True)
     it, _ = listener.accept()
     it.settimeout(20)
@@ -310,7 +321,15 @@ def half_closed(client):
     due("its result", (running.communicate(timeout=30)[0], running.returncode), ("1 messages came back\n", 0))
 
 
+def too_patient(program):
+    """A server whose times would pass the greatest number does not start."""
+    words = [program, "0", str(2**63 - 1)]
+    ran = subprocess.run(words, stdout=subprocess.PIPE, stderr=subprocess.STDOUT, text=True, timeout=20, check=False)
+    due("a patience beyond all times", (ran.returncode, ran.stdout), (2, "usage: echo PORT PATIENCE\n"))
+
+
 def main(program, clients):
+    too_patient(program)
     server = Server(program, LONG)
     for client in clients:
         many_clients(server, client)

@@ -45,7 +45,7 @@ static void say_code(uint32_t code, uint64_t number) {
 
 static void say_hex(const char *before, const uint8_t *bytes, size_t len) {
     size_t at = (size_t)snprintf(said, sizeof said, "%s%s", before, len ? "" : "-");
-    for (size_t i = 0; i < len; i++)
+    for (size_t i = 0; i < len && at < sizeof said; i++)
         at += (size_t)snprintf(said + at, sizeof said - at, "%02x", bytes[i]);
 }
 

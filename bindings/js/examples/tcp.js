@@ -36,8 +36,11 @@ async function main() {
   const server = createServer().listen(0, '127.0.0.1');
   await once(server, 'listening');
   const { port } = server.address();
-  spawn(process.execPath, [fileURLToPath(import.meta.url), String(port)], { stdio: 'inherit' });
-  const [socket] = await once(server, 'connection');
+  const peer = spawn(process.execPath, [fileURLToPath(import.meta.url), String(port)], { stdio: 'inherit' });
+  const ended = once(peer, 'exit').then(([status]) => {
+    throw new Error(`the peer ended with status ${status} before it connected`);
+  });
+  const [socket] = await Promise.race([once(server, 'connection'), ended]);
   console.log(`took ${await takeAll(socket)} messages in order`);
   server.close();
 }

@@ -68,12 +68,14 @@ class Modules {
   }
 
   async open(streams, config) {
+    const signal = config?.signal ?? undefined;
+    signal?.throwIfAborted();
     for (;;) {
       const session = this.#openInAny(streams, config);
       if (session !== null) {
         return session;
       }
-      const module = await this.#added();
+      const module = await unlessAborted(this.#added(), signal);
       if (!this.#used.has(module)) {
         return this.#openIn(module, streams, config);
       }

@@ -100,9 +100,10 @@ export class SessionChannel {
   }
 
   get writable() {
+    const reasonOf = () => this.#link.reason;
     return (this.#writable ??= writableOf(this, {
       sendPart: (bytes, most, signal) => this.#link.change(() => this.#sender.sendPart(bytes, most, signal)),
-      ended: this.#link.ended,
+      ended: this.#link.ended.then(reasonOf, reasonOf),
       abort: reason => this.#link.end(new SessionClosed('Aborted', reason)),
     }));
   }

@@ -36,26 +36,30 @@ export function readableOf(channel) {
   return new ReadableStream(source, { highWaterMark: 0 });
 }
 
-async function sendAll(bytes, sendPart, signal) {
-  for (let sent = 0; sent < sizeOf(bytes); ) {
+const judged = chunk => bytesOf(chunk, 'the written chunk');
+
+// The chunk is judged before each part: one that was transferred meanwhile is an error, and not sent in full.
+async function sendAll(chunk, sendPart, signal) {
+  const size = sizeOf(judged(chunk));
+  for (let sent = 0; sent < size; ) {
     signal.throwIfAborted(); // it may have aborted between two parts
-    sent += await sendPart(part(bytes, sent, Infinity), MOST, signal);
+    sent += await sendPart(part(judged(chunk), sent, size), MOST, signal);
   }
 }
 
 /**
  * Returns a stream whose chunks are cut into messages of a channel. `sendPart` sends the beginning of some bytes,
- * `ended` is the end of the session, and `abort` aborts it.
+ * `ended` resolves with the reason once the session is over, and `abort` aborts it.
  */
 export function writableOf(channel, { sendPart, ended, abort }) {
   const aborted = new AbortController();
   return new WritableStream({
     start(controller) {
-      ended.catch(reason => controller.error(reason));
+      ended.then(reason => controller.error(reason));
       // The stream's `abort` waits for the write under way, its signal does not. Old browsers have no signal.
       controller.signal?.addEventListener('abort', () => aborted.abort(controller.signal.reason));
     },
-    write: chunk => sendAll(bytesOf(chunk, 'the written chunk'), sendPart, aborted.signal),
+    write: chunk => sendAll(chunk, sendPart, aborted.signal),
     close: () => channel.finish(),
     abort,
   });

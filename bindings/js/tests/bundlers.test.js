@@ -2,7 +2,7 @@
 import assert from 'node:assert/strict';
 import { execFile } from 'node:child_process';
 import { once } from 'node:events';
-import { cp, mkdir, mkdtemp, readFile, rm, writeFile } from 'node:fs/promises';
+import { cp, mkdir, mkdtemp, readdir, readFile, rm, writeFile } from 'node:fs/promises';
 import { createServer } from 'node:http';
 import { tmpdir } from 'node:os';
 import { extname, join } from 'node:path';
@@ -10,10 +10,11 @@ import { after, before, test } from 'node:test';
 import { fileURLToPath } from 'node:url';
 import { promisify } from 'node:util';
 import { Chromium } from './chromium.js';
+import { DEBIAN, WEBPACK } from './debian.js';
 
 const run = promisify(execFile);
 const TOP = fileURLToPath(new URL('..', import.meta.url));
-const { exports: entries, files, version } = JSON.parse(await readFile(join(TOP, 'package.json'), 'utf8'));
+const { files, version } = JSON.parse(await readFile(join(TOP, 'package.json'), 'utf8'));
 
 /** The scripts that are built: how each one gets the module, and where its result goes. */
 const SCRIPTS = {
@@ -25,8 +26,21 @@ const SCRIPTS = {
   'node-bytes.js': `import wasm from 'lcmux/lcmux.wasm';
     import { hello } from './bundled.js';
     hello(wasm).then(console.log);`,
-  'node-own.js': `import { hello } from './bundled.js';
-    hello().then(console.log, error => console.log(error.message));`,
+  'own.js': `import { Channel, open } from 'lcmux';
+    import { hello } from './bundled.js';
+    // A session that is its own peer.
+    async function echoed() {
+      const session = await open(new TransformStream());
+      await session.channel(Channel.Data).send(Uint8Array.of(7));
+      const [byte] = await session.channel(Channel.Data).receive();
+      await session.close();
+      return byte;
+    }
+    export const own = async () => (await hello()) + (await echoed());`,
+  'page-own.js': `import { own } from './own.js';
+    own().then(said => (document.title = said), error => (document.title = String(error)));`,
+  'node-own.js': `import { own } from './own.js';
+    own().then(console.log, error => console.log(error.message));`,
 };
 
 let project;
@@ -76,24 +90,37 @@ after(async () => {
 
 const esbuild = (script, to, ...words) => run('esbuild', [script, '--bundle', `--outfile=dist/${to}`, ...words], { cwd: project });
 
-// The plugin is that part of @rollup/plugin-node-resolve which finds one package.
-async function rollup(script, to, format, condition) {
-  const config = `export default {
-    external: /^node:/,
+/** Runs rollup with its plugin node-resolve, which has these options. */
+async function rollup(script, to, format, options) {
+  const config = `import resolve from '${join(DEBIAN, '@rollup/plugin-node-resolve/dist/es/index.js')}';
+  export default {
     input: '${script}',
     output: { file: 'dist/${to}', format: '${format}' },
-    plugins: [{ resolveId: id => (id === 'lcmux' ? '${join(project, 'node_modules/lcmux', entries['.'][condition])}' : null) }],
+    plugins: [resolve(${JSON.stringify(options)})],
   };`;
   await writeFile(join(project, 'rollup.config.mjs'), config);
   return run('rollup', ['--config', 'rollup.config.mjs'], { cwd: project });
+}
+
+/** Runs webpack with this target, and returns the name of the only file that it copied. */
+async function webpack(script, target) {
+  const to = join(project, 'dist', target);
+  const words = ['--mode', 'production', '--target', target, '--entry', `./${script}`, '--output-path', to, '--output-filename', 'app.js'];
+  await run(process.execPath, [...WEBPACK, ...words], { cwd: project });
+  const [copied, ...others] = (await readdir(to)).filter(it => it !== 'app.js');
+  assert.deepEqual(others, []);
+  assert.match(copied, /^[0-9a-f]+\.wasm$/);
+  assert.deepEqual(await readFile(join(to, copied)), await readFile(join(TOP, 'out/lcmux.wasm')));
+  return copied;
 }
 
 /** The result of a script in a page with this policy. */
 async function shownBy(script, policy, type) {
   const query = new URLSearchParams({ script, policy, type });
   const tab = await chromium.tab(`http://127.0.0.1:${server.address().port}/page?${query}`);
+  // A minute or more: a script that is not loaded leaves no title.
   const shown = await tab.evaluate(`(async () => {
-    while (document.title === '') await new Promise(resolve => setTimeout(resolve, 10));
+    for (let left = 6000; document.title === '' && left > 0; left -= 1) await new Promise(resolve => setTimeout(resolve, 10));
     return document.title;
   })()`);
   await tab.close();
@@ -104,13 +131,15 @@ const printedBy = async script => (await run(process.execPath, [join(project, 'd
 const textOf = script => readFile(join(project, 'dist', script), 'utf8');
 
 const BYTES = '--loader:.wasm=binary';
+const FOR_PAGES = { browser: true };
+const FOR_NODE = { exportConditions: ['node'] };
 const PAGES = {
   'esbuild, esm, bytes': ['module', to => esbuild('page-bytes.js', to, '--format=esm', BYTES)],
   'esbuild, iife, bytes': ['text/javascript', to => esbuild('page-bytes.js', to, '--format=iife', BYTES)],
   'esbuild, esm, an address': ['module', to => esbuild('page-address.js', to, '--format=esm')],
   'esbuild, iife, an address, minified': ['text/javascript', to => esbuild('page-address.js', to, '--format=iife', '--minify')],
-  'rollup, es': ['module', to => rollup('page-address.js', to, 'es', 'default')],
-  'rollup, iife': ['text/javascript', to => rollup('page-address.js', to, 'iife', 'default')],
+  'rollup, es': ['module', to => rollup('page-address.js', to, 'es', FOR_PAGES)],
+  'rollup, iife': ['text/javascript', to => rollup('page-address.js', to, 'iife', FOR_PAGES)],
 };
 
 test('a page runs what a bundler made, and its policy has to allow WebAssembly', async context => {
@@ -142,13 +171,28 @@ test('Node runs what a bundler made', async context => {
 
 test('without a source, a bundle finds the file beside it, or says what to do', async () => {
   await cp(join(TOP, 'out/lcmux.wasm'), join(project, 'out/lcmux.wasm'), { recursive: true });
-  await rollup('node-own.js', 'own.mjs', 'es', 'node');
-  await rollup('node-own.js', 'own.cjs', 'cjs', 'node');
-  assert.deepEqual([await printedBy('own.mjs'), await printedBy('own.cjs')], ['hello\n', 'hello\n']);
+  await rollup('node-own.js', 'own.mjs', 'es', FOR_NODE);
+  await rollup('node-own.js', 'own.cjs', 'cjs', FOR_NODE);
+  assert.deepEqual([await printedBy('own.mjs'), await printedBy('own.cjs')], ['hello7\n', 'hello7\n']);
   await rm(join(project, 'out'), { recursive: true });
   assert.match(await printedBy('own.mjs'), /^ENOENT: .*\/out\/lcmux\.wasm'\n$/);
   await esbuild('node-own.js', 'own.cjs', '--format=cjs', '--platform=node');
   assert.equal(await printedBy('own.cjs'), 'this bundle has no address of lcmux.wasm: pass the module to load\n');
+});
+
+test('webpack copies the file for a page, which finds it', async () => {
+  await webpack('page-own.js', 'web');
+  assert.doesNotMatch(await textOf('web/app.js'), /['"]node:/);
+  assert.equal(await shownBy('web/app.js', WITH_WASM, 'text/javascript'), 'hello7');
+  assert.match(await shownBy('web/app.js', POLICY, 'text/javascript'), /^CompileError: .*Content Security Policy/);
+});
+
+test('webpack copies the file for Node, which finds it', async () => {
+  const copied = await webpack('node-own.js', 'node');
+  assert.match(await textOf('node/app.js'), /require\("node:fs\/promises"\)/);
+  assert.equal(await printedBy('node/app.js'), 'hello7\n');
+  await rm(join(project, 'dist/node', copied));
+  assert.match(await printedBy('node/app.js'), /^ENOENT: .*\/dist\/node\/[0-9a-f]+\.wasm'\n$/);
 });
 
 test('a bundle without a call of the package has nothing of it', async () => {

@@ -79,7 +79,7 @@ export async function inFirefox(run, ...words) {
   await writeFile(join(profile, 'user.js'), lines.join(''));
   const flags = ['--headless', '--no-remote', '--profile', profile, `http://127.0.0.1:${server.http.address().port}/`];
   const firefox = spawn('firefox-esr', flags, { stdio: 'ignore', env: { ...process.env, HOME: profile } });
-  const ended = once(firefox, 'exit').then(() => ({ error: 'Firefox has ended' }));
+  const ended = once(firefox, 'exit').then(() => ({ error: 'Firefox has ended' }), ({ message }) => ({ error: message }));
   try {
     const { value, error } = await Promise.race([server.result, ended]);
     if (error !== undefined) {

@@ -23,6 +23,14 @@ test('the rows in Firefox, and a wrong row is seen', async () => {
   assert.deepEqual(wrong.map(it => it.wrong), Array(2).fill(['B take 1 => took 6868, and not took 6869']));
 });
 
+test('a machine without Firefox fails the test, and nothing of it stays', { timeout: 60_000 }, async () => {
+  const { PATH } = process.env;
+  process.env.PATH = '/nowhere';
+  const run = inFirefox(() => 5);
+  await assert.rejects(run, /spawn firefox-esr ENOENT/).finally(() => (process.env.PATH = PATH));
+  assert.deepEqual(process.getActiveResourcesInfo().filter(it => it === 'TCPServerWrap'), []);
+});
+
 test('Firefox and Node exchange 1 MB each way over a WebSocket, by streams', async context => {
   const server = new WebSocketServer({ port: 0, host: '127.0.0.1' });
   await once(server, 'listening');

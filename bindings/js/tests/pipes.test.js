@@ -3,6 +3,7 @@ import assert from 'node:assert/strict';
 import { getEventListeners } from 'node:events';
 import { test } from 'node:test';
 import { Channel, Code, SessionClosed, load, open } from 'lcmux';
+import { entriesOf } from '../src/library.js';
 import { alone, fate, pipes, settled } from './streams.js';
 
 const { Data, Overlap } = Channel;
@@ -107,6 +108,18 @@ test('what is no Uint8Array fails the stream, and not the session', async () => 
   await near.channel(Data).send(counted(1));
 });
 
+test('a chunk that is transferred between two of its messages fails the write', async () => {
+  const [near, far] = await both({ capacities: 40_000 });
+  const { writable } = near.channel(Data);
+  await settled();
+  const chunk = counted(40_000);
+  const writing = writable.getWriter().write(chunk);
+  structuredClone(chunk, { transfer: [chunk.buffer] });
+  await assert.rejects(writing, /the written chunk must not be detached/);
+  assert.equal((await far.channel(Data).receive()).length, 16_384);
+  assert.equal(near.reason, null);
+});
+
 test('a stream receives a message only when it is asked for one', async () => {
   const [near, far] = await both({ capacities: 4 });
   const { readable } = far.channel(Data);
@@ -208,6 +221,18 @@ test('streams of a session that fails reject with its reason', async () => {
   await assert.rejects(writer.write(counted(1)), isClosed('Cut'));
 });
 
+test('a pipe whose source is idle ends with a session that is closed', async () => {
+  const [near, far] = await both();
+  let cancelled = null;
+  const idle = new ReadableStream({ cancel: reason => void (cancelled = reason) });
+  const { closed } = near.channel(Overlap).writable.getWriter();
+  const ends = Promise.allSettled([idle.pipeTo(near.channel(Data).writable), closed]);
+  await Promise.all([near.close(), far.close()]);
+  const { reason } = near;
+  assert.deepEqual((await fate(ends))?.value, Array(2).fill({ status: 'rejected', reason }));
+  assert.ok(cancelled === reason && isClosed('Local')(reason));
+});
+
 test('a signal ends an iteration, and no message is lost', async () => {
   const [near, far] = await both();
   const stop = new AbortController();
@@ -282,6 +307,20 @@ test('a signal ends the wait for a module', async () => {
   const { signal } = new AbortController();
   assert.equal((await load(undefined, { signal })).hasTrapped, false);
   assert.deepEqual(getEventListeners(signal, 'abort'), []);
+});
+
+test('a signal ends the wait of open for its module', async () => {
+  const { open: openLate } = entriesOf(() => new Promise(() => {}));
+  const stop = new AbortController();
+  const [streams] = pipes();
+  const opening = openLate(streams, { signal: stop.signal });
+  assert.equal(await fate(opening), null);
+  const reason = new Error('too slow');
+  stop.abort(reason);
+  assert.deepEqual(await fate(opening), { reason });
+  await assert.rejects(openLate(streams, { signal: stop.signal }), reason);
+  assert.deepEqual([streams.readable.locked, streams.writable.locked], [false, false]);
+  assert.deepEqual(getEventListeners(stop.signal, 'abort'), []);
 });
 
 test('a session is closed where its scope ends, and one that is over is left', async () => {

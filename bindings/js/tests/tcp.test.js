@@ -282,7 +282,16 @@ test('a socket is read no faster than its stream', async () => {
   other.destroy();
 });
 
+const example = fileURLToPath(new URL('../examples/tcp.js', import.meta.url));
+
 test('the example prints what it should', async () => {
-  const { stdout } = await run(process.execPath, [fileURLToPath(new URL('../examples/tcp.js', import.meta.url))]);
+  const { stdout } = await run(process.execPath, [example]);
   assert.equal(stdout, 'took 1000 messages in order\n');
+});
+
+test('the example fails where its peer cannot start', async () => {
+  // Node takes the options of the variable before the program: the peer, which has an argument, does not get to it.
+  const fails = 'data:text/javascript,process.argv.length > 2 && process.exit(3)';
+  const started = run(process.execPath, [example], { env: { ...process.env, NODE_OPTIONS: `--import=${JSON.stringify(fails)}` }, timeout: 60_000 });
+  await assert.rejects(started, ({ code, stderr }) => code === 1 && /the peer ended with status 3 before it connected/.test(stderr));
 });

@@ -40,6 +40,13 @@ export function fill(at, count, make, show) {
   Array.from(at.children).forEach(show);
 }
 
+/** Moves the focus from a button that was pressed to another one, if the first is disabled or hidden by now. */
+export function passFocus(from, to) {
+  if (from.disabled || from.getClientRects().length === 0) {
+    to.focus({ preventScroll: true });
+  }
+}
+
 /** Calls a function when the browser has time, and returns a function that calls it off. Safari has no idle callbacks. */
 export function whenIdle(run) {
   if (typeof requestIdleCallback !== 'function') {

@@ -5,11 +5,11 @@ import { grouped } from './words.js';
 
 let count = 0;
 
-// The place of the text: the page's own, or one that is made behind the field.
+// The place of the text: the page's own, or one that is made behind the field, and not in its label, which is its name.
 function placed(field) {
   const made = document.getElementById(`${field.id}-why`) ?? element('span', { className: 'why', id: `why-${(count += 1)}`, role: 'status', hidden: true });
   if (!made.isConnected) {
-    field.after(made);
+    (field.closest('label') ?? field).after(made);
   }
   field.setAttribute('aria-describedby', [field.getAttribute('aria-describedby'), made.id].filter(Boolean).join(' '));
   return made;

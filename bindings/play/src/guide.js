@@ -41,7 +41,8 @@ export class Guide {
     }
     mark(place?.left[0]);
     document.documentElement.style.scrollPaddingTop = place === null ? '' : `${byId('tour').offsetHeight + GAP}px`;
-    if (place !== null) {
+    // The page does not scroll away from a script that is written.
+    if (place !== null && document.activeElement !== byId('script')) {
       this.#bringIntoView();
     }
   }

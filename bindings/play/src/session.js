@@ -3,7 +3,7 @@
 
 import { Address } from './address.js';
 import { Channels } from './channels.js';
-import { byId, element, say, sayIf, whenIdle } from './dom.js';
+import { byId, element, passFocus, say, sayIf, whenIdle } from './dom.js';
 import { Editor } from './editor.js';
 import { refuse, whyNoWhole, wholeOf } from './fields.js';
 import { Guide } from './guide.js';
@@ -61,8 +61,8 @@ export class SessionView {
 
   #listen() {
     const on = (id, type, act) => byId(id).addEventListener(type, act);
-    on('back', 'click', () => this.see(this.#seen - 1));
-    on('forward', 'click', () => this.see(this.#seen + 1));
+    on('back', 'click', () => this.#step(-1, 'back', 'forward'));
+    on('forward', 'click', () => this.#step(1, 'forward', 'back'));
     on('at', 'input', () => this.see(Number(byId('at').value)));
     on('undo', 'click', () => this.#undo());
     on('clear', 'click', () => this.change({ ...this.#state, script: '' }));
@@ -70,7 +70,10 @@ export class SessionView {
     on('version', 'change', () => this.change({ ...this.#state, version: Number(byId('version').value) }));
     on('example', 'change', () => this.#showExample());
     on('copy', 'click', () => this.#copy());
-    on('allow', 'click', () => this.change(this.#allowed));
+    on('allow', 'click', () => {
+      this.change(this.#allowed);
+      passFocus(byId('allow'), byId('back'));
+    });
     on('fit', 'change', () => (this.#picture.fits = byId('fit').checked));
     on('draw', 'click', () => this.#draw());
     on('tour-do', 'click', () => this.#doTour());
@@ -100,6 +103,12 @@ export class SessionView {
     this.#show();
   }
 
+  // Shows one event more or less, by one of two buttons.
+  #step(by, pressed, other) {
+    this.see(this.#seen + by);
+    passFocus(byId(pressed), byId(other));
+  }
+
   #become(state, seen = null) {
     this.#state = state;
     this.#replayed = this.#replay(state);
@@ -119,6 +128,7 @@ export class SessionView {
     if (!this.#undone.isEmpty) {
       this.#typed = 0;
       this.#become(this.#undone.pop());
+      passFocus(byId('undo'), byId('clear'));
     }
   }
 
@@ -140,10 +150,13 @@ export class SessionView {
     }
   }
 
-  // The address was changed by hand, or a link was followed.
+  // The address was changed by hand, or a link was followed. One without a session, such as that past the header, would
+  // leave none for a reload.
   #follow() {
     const given = ofLink(location.hash);
-    if (given !== null && linkOf(given.session, given.place) !== this.#link()) {
+    if (given === null) {
+      this.#showLink();
+    } else if (linkOf(given.session, given.place) !== this.#link()) {
       this.#guide.isOn = given.place.isOnTour;
       this.change(given.session, given.place.seen);
     }
@@ -163,11 +176,13 @@ export class SessionView {
   #leaveTour() {
     this.#guide.isOn = false;
     this.#show();
+    passFocus(byId('tour-end'), byId('tour-start'));
   }
 
   #startTour() {
     this.#guide.isOn = true;
     this.change({ ...TOUR_SESSION, script: '' });
+    passFocus(byId('tour-start'), byId('tour-do'));
   }
 
   #doTour() {
@@ -181,6 +196,7 @@ export class SessionView {
 
   #backOnTour() {
     this.change({ ...TOUR_SESSION, script: tourScript(stepBack(this.#now())) });
+    passFocus(byId('tour-back'), byId('tour-do'));
   }
 
   // ---- the display

@@ -1,6 +1,6 @@
 // The view of a stream's bytes: its frames and its fault, with their offsets.
 
-import { byId, element, say } from './dom.js';
+import { byId, element, passFocus, say } from './dom.js';
 import { insertAtOnce, refuse } from './fields.js';
 import { readHex } from './hex.js';
 import { placeOf } from './library.js';
@@ -61,20 +61,27 @@ export class StreamView {
     insertAtOnce(byId('hex'), text => this.#read(text));
     byId('stream-example').addEventListener('change', () => this.#showExample());
     byId('file').addEventListener('change', () => this.#take(byId('file').files[0]));
-    byId('more').addEventListener('click', () => this.#showRows(this.#rows + ROWS));
+    byId('more').addEventListener('click', () => {
+      this.#showRows(this.#rows + ROWS);
+      passFocus(byId('more'), byId('frames').closest('[tabindex]'));
+    });
     this.#listenToDrops();
   }
 
   #listenToDrops() {
     const drop = byId('view-stream');
     const mark = isOver => byId('drop').classList.toggle('over', isOver);
-    drop.addEventListener('dragover', event => {
-      event.preventDefault();
-      mark(true);
-    });
+    // A text that is dropped into the field is left to the browser.
+    const onFiles = (type, act) =>
+      drop.addEventListener(type, event => {
+        if (event.dataTransfer.types.includes('Files')) {
+          event.preventDefault();
+          act(event);
+        }
+      });
+    onFiles('dragover', () => mark(true));
     drop.addEventListener('dragleave', () => mark(false));
-    drop.addEventListener('drop', event => {
-      event.preventDefault();
+    onFiles('drop', event => {
       mark(false);
       this.#take(event.dataTransfer.files[0]);
     });

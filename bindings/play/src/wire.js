@@ -1,6 +1,6 @@
 // The two streams, with their frames in flight, as the library reports them.
 
-import { element, fill, say } from './dom.js';
+import { element, fill, passFocus, say } from './dom.js';
 import { otherSide } from './script.js';
 import { bytesIn, counted, frameInWords } from './words.js';
 
@@ -9,7 +9,7 @@ const SHOWN = 40;
 class Lane {
   #from;
   #to;
-  #title = element('p');
+  #title = element('p', { tabIndex: -1 });
   #chips = element('ol', { className: 'chips' });
   #more = element('p', { className: 'soft' });
   #all;
@@ -21,7 +21,10 @@ class Lane {
     const to = this.#to;
     const button = (title, line) => {
       const made = element('button', { type: 'button' }, title);
-      made.addEventListener('click', () => append(line()));
+      made.addEventListener('click', () => {
+        append(line());
+        passFocus(made, this.#title);
+      });
       made.line = line;
       made.act = line();
       return made;

@@ -79,6 +79,7 @@ test('the size of the rings, up to the greatest that the library takes', async (
   ]) {
     await fill(tab, '#capacity', value, 'change');
     assert.equal(await isRefused(tab, '#capacity', why), true, 'the focus is in the field');
+    assert.equal(await tab.run(() => document.getElementById('capacity').labels[0].textContent.trim()), 'Ring, in bytes');
   }
   await fill(tab, '#capacity', '16777216', 'change');
   await taken(tab, '#capacity');
@@ -124,6 +125,20 @@ test('the bytes and the file of a stream', async () => {
   await taken(tab, '#file');
 });
 
+test('a file that is dropped is the page’s, and a text the browser’s', async () => {
+  const tab = await open(linked(EMPTY));
+  await press(tab, 'The bytes of a stream');
+  const taken = isFile =>
+    tab.run(isFile => {
+      const data = new DataTransfer();
+      isFile ? data.items.add(new File([Uint8Array.of(0x21)], 'one')) : data.setData('text/plain', '21');
+      const events = ['dragover', 'drop'].map(type => new DragEvent(type, { dataTransfer: data, bubbles: true, cancelable: true }));
+      return events.map(event => !document.getElementById('hex').dispatchEvent(event));
+    }, isFile);
+  assert.deepEqual(await taken(false), [false, false]);
+  assert.deepEqual(await taken(true), [true, true]);
+});
+
 test('the keyboard reaches the answers and moves between them', async () => {
   const script = 'B issue 1 5\n# a comment\nA arrive\nA send 1 6869\nB arrive\n'.concat('B take 1\n'.repeat(96));
   const tab = await open(linked({ ...EMPTY, script }));
@@ -150,6 +165,41 @@ test('the keyboard reaches the answers and moves between them', async () => {
   assert.deepEqual(await current(), [2]);
   await tab.press('Tab');
   assert.equal(await focused(), null);
+});
+
+test('the focus goes on where the pressed button is disabled or hidden', async () => {
+  const tab = await open(linked({ ...EMPTY, script: 'A arrive\n' }));
+  const rows = [
+    ['clear', 'clear'],
+    ['undo', 'clear'],
+    ['back', 'forward'],
+    ['forward', 'back'],
+    ['tour-start', 'tour-do'],
+    ['tour-do', 'tour-do'],
+    ['tour-back', 'tour-do'],
+    ['tour-end', 'tour-start'],
+  ];
+  for (const [pressed, focused] of rows) {
+    await tab.run(id => document.getElementById(id).focus(), pressed);
+    await tab.press('Enter');
+    assert.equal(await tab.run(() => document.activeElement.id), focused, pressed);
+  }
+});
+
+test('the focus goes on where a refusal is allowed, nothing is on the wire, and all frames are shown', async () => {
+  const tab = await open(linked({ ...EMPTY, script: 'A send 1 61\n' }));
+  const enter = async find => {
+    await tab.run(`() => (${find})().focus()`);
+    await tab.press('Enter');
+  };
+  await enter(() => document.getElementById('allow'));
+  assert.equal(await tab.run(() => document.activeElement.id), 'back');
+  await enter(() => document.querySelectorAll('.lane')[0].querySelector('button'));
+  assert.match(await tab.run(() => document.activeElement.textContent), /^A to B, .* Nothing is on the wire\.$/);
+  await press(tab, 'The bytes of a stream');
+  await write(tab, 'hex', '2100000001'.repeat(501));
+  await enter(() => document.getElementById('more'));
+  assert.equal(await tab.run(() => document.activeElement.getAttribute('aria-label')), 'The frames');
 });
 
 test('the facts of a channel, the wire and the frames, with a count of 1', async () => {

@@ -12,6 +12,8 @@ export class Tab {
     const { sessionId } = await browser.ask('Target.attachToTarget', { targetId, flatten: true });
     const tab = new Tab(browser, targetId, sessionId);
     await tab.ask('Page.enable');
+    // In a slow browser the empty page may load only now, which `load` would take for the load of the page.
+    await tab.until(() => document.readyState === 'complete');
     await tab.ask('Emulation.setDeviceMetricsOverride', { width, height, deviceScaleFactor: 1, mobile: width < 600 });
     await tab.ask('Emulation.setEmulatedMedia', { features: [{ name: 'prefers-color-scheme', value: dark ? 'dark' : 'light' }] });
     await (isPage ? tab.go(url) : tab.load('Page.navigate', { url }));

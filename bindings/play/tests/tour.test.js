@@ -115,6 +115,35 @@ test('an address without the tour shows none, and one that is followed starts it
   assert.equal(await title(tab), `2 of 12: ${TOUR[1].idea}`);
 });
 
+test('the page does not scroll away from a script that is written on the tour', async () => {
+  const tab = await open(undefined, SIZES[2]);
+  const top = () => tab.run(() => Math.round(document.getElementById('script').getBoundingClientRect().top));
+  await tab.run(() => {
+    document.getElementById('script').focus();
+    document.getElementById('script').scrollIntoView({ block: 'center' });
+  });
+  const before = await top();
+  await tab.ask('Input.insertText', { text: '# A' });
+  await tab.until(() => location.hash.includes('s=%23+A'));
+  assert.equal(await title(tab), `1 of 12: ${TOUR[0].idea}`);
+  assert.equal(await top(), before);
+});
+
+test('the link past the header leaves the session in the address', async () => {
+  const tab = await open();
+  await press(tab, 'Do it for me');
+  const hashAfter = await tab.run(
+    () =>
+      new Promise(resolve => {
+        addEventListener('hashchange', () => setTimeout(() => resolve(location.hash)), { once: true });
+        document.querySelector('.skip').click();
+      }),
+  );
+  assert.equal(hashAfter, await tab.run(() => document.getElementById('link').hash));
+  await tab.reload();
+  assert.equal((await state(tab)).script, `${TOUR_LINES[0]}\n`);
+});
+
 test('one channel is full on the tour, and another goes on', async () => {
   const tab = await open();
   while ((await state(tab)).answers.length < TOUR_LINES.indexOf('B take 2') + 1) {

@@ -160,8 +160,7 @@ async fn serve(mut requests: Receiver, mut cancels: Receiver, answers: Sender) -
                 Some(number) => {
                     let number = u64::from_be_bytes(number[..].try_into()?);
                     if let Some(work) = running.remove(&number) {
-                        work.abort();
-                        cancelled += 1;
+                        work.abort(); // unless it has sent its answer just now
                     } else if (received..received + u64::from(RING)).contains(&number) {
                         early.insert(number); // its request is still in the ring
                     }
@@ -172,7 +171,7 @@ async fn serve(mut requests: Receiver, mut cancels: Receiver, answers: Sender) -
                 Ok(answered) => {
                     running.remove(&answered?);
                 }
-                Err(error) if error.is_cancelled() => {}
+                Err(error) if error.is_cancelled() => cancelled += 1,
                 Err(panicked) => return Err(panicked.into()),
             },
         }

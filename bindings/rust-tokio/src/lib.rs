@@ -82,7 +82,8 @@ use tokio::task::JoinHandle;
 ///
 /// # Panics
 ///
-/// Outside the context of a runtime, as [`tokio::spawn`] does.
+/// Outside the context of a runtime, as [`tokio::spawn`] does. The task panics, and so aborts the session, if a
+/// [timeout](lcmux::Timeouts) is set, as the grace is by default, and the timers of the runtime are not enabled.
 ///
 /// # Examples
 ///
@@ -125,6 +126,10 @@ where
 /// # Errors
 ///
 /// The reason why the session failed.
+///
+/// # Panics
+///
+/// If a timeout is set and the timers of the runtime are not enabled, as the task of [`connect`] does.
 ///
 /// # Examples
 ///

@@ -125,10 +125,7 @@ fn frames_stalls_and_the_end_are_told_in_the_span_of_the_session() {
     let received = format!("TRACE root/session {}", frame(true));
     assert_eq!(told.with(&frame(true)), [received]);
     let waits = "DEBUG root/outer/session message=a send waits channel=Data stall=Guarantees";
-    assert_eq!(
-        told.with("a send waits"),
-        [waits, &waits.replace("Guarantees", "Slot")]
-    );
+    assert_eq!(told.with("a send waits"), [waits]);
     let waited = told.with("the send waited channel=Data stall=Guarantees waited=");
     assert_eq!(waited.len(), 1);
     let end = "session message=the session ended in order";
@@ -154,5 +151,16 @@ fn a_message_longer_than_the_ring_and_a_failure_are_warnings() {
     let oversized = "WARN root/outer/session message=a send waits for more guarantees than the peer ever issued at once channel=Data len=9 most_held=8";
     assert_eq!(told.with("than the peer ever issued"), [oversized]);
     let failed = "WARN root/outer/session message=the session failed error=the session was aborted";
+    assert_eq!(told.with("aborted"), [failed]);
+}
+
+#[test]
+fn a_session_that_fails_before_it_runs_is_told_too() {
+    let told = told(|here, _| {
+        let (mux, driver) = Mux::new(config()).unwrap();
+        mux.abort();
+        async move { assert_eq!(run(driver, here).await, Err(Closed::Aborted)) }
+    });
+    let failed = "WARN root/session message=the session failed error=the session was aborted";
     assert_eq!(told.with("aborted"), [failed]);
 }

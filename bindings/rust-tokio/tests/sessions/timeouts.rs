@@ -97,6 +97,18 @@ fn a_side_that_ended_its_direction_is_not_silent() {
     });
 }
 
+#[test]
+fn a_timeout_needs_the_timers_of_the_runtime() {
+    let _watchdog = Watchdog::new("a runtime without timers");
+    let runtime = Builder::new_current_thread().build().unwrap();
+    runtime.block_on(async {
+        let (mux, run, _there) = by_hand(rings(64), 4096);
+        assert!(run.await.unwrap_err().is_panic());
+        assert_eq!(mux.closed().await, Err(Closed::Aborted));
+        close(in_memory(grace(None))).await;
+    });
+}
+
 /// The peer is not silent, but reads nothing: a message fills the stream, and then one byte too many.
 #[test]
 fn a_side_that_stops_reading_is_given_up() {

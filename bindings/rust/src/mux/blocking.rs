@@ -18,7 +18,8 @@ use std::time::{Duration, Instant};
 /// The longest time that a write of a socket blocks before the writing thread checks the timeouts.
 const TICK: Duration = Duration::from_secs(1);
 
-/// The longest time that a write blocks if one thread alternates between both directions.
+/// The longest time that a write blocks if one thread alternates between both directions, and the length of a round if
+/// that thread has nothing to read any more.
 const TURN: Duration = Duration::from_millis(10);
 
 /// Drivers on threads.
@@ -79,8 +80,8 @@ impl Driver {
     /// [`WouldBlock`](ErrorKind::WouldBlock) and [`TimedOut`](ErrorKind::TimedOut) are no failures here.
     ///
     /// If a round moves no bytes, the thread sleeps for `interval`, or until a frame is pending. With reads that have
-    /// a timeout, use an interval of zero; over a non-blocking stream, use a few milliseconds, which bound the
-    /// latency of inbound messages.
+    /// a timeout, use an interval of zero, which counts as 10 milliseconds once the peer has ended its stream; over a
+    /// non-blocking stream, use a few milliseconds, which bound the latency of inbound messages.
     ///
     /// # Errors
     ///
@@ -120,7 +121,7 @@ impl Driver {
         let mut writer = Timed::new(stream, &shared, self.timeouts, Blocked::BetweenCalls);
         loop {
             let begin = Instant::now();
-            let until = begin.checked_add(interval);
+            let until = begin.checked_add(self.pause(interval));
             let turn = poll_fn(|cx| -> Poll<Result<(), Closed>> {
                 let written = self.poll_write(cx, &mut writer)?;
                 let mut reader = Noted {
@@ -137,6 +138,14 @@ impl Driver {
             }
             // A thread that stood still has not looked for what arrived meanwhile, which is no silence of the peer.
             writer.check_timeouts(&heard, self.is_written(), begin);
+        }
+    }
+
+    // How long a round without bytes lasts. No read makes the thread wait once the peer has ended its direction.
+    fn pause(&self, interval: Duration) -> Duration {
+        match self.is_read() && interval.is_zero() {
+            true => TURN,
+            false => interval,
         }
     }
 }

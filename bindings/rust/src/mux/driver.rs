@@ -135,13 +135,14 @@ impl Driver {
     /// that the peer ever issued at once, and for the end of the session.
     ///
     /// The thread or task whose call caused the event calls the hook, before that call returns and outside of every
-    /// lock, so the hook may call the session. Events of different threads may be reported in another order than that
-    /// in which they happened. The hook is dropped after the end of the session, which a handle that it owns delays as
-    /// any other does.
+    /// lock, so the hook may call the session. An event of such a call is reported within it. Events of different threads
+    /// may be reported in another order than that in which they happened. If the session is over, the hook is called at
+    /// once with its end. The hook is dropped after the end of the session, which a handle that it owns delays as any
+    /// other does.
     ///
     /// # Panics
     ///
-    /// If the hook panics, the call that caused the event does.
+    /// If the hook panics, the call that caused the event does, and its result is lost, such as a permit.
     ///
     /// # Examples
     ///
@@ -185,6 +186,11 @@ impl Driver {
 
     pub(super) fn is_written(&self) -> bool {
         self.writing.is_written()
+    }
+
+    // Whether the peer has ended its direction.
+    pub(super) fn is_read(&self) -> bool {
+        self.reading.result.is_some()
     }
 
     /// Runs the session over a polled transport until both directions ended or the session failed; then it drops the

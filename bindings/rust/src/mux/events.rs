@@ -46,7 +46,7 @@ pub enum Event {
         /// What the call lacks.
         stall: Stall,
     },
-    /// The first call of a sender no longer lacks that: it lacks something else, it can proceed, or none waits.
+    /// The first call of a sender no longer lacks that: it lacks something else, it can proceed, it fails, or none waits.
     Resumed {
         /// The channel.
         channel: Channel,
@@ -65,7 +65,8 @@ pub enum Event {
         /// The most guarantees that this side held at once.
         most_held: u64,
     },
-    /// The session is over, in order or by a failure. No event follows.
+    /// The session is over, in order or by a failure. No event happens after it. One that happened before may be reported
+    /// after it: by another thread, or if a hook ended the session.
     Closed(Result<(), Closed>),
 }
 
@@ -116,6 +117,11 @@ impl Lacking {
             ended: before.map(|(stall, since)| (stall, now - since)),
             begun: lack,
         }
+    }
+
+    #[cfg(test)]
+    pub fn stall(&self) -> Option<Stall> {
+        self.0.map(|(stall, _)| stall)
     }
 
     /// Adds the time up to now.

@@ -124,14 +124,25 @@ impl PollSender {
         if self.waiting.is_some_and(|waiting| waiting.len != len) {
             self.cancel();
         }
+        let PollSender { sender, waiting } = self;
+        let Sender {
+            shared,
+            channel,
+            coop,
+        } = &*sender;
         let mut call = Call {
             ask,
             is_thread: false,
-            ticket: self.waiting.map(|waiting| waiting.ticket),
+            ticket: waiting.map(|waiting| waiting.ticket),
         };
-        let polled = self.sender.poll_call(cx, &mut call);
-        self.waiting = call.ticket.map(|ticket| Waiting { ticket, len });
-        polled
+        coop.poll(cx, |cx| {
+            shared.with(|state| {
+                let polled = state.poll_send(*channel, &mut call, cx.waker());
+                // Before a hook or a waker runs: if it panics, the slot is still known.
+                *waiting = call.ticket.map(|ticket| Waiting { ticket, len });
+                polled
+            })
+        })
     }
 
     /// Cancels the waiting call, and leaves its slot of the wait queue to the next call. Returns whether a call

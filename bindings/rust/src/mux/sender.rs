@@ -69,7 +69,7 @@ impl Future for Sending<'_> {
         let Sending { sender, call } = &mut *self;
         match call.is_thread {
             true => sender.poll_at_once(cx, call),
-            false => sender.poll_call(cx, call),
+            false => sender.coop.poll(cx, |cx| sender.poll_at_once(cx, call)),
         }
     }
 }
@@ -108,15 +108,6 @@ impl Sender {
                 ticket: None,
             },
         }
-    }
-
-    /// Polls a call of a task, or yields to other tasks.
-    pub(super) fn poll_call(
-        &self,
-        cx: &mut Context<'_>,
-        call: &mut Call,
-    ) -> Poll<Result<(), SendError>> {
-        self.coop.poll(cx, |cx| self.poll_at_once(cx, call))
     }
 
     fn poll_at_once(&self, cx: &mut Context<'_>, call: &mut Call) -> Poll<Result<(), SendError>> {
@@ -213,7 +204,8 @@ impl Sender {
         let mut sender = self.clone();
         sender.coop = self.coop.fork();
         let mut sender = PollSender::new(sender);
-        async move { poll_fn(|cx| sender.poll_send(cx, body.as_ref())).await }
+        // The closure owns the message: if it borrowed it, the future would be `Send` only if the message were `Sync`, too.
+        async move { poll_fn(move |cx| sender.poll_send(cx, body.as_ref())).await }
     }
 
     /// Sends a message, as [`Sender::send`] does, and blocks the thread. Do not call it from a task of an executor.

@@ -240,9 +240,15 @@ impl State {
         self.is_idle
     }
 
-    /// Adds a hook for events.
+    /// Adds a hook for events. After the end of the session it is called for that alone, and not kept.
     pub fn hook(&mut self, hook: Hook) {
-        self.hooks.push(hook);
+        match &self.closed {
+            Some(closed) => {
+                let end = Event::Closed(closed.clone().result());
+                self.wakes.report(&[hook], end);
+            }
+            None => self.hooks.push(hook),
+        }
     }
 
     // Reports an event to all hooks, once the lock is free.

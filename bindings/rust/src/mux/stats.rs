@@ -20,7 +20,7 @@ pub struct Stats {
     /// The bytes of these messages.
     pub bytes_received: u64,
     /// The time in which the first waiting call of the sender lacked guarantees, summed over all calls so far. A call
-    /// that still waits counts.
+    /// that still waits counts, up to its notification that it can proceed or fails, however late its task polls it.
     pub waited_for_guarantees: Duration,
     /// The time in which the first waiting call had its guarantees and waited for the outbound queue, for a slot or
     /// for its bytes, summed in the same way.

@@ -1,10 +1,12 @@
 //! The events of a session: stalls, messages longer than the peer's ring, and the end.
-use crate::hand::{Call, Hand};
+use crate::hand::{Call, Count, Hand};
 use crate::*;
 use lcmux::Channel::{Data, Overlap};
-use lcmux::{Closed, Event};
+use lcmux::{Closed, Event, PollSender, SendError};
 use std::panic::{catch_unwind, AssertUnwindSafe};
+use std::sync::atomic::{AtomicBool, Ordering::Relaxed};
 use std::sync::{mpsc, Arc, Mutex, OnceLock};
+use std::task::{Context, Poll, Waker};
 use std::thread;
 use std::time::Duration;
 
@@ -25,6 +27,10 @@ impl Reported {
     fn take(&self) -> Vec<String> {
         std::mem::take(&mut *self.0.lock().unwrap())
     }
+
+    fn is_empty(&self) -> bool {
+        self.0.lock().unwrap().is_empty()
+    }
 }
 
 /// A session that reports its events.
@@ -44,14 +50,80 @@ fn a_call_that_waits_is_a_stall_until_it_goes() {
     let second = Call::waiting(sender.send(b"x"));
     assert_eq!(reported.take(), ["Data lacks Guarantees"]);
     hand.feed(&greeted("issue 1 5"));
-    let now = ["Data lacked Guarantees", "Data lacks Slot"];
-    assert_eq!(reported.take(), now);
+    // It can go now, whenever it is polled.
+    assert_eq!(reported.take(), ["Data lacked Guarantees"]);
     assert_eq!(call.woken(), Ok(()));
     // The second call is the first now.
-    let now = ["Data lacked Slot", "Data lacks Guarantees"];
-    assert_eq!(reported.take(), now);
+    assert_eq!(reported.take(), ["Data lacks Guarantees"]);
     drop(second);
     assert_eq!(reported.take(), ["Data lacked Guarantees"]);
+}
+
+/// A call that has its guarantees and finds no slot, and then loses a guarantee again before it is polled.
+#[test]
+fn a_stall_becomes_another_one() {
+    let (mut hand, reported) = reporting();
+    let sender = hand.mux.take_sender(Data).unwrap();
+    hand.feed(&greeted("issue 1 9"));
+    sender.try_send(&[7; 9]).unwrap();
+    let call = Call::waiting(sender.send(b"hello"));
+    assert_eq!(reported.take(), ["Data lacks Guarantees"]);
+    hand.feed(&frames("issue 1 5"));
+    let now = ["Data lacked Guarantees", "Data lacks Slot"];
+    assert_eq!(reported.take(), now);
+    hand.written();
+    assert_eq!(reported.take(), ["Data lacked Slot"]);
+    sender.absolve(1).unwrap();
+    assert_eq!(reported.take(), ["Data lacks Guarantees"]);
+    hand.feed(&frames("issue 1 1"));
+    assert_eq!(reported.take(), ["Data lacked Guarantees"]);
+    assert_eq!(call.woken(), Ok(()));
+    assert_eq!(reported.take(), [""; 0]);
+}
+
+/// Its call is completed on its behalf.
+#[test]
+fn a_thread_that_waits_for_guarantees_lacks_no_slot() {
+    for len in [5, 10_000] {
+        let (mut hand, reported) = reporting();
+        let sender = hand.mux.take_sender(Data).unwrap();
+        thread::scope(|scope| {
+            let thread = scope.spawn(|| sender.send_blocking(&vec![7; len]));
+            while reported.is_empty() {
+                thread::yield_now();
+            }
+            hand.feed(&greeted(&format!("issue 1 {len}")));
+            assert_eq!(thread.join().unwrap(), Ok(()));
+        });
+        let now = ["Data lacks Guarantees", "Data lacked Guarantees"];
+        assert_eq!(reported.take(), now);
+    }
+}
+
+/// However late its task polls it. The end of the session is its only event.
+#[test]
+fn a_call_that_fails_is_no_stall_any_more() {
+    for end in ["limit-receiving 1 0", "a close", "an abort"] {
+        let (mut hand, reported) = reporting();
+        let sender = hand.mux.take_sender(Data).unwrap();
+        let call = Call::waiting(sender.send(b"hello"));
+        let mut now = vec!["Data lacks Guarantees", "Data lacked Guarantees"];
+        match end {
+            "a close" => hand.mux.close(),
+            "an abort" => {
+                hand.mux.abort();
+                now[1] = "Closed(Err(Aborted))";
+            }
+            limit => hand.feed(&greeted(limit)),
+        }
+        assert_eq!(reported.take(), now, "{end}");
+        let stats = sender.stats();
+        thread::sleep(Duration::from_millis(5));
+        assert_eq!(sender.stats(), stats, "{end}");
+        assert!(call.woken().is_err());
+        assert_eq!(sender.stats(), stats, "{end}");
+        assert_eq!(reported.take(), [""; 0], "{end}");
+    }
 }
 
 #[test]
@@ -79,11 +151,12 @@ fn a_stall_tells_how_long_it_was() {
     let call = Call::waiting(sender.send(b"hello"));
     thread::sleep(Duration::from_millis(20));
     hand.feed(&greeted("issue 1 5"));
+    thread::sleep(Duration::from_millis(20)); // it was notified, and its task is late
     assert_eq!(call.woken(), Ok(()));
     let waits = waits.lock().unwrap();
     let stats = sender.stats();
-    let noted = [stats.waited_for_guarantees, stats.waited_for_slots];
-    assert_eq!(*waits, noted);
+    assert_eq!(*waits, [stats.waited_for_guarantees]);
+    assert_eq!(stats.waited_for_slots, Duration::ZERO);
     assert!(waits[0] >= Duration::from_millis(20));
 }
 
@@ -161,8 +234,8 @@ fn a_hook_may_call_the_session_and_is_not_the_only_one() {
     let sender = sender.get().unwrap();
     let call = Call::waiting(sender.send(b"hello"));
     hand.feed(&greeted("issue 1 5"));
-    assert_eq!(noted.take(), ["holds 0", "holds 5", "holds 5"]);
-    assert_eq!(reported.take().len(), 3);
+    assert_eq!(noted.take(), ["holds 0", "holds 5"]);
+    assert_eq!(reported.take().len(), 2);
     drop(call);
 }
 
@@ -175,6 +248,26 @@ fn a_hook_is_dropped_after_the_last_event() {
     hand.driver
         .on_event(move |_| assert_eq!(owned.channel(), Data));
     hand.mux.abort();
+    assert_eq!(Arc::strong_count(&sender), 1);
+}
+
+/// As one that a session gets when it is run after it was aborted.
+#[test]
+fn a_hook_that_comes_after_the_end_is_told_of_it_and_dropped() {
+    let mut hand = Hand::started(narrow());
+    let (first, second) = (Reported::default(), Reported::default());
+    let noted = first.clone();
+    hand.driver.on_event(move |event| noted.note(event));
+    let sender = Arc::new(hand.mux.take_sender(Data).unwrap());
+    hand.mux.abort();
+    let (owned, noted) = (Arc::clone(&sender), second.clone());
+    hand.driver.on_event(move |event| {
+        assert_eq!(owned.held(), 0);
+        noted.note(event);
+    });
+    for reported in [first, second] {
+        assert_eq!(reported.take(), ["Closed(Err(Aborted))"]);
+    }
     assert_eq!(Arc::strong_count(&sender), 1);
 }
 
@@ -222,4 +315,58 @@ fn a_hook_that_panics_delays_no_other_call() {
     assert!(aborted.is_err());
     assert_eq!(call.woken(), Err(Closed::Aborted.into()));
     assert_eq!(recv.woken(), Err(Closed::Aborted));
+}
+
+/// A session with a hook that panics at the next event if it is armed, and the switch that arms it.
+fn armed() -> (Hand, Arc<AtomicBool>) {
+    let mut hand = Hand::started(narrow());
+    let is_armed = Arc::new(AtomicBool::new(false));
+    let armed = Arc::clone(&is_armed);
+    hand.driver
+        .on_event(move |_| assert!(!armed.swap(false, Relaxed), "a hook"));
+    (hand, is_armed)
+}
+
+/// Polls once; `None` if it panics.
+fn caught(sender: &mut PollSender, body: &[u8]) -> Option<Poll<Result<(), SendError>>> {
+    let waker = Waker::from(Arc::new(Count::default()));
+    let mut cx = Context::from_waker(&waker);
+    catch_unwind(AssertUnwindSafe(|| sender.poll_send(&mut cx, body))).ok()
+}
+
+/// The call waits: it may be polled again, and leaves its slot when it is cancelled.
+#[test]
+fn a_polled_call_that_a_hook_interrupts_keeps_its_slot() {
+    let (mut hand, is_armed) = armed();
+    let sender = hand.mux.take_sender(Data).unwrap();
+    let mut polled = PollSender::new(sender.clone());
+    is_armed.store(true, Relaxed);
+    assert_eq!(caught(&mut polled, b"hello"), None);
+    assert_eq!(caught(&mut polled, b"hello"), Some(Poll::Pending));
+    assert!(polled.cancel());
+    hand.feed(&greeted("issue 1 1"));
+    assert_eq!(Call::new(sender.send(b"x")).poll(), Some(Ok(())));
+}
+
+/// The message was sent, and the next one is another.
+#[test]
+fn a_polled_call_that_a_hook_interrupts_is_not_taken_for_the_next() {
+    let (mut hand, is_armed) = armed();
+    let sender = hand.mux.take_sender(Data).unwrap();
+    let mut polled = PollSender::new(sender.clone());
+    assert_eq!(caught(&mut polled, b"one"), Some(Poll::Pending));
+    let behind = Call::waiting(sender.send(b"behind"));
+    hand.feed(&greeted("issue 1 3"));
+    is_armed.store(true, Relaxed);
+    assert_eq!(
+        caught(&mut polled, b"one"),
+        None,
+        "the next call lacks credit"
+    );
+    assert_eq!(hand.written(), frames("send 1 6f6e65"));
+    assert_eq!(caught(&mut polled, b"two"), Some(Poll::Pending));
+    drop(behind);
+    hand.feed(&frames("issue 1 3"));
+    assert_eq!(caught(&mut polled, b"two"), Some(Poll::Ready(Ok(()))));
+    assert_eq!(hand.written(), frames("send 1 74776f"));
 }

@@ -3,9 +3,11 @@ use crate::hand::{Call, Hand};
 use crate::*;
 use lcmux::Channel::{Data, Overlap};
 use lcmux::{Closed, Refusal, SendError, Sender};
+use std::cell::Cell;
 use std::future::Future;
 use std::panic::{catch_unwind, AssertUnwindSafe};
 use std::sync::Arc;
+use std::thread;
 
 fn with_room() -> (Hand, Sender) {
     let mut hand = Hand::started(narrow());
@@ -148,6 +150,25 @@ fn a_call_owns_its_message_of_any_type() {
         assert_eq!(call.poll(), Some(Ok(())));
         assert_eq!(hand.written(), frames(&format!("send 1 {byte:x}")));
     }
+}
+
+/// A message that may move to another thread, and be used by one thread at a time.
+struct Counted(Vec<u8>, Cell<u32>);
+
+impl AsRef<[u8]> for Counted {
+    fn as_ref(&self) -> &[u8] {
+        self.1.set(self.1.get() + 1);
+        &self.0
+    }
+}
+
+#[test]
+fn a_call_goes_to_another_thread_as_its_message_does() {
+    let (mut hand, sender) = with_room();
+    let call = sender.send_owned(Counted(vec![b'a'], Cell::new(0)));
+    let sent = thread::spawn(move || Call::new(call).poll());
+    assert_eq!(sent.join().unwrap(), Some(Ok(())));
+    assert_eq!(hand.written(), frames("send 1 61"));
 }
 
 /// It outlives the sender, whose channel ends behind it.

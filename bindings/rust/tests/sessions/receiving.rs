@@ -293,13 +293,6 @@ fn a_call_within_a_call_leaves_its_wake_ups_to_it() {
     assert_eq!(recv.join().unwrap(), Ok(Some(b"hi".to_vec())));
 }
 
-// The processor time of this thread, in hundredths of a second: fields 14 and 15 of its line.
-fn ran() -> u64 {
-    let line = std::fs::read_to_string("/proc/thread-self/stat").unwrap();
-    let words = line.rsplit(')').next().unwrap().split(' ').skip(12).take(2);
-    words.map(|word| word.parse::<u64>().unwrap()).sum()
-}
-
 #[test]
 fn a_thread_that_waits_sleeps() {
     let mut hand = Hand::started(narrow());

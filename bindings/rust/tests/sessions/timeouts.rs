@@ -138,6 +138,27 @@ fn a_peer_that_ended_its_stream_is_not_silent() {
     }
 }
 
+/// No read makes the thread of an unsplit stream wait then.
+#[test]
+fn a_thread_whose_peer_has_ended_its_stream_sleeps() {
+    let _watchdog = Watchdog::new("half a session that sleeps");
+    let (here, mut there) = UnixStream::pair().unwrap();
+    there.write_all(&[GREETING, &finishes()].concat()).unwrap();
+    there.shutdown(Shutdown::Write).unwrap();
+    here.set_read_timeout(Some(Duration::from_millis(5)))
+        .unwrap();
+    let (mux, driver) = Mux::new(with(timeouts(|_| {}))).unwrap();
+    let run = thread::spawn(move || {
+        let before = ran();
+        (driver.run_unsplit(here, Duration::ZERO), ran() - before)
+    });
+    thread::sleep(3 * SHORT);
+    mux.close();
+    let (ended, hundredths) = run.join().unwrap();
+    assert_eq!(ended, Ok(()));
+    assert!(hundredths < 20, "{hundredths} hundredths of a second");
+}
+
 // Whether both sides end in order, after they sent nothing for longer than the timeout.
 fn keep_each_other_alive(way: Way) -> bool {
     let timeouts = timeouts(|it| {

@@ -529,11 +529,21 @@ impl State {
     }
 
     fn front_needs(&mut self, channel: Channel, needs: Needs) {
-        self.note(channel, needs);
         self.stale &= !bit(channel);
         match needs {
-            Needs::Guarantees(_) | Needs::MoreThanEverIssued { .. } => self.able &= !bit(channel),
+            Needs::Guarantees(_) | Needs::MoreThanEverIssued { .. } => {
+                self.able &= !bit(channel);
+                self.note(channel, Some(Stall::Guarantees));
+            }
+            Needs::Slot => {
+                self.able |= bit(channel);
+                self.note(channel, Some(Stall::Slot));
+            }
+            // Whether it lacks the queue is known once the calls that can proceed are notified.
             _ => self.able |= bit(channel),
+        }
+        if let Needs::MoreThanEverIssued { most, .. } = needs {
+            self.report_oversized(channel, most);
         }
     }
 
@@ -574,24 +584,16 @@ impl State {
             self.owing_out |= bit(channel);
         }
         if !line.has_calls() {
-            let change = line.lacking.note(None, &mut self.stats[channel]);
-            self.report_stalls(channel, change);
+            self.note(channel, None);
         }
         removed.and_then(|waiter| waiter.waker)
     }
 
-    // Measures from now on what the first waiting call lacks.
-    fn note(&mut self, channel: Channel, needs: Needs) {
-        let lack = match needs {
-            Needs::Guarantees(_) | Needs::MoreThanEverIssued { .. } => Stall::Guarantees,
-            _ => Stall::Slot,
-        };
+    // Measures from now on what the first waiting call lacks, if it lacks anything.
+    fn note(&mut self, channel: Channel, lack: Option<Stall>) {
         let lacking = &mut self.out[channel].line.lacking;
-        let change = lacking.note(Some(lack), &mut self.stats[channel]);
+        let change = lacking.note(lack, &mut self.stats[channel]);
         self.report_stalls(channel, change);
-        if let Needs::MoreThanEverIssued { most, .. } = needs {
-            self.report_oversized(channel, most);
-        }
     }
 
     // Reports the first call of the channel, once, as one that waits for more than was ever issued.
@@ -622,6 +624,12 @@ impl State {
         }
         for channel in channels(self.hopeless) {
             self.wake_first(channel);
+            self.note(channel, None);
+        }
+        for channel in channels(self.able) {
+            // A call that was notified lacks nothing, however late it is polled.
+            let is_notified = self.notified & bit(channel) != 0;
+            self.note(channel, (!is_notified).then_some(Stall::Slot));
         }
     }
 
@@ -681,5 +689,8 @@ impl State {
         (self.able, self.stale) = (0, ALL);
         let calls = self.out.iter_mut().flat_map(|out| out.line.calls());
         calls.for_each(|waiter| self.wakes.wake(waiter.waker.take()));
+        for channel in Channel::ALL {
+            self.note(channel, None);
+        }
     }
 }

@@ -1,6 +1,7 @@
 //! Random calls of senders: those of tasks, which may be cancelled or never polled again, beside those of threads,
 //! which any change of the session may complete on their behalf; and the rules one by one.
 use super::{Ask, Call, Pulled, State, BORROWED_FROM};
+use crate::mux::events::Stall;
 use crate::{Channel, Closed, Config, Needs, SendError, TrySendError, Version, CHANNELS};
 use std::collections::VecDeque;
 use std::env;
@@ -356,18 +357,27 @@ fn send(
     answer.map_ok(|()| body.len())
 }
 
-// The invariant between two changes: every call that can proceed was notified, and a call that lacks bytes waits for
-// the writing half.
+// The invariant between two changes: every call that can proceed was notified, a call that lacks bytes waits for the
+// writing half, and what the first call lacks is measured.
 fn assert_settled(state: &mut State) {
     let places_left = state.peer.slots_left();
     state.slots.follow(places_left);
     for channel in Channel::ALL {
+        let measured = state.out[channel].line.lacking.stall();
         let Some(first) = state.out[channel].line.first() else {
+            assert_eq!(measured, None, "nothing waits on {channel:?}");
             continue;
         };
         let (ticket, len) = (first.ticket, first.len);
         let (bit, least) = (1 << channel.number(), first.least);
-        match state.lacks(channel, least, Some(ticket)) {
+        let lacks = state.lacks(channel, least, Some(ticket));
+        let lacking = match &lacks {
+            Ok(Needs::Nothing) => (state.notified & bit == 0).then_some(Stall::Slot),
+            Ok(_) => Some(Stall::Guarantees),
+            Err(_) => None,
+        };
+        assert_eq!(measured, lacking, "{channel:?}");
+        match lacks {
             Ok(Needs::Nothing) if state.notified & bit != 0 => {}
             Ok(Needs::Nothing) => {
                 assert!(

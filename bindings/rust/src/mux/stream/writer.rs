@@ -17,7 +17,8 @@ use std::time::{Duration, Instant};
 /// # Messages
 ///
 /// A write sends one message: the first bytes of what it is given, as many as this side holds guarantees for, and at
-/// most [`largest_message`](Writer::largest_message), which is 16,384 at first. It waits while this side holds no
+/// most [`largest_message`](Writer::largest_message). At first that is 16,384, or the [longest
+/// message](crate::Config::longest) that the application stated, if that is shorter. It waits while this side holds no
 /// guarantee, and then one is enough. So a writer never sends a message that is longer than the peer's ring buffer,
 /// which would wait for good, and a stream proceeds over a ring of one byte, too.
 ///
@@ -37,8 +38,8 @@ use std::time::{Duration, Instant};
 /// A write fails, and a failed write sent nothing, with an error of the kind
 ///
 /// - `BrokenPipe` if the peer dropped its receiver or limited the channel, and this side has sent what it still could,
-///   or if this side finished the channel or used up a limit of its own. The inner error is the
-///   [`SendError`](crate::SendError).
+///   if this side finished the channel or used up a limit of its own, or if the peer issued fewer guarantees than the
+///   longest message that the application stated. The inner error is the [`SendError`](crate::SendError).
 /// - `OutOfMemory` if an allocation failed. The same write may be made again.
 /// - `TimedOut` if [the timeout of the writer](Writer::set_timeout) expired. The same write may be made again.
 ///
@@ -104,7 +105,7 @@ impl Sender {
 }
 
 impl Writer {
-    /// The length of the longest message of a new writer.
+    /// The length of the longest message of a new writer, unless the application stated a shorter one.
     pub const LARGEST_MESSAGE: usize = 16_384;
 
     /// Returns the length of the longest message that a write sends.
