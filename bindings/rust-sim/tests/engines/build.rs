@@ -1,6 +1,7 @@
 //! Copies the examples `calls` and `sync` of lcmux-tokio, as they are and with a bug each, into modules for the simulator.
 //!
-//! Each edit replaces a text that the example has once, so an edit that fits no more fails the build.
+//! Each edit replaces a text that the example has once. If an edit for the simulator fits no more, the build fails. If a
+//! bug does, its copy has none, and the test that finds it fails.
 use std::path::{Path, PathBuf};
 use std::{env, fs};
 
@@ -178,10 +179,16 @@ fn text_of(path: &Path, bug: Option<&Edit>) -> String {
     // The documentation of a file stands at its beginning, and here another module begins.
     let lines = text.lines().filter(|line| !line.starts_with("//!"));
     let mut text: String = lines.map(|line| format!("{line}\n")).collect();
-    let edits = SIMULATED.iter().chain([&RINGS]).chain(bug);
-    for Edit { from, to, .. } in edits.filter(|edit| path.ends_with(edit.file)) {
-        assert_eq!(text.matches(from).count(), 1, "{}: {from}", path.display());
-        text = text.replacen(from, to, 1);
+    let edits = SIMULATED.iter().chain([&RINGS]).map(|edit| (edit, true));
+    let edits = edits.chain(bug.map(|edit| (edit, false)));
+    for (Edit { from, to, .. }, is_needed) in edits.filter(|it| path.ends_with(it.0.file)) {
+        if text.matches(from).count() == 1 {
+            text = text.replacen(from, to, 1);
+            continue;
+        }
+        let why = format!("{} has not once: {from:?}", path.display());
+        assert!(!is_needed, "{why}");
+        println!("cargo:warning={why}"); // a reader plants a bug there: the one of this copy is not found
     }
     text
 }
