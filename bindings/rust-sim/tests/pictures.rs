@@ -3,7 +3,7 @@
 mod common;
 
 use common::talked;
-use lcmux_sim::{Faults, Side, Sim, Trace};
+use lcmux_sim::{Faults, Side, Sim};
 use lcmux_tokio::lcmux::{Channel, Config, Peer, Take, Version, CHANNELS};
 
 /// Two peers, and what each wrote and has received.
@@ -73,11 +73,6 @@ fn bytes_of(hex: &str) -> Vec<u8> {
         .collect()
 }
 
-/// The bytes that a side wrote, up to its last whole frame, in version Two: the replay has one version for both sides.
-fn frames_of(trace: &Trace, side: Side) -> Vec<String> {
-    trace.frames(side)
-}
-
 #[test]
 fn the_script_of_a_run_writes_its_frames() {
     let mut messages = 0;
@@ -95,7 +90,7 @@ fn the_script_of_a_run_writes_its_frames() {
         lines.for_each(|line| replay.make(line));
         for (at, side) in Side::ALL.into_iter().enumerate() {
             let written = run.trace.written(side);
-            let frames = frames_of(&run.trace, side);
+            let frames = run.trace.frames(side);
             assert_eq!(replay.ends[at].len(), frames.len(), "seed {seed}");
             // Side B writes the version of the replay, and A does if B wrote nothing.
             let same_version = written.starts_with(b"LCM\x02") == (version == Version::Two);
