@@ -554,6 +554,10 @@ fn so_many_bytes_of_messages_wait() {
     ));
     assert!(is_sent(&mut state, Data, 1_048_576));
     assert!(!is_sent(&mut state, Overlap, 1));
+    pull(&mut state, 1 << 21);
+    assert!(is_sent(&mut state, Overlap, 1));
+    assert!(!is_sent(&mut state, Data, 65_536));
+    assert!(is_sent(&mut state, Data, 65_535));
 }
 
 /// Only the bytes of messages count, each until it is taken: 13,107 messages of 5 bytes, and one more byte.
