@@ -2,7 +2,7 @@
 mod common;
 
 use common::{config, talked};
-use lcmux_sim::{Event, Fault, Faults, Kind, Run, Side, Sim, Stream};
+use lcmux_sim::{Entry, Event, Fault, Faults, Kind, Run, Side, Sim, Stream};
 use lcmux_tokio::lcmux::{Channel, Mux, PollRead, Refusal, TrySendError, Version};
 use std::cell::RefCell;
 use std::future::poll_fn;
@@ -127,20 +127,6 @@ fn after_a_silence_nothing_arrives() {
 
 #[test]
 fn a_side_crashes_and_the_other_one_reads_an_end_or_a_reset() {
-    for seed in 0..50 {
-        let run = raw(seed, Faults::none().with(&[Kind::Crash]).within(BYTES));
-        let entries = run.trace.entries().iter();
-        let times = |is: fn(&Event) -> bool| {
-            entries
-                .clone()
-                .filter(move |it| is(&it.event))
-                .map(|it| (it.side, it.at))
-        };
-        let mut struck: Vec<_> = times(|it| matches!(it, Event::Fault(_))).collect();
-        struck.dedup(); // two crashes of one side
-        let crashed: Vec<_> = times(|it| *it == Event::Crashed).collect();
-        assert_eq!(struck, crashed, "at once");
-    }
     let mut ends = [0; 2];
     for (fault, here, there) in struck(Kind::Crash) {
         let there = there.unwrap();
@@ -158,6 +144,31 @@ fn a_side_crashes_and_the_other_one_reads_an_end_or_a_reset() {
         }
     }
     assert!(ends[0] > 5 && ends[1] > 5, "{ends:?}");
+}
+
+/// The future of the side waits for something else while its tasks use the stream.
+#[test]
+fn a_crash_drops_its_future_at_once() {
+    let side = |stream| async {
+        let task = tokio::spawn(both(stream));
+        sleep(Duration::from_secs(1_000)).await;
+        task.await.unwrap()
+    };
+    let mut crashes = 0;
+    for seed in 0..50 {
+        let faults = Faults::none().with(&[Kind::Crash]).within(BYTES);
+        let run = Sim::new(seed, faults).run(side, side);
+        let entries = run.trace.entries();
+        let crashed = entries.iter().filter(|it| it.event == Event::Crashed);
+        for crash in crashed {
+            let is_cause =
+                |it: &Entry| matches!(it.event, Event::Fault(_)) && it.side == crash.side;
+            let struck = entries.iter().find(|it| is_cause(it)).unwrap();
+            assert_eq!(struck.at, crash.at);
+            crashes += 1;
+        }
+    }
+    assert!(crashes > 10, "{crashes}");
 }
 
 /// The closure of a crash runs while the future still is.
