@@ -28,15 +28,16 @@ const SCRIPTS = {
     hello(wasm).then(console.log);`,
   'own.js': `import { Channel, open } from 'lcmux';
     import { hello } from './bundled.js';
-    // A session that is its own peer.
-    async function echoed() {
-      const session = await open(new TransformStream());
-      await session.channel(Channel.Data).send(Uint8Array.of(7));
-      const [byte] = await session.channel(Channel.Data).receive();
-      await session.close();
+    async function opened() {
+      const [there, back] = [new TransformStream(), new TransformStream()];
+      const ends = [{ readable: back.readable, writable: there.writable }, { readable: there.readable, writable: back.writable }];
+      const [alice, bob] = await Promise.all(ends.map(it => open(it)));
+      await alice.channel(Channel.Data).send(Uint8Array.of(7));
+      const [byte] = await bob.channel(Channel.Data).receive();
+      await Promise.all([alice.close(), bob.close()]);
       return byte;
     }
-    export const own = async () => (await hello()) + (await echoed());`,
+    export const own = async () => (await hello()) + (await opened());`,
   'page-own.js': `import { own } from './own.js';
     own().then(said => (document.title = said), error => (document.title = String(error)));`,
   'node-own.js': `import { own } from './own.js';
