@@ -10,7 +10,7 @@ const PARTS = [
     title: 'held',
     worth: (n, from, to) =>
       `${counted(n, 'guarantee')} that ${from} holds. It may send a message of up to ${bytesIn(n)}; each byte spends one. ` +
-      `For each, ${to} keeps a byte of its ring free.`,
+      `For each, ${to} reserves a byte of its ring.`,
   },
   {
     name: 'wire',

@@ -27,13 +27,13 @@ export const TOUR = Object.freeze([
   {
     idea: 'Guarantees',
     channel: 1,
-    text: 'A holds 8 guarantees, and for each of them B keeps one byte of its ring free. Let A send “hi” again: it spends 2, one for each byte.',
+    text: 'A holds 8 guarantees, and for each of them B reserves one byte of its ring. Let A send “hi” again: it spends 2, one for each byte.',
     lines: ['A send 1 6869'],
   },
   {
     idea: 'Guarantees',
     channel: 1,
-    text: 'A has 6 guarantees left. The other 2 bytes are on the wire, as a message now. Let it arrive at B, where its bytes are kept free.',
+    text: 'A has 6 guarantees left. The other 2 bytes are on the wire, as a message now. Let it arrive at B, where its bytes are reserved.',
     lines: ['B arrive'],
   },
   {
