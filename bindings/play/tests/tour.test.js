@@ -165,6 +165,7 @@ test('the page alone says what a newcomer asks', async () => {
   await press(tab, 'Leave the tour');
   const words = await tab.run(() => Object.fromEntries(Array.from(document.querySelectorAll('#words dt'), it => [it.textContent, it.nextElementSibling.textContent])));
   const asked = {
+    Ring: [/held.*\(slanted stripes\), on the wire.*\(upright stripes\), buffered.*\(solid\), and free \(gray\): neither promised/],
     Guarantee: [/one byte of send credit/i, /receiver gives it/],
     'What stops a sender': [/longer than the guarantees/, /limit/],
     Plead: [/takes none away/, /sender decides/],
