@@ -60,7 +60,7 @@ export function sentenceOf(library, line, answer) {
   const refusal = refusalOf(answer);
   if (refusal) {
     const compared = refusal.name === null ? '' : ` (${refusal.name} ${refusal.value})`;
-    return `${asked}. Refused, ${refusal.number}: ${library.sentence(refusal.number)}${compared}. Nothing has changed.`;
+    return `${asked}. Refusal ${refusal.number}: ${library.sentence(refusal.number)}${compared}. Nothing has changed.`;
   }
   return `${asked}. ${answerInWords(event, answer)}`;
 }

@@ -129,7 +129,7 @@ test('each refusal says its number, its sentence and what would have allowed it'
     const session = { capacity: 8, version: 1, script: `${script}\n` };
     await write(tab, 'script', session.script);
     const shown = await state(tab);
-    assert.equal(shown.said.includes(`Refused, ${number}: ${sentence}. Nothing has changed.`), true, shown.said);
+    assert.equal(shown.said.includes(`Refusal ${number}: ${sentence}. Nothing has changed.`), true, shown.said);
     if (allowed !== null) {
       assert.equal(shown.allowed, allowed);
       await press(tab, 'Show that');
@@ -144,7 +144,7 @@ test('each refusal says its number, its sentence and what would have allowed it'
   await write(tab, 'version', '2', 'change');
   await write(tab, 'script', 'A finish 1\nA send 1 61\n');
   const shown = await state(tab);
-  assert.match(shown.said, /Refused, 15: the channel is finished/);
+  assert.match(shown.said, /Refusal 15: the channel is finished/);
   assert.equal(shown.allowed, 'nothing that this page knows of: the refusal is for good.');
 });
 

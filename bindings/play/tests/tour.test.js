@@ -167,7 +167,7 @@ test('the page alone says what a newcomer asks', async () => {
   const asked = {
     Ring: [/held.*\(slanted stripes\), on the wire.*\(upright stripes\), buffered.*\(solid\), and free \(gray\): neither promised/],
     Guarantee: [/one byte of send credit/i, /receiver gives it/],
-    'What stops a sender': [/longer than the guarantees/, /limit/],
+    'What stops a sender': [/longer than the guarantees/, /limit/, /waits until more arrive/],
     Plead: [/takes none away/, /sender decides/],
     'A full channel': [/The other channels go on/],
   };
