@@ -85,7 +85,7 @@ export const TOUR = Object.freeze([
 /** The text after the last step. */
 export const TOUR_END =
   'Held, on the wire, buffered and free: at every step they were the whole ring. There are five other channels, and B can ' +
-  'send to A on each of the seven. Go on by yourself, or leave the tour and choose an example.';
+  'send to A on each of the seven. Go on by yourself, or leave the tour, choose an example, or copy the link to your session.';
 
 export const TOUR_LINES = Object.freeze(TOUR.flatMap(({ lines }) => lines));
 

@@ -170,6 +170,7 @@ test('the page alone says what a newcomer asks', async () => {
     'What stops a sender': [/longer than the guarantees/, /limit/, /waits until more arrive/],
     Plead: [/takes none away/, /sender decides/],
     'A full channel': [/The other channels go on/],
+    Link: [/Copy the link/, /whole session behind its #/, /send the file, too/],
   };
   for (const [word, patterns] of Object.entries(asked)) {
     patterns.forEach(pattern => assert.match(words[word], pattern));
