@@ -64,6 +64,12 @@ export class Guide {
     if (above > 0) {
       scrollBy({ top: -above, behavior: 'instant' });
     }
+    // The last answer, too, as far as the lower edge has space for it.
+    const hidden = byId('tour').getBoundingClientRect().bottom + GAP - byId('now').getBoundingClientRect().top;
+    const space = innerHeight - GAP - Math.max(...places().map(({ bottom }) => bottom));
+    if (hidden > 0 && space > 0) {
+      scrollBy({ top: -Math.min(hidden, space), behavior: 'instant' });
+    }
   }
 }
 

@@ -39,6 +39,8 @@ for (const size of SIZES) {
       await tab.run(() => document.querySelector('button.next').click());
     }
     assert.equal((await state(tab)).script, TOUR_LINES.map(line => `${line}\n`).join(''));
+    const [card, answer] = await tab.run(() => [document.getElementById('tour').getBoundingClientRect().bottom, document.getElementById('now').getBoundingClientRect().top]);
+    assert.ok(card <= answer, `the card ends at ${card} and the last answer begins at ${answer}`);
   });
 }
 
