@@ -17,7 +17,7 @@ const PARTS = [
     title: 'on the wire',
     worth: (n, from, to) =>
       `${bytesIn(n)} promised by ${to} and not held by ${from}: under way, in guarantees that have not arrived, ` +
-      `in messages, or in guarantees given back.`,
+      `in messages, or in guarantees given back or waived.`,
   },
   {
     name: 'buffered',

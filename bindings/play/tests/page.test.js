@@ -395,7 +395,7 @@ test('every control has a name, every part of a bar its worth, and no identity i
   assert.ok(controls.length > 40);
   assert.deepEqual(controls.filter(({ name }) => !name?.value).map(({ role }) => role.value), []);
   const names = controls.map(({ name }) => name.value);
-  assert.ok(names.includes('5 bytes promised by B and not held by A: under way, in guarantees that have not arrived, in messages, or in guarantees given back.'));
+  assert.ok(names.includes('5 bytes promised by B and not held by A: under way, in guarantees that have not arrived, in messages, or in guarantees given back or waived.'));
   const calls = (from, to) => ['Send', 'Honour the plead', 'Absolve', 'Limit sending to', 'Finish'].map(it => `${it}, ${from}, channel 1`).concat(['Issue', 'Take', 'Plead to hold', 'Limit issuing to'].map(it => `${it}, ${to}, channel 1`));
   for (const [from, to] of ['AB', 'BA']) {
     const found = await tab.run(name => Array.from(document.querySelectorAll(`section[aria-label="${name}"] .calls button`), it => it.getAttribute('aria-label')), `From ${from} to ${to} on channel 1`);
