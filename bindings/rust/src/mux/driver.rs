@@ -471,6 +471,7 @@ impl Writing {
                     grow(&mut self.buffer, count);
                 }
                 Pulled::Idle if self.is_idle => return Poll::Pending,
+                Pulled::Soon => break,
                 Pulled::Idle => ready!(self.poll_flush(cx, writer))?,
                 Pulled::End => {
                     ready!(self.poll_flush(cx, writer))?;

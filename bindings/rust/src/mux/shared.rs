@@ -210,7 +210,7 @@ mod tests {
             match pulled {
                 Pulled::Bytes(count, _) => &self.buffer[..count],
                 Pulled::Idle => &[],
-                Pulled::End | Pulled::Over(_) => unreachable!(),
+                Pulled::Soon | Pulled::End | Pulled::Over(_) => unreachable!(),
             }
         }
 

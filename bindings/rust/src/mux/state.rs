@@ -81,6 +81,8 @@ pub(crate) enum Pulled {
     Bytes(usize, Option<Lent>),
     /// No frame is pending. The writing half is woken once one is.
     Idle,
+    /// No frame is pending, and calls that were notified are about to be made: the writing half pulls again after them.
+    Soon,
     /// No frame will follow: the stream ends.
     End,
     /// The session is over.
@@ -102,6 +104,8 @@ pub(crate) struct State {
     memory: Vec<u8>,
     /// Whether the writing half borrows the first frame of the queue.
     is_lent: bool,
+    /// Whether the writing half found no frame, and pulls again, since it last took any.
+    pulls_again: bool,
     /// The number of messages and permits so far.
     turns: u64,
     /// Channels whose receiver or sender may have pending control frames, as bits, and the channel that is served
@@ -175,6 +179,7 @@ impl State {
             long: 0,
             memory: Vec::new(),
             is_lent: false,
+            pulls_again: false,
             turns: 0,
             owing_in: ALL,
             owing_out: ALL,
@@ -320,6 +325,7 @@ impl State {
         if count > 0 {
             let len = lent.map_or(count, |message| count + message.len());
             self.bytes.take(len);
+            self.pulls_again = false;
             self.settle();
             return Pulled::Bytes(count, lent);
         }
@@ -330,7 +336,22 @@ impl State {
         if self.closing {
             return Pulled::End;
         }
+        self.pull_nothing(waker)
+    }
+
+    // The writing half gives notified tasks one turn to send. Then it is idle, and the calls that wait for the bytes of
+    // such a task are notified, too.
+    fn pull_nothing(&mut self, waker: &Waker) -> Pulled {
+        if !self.pulls_again && self.waits_for_bytes() {
+            self.pulls_again = true;
+            return Pulled::Soon;
+        }
         self.is_idle = true;
+        self.wake_senders();
+        if self.peer.wants_write() {
+            self.is_idle = false;
+            return Pulled::Soon;
+        }
         keep(&mut self.writer, waker, &mut self.wakes);
         Pulled::Idle
     }

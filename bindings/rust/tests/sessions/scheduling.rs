@@ -110,6 +110,28 @@ fn a_call_that_is_dropped_notifies_the_next() {
     assert_eq!(sender.try_send(b"x"), Ok(()));
 }
 
+/// A driver with nothing left to write is polled once more, after the tasks that were just woken. Then the calls behind
+/// a forgotten one are notified.
+#[test]
+fn a_driver_is_polled_once_more_for_the_calls_behind_a_forgotten_task() {
+    let mut hand = Hand::started(with_slots(32));
+    hand.feed(&greeted("issue 0 99999, issue 1 99999, issue 2 99999"));
+    let (senders, long) = (senders(&mut hand), vec![7; 40_000]);
+    for _ in 0..2 {
+        senders[0].try_send(&long).unwrap();
+        let forgotten = Call::waiting(senders[1].send(&long));
+        let behind = Call::waiting(senders[2].send(&long));
+        let before = hand.write_wakes();
+        assert_eq!(hand.written().len(), 40_005);
+        assert_eq!((forgotten.wakes(), behind.wakes()), (1, 0));
+        assert_eq!(hand.write_wakes(), before + 1);
+        assert_eq!(hand.written(), []);
+        assert_eq!(hand.write_wakes(), before + 1);
+        assert_eq!(behind.woken(), Ok(()));
+        assert_eq!(hand.written().len(), 40_005);
+    }
+}
+
 /// Futures and permits of six channels are leaked, once they wait or once they were woken: the seventh channel still
 /// sends.
 #[test]

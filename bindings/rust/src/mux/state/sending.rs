@@ -2,7 +2,8 @@
 //!
 //! The first waiting call of a channel *can proceed* once it has its guarantees, there is a slot for it, and its
 //! bytes fit into the queue. After [`State::settle`] each such call was completed, if a thread made it, or else
-//! notified. So a future that is not polled delays its own channel alone.
+//! notified, apart from calls whose bytes do not fit beside those of calls that were just notified: these follow at
+//! the next pull of the writing half. So a future that is not polled delays its own channel alone.
 use super::line::{Left, Place, Waiter};
 use super::{bit, channels, keep, State, ALL};
 use crate::mux::events::{Event, Stall};
@@ -466,8 +467,26 @@ impl State {
     }
 
     fn has_bytes(&self, len: usize) -> bool {
-        let taken = self.bytes.messages();
+        self.has_bytes_beside(0, len)
+    }
+
+    pub(super) fn has_bytes_beside(&self, others: usize, len: usize) -> bool {
+        let taken = self.bytes.messages() + others;
         taken == 0 || taken + len <= MOST_QUEUED
+    }
+
+    // The bytes of the calls that were notified since the writing half last took frames. Only the notification of
+    // another call waits for them, and not for a call that is not made: an idle writing half awaits none.
+    pub(super) fn awaited(&self) -> usize {
+        if self.is_idle {
+            return 0;
+        }
+        let firsts = channels(self.fresh).filter_map(|it| self.out[it].line.first());
+        firsts.map(|first| first.len).sum()
+    }
+
+    pub(super) fn waits_for_bytes(&self) -> bool {
+        self.waiting_for_bytes() != 0
     }
 
     fn is_its_turn(&mut self, channel: Channel) -> bool {
@@ -642,7 +661,10 @@ impl State {
         // Several channels, if they never sent.
         let fits = |channel: &Channel| {
             let first = self.out[*channel].line.first();
-            first.is_some_and(|first| self.has_bytes(first.len))
+            first.is_some_and(|first| match first.left {
+                Some(_) => self.has_bytes(first.len),
+                None => self.has_bytes_beside(self.awaited(), first.len),
+            })
         };
         channels(waiting).find(|channel| went(channel) == least && fits(channel))
     }

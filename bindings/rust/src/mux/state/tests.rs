@@ -357,8 +357,9 @@ fn send(
     answer.map_ok(|()| body.len())
 }
 
-// The invariant between two changes: every call that can proceed was notified, a call that lacks bytes waits for the
-// writing half, and what the first call lacks is measured.
+// The invariant between two changes: every call that can proceed was notified, apart from one whose bytes do not fit
+// beside those of calls that are about to be made, a call that lacks bytes waits for the writing half, and what the first
+// call lacks is measured.
 fn assert_settled(state: &mut State) {
     let places_left = state.peer.slots_left();
     state.slots.follow(places_left);
@@ -368,7 +369,7 @@ fn assert_settled(state: &mut State) {
             assert_eq!(measured, None, "nothing waits on {channel:?}");
             continue;
         };
-        let (ticket, len) = (first.ticket, first.len);
+        let (ticket, len, is_awaited) = (first.ticket, first.len, first.left.is_none());
         let (bit, least) = (1 << channel.number(), first.least);
         let lacks = state.lacks(channel, least, Some(ticket));
         let lacking = match &lacks {
@@ -380,12 +381,14 @@ fn assert_settled(state: &mut State) {
         match lacks {
             Ok(Needs::Nothing) if state.notified & bit != 0 => {}
             Ok(Needs::Nothing) => {
+                let is_later = is_awaited && !state.has_bytes_beside(state.awaited(), len);
                 assert!(
-                    !state.fits(channel, len),
+                    is_later || !state.fits(channel, len),
                     "{channel:?} can proceed and was not notified"
                 );
                 let waits_for_slot = state.slots.own_free() & bit == 0 && !state.slots.has_shared();
-                let waits = waits_for_slot || state.peer.wants_write();
+                let is_followed = state.peer.wants_write() || state.awaited() > 0;
+                let waits = waits_for_slot || is_followed;
                 assert!(waits, "{channel:?} waits for no one");
             }
             _ => assert_eq!(
@@ -860,47 +863,99 @@ fn an_empty_queue_leaves_no_slot_to_a_notified_task() {
     assert!(is_sent(&mut state, Capability, 1), "by the shared slot");
 }
 
-/// A notification reserves no bytes: each task whose call fits is notified. The call that is made first proceeds, and the
-/// others wait again, before all channels that sent later.
+/// Of the tasks that wait for bytes, as many are notified as fit together. The next one follows once one of these gave
+/// up, at the next write, and at the latest when nothing is left to write.
 #[test]
-fn each_task_whose_call_fits_is_notified() {
-    let mut state = rich(64);
-    assert!(is_sent(&mut state, Data, 60_000));
-    let mut tasks = [
-        Waits::task(&mut state, Overlap, 60_000),
-        Waits::task(&mut state, Capability, 60_000),
-    ];
-    assert!(matches!(
-        pull(&mut state, 1 << 20),
-        Pulled::Bytes(60_005, None)
-    ));
-    assert_eq!(tasks.each_ref().map(Waits::is_woken), [true, true]);
-    assert_eq!(tasks[1].poll(&mut state), DONE);
-    assert!(tasks[0].poll(&mut state).is_pending());
-    assert!(!is_sent(&mut state, Capability, 1), "it sent later");
-    assert!(matches!(
-        pull(&mut state, 1 << 20),
-        Pulled::Bytes(60_005, None)
-    ));
-    assert!(tasks[0].is_woken());
-    assert_eq!(tasks[0].poll(&mut state), DONE);
-}
-
-/// A task that was notified and is forgotten keeps no bytes from others.
-#[test]
-fn calls_beside_a_forgotten_task_go_on() {
-    let mut state = rich(64);
-    assert!(is_sent(&mut state, Data, 60_000));
-    let forgotten = Waits::task(&mut state, Overlap, 60_000);
-    let mut thread = Waits::thread(&mut state, Capability, 60_000);
-    for _ in 0..2 {
+fn tasks_are_notified_as_far_as_their_bytes_fit_together() {
+    for what_follows in ["one gives up", "both send", "both are forgotten"] {
+        let mut state = rich(64);
+        assert!(is_sent(&mut state, Reconciliation, 1));
+        assert!(is_sent(&mut state, Data, 60_000));
+        let mut tasks = [
+            Waits::task(&mut state, Overlap, 40_000),
+            Waits::task(&mut state, Capability, 25_536),
+            Waits::task(&mut state, Reconciliation, 1),
+        ];
         assert!(matches!(
             pull(&mut state, 1 << 20),
-            Pulled::Bytes(60_005, None)
+            Pulled::Bytes(60_011, None)
         ));
-        assert!(forgotten.is_woken() && thread.is_woken());
+        assert_eq!(tasks.each_ref().map(Waits::is_woken), [true, true, false]);
+        match what_follows {
+            "one gives up" => {
+                assert!(state.forget_send(Capability, tasks[1].ticket.unwrap()));
+                drop(std::mem::take(&mut state.wakes));
+            }
+            "both send" => {
+                assert_eq!(tasks[0].poll(&mut state), DONE);
+                assert_eq!(tasks[1].poll(&mut state), DONE);
+                assert!(!tasks[2].is_woken());
+                assert!(matches!(pull(&mut state, 1 << 20), Pulled::Bytes(_, None)));
+            }
+            _ => {
+                assert!(matches!(pull(&mut state, 1 << 20), Pulled::Soon));
+                assert!(!tasks[2].is_woken());
+                assert!(matches!(pull(&mut state, 1 << 20), Pulled::Idle));
+            }
+        }
+        assert!(tasks[2].is_woken(), "{what_follows}");
+        assert_eq!(tasks[2].poll(&mut state), DONE);
+    }
+}
+
+/// A thread that waits for bytes does not wait for those of a task.
+#[test]
+fn a_thread_does_not_wait_for_a_task() {
+    let mut state = rich(64);
+    assert!(is_sent(&mut state, Data, 60_000));
+    let task = Waits::task(&mut state, Overlap, 40_000);
+    let mut thread = Waits::thread(&mut state, Capability, 40_000);
+    pull(&mut state, 1 << 20);
+    assert!(task.is_woken() && thread.is_woken());
+    assert_eq!(thread.poll(&mut state), DONE);
+    assert_eq!(state.bytes.messages(), 40_000);
+}
+
+/// A notified task reserves no bytes: a call that is made before takes them, and the task waits again, before all channels
+/// that sent later.
+#[test]
+fn a_notified_task_reserves_no_bytes() {
+    let mut state = rich(64);
+    assert!(is_sent(&mut state, Data, 60_000));
+    let mut task = Waits::task(&mut state, Overlap, 60_000);
+    pull(&mut state, 1 << 20);
+    assert!(task.is_woken());
+    assert!(is_sent(&mut state, Data, 60_000));
+    assert!(task.poll(&mut state).is_pending());
+    assert!(!is_sent(&mut state, Data, 1), "it sent later");
+    pull(&mut state, 1 << 20);
+    assert_eq!(task.poll(&mut state), DONE);
+}
+
+/// A writing half that has nothing to write gives notified tasks one turn, each time anew. Then the calls behind them are
+/// notified, and those of threads are completed.
+#[test]
+fn calls_behind_a_forgotten_task_go_on_when_nothing_is_left_to_write() {
+    let mut state = rich(64);
+    let mut forgotten = Vec::new();
+    for _ in 0..2 {
+        assert!(is_sent(&mut state, Reconciliation, 1));
+        while is_sent(&mut state, Data, 60_000) {}
+        forgotten.push(Waits::task(&mut state, Overlap, 40_000));
+        forgotten.push(Waits::task(&mut state, Capability, 40_000));
+        let mut thread = Waits::thread(&mut state, Reconciliation, 10);
+        assert!(matches!(pull(&mut state, 1 << 20), Pulled::Bytes(_, None)));
+        assert!(!thread.is_woken());
+        assert!(matches!(pull(&mut state, 1 << 20), Pulled::Soon));
+        assert!(!thread.is_woken());
+        assert!(matches!(pull(&mut state, 1 << 20), Pulled::Soon));
+        assert!(thread.is_woken());
         assert_eq!(thread.poll(&mut state), DONE);
-        thread = Waits::thread(&mut state, Capability, 60_000);
+        assert!(matches!(pull(&mut state, 1 << 20), Pulled::Bytes(15, None)));
+        for call in forgotten.drain(..) {
+            state.forget_send(call.channel, call.ticket.unwrap());
+        }
+        assert!(matches!(pull(&mut state, 1 << 20), Pulled::Idle));
     }
 }
 
