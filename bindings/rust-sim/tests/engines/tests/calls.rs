@@ -1,6 +1,9 @@
 //! The calls of the example, by many seeds: each call ends by its own answer, its deadline or the end of the session, and
 //! work that is cancelled stops. And bugs that break this, which are found.
-use lcmux_sim::{Explorer, Failure, Faults, Sim};
+mod common;
+
+use common::found;
+use lcmux_sim::{Explorer, Faults, Sim};
 use lcmux_sim_engines as engines;
 use std::time::Duration;
 
@@ -70,18 +73,6 @@ fn drawn_call(sim: &mut Sim, number: u64) -> (Duration, Option<Duration>, String
     (begin, (deadline > 0).then(|| ms(deadline)), request)
 }
 
-/// The report of a bug that is found, and found again by its seed and by its shrunk run.
-fn found(name: &str, test: impl Fn(&mut Sim)) -> Failure {
-    let explorer = explorer().ignore_environment();
-    let failure = explorer
-        .find(&test)
-        .unwrap_or_else(|| panic!("{name} is not found"));
-    println!("{name}: found by seed {}\n{failure}\n", failure.seed);
-    let again = explorer.seeds(1).first_seed(failure.seed).find(&test);
-    assert_eq!(again.map(|it| it.message), Some(failure.message.clone()));
-    failure
-}
-
 #[test]
 fn calls_end_as_they_should_by_every_seed() {
     explorer().check(check!(calls));
@@ -94,12 +85,12 @@ fn two_runs_of_a_seed_are_the_same() {
 
 #[test]
 fn a_number_that_no_request_has_is_found() {
-    found("calls_number", check!(calls_number));
+    found(explorer(), "calls_number", check!(calls_number));
 }
 
 #[test]
 fn a_call_that_outlives_its_session_is_found() {
-    let failure = found("calls_waiting", check!(calls_waiting));
+    let failure = found(explorer(), "calls_waiting", check!(calls_waiting));
     assert!(
         failure.message.contains("side A has not ended"),
         "{failure}"
@@ -108,11 +99,11 @@ fn a_call_that_outlives_its_session_is_found() {
 
 #[test]
 fn work_that_is_not_cancelled_is_found() {
-    let failure = found("calls_early", check!(calls_early));
+    let failure = found(explorer(), "calls_early", check!(calls_early));
     assert!(failure.message.contains("has not ended"), "{failure}");
 }
 
 #[test]
 fn a_request_that_is_not_counted_is_found() {
-    found("calls_count", check!(calls_count));
+    found(explorer(), "calls_count", check!(calls_count));
 }

@@ -1,7 +1,10 @@
 //! The folder sync of the example, by many seeds: no file is ever truncated, mixed or replaced, also while a user works in
 //! the folders; a success is one on both sides; and another run completes what a fault ended. And bugs that break this,
 //! which are found.
-use lcmux_sim::{Explorer, Failure, Faults, Kind, Run, Side, Sim, Stream};
+mod common;
+
+use common::found;
+use lcmux_sim::{Explorer, Faults, Kind, Run, Side, Sim, Stream};
 use lcmux_sim_engines as engines;
 use std::cell::Cell;
 use std::collections::BTreeMap;
@@ -338,18 +341,6 @@ macro_rules! check {
     };
 }
 
-/// The report of a bug that is found, and found again by its seed.
-fn found(name: &str, test: impl Fn(&mut Sim)) -> Failure {
-    let explorer = explorer().ignore_environment();
-    let failure = explorer
-        .find(&test)
-        .unwrap_or_else(|| panic!("{name} is not found"));
-    println!("{name}: found by seed {}\n{failure}\n", failure.seed);
-    let again = explorer.seeds(1).first_seed(failure.seed).find(&test);
-    assert_eq!(again.map(|it| it.message), Some(failure.message.clone()));
-    failure
-}
-
 #[test]
 fn files_are_whole_and_complete_by_every_seed() {
     explorer().check(check!(sync));
@@ -362,7 +353,7 @@ fn two_runs_of_a_seed_are_the_same() {
 
 #[test]
 fn a_failure_that_looks_like_an_end_in_order_is_found() {
-    let failure = found("sync_close", check!(sync_close));
+    let failure = found(explorer(), "sync_close", check!(sync_close));
     assert!(
         failure.message.contains("a success without all files"),
         "{failure}"
@@ -371,7 +362,7 @@ fn a_failure_that_looks_like_an_end_in_order_is_found() {
 
 #[test]
 fn a_success_before_the_last_bytes_is_found() {
-    let failure = found("sync_unchecked", check!(sync_unchecked));
+    let failure = found(explorer(), "sync_unchecked", check!(sync_unchecked));
     assert!(
         failure
             .message
@@ -382,30 +373,30 @@ fn a_success_before_the_last_bytes_is_found() {
 
 #[test]
 fn a_chunk_that_is_left_out_is_found() {
-    let failure = found("sync_write", check!(sync_write));
+    let failure = found(explorer(), "sync_write", check!(sync_write));
     assert!(failure.message.contains("truncated, mixed"), "{failure}");
 }
 
 #[test]
 fn leftovers_of_a_crash_are_found() {
-    let failure = found("sync_leftovers", check!(sync_leftovers));
+    let failure = found(explorer(), "sync_leftovers", check!(sync_leftovers));
     assert!(failure.message.contains("leftovers"), "{failure}");
 }
 
 #[test]
 fn sides_that_wait_for_each_other_are_found() {
-    let failure = found("sync_sequence", check!(sync_sequence));
+    let failure = found(explorer(), "sync_sequence", check!(sync_sequence));
     assert!(failure.message.contains("has not ended"), "{failure}");
 }
 
 #[test]
 fn a_file_that_is_replaced_is_found() {
-    let failure = found("sync_rename", check!(sync_rename));
+    let failure = found(explorer(), "sync_rename", check!(sync_rename));
     assert!(failure.message.contains("or replaced"), "{failure}");
 }
 
 #[test]
 fn a_file_that_is_read_while_it_changes_is_found() {
-    let failure = found("sync_changed", check!(sync_changed));
+    let failure = found(explorer(), "sync_changed", check!(sync_changed));
     assert!(failure.message.contains("truncated, mixed"), "{failure}");
 }
