@@ -5,8 +5,12 @@ use crate::{Channel, Closed};
 use std::collections::VecDeque;
 use std::mem;
 use std::sync::atomic::{AtomicBool, AtomicU8, Ordering::Relaxed, Ordering::SeqCst};
-use std::sync::{Mutex, MutexGuard, PoisonError};
+use std::sync::{Mutex, MutexGuard, PoisonError, TryLockError};
 use std::task::Waker;
+use std::thread;
+
+/// How often a thread that finds the session locked yields the processor before it blocks.
+const YIELDS: usize = 16;
 
 /// The actions that follow once the lock is free: wakers and hooks may run any code, wakers also when they are dropped.
 #[derive(Default)]
@@ -129,7 +133,16 @@ impl Shared {
         }
     }
 
+    // It yields before it blocks: the lock is held for a moment, and a thread that blocks on it makes all threads block
+    // that come after, with two system calls each.
     fn lock(&self) -> MutexGuard<'_, State> {
+        for _ in 0..YIELDS {
+            match self.state.try_lock() {
+                Ok(state) => return state,
+                Err(TryLockError::Poisoned(state)) => return state.into_inner(),
+                Err(TryLockError::WouldBlock) => thread::yield_now(),
+            }
+        }
         self.state.lock().unwrap_or_else(PoisonError::into_inner)
     }
 }
