@@ -94,7 +94,7 @@ fn slices_without_a_byte_and_slices_that_are_too_long_together_are_refused() {
     assert_eq!((sender.held(), hand.written()), (4, vec![]));
 }
 
-/// The session completes the call on behalf of the thread, also if it is longer than what it keeps memory for.
+/// Longer than what the session completes on behalf of a thread, and longer than what it keeps memory for.
 #[test]
 fn a_thread_sends_slices_of_any_lengths() {
     for len in [1, 4_093, 4_094, 70_000] {
@@ -107,7 +107,8 @@ fn a_thread_sends_slices_of_any_lengths() {
                 thread::yield_now();
             }
             hand.feed(&frames(&format!("issue 1 {}", len + 2)));
-            assert_eq!(sender.stats().messages_sent, 1, "{len}");
+            let is_completed = sender.stats().messages_sent == 1;
+            assert!(is_completed || len + 3 > 4_096, "{len}");
             assert_eq!(thread.join().unwrap(), Ok(()));
         });
         assert_eq!(hand.written(), message(&[head, body].concat()));

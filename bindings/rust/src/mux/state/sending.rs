@@ -1,9 +1,10 @@
 //! Senders: what a message lacks, which waiting call proceeds next, and how that call is notified.
 //!
 //! The first waiting call of a channel *can proceed* once it has its guarantees, there is a slot for it, and its
-//! bytes fit into the queue. After [`State::settle`] each such call was completed, if a thread made it, or else
-//! notified, apart from calls whose bytes do not fit beside those of calls that were just notified: these follow at
-//! the next pull of the writing half. So a future that is not polled delays its own channel alone.
+//! bytes fit into the queue. After [`State::settle`] each such call was completed, if a thread made it for a short
+//! message or a permit, or else notified, apart from calls whose bytes do not fit beside those of calls that were just
+//! notified: these follow at the next pull of the writing half. So a future that is not polled delays its own channel
+//! alone.
 use super::line::{Left, Place, Waiter};
 use super::{bit, channels, keep, State, ALL};
 use crate::mux::events::{Event, Stall};
@@ -16,6 +17,10 @@ use std::task::{Poll, Waker};
 /// The most bytes of messages in the queue, if it holds more than one: a short message is written after all of them,
 /// and more would only stay there until the driver writes.
 const MOST_QUEUED: usize = 65_536;
+
+/// The longest message that is sent on behalf of a thread. A longer one would be copied under the lock by a call of
+/// another channel, or by the writing half, which can write meanwhile.
+const MOST_COMPLETED: usize = 4_096;
 
 /// The bytes of a message.
 #[derive(Clone, Copy)]
@@ -101,7 +106,7 @@ impl Ask<'_> {
     fn left(self) -> Option<Left> {
         match self {
             Ask::Part(_) => None,
-            Ask::Message(body) => Some(body.left()),
+            Ask::Message(body) => (body.len() <= MOST_COMPLETED).then(|| body.left()),
             Ask::Permit(_) => Some(Left::Permit),
         }
     }

@@ -608,7 +608,8 @@ fn a_channel_that_never_sent_does_not_wait_for_another_one() {
     }
 }
 
-/// A call that lacks bytes of the queue is completed for a thread, and notified for a task. Meanwhile no permit is granted.
+/// A call that lacks bytes of the queue is completed for a thread, if its message is short, and else notified. Meanwhile
+/// no permit is granted.
 #[test]
 fn a_call_that_waits_for_bytes_learns_that_they_are_free() {
     let mut state = rich(64);
@@ -622,7 +623,8 @@ fn a_call_that_waits_for_bytes_learns_that_they_are_free() {
             Pulled::Bytes(65_541, None)
         ));
         assert!(call.is_woken());
-        assert_eq!(state.bytes.messages(), if is_thread { len } else { 0 });
+        let is_completed = is_thread && len <= 4_096;
+        assert_eq!(state.bytes.messages(), if is_completed { len } else { 0 });
         assert_eq!(call.poll(&mut state), DONE);
         assert_eq!(state.bytes.messages(), len);
         assert!(matches!(pull(&mut state, 1 << 20), Pulled::Bytes(_, None)));
@@ -903,17 +905,17 @@ fn tasks_are_notified_as_far_as_their_bytes_fit_together() {
     }
 }
 
-/// A thread that waits for bytes does not wait for those of a task.
+/// A thread with a short message does not wait for the bytes of a notified task.
 #[test]
 fn a_thread_does_not_wait_for_a_task() {
     let mut state = rich(64);
-    assert!(is_sent(&mut state, Data, 60_000));
-    let task = Waits::task(&mut state, Overlap, 40_000);
-    let mut thread = Waits::thread(&mut state, Capability, 40_000);
+    assert!(is_sent(&mut state, Data, 65_536));
+    let task = Waits::task(&mut state, Overlap, 65_000);
+    let mut thread = Waits::thread(&mut state, Capability, 4_000);
     pull(&mut state, 1 << 20);
     assert!(task.is_woken() && thread.is_woken());
+    assert_eq!(state.bytes.messages(), 4_000);
     assert_eq!(thread.poll(&mut state), DONE);
-    assert_eq!(state.bytes.messages(), 40_000);
 }
 
 /// A notified task reserves no bytes: a call that is made before takes them, and the task waits again, before all channels
@@ -959,16 +961,16 @@ fn calls_behind_a_forgotten_task_go_on_when_nothing_is_left_to_write() {
     }
 }
 
-/// A message of a blocked thread is sent on its behalf, however long it is.
+/// A message of up to 4,096 bytes is sent on behalf of its thread; for a longer one the thread is notified.
 #[test]
-fn a_long_message_is_sent_for_its_thread() {
-    for len in [1, 4_097, 65_535] {
+fn a_long_message_is_sent_by_its_thread() {
+    for (len, is_completed) in [(4_095, true), (4_096, true), (4_097, false)] {
         let mut state = written(14);
         let mut call = Waits::thread(&mut state, Data, len);
         state.deliver(&issue(Data, 65_535)).unwrap();
         drop(std::mem::take(&mut state.wakes));
         assert!(call.is_woken());
-        assert_eq!(state.stats(Data).messages_sent, 1);
+        assert_eq!(state.stats(Data).messages_sent, u64::from(is_completed));
         assert_eq!(call.poll(&mut state), DONE);
         assert_eq!(state.stats(Data).messages_sent, 1);
     }
