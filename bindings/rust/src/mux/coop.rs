@@ -26,13 +26,19 @@ impl Coop {
         Coop(AtomicU8::new(count))
     }
 
+    /// Counts further messages of the last call.
+    pub fn count(&self, messages: usize) {
+        let room = IN_A_ROW.saturating_sub(self.0.load(Relaxed));
+        self.0.fetch_add(messages.min(room.into()) as u8, Relaxed);
+    }
+
     /// Polls a call of the handle, or yields before the call has begun.
     pub fn poll<T>(
         &self,
         cx: &mut Context<'_>,
         poll: impl FnOnce(&mut Context<'_>) -> Poll<T>,
     ) -> Poll<T> {
-        if self.0.load(Relaxed) == IN_A_ROW || yields_by_simulator() {
+        if self.0.load(Relaxed) >= IN_A_ROW || yields_by_simulator() {
             self.0.store(0, Relaxed);
             cx.waker().wake_by_ref();
             return Poll::Pending;

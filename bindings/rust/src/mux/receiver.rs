@@ -137,6 +137,94 @@ impl Receiver {
         block_on(poll_fn(|cx| self.poll_take(cx)))
     }
 
+    /// Receives messages that have arrived, at least one and at most `limit`, and appends them to `messages`. It waits
+    /// for the first as [`Receiver::recv`] does, and takes with it those that follow, which is cheaper than a call for
+    /// each: their bytes are issued together. It takes at most 65,536 bytes, and a message of more than 4,096 bytes alone.
+    /// Returns how many messages it took: 0 once the channel has ended, or if `limit` is 0.
+    ///
+    /// # Cancel safety
+    ///
+    /// This method is cancel safe, as [`Receiver::recv`] is: a future that is dropped before it completes takes no
+    /// message.
+    ///
+    /// # Errors
+    ///
+    /// Those of [`Receiver::recv`].
+    ///
+    /// ```
+    /// use lcmux::{Closed, Receiver};
+    ///
+    /// /// Returns the number of bytes that arrive until the channel ends.
+    /// async fn count(receiver: &mut Receiver) -> Result<usize, Closed> {
+    ///     let (mut messages, mut count) = (Vec::new(), 0);
+    ///     while receiver.recv_many(&mut messages, 64).await? > 0 {
+    ///         count += messages.drain(..).map(|message| message.len()).sum::<usize>();
+    ///     }
+    ///     Ok(count)
+    /// }
+    /// # let _ = count;
+    /// ```
+    pub async fn recv_many(
+        &mut self,
+        messages: &mut Vec<Vec<u8>>,
+        limit: usize,
+    ) -> Result<usize, Closed> {
+        poll_fn(|cx| self.poll_recv_many(cx, messages, limit)).await
+    }
+
+    /// Polls for messages, as [`Receiver::recv_many`] does. Only the last waker is registered, and it is notified once.
+    /// A pending poll takes nothing.
+    ///
+    /// # Errors
+    ///
+    /// Those of [`Receiver::recv`].
+    pub fn poll_recv_many(
+        &mut self,
+        cx: &mut Context<'_>,
+        messages: &mut Vec<Vec<u8>>,
+        limit: usize,
+    ) -> Poll<Result<usize, Closed>> {
+        let polled = self
+            .coop
+            .poll(cx, |cx| self.poll_take_many(cx, messages, limit));
+        if let Poll::Ready(Ok(count)) = polled {
+            self.coop.count(count.saturating_sub(1));
+        }
+        polled
+    }
+
+    fn poll_take_many(
+        &self,
+        cx: &mut Context<'_>,
+        messages: &mut Vec<Vec<u8>>,
+        limit: usize,
+    ) -> Poll<Result<usize, Closed>> {
+        if limit == 0 {
+            return Poll::Ready(Ok(0));
+        }
+        let (channel, before) = (self.channel, messages.len());
+        let take = |state: &mut State| state.take_many(channel, messages, limit);
+        poll_take(&self.shared, channel, cx, take).map_ok(|taken| {
+            let long = taken.flatten().map(Taken::Lent);
+            messages.extend(long.map(|long| self.copied(long)));
+            messages.len() - before
+        })
+    }
+
+    /// Receives messages, as [`Receiver::recv_many`] does, and blocks the thread. Do not call it from a task of an
+    /// executor.
+    ///
+    /// # Errors
+    ///
+    /// Those of [`Receiver::recv`].
+    pub fn recv_many_blocking(
+        &mut self,
+        messages: &mut Vec<Vec<u8>>,
+        limit: usize,
+    ) -> Result<usize, Closed> {
+        block_on(poll_fn(|cx| self.poll_take_many(cx, messages, limit)))
+    }
+
     /// Receives the next message, as [`Receiver::recv_blocking`] does, and waits for at most `timeout`.
     ///
     /// # Errors

@@ -86,6 +86,9 @@ impl Drop for Sending<'_> {
     }
 }
 
+/// The most messages that [`Sender::send_all`] sends under one lock.
+const BATCH: usize = 64;
+
 fn deadline(timeout: Duration) -> Option<Instant> {
     Instant::now().checked_add(timeout)
 }
@@ -235,6 +238,90 @@ impl Sender {
     pub fn try_send(&self, body: &[u8]) -> Result<(), TrySendError> {
         self.shared
             .with(|state| state.try_send(self.channel, Ask::Message(body.into())))
+    }
+
+    /// Sends messages in their order, and waits for each as [`Sender::send`] does. Up to 64 of them that can proceed are
+    /// sent at once, which is cheaper than a call for each. Messages of other calls of this channel may come in between.
+    ///
+    /// A message that was sent is removed from the front of `messages`, so after an error the first one left is that
+    /// which failed.
+    ///
+    /// # Cancel safety
+    ///
+    /// This method is cancel safe. If its future is dropped, `messages` has the messages that were not sent.
+    ///
+    /// # Errors
+    ///
+    /// Those of [`Sender::send`].
+    ///
+    /// ```
+    /// use lcmux::{SendError, Sender};
+    ///
+    /// async fn send_lines(sender: &Sender, text: &str) -> Result<(), SendError> {
+    ///     let lines: Vec<&str> = text.lines().filter(|line| !line.is_empty()).collect();
+    ///     sender.send_all(&mut &lines[..]).await
+    /// }
+    /// # let _ = send_lines;
+    /// ```
+    pub async fn send_all<B: AsRef<[u8]>>(&self, messages: &mut &[B]) -> Result<(), SendError> {
+        loop {
+            if poll_fn(|cx| self.poll_batch(cx, messages)).await? == BATCH {
+                continue;
+            }
+            let [first, rest @ ..] = *messages else {
+                return Ok(());
+            };
+            self.send(first.as_ref()).await?;
+            *messages = rest;
+        }
+    }
+
+    /// Sends messages, as [`Sender::send_all`] does, and blocks the thread. Do not call it from a task of an executor.
+    ///
+    /// # Errors
+    ///
+    /// Those of [`Sender::send`].
+    pub fn send_all_blocking<B: AsRef<[u8]>>(&self, messages: &mut &[B]) -> Result<(), SendError> {
+        loop {
+            if self.send_batch(messages)? == BATCH {
+                continue;
+            }
+            let [first, rest @ ..] = *messages else {
+                return Ok(());
+            };
+            self.send_blocking(first.as_ref())?;
+            *messages = rest;
+        }
+    }
+
+    fn poll_batch<B: AsRef<[u8]>>(
+        &self,
+        cx: &mut Context<'_>,
+        messages: &mut &[B],
+    ) -> Poll<Result<usize, SendError>> {
+        let polled = self
+            .coop
+            .poll(cx, |_| Poll::Ready(self.send_batch(messages)));
+        if let Poll::Ready(Ok(sent)) = polled {
+            self.coop.count(sent.saturating_sub(1));
+        }
+        polled
+    }
+
+    // Sends the first messages, as far as they can proceed, and at most a batch. Their `as_ref` may be any code, and runs
+    // outside of the lock.
+    fn send_batch<B: AsRef<[u8]>>(&self, messages: &mut &[B]) -> Result<usize, SendError> {
+        let batch = &messages[..messages.len().min(BATCH)];
+        let mut bodies = [&[][..]; BATCH];
+        for (body, message) in bodies.iter_mut().zip(batch) {
+            *body = message.as_ref();
+        }
+        let bodies = &bodies[..batch.len()];
+        let sent = self
+            .shared
+            .with(|state| state.try_send_all(self.channel, bodies))?;
+        *messages = &messages[sent..];
+        Ok(sent)
     }
 
     /// Sends the slices, one after the other, as one message: a header and its body need not be joined first. It waits

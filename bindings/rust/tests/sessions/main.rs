@@ -13,6 +13,7 @@ mod page;
 mod watchdog;
 
 mod answers;
+mod batches;
 mod config;
 mod control;
 mod endings;

@@ -8,6 +8,9 @@ use std::task::Waker;
 /// The longest message that is copied under the lock: a longer one is borrowed, and copied without the lock.
 const MOST_COPIED: usize = 4_096;
 
+/// The most bytes of a batch of messages, all copied under one lock.
+const MOST_IN_BATCH: usize = 65_536;
+
 /// A message that a call takes: a copy, or, if it is long, a view that is copied without the lock and then returned.
 /// A call that panics meanwhile loses no message: the next call finds it again.
 pub(crate) enum Taken {
@@ -28,6 +31,41 @@ impl State {
             Take::Empty => Take::Empty,
             Take::Ended => Take::Ended,
         })
+    }
+
+    /// Takes at most `limit` messages that have arrived, and appends copies of them. A first message that is long is
+    /// borrowed, and the only one.
+    pub fn take_many(
+        &mut self,
+        channel: Channel,
+        messages: &mut Vec<Vec<u8>>,
+        limit: usize,
+    ) -> Result<Take<Option<Lent>>, Closed> {
+        Ok(match self.front(channel)? {
+            Take::Took(first) if first.len() > MOST_COPIED => Take::Took(Some(first)),
+            Take::Took(_) => {
+                self.take_short(channel, messages, limit);
+                Take::Took(None)
+            }
+            Take::Empty => Take::Empty,
+            Take::Ended => Take::Ended,
+        })
+    }
+
+    // Takes messages up to the first long one. Their bytes are issued together.
+    fn take_short(&mut self, channel: Channel, messages: &mut Vec<Vec<u8>>, limit: usize) {
+        let mut left = MOST_IN_BATCH;
+        for _ in 0..limit {
+            match self.peer.lend(channel) {
+                Some(front) if front.len() <= MOST_COPIED.min(left) => {
+                    left -= front.len();
+                    messages.push(front.to_vec());
+                    self.drop_front(channel);
+                }
+                _ => break,
+            }
+        }
+        self.freed(channel);
     }
 
     /// Borrows the next message until it is returned.
@@ -57,12 +95,20 @@ impl State {
     }
 
     fn pop(&mut self, channel: Channel) {
-        if let Take::Took(len) = self.peer.pop(channel) {
-            let stats = &mut self.stats[channel];
-            stats.messages_received += 1;
-            stats.bytes_received += len as u64;
+        if self.drop_front(channel) {
             self.freed(channel);
         }
+    }
+
+    // Drops the first message, if there is one.
+    fn drop_front(&mut self, channel: Channel) -> bool {
+        let Take::Took(len) = self.peer.pop(channel) else {
+            return false;
+        };
+        let stats = &mut self.stats[channel];
+        stats.messages_received += 1;
+        stats.bytes_received += len as u64;
+        true
     }
 
     /// Registers the waker of a call that waits for a message.

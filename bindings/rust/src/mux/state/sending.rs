@@ -130,6 +130,21 @@ impl State {
         Ok(())
     }
 
+    /// Sends messages until one would have to wait or fails. Returns how many were sent, and an error if it is the
+    /// first that fails.
+    pub fn try_send_all(&mut self, channel: Channel, bodies: &[&[u8]]) -> Result<usize, SendError> {
+        let mut sent = 0;
+        for body in bodies {
+            match self.go(channel, Ask::Message((*body).into()), None) {
+                Ok(()) => sent += 1,
+                Err(TrySendError::Failed(error)) if sent == 0 => return Err(error),
+                Err(_) => break,
+            }
+        }
+        self.settle();
+        Ok(sent)
+    }
+
     /// Makes a call that waits. The ticket names its slot of the wait queue.
     pub fn poll_send(
         &mut self,
