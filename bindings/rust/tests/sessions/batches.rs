@@ -53,6 +53,7 @@ fn take(receiver: &mut Receiver, limit: usize) -> (usize, Vec<Vec<u8>>) {
 fn a_batch_is_what_arrived_up_to_the_limit() {
     let (mut hand, mut receiver) = receiving(narrow());
     let sent = ["a", "bc", "d", "e"].map(|text| text.as_bytes().to_vec());
+    assert_eq!(take(&mut receiver, 0), (0, vec![]), "it does not wait");
     fed(&mut hand, &sent);
     assert_eq!(take(&mut receiver, 0), (0, vec![]));
     assert_eq!(take(&mut receiver, 1), (1, sent[..1].to_vec()));
