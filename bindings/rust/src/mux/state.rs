@@ -510,9 +510,7 @@ impl State {
             return;
         }
         self.flush(); // no guarantees are issued after this
-        for channel in Channel::ALL {
-            self.finish_once(channel);
-        }
+        self.push_finishes();
         self.closing = true;
         self.wake_waiting();
         // Frames may be pending behind waiting calls, none of which will proceed.

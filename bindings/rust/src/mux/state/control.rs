@@ -116,6 +116,12 @@ impl State {
 
     /// Limits sending.
     pub fn limit_sending(&mut self, channel: Channel, bound: u64) -> Result<(), CallError> {
+        self.push_limit(channel, bound)?;
+        self.owes_out(channel);
+        Ok(())
+    }
+
+    fn push_limit(&mut self, channel: Channel, bound: u64) -> Result<(), CallError> {
         self.is_unfinished(channel)?;
         but_for_a_slot(self.peer.would_limit_sending(channel, bound))?;
         let line = &mut self.out[channel].line;
@@ -123,24 +129,36 @@ impl State {
             Some(left) if bound > left => return Err(Refusal::LimitRaised { left }.into()),
             _ => line.push_limit(bound),
         }
-        self.owes_out(channel);
         Ok(())
     }
 
     /// Finishes the channel: in version One by a limit, since that version has no frame to finish one.
     pub fn finish(&mut self, channel: Channel) -> Result<(), CallError> {
+        self.push_finish(channel)?;
+        self.owes_out(channel);
+        Ok(())
+    }
+
+    fn push_finish(&mut self, channel: Channel) -> Result<(), CallError> {
         self.is_unfinished(channel)?;
         if self.version == Version::One {
             let owed = self.out[channel].line.left();
             return match owed.or(self.peer.client(channel).send_left) {
                 Some(0) => Err(Refusal::ChannelFinished.into()),
-                _ => self.limit_sending(channel, 0),
+                _ => self.push_limit(channel, 0),
             };
         }
         but_for_a_slot(self.peer.would_finish(channel))?;
         self.out[channel].line.push(Place::Finish);
-        self.owes_out(channel);
         Ok(())
+    }
+
+    /// Appends the end of each channel that is not finished to its wait queue.
+    pub(super) fn push_finishes(&mut self) {
+        for channel in Channel::ALL {
+            let finished = self.push_finish(channel);
+            debug_assert!(is_done_or_ended(&finished), "{finished:?}");
+        }
     }
 }
 
