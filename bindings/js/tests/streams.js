@@ -32,9 +32,9 @@ export async function fate(promise) {
 
 /**
  * A session whose peer is a bare `Peer`, with which the test writes inbound bytes and reads outbound ones. While
- * `hold` is a promise, a write waits for it.
+ * `hold` is a promise, a write waits for it. `prepare` may set it before the first write.
  */
-export async function alone(config, otherConfig) {
+export async function alone(config, otherConfig, prepare = () => {}) {
   const { module, exports, told, peer } = await refusingModule();
   const there = { hold: undefined, writes: [], exports, told, module };
   const readable = new ReadableStream({
@@ -50,6 +50,7 @@ export async function alone(config, otherConfig) {
     close: () => (there.isClosed = true),
     abort: reason => (there.aborted = reason),
   });
+  prepare(there);
   there.session = startSession(wider => new Peer(module, wider), { readable, writable }, config);
   there.other = peer({ slots: 1000, ...otherConfig });
   there.put = () => there.comes.enqueue(there.other.write());

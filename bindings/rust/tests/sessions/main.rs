@@ -14,6 +14,7 @@ mod watchdog;
 
 mod answers;
 mod batches;
+mod cases;
 mod config;
 mod control;
 mod endings;
