@@ -1,0 +1,4 @@
+pub mod Books
+pub mod First
+pub mod Went
+pub mod Standing

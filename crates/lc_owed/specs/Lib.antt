@@ -1,0 +1,6 @@
+pub mod Pending
+pub mod Policy
+pub mod Owed
+pub mod Due
+pub mod Flush
+pub mod Standing
