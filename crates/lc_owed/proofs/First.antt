@@ -41,15 +41,15 @@ record Fewer (c : Channel) (p : Pending) (d : Due) : Type 0 where
   pub channel : channel_of_due d ≡ c
   pub fewer : items (without p d) < items p
 
-unless : (b : Bool) (x d : Due) → (if b then None else Some x) ≡ Some d → (b ≡ false) × (x ≡ d)
+pub unless : (b : Bool) (x d : Due) → (if b then None else Some x) ≡ Some d → (b ≡ false) × (x ≡ d)
 unless true x d e = absurd cc
 unless false x d e = (refl, cc)
 
-provided : (b : Bool) (x d : Due) → (if b then Some x else None) ≡ Some d → (b ≡ true) × (x ≡ d)
+pub provided : (b : Bool) (x d : Due) → (if b then Some x else None) ≡ Some d → (b ≡ true) × (x ≡ d)
 provided true x d e = (refl, cc)
 provided false x d e = absurd cc
 
-mapped : (f : ℕ → Due) (o : Option ℕ) (d : Due) → option_map f o ≡ Some d → (n : ℕ) × ((o ≡ Some n) × (f n ≡ d))
+pub mapped : (f : ℕ → Due) (o : Option ℕ) (d : Due) → option_map f o ≡ Some d → (n : ℕ) × ((o ≡ Some n) × (f n ≡ d))
 mapped f None d e = absurd cc
 mapped f (Some n) d e = (n, (refl, cc))
 
@@ -90,8 +90,8 @@ honour_fewer s c p d e =
     let one : one_if p.honour ≡ 1 = ap one_if (both_true p.honour (not (is_held_up s c)) is.0) in
     subst (λ (x : Due). Fewer c p x) is.1 (record { channel = refl; fewer = omega (arith, one) })
 
-either : (a b : Option Due) (d : Due) → option_or a b ≡ Some d → (a ≡ Some d) ⊎ (b ≡ Some d)
-either None b d e = inr e
+pub either : (a b : Option Due) (d : Due) → option_or a b ≡ Some d → (a ≡ Some d) ⊎ ((a ≡ None) × (b ≡ Some d))
+either None b d e = inr (refl, e)
 either (Some x) b d e = inl e
 
 on_fewer : (s : SchedulerState) (c : Channel) (p : Pending) (d : Due) → due_on s c p ≡ Some d → Fewer c p d
@@ -100,23 +100,30 @@ on_fewer s c p d e =
     let later = option_or (plead_due c p) last in
     elim (either (issue_due c p) (option_or (limit_due c p) later) d e) [
       | inl issue ↦ issue_fewer c p d issue
-      | inr e1 ↦ elim (either (limit_due c p) later d e1) [
+      | inr e1 ↦ elim (either (limit_due c p) later d e1.1) [
         | inl limit ↦ limit_fewer c p d limit
-        | inr e2 ↦ elim (either (plead_due c p) last d e2) [
+        | inr e2 ↦ elim (either (plead_due c p) last d e2.1) [
           | inl plead ↦ plead_fewer c p d plead
-          | inr e3 ↦ elim (either (absolve_due s c p) (honour_due s c p) d e3) [
+          | inr e3 ↦ elim (either (absolve_due s c p) (honour_due s c p) d e3.1) [
             | inl absolve ↦ absolve_fewer s c p d absolve
-            | inr honour ↦ honour_fewer s c p d honour
+            | inr honour ↦ honour_fewer s c p d honour.1
           ]
         ]
       ]
     ]
 
-among_fewer : (o : OwedState) (s : SchedulerState) (channels : List Channel) (d : Due) → due_among o s channels ≡ Some d → (c : Channel) × Fewer c (pending_on o c) d
-among_fewer o s [] d e = absurd cc
-among_fewer o s (c ∷ channels) d e = elim (either (due_on s c (pending_on o c)) (due_among o s channels) d e) [
-  | inl here ↦ (c, on_fewer s c (pending_on o c) d here)
-  | inr later ↦ among_fewer o s channels d later
+among_is_on : (o : OwedState) (s : SchedulerState) (channels : List Channel) (d : Due) → due_among o s channels ≡ Some d → (c : Channel) × (due_on s c (pending_on o c) ≡ Some d)
+among_is_on o s [] d e = absurd cc
+among_is_on o s (c ∷ channels) d e = elim (either (due_on s c (pending_on o c)) (due_among o s channels) d e) [
+  | inl here ↦ (c, here)
+  | inr later ↦ among_is_on o s channels d later.1
+]
+
+-- what is due first of all is due first on a channel
+pub due_is_on : (o : OwedState) (s : SchedulerState) (d : Due) → due o s ≡ Some d → (c : Channel) × (due_on s c (pending_on o c) ≡ Some d)
+due_is_on o s d e = elim (either (due_among o s (drop (number_of o.first) every_channel)) (due_among o s (take (number_of o.first) every_channel)) d e) [
+  | inl from ↦ among_is_on o s (drop (number_of o.first) every_channel) d from
+  | inr before ↦ among_is_on o s (take (number_of o.first) every_channel) d before.1
 ]
 
 less_pending : (o : OwedState) (c : Channel) (d : Due) → length o.pending ≡ channel_count → Fewer c (pending_on o c) d → weight (without_due o d).pending < weight o.pending
@@ -129,10 +136,7 @@ less_pending o c d places is =
 
 -- less is pending once what is due first went
 pub due_is_less : (o : OwedState) (s : SchedulerState) (d : Due) → length o.pending ≡ channel_count → due o s ≡ Some d → weight (without_due o d).pending < weight o.pending
-due_is_less o s d places e = elim (either (due_among o s (drop (number_of o.first) every_channel)) (due_among o s (take (number_of o.first) every_channel)) d e) [
-  | inl from ↦ let is = among_fewer o s (drop (number_of o.first) every_channel) d from in less_pending o is.0 d places is.1
-  | inr before ↦ let is = among_fewer o s (take (number_of o.first) every_channel) d before in less_pending o is.0 d places is.1
-]
+due_is_less o s d places e = let on = due_is_on o s d e in less_pending o on.0 d places (on_fewer s on.0 (pending_on o on.0) d on.1)
 
 neither : (a b : Option Due) → option_or a b ≡ None → (a ≡ None) × (b ≡ None)
 neither None b e = (refl, e)
@@ -142,7 +146,7 @@ only_if : (b : Bool) (x : Due) → (if b then None else Some x) ≡ None → b �
 only_if true x e = refl
 only_if false x e = cc
 
-no_number : (n : ℕ) (x : Due) → (if n == 0 then None else Some x) ≡ None → n ≡ 0
+pub no_number : (n : ℕ) (x : Due) → (if n == 0 then None else Some x) ≡ None → n ≡ 0
 no_number n x e = let is = only_if (n == 0) x e in grind (arith, nat_tests)
 
 no_some : (f : ℕ → Due) (o : Option ℕ) → option_map f o ≡ None → o ≡ None

@@ -2,3 +2,4 @@ pub mod Books
 pub mod First
 pub mod Went
 pub mod Standing
+pub mod Dropped

@@ -44,7 +44,7 @@ record CanIssue (b : Server) (n : ℕ) : Type 0 where
   pub total : b.issued + n ≤ max_total
 
 -- a limit that is accepted
-record CanLimit (b : Server) (n : ℕ) : Type 0 where
+pub record CanLimit (b : Server) (n : ℕ) : Type 0 where
   pub unfinished : b.finished ≡ false
   pub small : n ≤ max_total
   pub left : is_past b.receive_left n ≡ false
@@ -111,12 +111,12 @@ issue_is_accepted b n is =
     five_none b.finished (n == 0) (is_past b.receive_left n) (nat_lt (room b) n) (nat_lt max_total (b.issued + n)) ChannelFinished ZeroAmount (PastReceiveLimit (left_of b.receive_left)) (NoRoom (room b)) TotalReached
     (record { a_is = is.unfinished; b_is = not_zero n is.some; c_is = is.left; d_is = is_not_below (room b) n is.room; e_is = is_not_below max_total (b.issued + n) is.total })
 
-can_limit : (b : Server) (n : ℕ) → limit_receiving_refusal b n ≡ None → CanLimit b n
+pub can_limit : (b : Server) (n : ℕ) → limit_receiving_refusal b n ≡ None → CanLimit b n
 can_limit b n e =
     let is = three_false b.finished (nat_lt max_total n) (is_past b.receive_left n) ChannelFinished BoundTooLarge (LimitRaised (left_of b.receive_left)) e in
     record { unfinished = is.a_is; small = not_below max_total n is.b_is; left = is.c_is }
 
-limit_is_accepted : (b : Server) (n : ℕ) → CanLimit b n → limit_receiving_refusal b n ≡ None
+pub limit_is_accepted : (b : Server) (n : ℕ) → CanLimit b n → limit_receiving_refusal b n ≡ None
 limit_is_accepted b n is =
     three_none b.finished (nat_lt max_total n) (is_past b.receive_left n) ChannelFinished BoundTooLarge (LimitRaised (left_of b.receive_left))
     (record { a_is = is.unfinished; b_is = is_not_below max_total n is.small; c_is = is.left })
@@ -148,7 +148,7 @@ less_some None n x e = absurd cc
 less_some (Some m) n x e = (m, (refl, cc))
 
 -- the pending limit, as numbers
-limit_left : (b : Server) (o : Pending) → MayBePut b o → (x : ℕ) → o.limit ≡ Some x → CanLimit (issue b o.issue) x
+pub limit_left : (b : Server) (o : Pending) → MayBePut b o → (x : ℕ) → o.limit ≡ Some x → CanLimit (issue b o.issue) x
 limit_left b o may x e = can_limit (issue b o.issue) x (may.limit x e)
 
 after_call : (b : Server) (o o' : Pending) → IsServer b → Issues b o o' → MayBePut b o → MayBePut b o'

@@ -1,5 +1,5 @@
 -- That an accepted issue or limit stays acceptable while it is pending, until its sender finishes the channel: so it is put once, whole. A plead does until it is met.
-use Rattle.std.specs.Prelude.{◌≡◌, ◌⊎◌, ◌≤◌, ℕ, false, List, length, Some, None}
+use Rattle.std.specs.Prelude.{◌≡◌, ◌⊎◌, ◌≤◌, ℕ, Bool, true, false, List, length, Some, None}
 use Rattle.std.specs.Option.{ForSome}
 use Rattle.lc_frame.specs.declared.channel.Channel.{Channel}
 use Rattle.lc_frame.specs.declared.frame.Frame.{Frame}
@@ -9,10 +9,16 @@ use Rattle.lc_book.specs.Server.{Server, IsServer, buffered, issue_refusal, issu
 use Rattle.lc_book.specs.Sums.{server_after_arrival}
 use Rattle.lc_peer.specs.Peer.{server}
 use Rattle.lc_peer.specs.Arrivals.{violation}
+use Rattle.lc_lines.specs.declared.scheduler.Control.TheVariants as control
 use Rattle.lc_lines.specs.declared.scheduler.Notice.{Notice}
 use Rattle.lc_lines.specs.Scheduler.{SchedulerState}
-use Rattle.lc_lines.specs.Lines.{Ran}
+use Rattle.lc_lines.specs.Lines.{LinesState, Ran}
 use Rattle.lc_owed.specs.declared.pending.Pending.{Pending}
+use Rattle.lc_owed.specs.declared.due.Due.{Due}
+use Rattle.lc_owed.specs.declared.due.Due.TheVariants.{Put}
+use Rattle.lc_owed.specs.Owed.{OwedState, pending_on}
+use Rattle.lc_owed.specs.Due.{due, channel_of_due}
+use Rattle.lc_owed.specs.Flush.{IsDropped}
 use Rattle.lc_owed.specs.Pending.{beside, with_issue, with_limit}
 
 -- what is pending of a receiver may be put: the issue, and then the limit
@@ -70,6 +76,16 @@ Happens b o b' o' = ((Arrives b b' ⊎ IsTaken b b') × (o' ≡ o)) ⊎ (((Issue
 -- whatever happens, the pending issue and the pending limit may still be put, unless the sender finished the channel
 abbrev pub PendingCallsStayAcceptable : Type 0
 PendingCallsStayAcceptable = (b : Server) (o : Pending) (b' : Server) (o' : Pending) → IsServer b → Happens b o b' o' → Stands b o → Stands b' o'
+
+-- whether what is due is an issue or a limit
+abbrev pub is_issue_or_limit : Due → Bool
+is_issue_or_limit (Put (control.Issue c n)) = true
+is_issue_or_limit (Put (control.LimitReceiving c bound)) = true
+is_issue_or_limit d = false
+
+-- a flush drops a pending issue or limit that may be put only where the sender finished the channel
+abbrev pub OnlyFinishedChannelsDrop : Type 0
+OnlyFinishedChannelsDrop = (o : OwedState) (l l' : LinesState) (d : Due) → due o l.scheduler ≡ Some d → is_issue_or_limit d ≡ true → Stands (server l.scheduler.peer (channel_of_due d)) (pending_on o (channel_of_due d)) → IsDropped d l l' → (server l.scheduler.peer (channel_of_due d)).finished ≡ true
 
 -- whatever calls of senders proceeded, no book of a receiver changed
 abbrev pub ProceedingKeepsReceivers : Type 0
