@@ -123,6 +123,11 @@ allowed_release p h c len places keeps =
     allowed_by p p h (set h (number_of c) after) c (subst (AllowsPermits (client p c)) (sym (aside_here h c after places)) here)
     (λ x e. refl) (λ x e. aside_there h c x after e) keeps
 
+pub allowed_void : (p : PeerState) (h : List Aside) (c : Channel) → length h ≡ channel_count → KeepsPermits p h → KeepsPermits p (set h (number_of c) no_permits)
+allowed_void p h c places keeps =
+    allowed_by p p h (set h (number_of c) no_permits) c (subst (AllowsPermits (client p c)) (sym (aside_here h c no_permits places)) (λ out. absurd (omega (arith, out))))
+    (λ x e. refl) (λ x e. aside_there h c x no_permits e) keeps
+
 pub allowed_reserved : (p : PeerState) (h : List Aside) (c : Channel) (len : ℕ) (body : List ℕ) → length p.channels ≡ channel_count → length h ≡ channel_count → is_permit (aside_on h c) len ≡ true → length body ≤ len → KeepsPermits p h → KeepsPermits (put p (Send c body)) (set h (number_of c) (without_permit (aside_on h c) len))
 allowed_reserved p h c len body channels places permit fit keeps =
     let after = without_permit (aside_on h c) len in

@@ -1,5 +1,5 @@
 -- What a scheduler keeps, where its peer changes.
-use Rattle.std.proofs.Common.{◌≡◌, ℕ, inr, ◌+◌, ◌^◌, ◌<◌, ◌≤◌, Bool, true, false, if◌then◌else◌, List, [], ◌∷◌, ◌++◌, length, drop, set, Option, Some, None, inl, refl, sym, ap, ◌∙◌, subst, arith}
+use Rattle.std.proofs.Common.{◌≡◌, ℕ, inr, ◌+◌, ◌-◌, ◌^◌, ◌<◌, ◌≤◌, Bool, true, false, if◌then◌else◌, List, [], ◌∷◌, ◌++◌, length, drop, set, Option, Some, None, inl, refl, sym, ap, ◌∙◌, subst, arith}
 use Rattle.std.specs.Prelude.{slice_get, slice_index, nat_le, replicate}
 use Rattle.std.specs.List.{AllByRecursion}
 use Rattle.std.proofs.Math.ListN.{length-set}
@@ -29,15 +29,15 @@ use Rattle.lc_lines.specs.declared.queue.Bound.{Bound}
 use Rattle.lc_lines.specs.declared.queue.Bound.TheVariants as kind
 use Rattle.lc_lines.specs.Bounds.{frame_of_bound}
 use Rattle.lc_lines.specs.Queue.{QueueState, empty_queue}
-use Rattle.lc_lines.specs.Permits.{none_aside, aside_on, permits_on, with_permit, without_permit, is_permit, free_of, beyond_permits}
-use Rattle.lc_lines.specs.Outbound.{least_slots, no_counts, under_way, kept, has_slot, fits, with_message, with_grant, without_grant, with_use, message_len, message_bytes, message_count, message_one, has_control_slot, Counts, counts_of, without_frame}
+use Rattle.lc_lines.specs.Permits.{no_permits, none_aside, aside_on, permits_on, with_permit, without_permit, is_permit, free_of, beyond_permits}
+use Rattle.lc_lines.specs.Outbound.{least_slots, no_counts, under_way, none, kept, has_slot, fits, with_message, with_grant, without_grant, without_permits, with_use, message_len, message_bytes, message_count, message_one, has_control_slot, Counts, counts_of, without_frame}
 use Rattle.lc_book.specs.Client.{honour_refusal, spend_refusal}
 use Rattle.lc_lines.specs.Scheduler.{absolving_refusal, honour_refusal as lines_honour_refusal, frame_of_control, count_after, SentBy, FitsBytes, KeepsSlots, KeepsGuarantees, KeepsPermits, IsShort, greatest_message, most_unwritten, AreSchedulerFields}
-use Rattle.lc_lines.proofs.Queued.{counts_control, counts_next, counts_push, counts_more, counts_less, counts_used, of_channel, queued_few, permits_few}
+use Rattle.lc_lines.proofs.Queued.{counts_control, counts_next, counts_push, counts_more, counts_less, counts_void, void_kept, counts_used, of_channel, queued_few, permits_few}
 use Rattle.lc_lines.proofs.Bytes.{bytes_push, bytes_next, fits_next, fits_control, fits_push, fits_reserved, short_of, short_push, short_next, short_first, bounded_by}
-use Rattle.lc_lines.proofs.Guarantees.{NoLess, same_book, and_then, arrive_takes_nothing, take_takes_nothing, guarantees_new, guarantees_same, guarantees_control, guarantees_bound, guarantees_honour, spared_by, guarantees_push, guarantees_grant, guarantees_release, guarantees_reserved, permit_is_out}
-use Rattle.lc_lines.proofs.Allowed.{allowed_same, allowed_push, allowed_grant, allowed_release, allowed_reserved, allowed_control, allowed_bound, allowed_honour, allowed_new}
-use Rattle.lc_lines.proofs.Slots.{slots_control, slots_next, slots_push, slots_grant, slots_release, slots_reserved}
+use Rattle.lc_lines.proofs.Guarantees.{NoLess, same_book, and_then, arrive_takes_nothing, take_takes_nothing, guarantees_new, guarantees_same, guarantees_control, guarantees_bound, guarantees_honour, spared_by, guarantees_push, guarantees_grant, guarantees_release, guarantees_void, guarantees_reserved, permit_is_out}
+use Rattle.lc_lines.proofs.Allowed.{allowed_same, allowed_push, allowed_grant, allowed_release, allowed_void, allowed_reserved, allowed_control, allowed_bound, allowed_honour, allowed_new}
+use Rattle.lc_lines.proofs.Slots.{slots_control, slots_next, slots_push, slots_grant, slots_release, slots_void, slots_reserved}
 
 -- what arrives and what is taken changes nothing that is queued, and takes nothing from a client
 pub record SameQueue (p p' : PeerState) : Type 0 where
@@ -232,6 +232,25 @@ few_kept p queues h sent begun exempt counts fields =
     let is : counts.kept ≡ kept p.waiting h = ap (λ (s : Counts). s.kept) fields.counted in
     omega (arith, fields.slots.own, fields.some)
 
+-- what is counted of a channel whose permits leave their slots
+pub record CanVoid (counts : Counts) (c : Channel) (n : ℕ) : Type 0 where
+  pub under_way : n ≤ slice_index counts.under_way (number_of c)
+  pub kept : none (slice_index counts.under_way (number_of c)) + n ≤ counts.kept + none (slice_index counts.under_way (number_of c) - n)
+  pub few : counts.kept < 2 ^ 32
+
+pub can_void : (p : PeerState) (queues : List QueueState) (h : List Aside) (sent begun exempt : ℕ) (counts : Counts) (c : Channel) → AreSchedulerFields p queues h sent begun exempt counts → CanVoid counts c (permits_on h c)
+can_void p queues h sent begun exempt counts c fields =
+    let n = permits_on h c in
+    let is : slice_index counts.under_way (number_of c) ≡ under_way p.waiting h c = ap (λ (s : Counts). slice_index s.under_way (number_of c)) fields.counted ∙ of_channel p.waiting h c in
+    let kept_is : counts.kept ≡ kept p.waiting h = ap (λ (s : Counts). s.kept) fields.counted in
+    let was : none (slice_index counts.under_way (number_of c)) ≡ none (under_way p.waiting h c) = ap none is in
+    let left : none (slice_index counts.under_way (number_of c) - n) ≡ none (under_way p.waiting h c - n) = ap (λ (m : ℕ). none (m - n)) is in
+    record {
+      under_way = omega (arith, is);
+      kept = omega (arith, void_kept p.waiting h c fields.permits, kept_is, was, left);
+      few = few_kept p queues h sent begun exempt counts fields;
+    }
+
 -- a message enters the queue at its turn
 pub push_fields : (p p' : PeerState) (queues queues' : List QueueState) (h : List Aside) (sent sent' begun exempt : ℕ) (counts counts' : Counts) (v : Version) (c : Channel) (body : List ℕ) →
     p' ≡ put p (Send c body) → length queues' ≡ channel_count → AllByRecursion (SentBy sent') queues' → counts' ≡ with_message counts c (length body) →
@@ -295,6 +314,27 @@ release_fields p queues h h' sent begun exempt counts counts' c len asides count
       some = fields.some;
       guarantees = guarantees_release p h c len fields.permits fields.guarantees;
       allowed = allowed_release p h c len fields.permits fields.allowed;
+      bytes = fields.bytes;
+      short = fields.short;
+      small = fields.small;
+      bounded = fields.bounded;
+    })
+
+-- the calls and the permits of a channel are given up
+pub abandon_fields : (p : PeerState) (queues queues' : List QueueState) (h h' : List Aside) (sent begun exempt : ℕ) (counts counts' : Counts) (c : Channel) →
+    length queues' ≡ channel_count → AllByRecursion (SentBy sent) queues' → h' ≡ set h (number_of c) no_permits → counts' ≡ without_permits counts c (permits_on h c) →
+    AreSchedulerFields p queues h sent begun exempt counts → AreSchedulerFields p queues' h' sent begun exempt counts'
+abandon_fields p queues queues' h h' sent begun exempt counts counts' c places stamps asides counts_is fields =
+    subst (λ (x : List Aside). AreSchedulerFields p queues' x sent begun exempt counts') (sym asides) (record {
+      places = places;
+      permits = length-set h (number_of c) no_permits ∙ fields.permits;
+      channels = fields.channels;
+      stamps = stamps;
+      counted = counts_is ∙ (ap (λ (s : Counts). without_permits s c (permits_on h c)) fields.counted ∙ sym (counts_void p.waiting h c fields.permits));
+      slots = slots_void p h c fields.permits fields.slots;
+      some = fields.some;
+      guarantees = guarantees_void p h c fields.permits fields.guarantees;
+      allowed = allowed_void p h c fields.permits fields.allowed;
       bytes = fields.bytes;
       short = fields.short;
       small = fields.small;

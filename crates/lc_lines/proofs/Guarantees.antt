@@ -110,6 +110,13 @@ guarantees_release p h c len places keeps =
     guarantees_by p p h (set h (number_of c) (without_permit (aside_on h c) len)) c (subst (Covers (client p c)) (sym (aside_here h c (without_permit (aside_on h c) len) places)) here)
     (λ d e. same_book (client p d)) (λ d e. aside_there h c d (without_permit (aside_on h c) len) e) keeps
 
+pub guarantees_void : (p : PeerState) (h : List Aside) (c : Channel) → length h ≡ channel_count → KeepsGuarantees p h → KeepsGuarantees p (set h (number_of c) no_permits)
+guarantees_void p h c places keeps =
+    let was = keeps c in
+    let here : Covers (client p c) no_permits = omega arith in
+    guarantees_by p p h (set h (number_of c) no_permits) c (subst (Covers (client p c)) (sym (aside_here h c no_permits places)) here)
+    (λ d e. same_book (client p d)) (λ d e. aside_there h c d no_permits e) keeps
+
 pub permit_is_out : (a : Aside) (len : ℕ) → is_permit a len ≡ true → 1 ≤ a.permits
 permit_is_out a len e = grind (arith, nat_tests)
 

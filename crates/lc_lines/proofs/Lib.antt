@@ -12,3 +12,4 @@ pub mod Blocking
 pub mod Accepted
 pub mod Fair
 pub mod Passed
+pub mod Closing

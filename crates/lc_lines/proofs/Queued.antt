@@ -16,7 +16,7 @@ use Rattle.lc_frame.proofs.Channels.{number_below}
 use Rattle.lc_frame.proofs.Measures.{messages-append, messages-one, messages-other, on-elsewhere}
 use Rattle.lc_lines.specs.declared.permits.Aside.{Aside}
 use Rattle.lc_lines.specs.Permits.{no_permits, aside_on, permits_on, permits_out, with_permit, without_permit}
-use Rattle.lc_lines.specs.Outbound.{every_channel, queued, under_way, none, unused, kept, message_len, message_one, message_count, Counts, counts_of, with_message, without_message, without_frame, with_grant, without_grant, with_use, IsCounted}
+use Rattle.lc_lines.specs.Outbound.{every_channel, queued, under_way, none, unused, kept, message_len, message_one, message_count, Counts, counts_of, with_message, without_message, without_frame, with_grant, without_grant, without_permits, with_use, IsCounted}
 use Rattle.lc_lines.proofs.Bytes.{bytes_push, one_small}
 
 pub none_more : (n : ℕ) → none (n + 1) ≡ 0
@@ -226,6 +226,26 @@ counts_less w h c len places one =
     same_counts (counts_of w (less h c len)) (without_grant (counts_of w h) c)
     (each_aside w h c (without_permit (aside_on h c) len) places ∙ (ap (λ n. set (each w h) (number_of c) n) fewer ∙ ap (λ n. set (each w h) (number_of c) (n - 1)) (sym (of_channel w h c))))
     (kept_is ∙ ap (λ n. kept w h - 1 + none (n - 1)) (sym (of_channel w h c)))
+    refl
+
+-- all permits of a channel leave their slots
+pub void_kept : (w : List Frame) (h : List Aside) (c : Channel) → length h ≡ channel_count → (kept w (set h (number_of c) no_permits) + none (under_way w h c)) + permits_on h c ≡ kept w h + none (under_way w h c - permits_on h c)
+void_kept w h c places =
+    let u = unused_set w w h (set h (number_of c) no_permits) c (queued c w + 0) (each_aside w h c no_permits places) in
+    let out = out_set h c no_permits places in
+    let left : under_way w h c - permits_on h c ≡ queued c w + 0 = omega arith in
+    let same = ap none left in
+    omega arith
+
+pub counts_void : (w : List Frame) (h : List Aside) (c : Channel) → length h ≡ channel_count → counts_of w (set h (number_of c) no_permits) ≡ without_permits (counts_of w h) c (permits_on h c)
+counts_void w h c places =
+    let n = permits_on h c in
+    let u = void_kept w h c places in
+    let left : queued c w + 0 ≡ under_way w h c - n = omega arith in
+    let kept_is : kept w (set h (number_of c) no_permits) ≡ kept w h + none (under_way w h c - n) - none (under_way w h c) - n = omega arith in
+    same_counts (counts_of w (set h (number_of c) no_permits)) (without_permits (counts_of w h) c n)
+    (each_aside w h c no_permits places ∙ (ap (λ m. set (each w h) (number_of c) m) left ∙ ap (λ m. set (each w h) (number_of c) (m - n)) (sym (of_channel w h c))))
+    (kept_is ∙ ap (λ m. kept w h + none (m - n) - none m - n) (sym (of_channel w h c)))
     refl
 
 used_here : (w : List Frame) (h : List Aside) (c : Channel) (len : ℕ) (body : List ℕ) → length h ≡ channel_count → 1 ≤ permits_on h c → under_way (w ++ Send c body ∷ []) (less h c len) c ≡ under_way w h c

@@ -10,11 +10,11 @@ use Rattle.lc_frame.specs.declared.frame.Frame.TheVariants.{Send}
 use Rattle.lc_peer.specs.Peer.{PeerState}
 use Rattle.lc_peer.specs.Calls.{put, without_next}
 use Rattle.lc_lines.specs.declared.permits.Aside.{Aside}
-use Rattle.lc_lines.specs.Permits.{aside_on, permits_on, with_permit, without_permit}
+use Rattle.lc_lines.specs.Permits.{no_permits, aside_on, permits_on, with_permit, without_permit}
 use Rattle.lc_lines.specs.Outbound.{under_way, none, kept, message_count, message_one, has_slot, has_control_slot}
 use Rattle.lc_lines.specs.Scheduler.{KeepsSlots}
 use Rattle.lc_lines.proofs.Bytes.{count_push, count_few}
-use Rattle.lc_lines.proofs.Queued.{kept_push, kept_drop, kept_after, kept_more, kept_less, kept_used, none_small}
+use Rattle.lc_lines.proofs.Queued.{kept_push, kept_drop, kept_after, kept_more, kept_less, void_kept, kept_used, none_small}
 
 record Place (slots len kept' count : ℕ) : Type 0 where
   pub own : kept' + (len + 1) ≤ slots
@@ -59,6 +59,18 @@ pub slots_release : (p : PeerState) (h : List Aside) (c : Channel) (len : ℕ) �
 slots_release p h c len places one keeps =
     let gone = kept_less p.waiting h c len places one in
     let small = none_small (under_way p.waiting h c - 1) in
+    record { own = omega (arith, keeps.own); control = omega (arith, keeps.control) }
+
+-- one slot of its own is unused at most, where so much less is under way
+fewer_kept : (u n : ℕ) → n ≤ u → none (u - n) ≤ none u + n
+fewer_kept u zero le = let same : u - zero ≡ u = omega arith in let is = ap none same in omega arith
+fewer_kept u (suc n) le = let small = none_small (u - suc n) in omega arith
+
+-- all permits of a channel leave their slots
+pub slots_void : (p : PeerState) (h : List Aside) (c : Channel) → length h ≡ channel_count → KeepsSlots p h → KeepsSlots p (set h (number_of c) no_permits)
+slots_void p h c places keeps =
+    let u = void_kept p.waiting h c places in
+    let few = fewer_kept (under_way p.waiting h c) (permits_on h c) (omega arith) in
     record { own = omega (arith, keeps.own); control = omega (arith, keeps.control) }
 
 -- a message takes the slot of its permit

@@ -4,6 +4,7 @@ pub mod Bounds
 pub mod Outbound
 pub mod Scheduler
 pub mod Lines
+pub mod Closing
 pub mod Order
 pub mod Blocking
 pub mod Runs

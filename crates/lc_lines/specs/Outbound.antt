@@ -140,6 +140,13 @@ without_grant s c = record s {
   kept = s.kept - 1 + none (slice_index s.under_way (number_of c) - 1);
 }
 
+-- the counts once so many permits of a channel left their slots
+abbrev pub without_permits : Counts → Channel → ℕ → Counts
+without_permits s c n = record s {
+  under_way = slice_set s.under_way (number_of c) (slice_index s.under_way (number_of c) - n);
+  kept = s.kept + none (slice_index s.under_way (number_of c) - n) - none (slice_index s.under_way (number_of c)) - n;
+}
+
 -- the counts once a message of so many bytes entered the queue by a permit, whose slot it takes: of its channel as much is under way as before
 abbrev pub with_use : Counts → ℕ → Counts
 with_use s len = record s { kept = s.kept - 1; bytes = s.bytes + len }

@@ -61,6 +61,10 @@ without ticket calls = if waits ticket calls then remove calls (place_of ticket 
 abbrev pub without_first : QueueState → QueueState
 without_first q = record q { calls = drop 1 q.calls; notified = false }
 
+-- the queue without its calls
+abbrev pub without_calls : QueueState → QueueState
+without_calls q = record q { calls = []; notified = false }
+
 -- the queue without the first call of the ticket, if any: where that was the first of all, the next one was not notified
 abbrev pub without_ticket : ℕ → QueueState → QueueState
 without_ticket ticket q = record q { calls = without ticket q.calls; notified = if place_of ticket q.calls == 0 then false else q.notified }

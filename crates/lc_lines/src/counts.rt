@@ -1,7 +1,7 @@
 //! What is under way on each channel, counted as messages enter and leave the outbound queue and as permits come and go.
 ghost use Rattle.std.specs.Prelude.{◌≡◌, ◌+◌, ◌-◌, ◌<◌, ◌≤◌, ◌^◌, length, slice_index};
 ghost use Rattle.lc_frame.specs.Channel.{channel_count, number_of};
-ghost use Rattle.lc_lines.specs.Outbound.{none, no_counts, with_message, without_message, without_frame, with_grant, without_grant, with_use, IsCounted};
+ghost use Rattle.lc_lines.specs.Outbound.{none, no_counts, with_message, without_message, without_frame, with_grant, without_grant, without_permits, with_use, IsCounted};
 
 use lc_frame::{CHANNELS, Channel, Frame};
 use std::marker::Model;
@@ -128,6 +128,19 @@ impl MessageCounts {
         let under_way = &mut self.under_way[channel.index()];
         *under_way -= 1;
         self.kept = self.kept - 1 + none(*under_way);
+    }
+
+    /// So many permits of a channel leave their slots.
+    pub fn void(&mut self, channel: Channel, permits: usize)
+        requires under_way { permits ≤ slice_index self.old.under_way (number_of channel) }
+        requires kept { none (slice_index self.old.under_way (number_of channel)) + permits ≤ self.old.kept + none (slice_index self.old.under_way (number_of channel) - permits) }
+        requires few { self.old.kept < 2 ^ 32 }
+        ensures { self.new ≡ without_permits self.old channel permits }
+    {
+        let under_way = &mut self.under_way[channel.index()];
+        let was = none(*under_way);
+        *under_way -= permits;
+        self.kept = self.kept + none(*under_way) - was - permits;
     }
 
     /// A message of so many bytes enters the queue by a permit, whose slot it takes.

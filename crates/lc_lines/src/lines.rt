@@ -4,13 +4,15 @@
 //! its caller is notified, and its ticket is noticed. Notices lie in a fixed number of entries until they are taken, so
 //! only a call that leaves a message or joins a wait queue asks for memory. Where the entries are full the steps go on
 //! once a notice is taken.
-ghost use Rattle.std.specs.Prelude.{◌≡◌, ◌<◌, ◌++◌, ◌∷◌, [], if◌then◌else◌, is_ok, length, IfOk, IfNone, IfSome, OnErr, OnOk};
+ghost use Rattle.std.specs.Prelude.{◌≡◌, ◌<◌, ◌++◌, ◌∷◌, [], None, if◌then◌else◌, is_ok, length, IfOk, IfNone, IfSome, OnErr, OnOk};
 ghost use Rattle.std.specs.Result.{result_err};
 ghost use Rattle.circular_buffer.specs.Buffer.{buffer};
 ghost use Rattle.lc_frame.specs.Frame.{IsValid};
+ghost use Rattle.lc_frame.specs.Channel.{channel_count};
 ghost use Rattle.lc_frame.specs.FrameRef.{frame_of};
 ghost use Rattle.lc_frame.specs.declared.version.Version.TheVariants.{Two};
-ghost use Rattle.lc_peer.specs.Inbox.{IsTake, take_answer};
+ghost use Rattle.lc_peer.specs.Inbox.{IsTake, take_answer, take_refusal};
+ghost use Rattle.lc_ring.specs.Ring.{front, with_front};
 ghost use Rattle.lc_peer.specs.Peer.{client, inbox};
 ghost use Rattle.lc_peer.specs.Calls.{next, due, take_on};
 ghost use Rattle.lc_peer.specs.Arrivals.{arrivals};
@@ -19,6 +21,7 @@ ghost use Rattle.lc_lines.specs.Permits.{is_permit};
 ghost use Rattle.lc_book.specs.Client.{spend_refusal};
 ghost use Rattle.lc_lines.specs.declared.queue.Ask.TheVariants.{Offer};
 ghost use Rattle.lc_lines.specs.Scheduler.{IsSchedulerAnswer, IsSettled, NoneIsHopeless, queue, start, join, complete, complete_progress, IsCompleteAnswer, progress_of, cancel, IsCallAnswer, IsAttemptAnswer, attempt, try_send, aside, free, for_good, IsReserveAnswer, reserve, try_reserve, IsReservedAnswer, send_reserved, give_back, frame_of_control, control_refusal, honour_refusal, honour, put_frame, take_frame, write, KeepsSlots, KeepsGuarantees, KeepsPermits, FitsBytes, IsHonoured, IsBoundAnswer, bound_progress, start_bound};
+ghost use Rattle.lc_lines.specs.Closing.{is_finished, close, IsClosed};
 ghost use Rattle.lc_lines.specs.Lines.{new_lines, Runs, Settles, NoticesNext, DeliversAndSettles, with_scheduler};
 
 use crate::permits::Aside;
@@ -27,7 +30,7 @@ use crate::scheduler::{Attempt, Control, Notice, Progress, Scheduler};
 use circular_buffer::HeapCircularBuffer;
 use lc_book::{Refusal, Violation};
 use lc_frame::{Channel, Frame, FrameRef, StreamDecoder};
-use lc_peer::{Config, Delivery, Peer, PeerFault, Take};
+use lc_peer::{Config, Delivery, Peer, PeerFault, RingIntake, Take};
 use std::alloc::Global;
 use std::marker::Model;
 
@@ -51,6 +54,7 @@ impl Drop for Lines {
 }
 
 impl Model for Lines {
+    ghost use Rattle.lc_lines.specs.Closing.{is_finished, close, IsClosed};
     ghost use Rattle.lc_lines.specs.Lines.{LinesState, AreLinesFields};
 
     ghost Value = { LinesState };
@@ -103,6 +107,7 @@ impl Lines {
     #[inline]
     pub fn peer(&self) -> &Peer
         ensures value { result.now ≡ self.now.scheduler.peer }
+        ensures places { length self.now.scheduler.peer.channels ≡ channel_count }
         ensures slots { KeepsSlots self.now.scheduler.peer self.now.scheduler.asides }
         ensures guarantees { KeepsGuarantees self.now.scheduler.peer self.now.scheduler.asides }
         ensures permits { KeepsPermits self.now.scheduler.peer self.now.scheduler.asides }
@@ -298,6 +303,25 @@ impl Lines {
         waited
     }
 
+    /// Closes the channels in the direction of this side: all calls that wait and all permits are given up, and each
+    /// channel is finished for which a slot is free for a control frame, by a Finish, and in version One by a limit of 0.
+    /// The calls fail at once, without notices, and nothing of them is sent. A call of it after each frame that is taken
+    /// finishes the other channels. It asks for no memory.
+    pub fn close(&mut self)
+        ensures after { self.new ≡ with_scheduler self.old (close self.old.scheduler) }
+        ensures closed { IsClosed self.new.scheduler }
+        ensures settled { IsSettled self.new.scheduler }
+    {
+        self.scheduler.close();
+    }
+
+    /// Whether this side has finished a channel, as [`Lines::close`] does it.
+    pub fn is_finished(&self, channel: Channel) -> bool
+        ensures { result ≡ is_finished self.now.scheduler.peer channel }
+    {
+        self.scheduler.is_finished(channel)
+    }
+
     /// A control call: its frame enters the outbound queue before messages that wait. It is refused as at the peer, by 6
     /// where it absolves guarantees that permits set aside, and by 13 where no slot is free for a control frame.
     pub fn control(&mut self, control: Control) -> Result<(), Refusal>
@@ -346,6 +370,37 @@ impl Lines {
         let delivery = self.scheduler.deliver(decoder, piece);
         settle(&mut self.scheduler, &mut self.notices);
         delivery
+    }
+
+    /// Bytes of the other side's stream arrive through an intake that was not given up, and then each call proceeds that
+    /// can: no message that is longer than its ring is kept.
+    pub fn deliver_through(&mut self, intake: &mut RingIntake, piece: &[u8]) -> Delivery
+        requires rings { self.old.scheduler.peer.capacities ≡ intake.old.rings }
+        requires going { intake.old.stop ≡ None }
+        ensures after { DeliversAndSettles self.old intake.old.held piece.now self.new intake.new.held result }
+        ensures stop { intake.new.stop ≡ result.stop }
+        ensures rings { intake.new.rings ≡ intake.old.rings }
+        ensures settled { length self.new.notices < self.new.entries → IsSettled self.new.scheduler }
+    {
+        let delivery = self.scheduler.deliver_through(intake, piece);
+        settle(&mut self.scheduler, &mut self.notices);
+        delivery
+    }
+
+    /// Takes the first message of a channel into the front of the buffer. Refused where the message is longer; then
+    /// nothing changed.
+    pub fn take_into(&mut self, channel: Channel, buffer: &mut [u8]) -> Result<Take, Refusal>
+        ensures answer { result_err result ≡ take_refusal (inbox self.old.scheduler.peer channel) (length buffer.old) }
+        ensures range { IfOk result (λ take. IsTake take) }
+        ensures value { IfOk result (λ take. take ≡ take_answer (inbox self.old.scheduler.peer channel)) }
+        ensures refused { OnErr result (self.new ≡ self.old) }
+        ensures after { OnOk result (Settles (with_scheduler self.old (record self.old.scheduler { peer = take_on self.old.scheduler.peer channel })) self.new) }
+        ensures buffer { buffer.new ≡ (if is_ok result then with_front (front (inbox self.old.scheduler.peer channel).ring) buffer.old else buffer.old) }
+        ensures settled { length self.new.notices < self.new.entries → IsSettled self.new.scheduler }
+    {
+        let take = self.scheduler.take_into(channel, buffer)?;
+        settle(&mut self.scheduler, &mut self.notices);
+        Ok(take)
     }
 
     /// Takes the first message of a channel and drops it.

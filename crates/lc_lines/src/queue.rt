@@ -1,7 +1,7 @@
 //! The wait queue of a channel.
 ghost use Rattle.std.specs.Prelude.{◌≡◌, ◌++◌, ◌∷◌, [], ◌==◌, ◌&&◌, if◌then◌else◌, is_ok, length, slice_get};
 ghost use Rattle.std.specs.Option.{option_copied};
-ghost use Rattle.lc_lines.specs.Queue.{empty_queue, call_len, is_offer, is_bound, first_waiting, place_of, waits, without_first, without_ticket};
+ghost use Rattle.lc_lines.specs.Queue.{empty_queue, call_len, is_offer, is_bound, first_waiting, place_of, waits, without_first, without_calls, without_ticket};
 
 use lc_frame::Body;
 use std::alloc::Global;
@@ -169,6 +169,14 @@ impl WaitQueue {
     {
         self.notified = false;
         self.calls.pop_front()
+    }
+
+    /// Gives up all calls.
+    pub fn clear(&mut self)
+        ensures { self.new ≡ without_calls self.old }
+    {
+        self.notified = false;
+        self.calls.clear();
     }
 
     /// The first call, unless it was notified and has not come since.

@@ -4,21 +4,24 @@
 //! channel can proceed once its guarantees are there beside those that permits set aside, a slot is free for it (its
 //! channel's own or a shared one), its bytes fit beside those that are queued, and no other channel that sent less
 //! recently waits for bytes alone. A bound on what a channel sends waits in the same queue.
-ghost use Rattle.std.specs.Prelude.{◌≡◌, ◌<◌, ◌^◌, ◌-◌, ◌∷◌, [], IfOk};
+ghost use Rattle.std.specs.Prelude.{◌≡◌, ◌<◌, ◌^◌, ◌-◌, ◌∷◌, [], None, if◌then◌else◌, is_ok, length, IfOk};
 ghost use Rattle.std.specs.Result.{result_err};
+ghost use Rattle.lc_frame.specs.Channel.{channel_count};
 ghost use Rattle.lc_frame.specs.FrameRef.{frame_of};
 ghost use Rattle.lc_frame.specs.declared.version.Version.TheVariants.{Two};
 ghost use Rattle.lc_peer.specs.Calls.{next, take_on};
 ghost use Rattle.lc_peer.specs.Arrivals.{arrivals};
 ghost use Rattle.lc_peer.specs.Deliveries.{Delivers};
 ghost use Rattle.lc_peer.specs.Peer.{inbox};
-ghost use Rattle.lc_peer.specs.Inbox.{IsTake, take_answer};
+ghost use Rattle.lc_peer.specs.Inbox.{IsTake, take_answer, take_refusal};
+ghost use Rattle.lc_ring.specs.Ring.{front, with_front};
 ghost use Rattle.lc_lines.specs.Fair.{AreCounted};
 ghost use Rattle.lc_frame.specs.Frame.{IsValid};
 ghost use Rattle.lc_lines.specs.Outbound.{message_len};
 ghost use Rattle.lc_lines.specs.Scheduler.{new_scheduler, IsSchedulerAnswer, aside, free, take_frame, write, KeepsSlots, KeepsGuarantees, KeepsPermits, FitsBytes};
 
 mod calls;
+mod closing;
 mod controls;
 mod judging;
 mod putting;
@@ -28,9 +31,9 @@ use crate::counts::MessageCounts;
 use crate::permits::Aside;
 use crate::queue::WaitQueue;
 use judging::free_of;
-use lc_book::Violation;
+use lc_book::{Refusal, Violation};
 use lc_frame::{CHANNELS, Channel, Frame, FrameRef, StreamDecoder};
-use lc_peer::{Config, Delivery, Needs, Peer, PeerFault, Take};
+use lc_peer::{Config, Delivery, Needs, Peer, PeerFault, RingIntake, Take};
 use std::alloc::Global;
 use std::marker::Model;
 
@@ -194,6 +197,7 @@ impl Scheduler {
     #[inline]
     pub fn peer(&self) -> &Peer
         ensures value { result.now ≡ self.now.peer }
+        ensures places { length self.now.peer.channels ≡ channel_count }
         ensures slots { KeepsSlots self.now.peer self.now.asides }
         ensures guarantees { KeepsGuarantees self.now.peer self.now.asides }
         ensures permits { KeepsPermits self.now.peer self.now.asides }
@@ -234,6 +238,30 @@ impl Scheduler {
         ensures rest { self.new ≡ record self.old { peer = self.new.peer } }
     {
         self.peer.deliver(decoder, piece)
+    }
+
+    /// Bytes of the other side's stream arrive through an intake that was not given up, as at the peer: no message that is
+    /// longer than its ring is kept.
+    pub fn deliver_through(&mut self, intake: &mut RingIntake, piece: &[u8]) -> Delivery
+        requires rings { self.old.peer.capacities ≡ intake.old.rings }
+        requires going { intake.old.stop ≡ None }
+        ensures delivers { Delivers self.old.peer intake.old.held piece.now self.new.peer intake.new.held result }
+        ensures stop { intake.new.stop ≡ result.stop }
+        ensures rings { (intake.new.rings ≡ intake.old.rings) × (self.new.peer.capacities ≡ self.old.peer.capacities) }
+        ensures rest { self.new ≡ record self.old { peer = self.new.peer } }
+    {
+        intake.deliver(&mut self.peer, &(), piece)
+    }
+
+    /// Takes the first message of a channel into the front of the buffer, as at the peer.
+    pub fn take_into(&mut self, channel: Channel, buffer: &mut [u8]) -> Result<Take, Refusal>
+        ensures answer { result_err result ≡ take_refusal (inbox self.old.peer channel) (length buffer.old) }
+        ensures range { IfOk result (λ take. IsTake take) }
+        ensures value { IfOk result (λ take. take ≡ take_answer (inbox self.old.peer channel)) }
+        ensures after { self.new ≡ (if is_ok result then record self.old { peer = take_on self.old.peer channel } else self.old) }
+        ensures buffer { buffer.new ≡ (if is_ok result then with_front (front (inbox self.old.peer channel).ring) buffer.old else buffer.old) }
+    {
+        self.peer.take_into(channel, buffer)
     }
 
     /// Takes the first message of a channel and drops it, as at the peer.
