@@ -1,0 +1,5 @@
+pub mod Mux
+pub mod Ends
+pub mod Writing
+pub mod Calls
+pub mod History

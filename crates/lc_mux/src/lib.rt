@@ -1,0 +1,16 @@
+//! A session as one machine.
+//!
+//! A [`Mux`] is the send scheduler of a session with both of its streams, and with how the session ends. It has no
+//! thread, no lock and no transport: bytes that arrive are delivered to it, and it writes bytes into a buffer.
+//!
+//! A session ends in order once both sides have finished all their channels and ended their streams; an [`End`] says
+//! why else it is over. The first end stays.
+#![tactic(auto)]
+
+mod end;
+mod mux;
+mod pending;
+
+pub use end::{CallError, End};
+pub use mux::Mux;
+pub use pending::Pending;
