@@ -1,5 +1,5 @@
 -- What closing leaves: no call waits and no permit is out, and each channel is finished or lacks a slot alone.
-use Rattle.std.proofs.Common.{◌≡◌, ◌≢◌, ◌<◌, ◌⊎◌, ℕ, Bool, true, false, if◌then◌else◌, List, [], ◌∷◌, length, set, Option, Some, None, inl, inr, refl, sym, ap, ◌∙◌, subst, arith}
+use Rattle.std.proofs.Common.{◌≡◌, ◌≢◌, ◌<◌, ◌⊎◌, ℕ, Bool, true, false, if◌then◌else◌, List, [], ◌∷◌, length, Option, Some, None, inl, inr, refl, sym, ap, ◌∙◌, subst, arith}
 use Rattle.std.specs.Prelude.{◌==◌, ◌&&◌, nat_lt, is_none, slice_get}
 use Rattle.std.proofs.Math.ListN.{length-set}
 use Rattle.std.proofs.lemmas.Bool.Decides.{nat_tests}
@@ -10,7 +10,6 @@ use Rattle.lc_frame.specs.declared.frame.Frame.TheVariants.{LimitSending, Finish
 use Rattle.lc_frame.specs.declared.version.Version.{Version}
 use Rattle.lc_frame.specs.declared.version.Version.TheVariants.{One, Two}
 use Rattle.lc_frame.specs.Channel.{channel_count, number_of, is_same}
-use Rattle.lc_frame.specs.Frame.{channel_of}
 use Rattle.lc_frame.proofs.Channels.{number_below}
 use Rattle.lc_book.specs.Client.{Client, IsClient}
 use Rattle.lc_book.specs.Limit.{limit_refusal}
@@ -27,8 +26,8 @@ use Rattle.lc_lines.specs.declared.permits.Aside.{Aside}
 use Rattle.lc_lines.specs.Permits.{no_permits, permits_on}
 use Rattle.lc_lines.specs.Bounds.{frame_of_bound, bound_refusal}
 use Rattle.lc_lines.specs.Outbound.{every_channel, has_control_slot}
-use Rattle.lc_lines.specs.Scheduler.{SchedulerState, queue, aside, with_queue, put_frame, can_call_proceed, can_front_proceed, can_bound, IsSettled}
-use Rattle.lc_lines.specs.Closing.{last_bound, is_used_up, is_finished_in, is_finished, abandon, abandon_among, finish, finish_among, IsAbandoned, NoneWaits, IsFinishedOrLacksSlot, IsClosed}
+use Rattle.lc_lines.specs.Scheduler.{SchedulerState, queue, put_frame, can_call_proceed, can_bound, IsSettled}
+use Rattle.lc_lines.specs.Closing.{last_bound, is_finished_in, is_finished, abandon, abandon_among, finish, finish_among, IsAbandoned, NoneWaits, IsFinishedOrLacksSlot}
 use Rattle.lc_lines.proofs.Guarantees.{client_here, client_there, by_channel}
 use Rattle.lc_lines.proofs.Queued.{aside_here, aside_there}
 
