@@ -88,7 +88,7 @@ class Schedule {
       () => ends('sent', () => this.#done.push(ticket)),
       error => controller.signal.aborted || ends(said(error), () => this.#failed.set(ticket, said(error))),
     );
-    await Promise.resolve().then(() => {}).then(() => {}).then(() => {});
+    await settled(); // no event lets a call proceed that did not proceed at once
     isNew = false;
     return answer;
   }
