@@ -1,3 +1,1 @@
-pub mod Balances
-pub mod Classes
 pub mod Fault

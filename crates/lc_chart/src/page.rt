@@ -1,7 +1,5 @@
 //! What every picture has: its head with the style sheet and the words for a screen reader, its legend
 //! and its marks.
-ghost use Rattle.std.specs.Prelude.{◌≤◌};
-
 use crate::shapes;
 use crate::shapes::{Paint, Point, diamond, disc, line, rect, text};
 use lc_frame::Channel;
@@ -34,12 +32,8 @@ text{font:15px Helvetica,Arial,sans-serif;fill:var(--ink);paint-order:stroke;str
 ";
 
 /// The place of an event's row, where the rows begin at `top` and events are counted from 1.
-pub(crate) fn row(top: u64, number: u16) -> u64
-    requires { top ≤ 1000 }
-    ensures least { top ≤ result }
-    ensures most { result ≤ 10000000 }
-{
-    top + ROW * u64::from(number)
+pub(crate) fn row(top: u64, number: u16) -> u64 {
+    top.saturating_add(ROW * u64::from(number))
 }
 
 /// Begins the picture: its size, what a screen reader reads, the style sheet and the arrows' heads.
@@ -87,61 +81,40 @@ pub(crate) fn close<W: Write>(out: &mut W) -> io::Result<()> {
 }
 
 /// A frame's mark: a disc with its channel's number.
-pub(crate) fn frame_mark<W: Write>(out: &mut W, channel: Channel, at: Point) -> io::Result<()>
-    requires { at.y ≤ 10000000 }
-{
+pub(crate) fn frame_mark<W: Write>(out: &mut W, channel: Channel, at: Point) -> io::Result<()> {
     disc(out, Paint::of("mark", channel), at, 10)?;
     inside(out, at, channel.number())
 }
 
 /// The mark of a message that was taken: a square with its channel's number.
-pub(crate) fn take_mark<W: Write>(out: &mut W, channel: Channel, at: Point) -> io::Result<()>
-    requires x { (10 ≤ at.x) × (at.x ≤ 10000000) }
-    requires y { (10 ≤ at.y) × (at.y ≤ 10000000) }
-{
-    let corner = Point::new(at.x - 10, at.y - 10);
-    rect(out, Paint::of("mark", channel), corner, 20, 20)?;
+pub(crate) fn take_mark<W: Write>(out: &mut W, channel: Channel, at: Point) -> io::Result<()> {
+    rect(out, Paint::of("mark", channel), at.left(10).up(10), 20, 20)?;
     inside(out, at, channel.number())
 }
 
 /// The mark of what was refused or breaks the rules: a diamond with its number.
-pub(crate) fn wrong_mark<W: Write>(out: &mut W, number: u8, at: Point) -> io::Result<()>
-    requires { at.y ≤ 10000000 }
-{
+pub(crate) fn wrong_mark<W: Write>(out: &mut W, number: u8, at: Point) -> io::Result<()> {
     diamond(out, Paint::plain("wrong"), at)?;
     inside(out, at, number)
 }
 
-fn inside<W: Write>(out: &mut W, at: Point, number: u8) -> io::Result<()>
-    requires { at.y ≤ 10000000 }
-{
-    let base = Point::new(at.x, at.y + 4);
-    shapes::number(out, Paint::plain("in"), base, u64::from(number))
+fn inside<W: Write>(out: &mut W, at: Point, number: u8) -> io::Result<()> {
+    shapes::number(out, Paint::plain("in"), at.down(4), u64::from(number))
 }
 
 /// The words of a line of the legend, behind its shape.
-pub(crate) fn key<W: Write>(out: &mut W, at: Point, words: &str) -> io::Result<()>
-    requires { (at.x ≤ 10000000) × (at.y ≤ 10000000) }
-{
-    let base = Point::new(at.x + 20, at.y + 4);
-    text(out, Paint::plain("soft"), base, &words)
+pub(crate) fn key<W: Write>(out: &mut W, at: Point, words: &str) -> io::Result<()> {
+    text(out, Paint::plain("soft"), at.right(20).down(4), &words)
 }
 
 /// What the legend shows of a bar.
-pub(crate) fn bar_sample<W: Write>(out: &mut W, name: &'static str, at: Point) -> io::Result<()>
-    requires { (10 ≤ at.x) × (6 ≤ at.y) }
-{
-    let corner = Point::new(at.x - 10, at.y - 6);
-    rect(out, Paint::plain(name), corner, 22, 12)
+pub(crate) fn bar_sample<W: Write>(out: &mut W, name: &'static str, at: Point) -> io::Result<()> {
+    rect(out, Paint::plain(name), at.left(10).up(6), 22, 12)
 }
 
 /// What the legend shows of a frame in flight.
-pub(crate) fn flight_sample<W: Write>(out: &mut W, at: Point) -> io::Result<()>
-    requires { (10 ≤ at.x) × (at.x ≤ 10000000) }
-{
-    let from = Point::new(at.x - 10, at.y);
-    let to = Point::new(at.x + 12, at.y);
-    line(out, Paint::plain("flight key"), from, to)
+pub(crate) fn flight_sample<W: Write>(out: &mut W, at: Point) -> io::Result<()> {
+    line(out, Paint::plain("flight key"), at.left(10), at.right(12))
 }
 
 /// The name of a channel.

@@ -1,5 +1,5 @@
 //! The picture of a session: a lifeline for each side, arrows between them, and the balances beside.
-ghost use Rattle.std.specs.Prelude.{◌≤◌, ◌≡◌};
+ghost use Rattle.std.specs.Prelude.{◌≤◌};
 
 use crate::page::{
     MARGIN, bar_sample, close, close_description, flight_sample, frame_mark, key, name_of, open,
@@ -47,19 +47,17 @@ impl Layout {
         }
     }
 
-    fn width(self) -> u64
-        ensures { (result ≤ 100000) }
-    {
+    fn width(self) -> u64 {
         self.x(Side::B) + GUTTER + COLUMN * u64::from(self.columns) + MARGIN
     }
 
     fn height(self) -> u64 {
-        row(TOP, self.end) + 40
+        row(TOP, self.end).saturating_add(40)
     }
 
     // The lifeline of a side.
     fn x(self, side: Side) -> u64
-        ensures { (60 ≤ result) × (result ≤ 50000) }
+        ensures { result ≤ 50000 }
     {
         let left = MARGIN + COLUMN * u64::from(self.columns) + GUTTER;
         match side {
@@ -69,9 +67,7 @@ impl Layout {
     }
 
     // The left end of a column of bars, beside a side.
-    fn bar(self, side: Side, column: u8) -> u64
-        ensures { result ≤ 100000 }
-    {
+    fn bar(self, side: Side, column: u8) -> u64 {
         let left = match side {
             Side::A => MARGIN,
             Side::B => self.x(Side::B) + GUTTER + COLUMN - BAR,
@@ -79,9 +75,7 @@ impl Layout {
         left + COLUMN * u64::from(column)
     }
 
-    fn on_line(self, side: Side, number: u16) -> Point
-        ensures { (60 ≤ result.x) × (result.x ≤ 50000) × (200 ≤ result.y) × (result.y ≤ 10000000) }
-    {
+    fn on_line(self, side: Side, number: u16) -> Point {
         Point::new(self.x(side), row(TOP, number))
     }
 }
@@ -174,10 +168,7 @@ enum Sample {
 }
 
 impl Sample {
-    fn draw<W: Write>(self, at: Point, out: &mut W) -> io::Result<()>
-        requires x { (30 ≤ at.x) × (at.x ≤ 100000) }
-        requires y { (78 ≤ at.y) × (at.y ≤ 100000) }
-    {
+    fn draw<W: Write>(self, at: Point, out: &mut W) -> io::Result<()> {
         match self {
             Sample::Frame => frame_mark(out, Channel::Data, at),
             Sample::Taken => take_mark(out, Channel::Data, at),
@@ -201,12 +192,7 @@ const SAMPLES: [(Sample, &str); 8] = [
 ];
 
 // A place in the legend, which has four in each line.
-fn legend_place(place: u8) -> Point
-    ensures left { 30 ≤ result.x }
-    ensures right { result.x ≤ 100000 }
-    ensures top { 78 ≤ result.y }
-    ensures bottom { result.y ≤ 100000 }
-{
+fn legend_place(place: u8) -> Point {
     let (column, line) = (u64::from(place % 4), u64::from(place / 4));
     Point::new(MARGIN + 10 + 170 * column, 82 + 24 * line)
 }
@@ -236,8 +222,12 @@ fn occurs(session: &Session, channel: Channel) -> bool {
 fn draw_frame<W: Write>(session: &Session, layout: Layout, out: &mut W) -> io::Result<()> {
     for side in [Side::A, Side::B] {
         let top = layout.on_line(side, 0);
-        let head = Point::new(top.x, top.y - 12);
-        text(out, Paint::plain("head mid"), head, &name_of_side(side))?;
+        text(
+            out,
+            Paint::plain("head mid"),
+            top.up(12),
+            &name_of_side(side),
+        )?;
         let end = layout.on_line(side, layout.end);
         line(out, Paint::plain("life"), top, end)?;
     }
@@ -301,9 +291,7 @@ impl Stack {
     }
 
     // What is buffered lies over what is buffered or outstanding, and that over the whole ring.
-    fn draw<W: Write>(self, at: Point, bar: Bar, out: &mut W) -> io::Result<()>
-        requires { (at.x ≤ 100000) × (at.y ≤ 10000000) }
-    {
+    fn draw<W: Write>(self, at: Point, bar: Bar, out: &mut W) -> io::Result<()> {
         match bar {
             Bar::Held(held) => {
                 self.part("held", at, held, out)?;
@@ -322,9 +310,7 @@ impl Stack {
     }
 
     // Three numbers, on one line where that is long enough.
-    fn numbers<W: Write>(self, at: Point, numbers: [u64; 3], out: &mut W) -> io::Result<()>
-        requires { (at.x ≤ 100000) × (at.y ≤ 10000000) }
-    {
+    fn numbers<W: Write>(self, at: Point, numbers: [u64; 3], out: &mut W) -> io::Result<()> {
         let sum = Paint::plain("sum");
         let [buffered, outstanding, room] = numbers;
         if self.capacity < WIDE {
@@ -341,16 +327,12 @@ impl Stack {
     }
 }
 
-fn number_place(at: Point, line: u8) -> Point
-    requires { (at.x ≤ 100000) × (at.y ≤ 10000000) }
-{
-    Point::new(at.x + 4, at.y + 12 + 12 * u64::from(line))
+fn number_place(at: Point, line: u8) -> Point {
+    at.right(4).down(12 + 12 * u64::from(line))
 }
 
-fn column_head<W: Write>(out: &mut W, channel: Channel, at: Point, words: &str) -> io::Result<()>
-    requires { (at.x ≤ 100000) × (200 ≤ at.y) × (at.y ≤ 10000000) }
-{
-    let mark = Point::new(at.x + 10, at.y - 16);
+fn column_head<W: Write>(out: &mut W, channel: Channel, at: Point, words: &str) -> io::Result<()> {
+    let mark = at.right(10).up(16);
     frame_mark(out, channel, mark)?;
     key(out, mark, words)
 }
@@ -391,11 +373,9 @@ fn draw_event<W: Write>(
     draw_mark(event, answer, at, out)?;
     draw_number(event.side, number, at, out)?;
     let words = inside_of(event.side, at);
-    let above = Point::new(words.x, words.y - 8);
-    let below = Point::new(words.x, words.y + 16);
     if let Some(channel) = channel_of(&event.act) {
         let asked = Paint::of(anchored(event.side, "asked", "asked end"), channel);
-        text(out, asked, above, &Happened(&event.act, answer))?;
+        text(out, asked, words.up(8), &Happened(&event.act, answer))?;
     }
     let note = match answer {
         Answer::Accepted | Answer::Arrived | Answer::Absolved(_) | Answer::Took(_) => {
@@ -404,7 +384,7 @@ fn draw_event<W: Write>(
         Answer::Refused(_) | Answer::Violated(_) => anchored(event.side, "bad", "bad end"),
         _ => anchored(event.side, "soft", "soft end"),
     };
-    text(out, Paint::plain(note), below, &Told(answer))
+    text(out, Paint::plain(note), words.down(16), &Told(answer))
 }
 
 fn anchored(side: Side, start: &'static str, end: &'static str) -> &'static str {
@@ -415,31 +395,20 @@ fn anchored(side: Side, start: &'static str, end: &'static str) -> &'static str 
 }
 
 // Where the words of an event begin, or end at B.
-fn inside_of(side: Side, at: Point) -> Point
-    requires { (60 ≤ at.x) × (at.x ≤ 50000) }
-    ensures { result.y ≡ at.y }
-{
+fn inside_of(side: Side, at: Point) -> Point {
     match side {
-        Side::A => Point::new(at.x + 18, at.y),
-        Side::B => Point::new(at.x - 18, at.y),
+        Side::A => at.right(18),
+        Side::B => at.left(18),
     }
 }
 
-fn draw_number<W: Write>(side: Side, number: u16, at: Point, out: &mut W) -> io::Result<()>
-    requires { (60 ≤ at.x) × (at.x ≤ 50000) × (at.y ≤ 10000000) }
-{
-    let x = match side {
-        Side::A => at.x - 18,
-        Side::B => at.x + 18,
-    };
+fn draw_number<W: Write>(side: Side, number: u16, at: Point, out: &mut W) -> io::Result<()> {
+    let outside = inside_of(other(side), at).down(4);
     let paint = Paint::plain(anchored(side, "soft end", "soft"));
-    shapes::number(out, paint, Point::new(x, at.y + 4), u64::from(number))
+    shapes::number(out, paint, outside, u64::from(number))
 }
 
-fn draw_mark<W: Write>(event: &Event, answer: &Answer, at: Point, out: &mut W) -> io::Result<()>
-    requires x { (60 ≤ at.x) × (at.x ≤ 50000) }
-    requires y { (200 ≤ at.y) × (at.y ≤ 10000000) }
-{
+fn draw_mark<W: Write>(event: &Event, answer: &Answer, at: Point, out: &mut W) -> io::Result<()> {
     match (answer, channel_of(&event.act)) {
         (Answer::Refused(refusal), _) => wrong_mark(out, refusal.number(), at),
         (Answer::Violated(violation), _) => wrong_mark(out, violation.number(), at),

@@ -1,7 +1,4 @@
 //! A session as a picture shows it: where each frame arrived, and how the balances went.
-ghost use Rattle.std.specs.Prelude.{◌≡◌};
-ghost use Rattle.lc_chart.specs.Balances.{lone_channel};
-
 use crate::fault::ChartFault;
 use lc_cli::Fault;
 use lc_frame::{Channel, LANES, Lane, Version};
@@ -277,9 +274,7 @@ pub(crate) fn other(side: Side) -> Side {
 // The channel on which alone an event changes a balance: that of its act, and of an arrival that of the
 // frame that arrived. A delivery may bring several, so it has none; nor has an arrival or a delivery that
 // brings nothing or breaks the rules, since its act has no channel.
-fn lone_channel(act: Option<Channel>, answer: &Answer, landed: Option<Channel>) -> Option<Channel>
-    ensures { result ≡ lone_channel act answer.now landed }
-{
+fn lone_channel(act: Option<Channel>, answer: &Answer, landed: Option<Channel>) -> Option<Channel> {
     match answer {
         Answer::Arrived => landed,
         Answer::Delivered { .. } => None,

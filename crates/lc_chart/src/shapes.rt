@@ -1,9 +1,4 @@
 //! The shapes of a picture, each one element of SVG.
-ghost use Rattle.std.specs.Prelude.{◌≡◌, ◌++◌, OnOk, codes};
-ghost use Rattle.std.specs.Io.KnownBytes.{Appends};
-ghost use Rattle.std.specs.Fmt.{decimal};
-ghost use Rattle.lc_chart.specs.Classes.{class_text, text_head};
-
 use lc_cli::write_decimal;
 use lc_frame::Channel;
 use std::fmt::Display;
@@ -19,11 +14,25 @@ pub struct Point {
 
 impl Point {
     /// The place so far to the right and so far down.
-    pub fn new(x: u64, y: u64) -> Point
-        ensures x { result.x ≡ x }
-        ensures y { result.y ≡ y }
-    {
+    pub fn new(x: u64, y: u64) -> Point {
         Point { x, y }
+    }
+
+    /// The place so far to the left of this one, within the picture; and so below.
+    pub(crate) fn left(self, by: u64) -> Point {
+        Point::new(self.x.saturating_sub(by), self.y)
+    }
+
+    pub(crate) fn right(self, by: u64) -> Point {
+        Point::new(self.x.saturating_add(by), self.y)
+    }
+
+    pub(crate) fn up(self, by: u64) -> Point {
+        Point::new(self.x, self.y.saturating_sub(by))
+    }
+
+    pub(crate) fn down(self, by: u64) -> Point {
+        Point::new(self.x, self.y.saturating_add(by))
     }
 }
 
@@ -122,19 +131,18 @@ pub fn text<W: Write, T: Display>(
 }
 
 /// A line of text that is a number.
-pub(crate) fn number<W: Write>(out: &mut W, paint: Paint, at: Point, number: u64) -> io::Result<()>
-    ensures { OnOk result (Appends (W.contents out.old) (W.contents out.new)
-        (text_head paint.name.now paint.channel at.x at.y ++ (decimal number ++ codes "</text>\n"))) }
-{
+pub(crate) fn number<W: Write>(
+    out: &mut W,
+    paint: Paint,
+    at: Point,
+    number: u64,
+) -> io::Result<()> {
     put_text_head(out, paint, at)?;
     write_decimal(number, out)?;
     out.write_all(b"</text>\n")
 }
 
-fn put_text_head<W: Write>(out: &mut W, paint: Paint, at: Point) -> io::Result<()>
-    ensures { OnOk result (Appends (W.contents out.old) (W.contents out.new)
-        (text_head paint.name.now paint.channel at.x at.y)) }
-{
+fn put_text_head<W: Write>(out: &mut W, paint: Paint, at: Point) -> io::Result<()> {
     put_head(out, b"<text class=\"", paint)?;
     put_number(out, b"\" x=\"", at.x)?;
     put_number(out, b"\" y=\"", at.y)?;
@@ -144,10 +152,7 @@ fn put_text_head<W: Write>(out: &mut W, paint: Paint, at: Point) -> io::Result<(
 // Writes the words and the classes behind them. Here and below each piece is written where formatting
 // would write it, so that a failed write has the same pieces before it; of an empty name it writes none.
 #[inline(always)]
-fn put_head<W: Write>(out: &mut W, words: &[u8], paint: Paint) -> io::Result<()>
-    ensures { OnOk result (Appends (W.contents out.old) (W.contents out.new)
-        (words.now ++ class_text paint.name.now paint.channel)) }
-{
+fn put_head<W: Write>(out: &mut W, words: &[u8], paint: Paint) -> io::Result<()> {
     out.write_all(words)?;
     if !paint.name.is_empty() {
         out.write_all(paint.name.as_bytes())?;
@@ -160,10 +165,7 @@ fn put_head<W: Write>(out: &mut W, words: &[u8], paint: Paint) -> io::Result<()>
 
 // Writes the words and the number behind them.
 #[inline(always)]
-fn put_number<W: Write>(out: &mut W, words: &[u8], number: u64) -> io::Result<()>
-    ensures { OnOk result (Appends (W.contents out.old) (W.contents out.new)
-        (words.now ++ decimal number)) }
-{
+fn put_number<W: Write>(out: &mut W, words: &[u8], number: u64) -> io::Result<()> {
     out.write_all(words)?;
     write_decimal(number, out)
 }

@@ -1,6 +1,4 @@
 //! The picture of a captured stream: its frames along one lifeline.
-ghost use Rattle.std.specs.Prelude.{◌≡◌, ◌≤◌};
-
 use crate::fault::ChartFault;
 use crate::page::{MARGIN, close, close_description, frame_mark, key, name_of, open, row};
 use crate::session::MAX_EVENTS;
@@ -158,7 +156,7 @@ pub(crate) fn draw_stream<W: Write>(bytes: &[u8], survey: Survey, out: &mut W) -
     let frames = survey.frames;
     let title = Phrase::Stream { frames };
     let end = survey.frames.saturating_add(1);
-    let height = row(TOP, end) + 40;
+    let height = row(TOP, end).saturating_add(40);
     open(out, WIDTH, height, &title)?;
     describe(bytes, survey, out)?;
     close_description(out, WIDTH, height, &title)?;
@@ -167,8 +165,7 @@ pub(crate) fn draw_stream<W: Write>(bytes: &[u8], survey: Survey, out: &mut W) -
     draw_frames(bytes, survey, out)?;
     if let Some(fault) = survey.fault {
         disc(out, Paint::plain("wrong"), bottom, 6)?;
-        let words = Point::new(LINE + 18, bottom.y + 4);
-        text(out, Paint::plain("bad"), words, &fault)?;
+        text(out, Paint::plain("bad"), bottom.right(18).down(4), &fault)?;
     }
     close(out)
 }
@@ -206,26 +203,23 @@ fn draw_frame<W: Write>(number: u16, placed: Placed<'_>, out: &mut W) -> io::Res
     let tip = Point::new(TIP, at.y);
     line(out, Paint::of("arrow", channel), at, tip)?;
     frame_mark(out, channel, at)?;
-    let above = Point::new(LINE + 18, at.y - 8);
+    let above = at.right(18).up(8);
     text(
         out,
         Paint::of("asked", channel),
         above,
         &Asked::by_frame(&frame),
     )?;
-    let before = Point::new(LINE - 18, at.y + 4);
+    let before = at.left(18).down(4);
     text(
         out,
         Paint::plain("soft end"),
         before,
         &Phrase::Offset(offset),
     )?;
-    key(out, Point::new(TIP, at.y), name_of(channel))
+    key(out, tip, name_of(channel))
 }
 
-fn on_line(number: u16) -> Point
-    ensures x { result.x ≡ 140 }
-    ensures y { (60 ≤ result.y) × (result.y ≤ 10000000) }
-{
+fn on_line(number: u16) -> Point {
     Point::new(LINE, row(TOP, number))
 }
