@@ -1,11 +1,16 @@
 -- The law of the outbound stream: over any run of calls the bytes that were written are the first of those of the frames that the peer put, in their order, behind the greeting. That a message is on the stream once, whole, as it was sent, follows from it.
-use Rattle.std.specs.Prelude.{◌≡◌, ℕ, List, [], ◌∷◌, ◌++◌}
+use Rattle.std.specs.Prelude.{◌≡◌, ℕ, List, [], ◌++◌, length}
 use Rattle.std.specs.List.{flat_map}
 use Rattle.lc_frame.specs.declared.frame.Frame.{Frame}
 use Rattle.lc_frame.specs.Version.{greeting}
 use Rattle.lc_frame.specs.Encoding.{encoding}
-use Rattle.lc_peer.specs.Streams.{Streams, IsPeerOf}
-use Rattle.lc_mux.specs.Mux.{MuxState, text}
+use Rattle.lc_frame.specs.Channel.{channel_count}
+use Rattle.lc_peer.specs.declared.config.Config.{Config}
+use Rattle.lc_peer.specs.Streams.{Streams, IsPeerOf, new_streams}
+use Rattle.lc_lines.specs.Scheduler.{SchedulerState}
+use Rattle.lc_lines.specs.Lines.{Settles, with_scheduler}
+use Rattle.lc_mux.specs.Mux.{MuxState, text, new_mux}
+use Rattle.lc_mux.specs.Writing.{put_all, Gives}
 
 -- what was done with a session: the bytes that its writes gave, and the two streams of its peer
 pub record History : Type 0 where
@@ -35,3 +40,23 @@ pub record GoesOn (written : List ℕ) (h h' : History) : Type 0 where
 -- a call gave these bytes, and left a session whose history goes on by them
 abbrev pub Continues : List ℕ → MuxState → MuxState → Type 0
 Continues written m m' = (h : History) → IsMuxOf h m → (h' : History) × (GoesOn written h h' × IsMuxOf h' m')
+
+-- a write continues so, whatever calls proceed meanwhile
+abbrev pub WritesContinue : Type 0
+WritesContinue = (m m' : MuxState) (written : List ℕ) → Gives m.closing written m.lines m.pending m'.lines m'.pending → Continues written m m'
+
+-- a call that puts frames, if any, and lets calls proceed, continues so, and writes nothing
+abbrev pub CallsContinue : Type 0
+CallsContinue = (m m' : MuxState) (s : SchedulerState) (frames : List Frame) → s.peer ≡ put_all frames m.lines.scheduler.peer → Settles (with_scheduler m.lines s) m'.lines → m'.pending ≡ m.pending → Continues [] m m'
+
+-- what continues on and on continues
+abbrev pub ContinuesOn : Type 0
+ContinuesOn = (a b c : MuxState) (x y : List ℕ) → Continues x a b → Continues y b c → Continues (x ++ y) a c
+
+-- what was written of a stream is the first of it
+abbrev pub WrittenIsFirst : Type 0
+WrittenIsFirst = (h : History) (m : MuxState) → IsMuxOf h m → IsFrontOf h.given (outbound h.streams)
+
+-- a new session is that of a history in which nothing was done
+abbrev pub NewContinues : Type 0
+NewContinues = (config : Config) → length config.capacities ≡ channel_count → IsMuxOf (record { given = []; streams = new_streams config }) (new_mux config)

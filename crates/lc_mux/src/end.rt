@@ -34,6 +34,28 @@ pub enum CallError {
     Over(End),
 }
 
+impl From<Refusal> for CallError {
+    ghost use Rattle.std.specs.Prelude.{◌≡◌};
+    ghost use Rattle.lc_mux.specs.declared.end.CallError.TheVariants.{Refused};
+
+    ghost from_gives = { λ refusal error. error ≡ Refused refusal };
+
+    fn from(refusal: Refusal) -> CallError {
+        CallError::Refused(refusal)
+    }
+}
+
+impl From<End> for CallError {
+    ghost use Rattle.std.specs.Prelude.{◌≡◌};
+    ghost use Rattle.lc_mux.specs.declared.end.CallError.TheVariants.{Over};
+
+    ghost from_gives = { λ end error. error ≡ Over end };
+
+    fn from(end: End) -> CallError {
+        CallError::Over(end)
+    }
+}
+
 // The end of a session whose inbound stream was given up.
 pub(crate) fn end_of_stop(stop: Option<Stop>) -> Option<End>
     ensures { result ≡ end_of_stop stop }

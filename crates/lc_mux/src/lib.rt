@@ -8,6 +8,7 @@
 #![tactic(auto)]
 
 mod end;
+pub mod laws;
 mod mux;
 mod pending;
 

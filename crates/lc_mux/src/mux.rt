@@ -6,7 +6,9 @@ ghost use Rattle.lc_lines.specs.Scheduler.{IsSchedulerAnswer};
 ghost use Rattle.lc_mux.specs.Mux.{new_mux};
 ghost use Rattle.lc_mux.specs.Ends.{end_of_stop, input_over};
 
+mod calls;
 mod ending;
+mod taking;
 mod writing;
 
 use crate::end::{End, end_of_stop};

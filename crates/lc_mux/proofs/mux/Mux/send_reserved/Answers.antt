@@ -1,0 +1,13 @@
+use Rattle.std.proofs.Common.{◌≡◌, false, ap, ◌∙◌}
+use Rattle.lc_lines.specs.Scheduler.{send_reserved}
+use Rattle.lc_mux.specs.Mux.{MuxState}
+use Rattle.lc_mux.proofs.Called.{send_reserved_put}
+use Rattle.lc_mux.proofs.Closed.{fields_called}
+use Rattle.lc_mux.proofs.mux.Mux.send_reserved.Goals as goal
+
+pub invariant_of-self-2 : goal.invariant_of-self-2
+invariant_of-self-2 c =
+    let i = c.self.inside in
+    let s = i.lines.scheduler in
+    let going : i.closing ≡ false = ap (λ (m : MuxState). m.closing) c.self.view_is ∙ c.in_ok-judge_call.ensures.open in
+    fields_called i.lines c.send_reserved.new.self (send_reserved s c.args.channel c.args.len c.args.body.now) i.intake i.pending i.closing i.end c.in_ok-send_reserved.ensures.sends (send_reserved_put s c.args.channel c.args.len c.args.body.now) going c.self.invariant

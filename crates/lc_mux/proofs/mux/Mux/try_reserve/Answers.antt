@@ -1,0 +1,13 @@
+use Rattle.std.proofs.Common.{◌≡◌, false, ap, ◌∙◌}
+use Rattle.lc_lines.specs.Scheduler.{try_reserve}
+use Rattle.lc_mux.specs.Mux.{MuxState}
+use Rattle.lc_mux.proofs.Called.{try_reserve_put}
+use Rattle.lc_mux.proofs.Closed.{fields_called}
+use Rattle.lc_mux.proofs.mux.Mux.try_reserve.Goals as goal
+
+pub invariant_of-self-2 : goal.invariant_of-self-2
+invariant_of-self-2 c =
+    let i = c.self.inside in
+    let s = i.lines.scheduler in
+    let going : i.closing ≡ false = ap (λ (m : MuxState). m.closing) c.self.view_is ∙ c.in_ok-judge_send.ensures.open in
+    fields_called i.lines c.try_reserve.new.self (try_reserve s c.args.channel c.args.len) i.intake i.pending i.closing i.end c.in_ok-answer.ensures.reserves (try_reserve_put s c.args.channel c.args.len) going c.self.invariant

@@ -1,0 +1,3 @@
+//! What is tested.
+mod laws;
+mod pairs;
