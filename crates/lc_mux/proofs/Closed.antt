@@ -20,7 +20,7 @@ use Rattle.lc_lines.specs.declared.queue.Call.{Call}
 use Rattle.lc_lines.specs.declared.scheduler.Notice.{Notice}
 use Rattle.lc_lines.specs.Scheduler.{SchedulerState, queue, first}
 use Rattle.lc_lines.specs.Lines.{LinesState, Settles, NoticesNext, with_scheduler}
-use Rattle.lc_lines.specs.Closing.{is_used_up, is_finished_in, is_finished, NoneWaits, IsFinishedOrLacksSlot, IsClosed, close as close_lines}
+use Rattle.lc_lines.specs.Closing.{is_used_up, is_finished_in, NoneWaits, IsFinishedOrLacksSlot, IsClosed, close as close_lines}
 use Rattle.lc_lines.proofs.Guarantees.{NoLess}
 use Rattle.lc_lines.proofs.Fields.{SameQueue, take_keeps}
 use Rattle.lc_mux.specs.declared.end.End.{End}

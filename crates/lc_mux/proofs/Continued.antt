@@ -1,5 +1,5 @@
 -- The outbound stream of a session continues, whatever is called.
-use Rattle.std.proofs.Common.{◌≡◌, ℕ, List, [], ◌∷◌, ◌++◌, length, refl, sym, ap, ◌∙◌, subst, append_assoc}
+use Rattle.std.proofs.Common.{◌≡◌, ℕ, List, [], ◌∷◌, ◌++◌, refl, sym, ap, ◌∙◌, subst, append_assoc}
 use Rattle.std.specs.List.{flat_map}
 use Rattle.std.proofs.lemmas.List.{append-nil}
 use Rattle.std.proofs.lemmas.List.Concat.{flat_map-append}
@@ -11,10 +11,9 @@ use Rattle.lc_peer.specs.Peer.{PeerState}
 use Rattle.lc_peer.specs.Calls.{put}
 use Rattle.lc_peer.specs.Streams.{Streams, IsPeerOf, IsEndOf, then_put}
 use Rattle.lc_peer.proofs.StreamsKept.{calls_keep_streams, new_peers_are_of_streams}
-use Rattle.lc_lines.specs.Scheduler.{SchedulerState}
-use Rattle.lc_lines.specs.Lines.{LinesState, Settles, with_scheduler}
+use Rattle.lc_lines.specs.Lines.{with_scheduler}
 use Rattle.lc_mux.specs.Mux.{MuxState, text}
-use Rattle.lc_mux.specs.Writing.{put_all, Gives}
+use Rattle.lc_mux.specs.Writing.{put_all}
 use Rattle.lc_mux.specs.History as history
 use Rattle.lc_mux.specs.History.{History, outbound, IsMuxOf, GoesOn, Continues}
 use Rattle.lc_mux.proofs.Puts.{put_all-append, put_all-queue, put_all-version, settles_put}

@@ -1,7 +1,7 @@
 -- What was written, at one time and another.
-use Rattle.std.proofs.Common.{◌≡◌, ◌⊎◌, Bool, ℕ, zero, suc, ◌+◌, ◌-◌, ◌<◌, ◌≤◌, min, List, [], ◌∷◌, ◌++◌, length, take, drop, Some, inl, inr, refl, sym, ap, ◌∙◌, subst, append_assoc, arith, length-append}
+use Rattle.std.proofs.Common.{◌≡◌, Bool, ℕ, zero, suc, ◌+◌, ◌-◌, ◌<◌, ◌≤◌, List, [], ◌∷◌, ◌++◌, length, take, drop, Some, inl, inr, refl, sym, ap, ◌∙◌, subst, append_assoc, arith}
 use Rattle.std.specs.List.{flat_map, slice_get, AllByRecursion}
-use Rattle.std.proofs.lemmas.List.{append-nil, length-take, length-drop, drop-drop, take_at, drop_at, nil_from_length, take-append-drop}
+use Rattle.std.proofs.lemmas.List.{append-nil, length-take, length-drop, drop-drop, take_at, drop_at, take-append-drop}
 use Rattle.std.proofs.lemmas.List.Concat.{flat_map-append, flat_map-cons}
 use Rattle.std.proofs.Math.Seq.{take-add}
 use Rattle.lc_frame.specs.declared.frame.Frame.{Frame}
@@ -11,13 +11,13 @@ use Rattle.lc_frame.specs.declared.version.Version.TheVariants.{One, Two}
 use Rattle.lc_frame.specs.Frame.{IsValid}
 use Rattle.lc_frame.specs.Encoding.{encoding}
 use Rattle.lc_peer.specs.Peer.{PeerState}
-use Rattle.lc_peer.specs.Calls.{next, without_next}
+use Rattle.lc_peer.specs.Calls.{next}
 use Rattle.lc_lines.specs.Outbound.{message_len}
-use Rattle.lc_lines.specs.Scheduler.{SchedulerState, take_frame, write, begun_by}
+use Rattle.lc_lines.specs.Scheduler.{SchedulerState, write, begun_by}
 use Rattle.lc_lines.specs.Lines.{LinesState, Settles, with_scheduler}
 use Rattle.lc_mux.specs.Mux.{text_of, IsBegun, max_head}
-use Rattle.lc_mux.specs.Writing.{put_all, TakesFrame, Moves, MovesBy, Gives}
-use Rattle.lc_mux.proofs.Puts.{Puts, put_all-append, put_all-queue, put_all-version, settles_put, settles_begun, takes_put}
+use Rattle.lc_mux.specs.Writing.{put_all, TakesFrame, MovesBy, Gives}
+use Rattle.lc_mux.proofs.Puts.{put_all-append, put_all-queue, put_all-version, settles_put, settles_begun, takes_put}
 
 -- the bytes of frames in a version
 abbrev bytes_of : Version → List Frame → List ℕ

@@ -1,9 +1,8 @@
 -- What calls that proceed leave of the peer: they put frames, and change nothing else of it.
-use Rattle.std.proofs.Common.{◌≡◌, ◌⊎◌, Bool, true, false, if◌then◌else◌, None, Some, subst, ℕ, List, [], ◌∷◌, ◌++◌, inl, inr, refl, sym, ap, ◌∙◌, append_assoc}
+use Rattle.std.proofs.Common.{◌≡◌, Bool, true, false, if◌then◌else◌, None, Some, subst, ℕ, List, [], ◌∷◌, ◌++◌, inl, inr, refl, sym, ap, ◌∙◌, append_assoc}
 use Rattle.std.proofs.lemmas.List.{append-nil}
 use Rattle.lc_frame.specs.declared.frame.Frame.{Frame}
 use Rattle.lc_frame.specs.declared.frame.Frame.TheVariants.{Send}
-use Rattle.lc_frame.specs.declared.version.Version.{Version}
 use Rattle.lc_peer.specs.Peer.{PeerState}
 use Rattle.lc_peer.specs.Calls.{put}
 use Rattle.lc_lines.specs.declared.scheduler.Notice.{Notice}

@@ -1,5 +1,5 @@
 -- What the calls of a session answer: those of its lines, unless the session takes them no more. These rules are this project's own.
-use Rattle.std.specs.Prelude.{◌≡◌, ◌&&◌, nat_lt, ℕ, Bool, if◌then◌else◌, Option, Some, None}
+use Rattle.std.specs.Prelude.{◌≡◌, ◌&&◌, nat_lt, ℕ, if◌then◌else◌, Option, Some, None}
 use Rattle.std.specs.Option.{option_or}
 use Rattle.lc_frame.specs.declared.channel.Channel.{Channel}
 use Rattle.lc_book.specs.declared.fault.Refusal.{Refusal}
@@ -9,7 +9,7 @@ use Rattle.lc_mux.specs.declared.end.End.TheVariants.{Remote, Aborted}
 use Rattle.lc_mux.specs.declared.end.CallError.{CallError}
 use Rattle.lc_mux.specs.declared.end.CallError.TheVariants.{Refused, Over}
 use Rattle.lc_mux.specs.Mux.{MuxState}
-use Rattle.lc_mux.specs.Ends.{over, call_over}
+use Rattle.lc_mux.specs.Ends.{call_over}
 
 -- what a call answers: why the session takes it no more, if it does not, and else what its lines answer
 abbrev pub Answers : Option End → (Option Refusal → Type 0) → Option CallError → Type 0

@@ -1,5 +1,5 @@
 -- How a session ends, and what it takes no more then. These rules are this project's own.
-use Rattle.std.specs.Prelude.{◌≡◌, ◌==◌, ◌&&◌, ◌||◌, Bool, true, false, if◌then◌else◌, List, [], ◌∷◌, length, is_some, Option, Some, None}
+use Rattle.std.specs.Prelude.{◌==◌, ◌&&◌, ◌||◌, Bool, true, if◌then◌else◌, List, [], ◌∷◌, length, is_some, Option, Some, None}
 use Rattle.std.specs.Option.{option_or}
 use Rattle.lc_frame.specs.declared.channel.Channel.{Channel}
 use Rattle.lc_peer.specs.declared.delivery.Stop.{Stop}

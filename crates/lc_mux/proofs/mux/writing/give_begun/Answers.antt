@@ -1,4 +1,4 @@
-use Rattle.std.proofs.Common.{ℕ, length, subst, arith}
+use Rattle.std.proofs.Common.{ℕ, subst, arith}
 use Rattle.lc_lines.specs.Scheduler.{write}
 use Rattle.lc_lines.specs.Lines.{Settles, with_scheduler}
 use Rattle.lc_mux.proofs.Puts.{closed_write}

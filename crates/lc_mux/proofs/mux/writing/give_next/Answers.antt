@@ -1,4 +1,4 @@
-use Rattle.std.proofs.Common.{◌≡◌, ℕ, List, ◌++◌, take, ap, arith}
+use Rattle.std.proofs.Common.{◌≡◌, ℕ, ◌++◌, take, ap, arith}
 use Rattle.lc_mux.proofs.Gives.{gives_as, gives_then}
 use Rattle.lc_mux.proofs.mux.writing.give_next.Goals as goal
 
