@@ -1,4 +1,4 @@
-use Rattle.std.proofs.Common.{List, [], ◌∷◌, take, refl, ap}
+use Rattle.std.proofs.Common.{[], ◌∷◌, take, refl, ap}
 use Rattle.lc_frame.specs.declared.frame.Frame.{Frame}
 use Rattle.lc_frame.specs.declared.frame.Frame.TheVariants.{Issue}
 use Rattle.lc_lines.specs.Scheduler.{put_frame}
