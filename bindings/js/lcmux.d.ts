@@ -689,7 +689,7 @@ export declare class SessionChannel implements AsyncIterable<Uint8Array> {
   /**
    * Finishes the channel: this side sends nothing more on it and waives its guarantees, and the peer's iteration
    * ends. In version 1 a limit of 0 ends the channel. It does not wait: sends that already wait precede it, and later
-   * sends are refused.
+   * sends are refused, by `ChannelFinished` or in version 1 by `PastSendLimit`.
    *
    * @throws {LcmuxError} `ChannelFinished` if the channel is finished already.
    */

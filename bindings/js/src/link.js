@@ -85,7 +85,10 @@ export class Link {
     if (!this.isClosing && this.reason === null) {
       this.change(() => {
         this.#flush(); // no guarantees are issued after this
-        this.#senders.forEach(it => it.finishOnce());
+        this.#senders.forEach(it => {
+          it.finishOnce();
+          this.owes(it); // also what is pending behind a call that is about to be refused
+        });
         this.isClosing = true;
         this.#senders.forEach(it => it.refuse(this.#local));
         this.#ring();

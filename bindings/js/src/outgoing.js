@@ -42,10 +42,7 @@ export class Outgoing {
 
   /** Sends a message, or returns a promise that waits in the queue. The body of a waiting send is copied. */
   send(bytes, signal) {
-    this.#link.mayGoOut();
-    if (this.#isFinished) {
-      throw new LcmuxError(Code.ChannelFinished);
-    }
+    this.#mayGoOut();
     const length = sizeOf(bytes);
     const lack = this.#lacks(length);
     this.#line.judge(length);
@@ -61,10 +58,7 @@ export class Outgoing {
    * or a promise of that. The bytes of a waiting call are not copied.
    */
   sendPart(bytes, most, signal) {
-    this.#link.mayGoOut();
-    if (this.#isFinished) {
-      throw new LcmuxError(Code.ChannelFinished);
-    }
+    this.#mayGoOut();
     const length = this.#partOf(sizeOf(bytes), most);
     const lack = this.#lacks(length);
     this.#line.judge(length);
@@ -209,7 +203,8 @@ export class Outgoing {
     return this.#flushAbsolved() && this.#flushHonoured() && this.#line.flush(this.#steps);
   }
 
-  // A control frame may follow the limit of 0 that ends a channel in version One, but not a Finish.
+  // Behind the limit of 0 that ends a channel in version One a control frame may follow, and a message is refused by that
+  // limit. Behind a Finish nothing follows.
   #mayGoOut() {
     this.#link.mayGoOut();
     if (this.#isFinished && this.#peer.version !== 1) {

@@ -147,7 +147,7 @@ test('what can never be sent is refused', async () => {
   put();
   await waits;
   channel.finish();
-  await refused(bytes(1), Code.ChannelFinished);
+  await refused(bytes(1), Code.PastSendLimit); // the limit of 0 that ends it
   assert.throws(() => channel.finish(), { code: Code.ChannelFinished });
 });
 
@@ -200,7 +200,7 @@ for (const version of [1, 2]) {
     const channel = session.channel(Data);
     const sent = channel.send(bytes(3));
     channel.finish();
-    await assert.rejects(channel.send(bytes(1)), { code: Code.ChannelFinished });
+    await assert.rejects(channel.send(bytes(1)), { code: version === 2 ? Code.ChannelFinished : Code.PastSendLimit });
     assert.equal(await fate(sent), null);
     get();
     assert.equal(other.take(Data), null);
