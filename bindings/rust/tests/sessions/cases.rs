@@ -198,7 +198,11 @@ impl Session {
     fn arrive(&mut self, channel: usize, len: usize) {
         let tag = [0x10 + channel as u8];
         let size = (len as u32).to_be_bytes();
-        let size = if self.version == Version::One { &size[2..] } else { &size };
+        let size = if self.version == Version::One {
+            &size[2..]
+        } else {
+            &size
+        };
         self.hand.feed(&[&tag, size, &vec![7; len]].concat());
     }
 
@@ -217,7 +221,9 @@ impl Session {
             "limit" => return answer(self.senders[channel].limit(number)),
             "absolve" => return answer(self.senders[channel].absolve(number as u32)),
             "finish" => return answer(self.senders[channel].finish()),
-            "grant" => self.hand.feed(&frames(&format!("issue {channel} {number}"))),
+            "grant" => self
+                .hand
+                .feed(&frames(&format!("issue {channel} {number}"))),
             "arrive" => self.arrive(channel, number as usize),
             "close" => self.hand.mux.close(),
             "abort" => self.hand.mux.abort(),
@@ -256,7 +262,9 @@ fn shown(mut bytes: &[u8], version: Version) -> String {
             other => panic!("{other:?}"),
         };
         let (number, rest) = rest.split_at(size);
-        let number = number.iter().fold(0, |sum, byte| 256 * sum + usize::from(*byte));
+        let number = number
+            .iter()
+            .fold(0, |sum, byte| 256 * sum + usize::from(*byte));
         frames.push(match name {
             "finish" => format!("finish {}", tag & 15),
             _ => format!("{name} {} {number}", tag & 15),
@@ -274,7 +282,11 @@ struct Wrong<'a> {
 
 impl fmt::Display for Wrong<'_> {
     fn fmt(&self, f: &mut fmt::Formatter<'_>) -> fmt::Result {
-        write!(f, "line {}: {}, and not {}", self.number, self.line, self.answer)
+        write!(
+            f,
+            "line {}: {}, and not {}",
+            self.number, self.line, self.answer
+        )
     }
 }
 
@@ -292,7 +304,11 @@ fn run(text: &str) -> (usize, Vec<Wrong<'_>>) {
         answers += 1;
         let answer = of_case.answer(call);
         if answer != due {
-            wrong.push(Wrong { number, line, answer });
+            wrong.push(Wrong {
+                number,
+                line,
+                answer,
+            });
             session = None;
         }
     }
