@@ -25,9 +25,12 @@ use Rattle.lc_lines.proofs.Guarantees.{NoLess}
 use Rattle.lc_lines.proofs.Fields.{SameQueue, take_keeps}
 use Rattle.lc_mux.specs.declared.end.End.{End}
 use Rattle.lc_mux.specs.Mux.{MuxState, AreMuxFields, IsBegun}
+use Rattle.lc_owed.specs.Owed.{OwedState}
+use Rattle.lc_owed.specs.Flush.{IsFlushed}
 use Rattle.lc_mux.specs.Ends.{end_of_stop, over, close}
+use Rattle.lc_mux.specs.Flushing.{FlushesUnless, SettlesAndFlushes}
 use Rattle.lc_mux.proofs.Called.{PutsSome}
-use Rattle.lc_mux.proofs.Puts.{put_all-rings, settles_rings, settles_begun, none_settles, close_put}
+use Rattle.lc_mux.proofs.Puts.{enter_all-rings, none_settles, notices_put, close_put, flush_put, flush_rings, flows_put, closed_flush}
 
 arrivals_same_by : {X : Type 0} (of : PeerState → X) (p : PeerState) (v : Option Violation) (later : Arrival) → of later.peer ≡ of p → of (arrive_unless p v later).peer ≡ of p
 arrivals_same_by of p None later h = h
@@ -36,6 +39,10 @@ arrivals_same_by of p (Some v) later h = refl
 pub arrivals_version : (p : PeerState) (frames : List Frame) → (arrivals p frames).peer.version ≡ p.version
 arrivals_version p [] = refl
 arrivals_version p (f ∷ frames) = arrivals_same_by (λ q. q.version) p (violation_at p f) (arrivals (arrive p f) frames) (arrivals_version (arrive p f) frames)
+
+pub arrivals_waiting : (p : PeerState) (frames : List Frame) → (arrivals p frames).peer.waiting ≡ p.waiting
+arrivals_waiting p [] = refl
+arrivals_waiting p (f ∷ frames) = arrivals_same_by (λ q. q.waiting) p (violation_at p f) (arrivals (arrive p f) frames) (arrivals_waiting (arrive p f) frames)
 
 pub arrivals_rings : (p : PeerState) (frames : List Frame) → (arrivals p frames).peer.capacities ≡ p.capacities
 arrivals_rings p [] = refl
@@ -65,24 +72,34 @@ closed_same l l' q same version settles closed =
     let is = none_settles (with_scheduler l (record l.scheduler { peer = q })) l' none settles in
     subst IsClosed (sym is) (record { none = none; finished = λ c. same_done l.scheduler q c same version (closed.finished c) })
 
+-- a flush leaves all closed
+pub closed_flushed : (closing : Bool) (o : OwedState) (l : LinesState) (o' : OwedState) (l' : LinesState) → closing ≡ true → FlushesUnless closing o l o' l' → IsClosed l.scheduler → IsClosed l'.scheduler
+closed_flushed closing o l o' l' e flushes closed = subst (λ (x : LinesState). IsClosed x.scheduler) (sym (closed_flush closing o l o' l' e flushes)) closed
+
 pub begun_same : (s s' : SchedulerState) (pending : List ℕ) → s'.begun ≡ s.begun → IsBegun s pending → IsBegun s' pending
 begun_same s s' pending same h = record { all = omega (arith, same, h.all); few = omega (arith, same, h.few) }
 
+-- whether a session is flushed, or closed
+pub record IsKept (closing : Bool) (o : OwedState) (l : LinesState) : Type 0 where
+  pub flushed : closing ≡ false → IsFlushed o l.scheduler
+  pub closed : closing ≡ true → IsClosed l.scheduler
+
 -- a session whose lines changed so
-pub fields_settled : (l l' : LinesState) (s : SchedulerState) (intake : IntakeState) (pending : List ℕ) (closing : Bool) (end : Option End) →
-    Settles (with_scheduler l s) l' → s.peer.capacities ≡ l.scheduler.peer.capacities → s.begun ≡ l.scheduler.begun → (closing ≡ true → IsClosed l'.scheduler) →
-    AreMuxFields l intake pending closing end → AreMuxFields l' intake pending closing end
-fields_settled l l' s intake pending closing end settles rings begun closed fields =
-    let same : l'.scheduler.begun ≡ l.scheduler.begun = settles_begun (with_scheduler l s) l' settles ∙ begun in
+pub fields_changed : (o : OwedState) (l : LinesState) (o' : OwedState) (l' : LinesState) (s : SchedulerState) (intake : IntakeState) (pending : List ℕ) (closing : Bool) (end : Option End) →
+    SettlesAndFlushes closing o (with_scheduler l s) o' l' → s.peer.capacities ≡ l.scheduler.peer.capacities → s.begun ≡ l.scheduler.begun → IsKept closing o' l' →
+    AreMuxFields l o intake pending closing end → AreMuxFields l' o' intake pending closing end
+fields_changed o l o' l' s intake pending closing end flows rings begun kept fields =
+    let puts = flows_put closing o (with_scheduler l s) o' l' flows in
     record {
-      rings = settles_rings (with_scheduler l s) l' settles ∙ (rings ∙ fields.rings);
+      rings = ap (λ (p : PeerState). p.capacities) puts.1.peer ∙ (enter_all-rings puts.0 s.peer ∙ (rings ∙ fields.rings));
       going = fields.going;
-      begun = begun_same l.scheduler l'.scheduler pending same fields.begun;
-      closed = closed;
+      begun = begun_same l.scheduler l'.scheduler pending (puts.1.begun ∙ begun) fields.begun;
+      flushed = kept.flushed;
+      closed = kept.closed;
     }
 
 pub close_rings : (s : SchedulerState) → (close_lines s).peer.capacities ≡ s.peer.capacities
-close_rings s = let puts = close_put s in ap (λ (p : PeerState). p.capacities) puts.1.peer ∙ put_all-rings puts.0 s.peer
+close_rings s = let puts = close_put s in ap (λ (p : PeerState). p.capacities) puts.1.peer ∙ enter_all-rings puts.0 s.peer
 
 pub closes_to : (m : MuxState) → is_some (over m) ≡ false → record m { lines = with_scheduler m.lines (close_lines m.lines.scheduler); closing = true } ≡ close m
 closes_to m e = rw e refl
@@ -90,25 +107,40 @@ closes_to m e = rw e refl
 never : (closing : Bool) (s : SchedulerState) → closing ≡ false → closing ≡ true → IsClosed s
 never closing s going e = cc
 
--- a session that does not close, whose lines changed so
-pub fields_same : (l l' : LinesState) (s : SchedulerState) (intake : IntakeState) (pending : List ℕ) (closing : Bool) (end : Option End) →
-    Settles (with_scheduler l s) l' → s.peer.capacities ≡ l.scheduler.peer.capacities → s.begun ≡ l.scheduler.begun → closing ≡ false →
-    AreMuxFields l intake pending closing end → AreMuxFields l' intake pending closing end
-fields_same l l' s intake pending closing end settles rings begun going fields = fields_settled l l' s intake pending closing end settles rings begun (never closing l'.scheduler going) fields
+-- a session that does not close is flushed
+pub kept_open : (closing : Bool) (o : OwedState) (l : LinesState) → closing ≡ false → (closing ≡ false → IsFlushed o l.scheduler) → IsKept closing o l
+kept_open closing o l going flushed = record { flushed = flushed; closed = never closing l.scheduler going }
 
--- the same where frames were put
-pub fields_called : (l l' : LinesState) (s : SchedulerState) (intake : IntakeState) (pending : List ℕ) (closing : Bool) (end : Option End) →
-    Settles (with_scheduler l s) l' → PutsSome l.scheduler s → closing ≡ false → AreMuxFields l intake pending closing end → AreMuxFields l' intake pending closing end
-fields_called l l' s intake pending closing end settles puts going fields =
-    fields_same l l' s intake pending closing end settles (ap (λ (p : PeerState). p.capacities) puts.1.peer ∙ put_all-rings puts.0 l.scheduler.peer) puts.1.begun going fields
+-- a session that does not close, where frames entered
+pub fields_called : (o : OwedState) (l : LinesState) (o' : OwedState) (l' : LinesState) (s : SchedulerState) (intake : IntakeState) (pending : List ℕ) (closing : Bool) (end : Option End) →
+    SettlesAndFlushes closing o (with_scheduler l s) o' l' → PutsSome l.scheduler s → closing ≡ false → (closing ≡ false → IsFlushed o' l'.scheduler) → AreMuxFields l o intake pending closing end → AreMuxFields l' o' intake pending closing end
+fields_called o l o' l' s intake pending closing end flows puts going flushed fields =
+    fields_changed o l o' l' s intake pending closing end flows (ap (λ (p : PeerState). p.capacities) puts.1.peer ∙ enter_all-rings puts.0 l.scheduler.peer) puts.1.begun (kept_open closing o' l' going flushed) fields
+
+-- a session whose pending control frames changed so
+pub fields_owed : (o0 o : OwedState) (l : LinesState) (o' : OwedState) (l' : LinesState) (intake : IntakeState) (pending : List ℕ) (closing : Bool) (end : Option End) →
+    FlushesUnless closing o l o' l' → closing ≡ false → (closing ≡ false → IsFlushed o' l'.scheduler) → AreMuxFields l o0 intake pending closing end → AreMuxFields l' o' intake pending closing end
+fields_owed o0 o l o' l' intake pending closing end flushes going flushed fields =
+    let puts = flush_put closing o l o' l' flushes in
+    record {
+      rings = flush_rings closing o l o' l' flushes ∙ fields.rings;
+      going = fields.going;
+      begun = begun_same l.scheduler l'.scheduler pending puts.1.begun fields.begun;
+      flushed = flushed;
+      closed = never closing l'.scheduler going;
+    }
 
 -- a session of which a message was taken
-pub fields_taken : (l l' : LinesState) (c : Channel) (intake : IntakeState) (pending : List ℕ) (closing : Bool) (end : Option End) →
-    length l.scheduler.peer.channels ≡ channel_count → Settles (with_scheduler l (record l.scheduler { peer = take_on l.scheduler.peer c })) l' →
-    AreMuxFields l intake pending closing end → AreMuxFields l' intake pending closing end
-fields_taken l l' c intake pending closing end places settles fields =
-    fields_settled l l' (record l.scheduler { peer = take_on l.scheduler.peer c }) intake pending closing end settles refl refl
-    (λ e. closed_same l l' (take_on l.scheduler.peer c) (take_keeps l.scheduler.peer c places) refl settles (fields.closed e)) fields
+pub fields_taken : (o : OwedState) (l mid : LinesState) (o' : OwedState) (l' : LinesState) (c : Channel) (intake : IntakeState) (pending : List ℕ) (closing : Bool) (end : Option End) →
+    length l.scheduler.peer.channels ≡ channel_count → Settles (with_scheduler l (record l.scheduler { peer = take_on l.scheduler.peer c })) mid → FlushesUnless closing o mid o' l' → (closing ≡ false → IsFlushed o' l'.scheduler) →
+    AreMuxFields l o intake pending closing end → AreMuxFields l' o' intake pending closing end
+fields_taken o l mid o' l' c intake pending closing end places settles flushes flushed fields =
+    let s : SchedulerState = record l.scheduler { peer = take_on l.scheduler.peer c } in
+    fields_changed o l o' l' s intake pending closing end (mid, (settles, flushes)) refl refl
+    (record {
+      flushed = flushed;
+      closed = λ e. closed_flushed closing o mid o' l' e flushes (closed_same l mid (take_on l.scheduler.peer c) (take_keeps l.scheduler.peer c places) refl settles (fields.closed e));
+    }) fields
 
 no_first : (calls : List Call) (call : Call) → calls ≡ [] → slice_get calls 0 ≡ Some call → ⊥
 no_first calls call e f = let none : slice_get calls 0 ≡ None = ap (λ (x : List Call). slice_get x 0) e in cc
@@ -116,23 +148,20 @@ no_first calls call e f = let none : slice_get calls 0 ≡ None = ap (λ (x : Li
 none_given_up : (s : SchedulerState) (c : Channel) (call : Call) (s' : SchedulerState) → first s c ≡ Some call → IsClosed s → IsClosed s'
 none_given_up s c call s' f closed = absurd (no_first (queue s c).calls call (closed.none c).calls f)
 
--- a session of which a notice was taken
-pub fields_noticed : (n : Notice) (l l' : LinesState) (intake : IntakeState) (pending : List ℕ) (closing : Bool) (end : Option End) →
-    NoticesNext n l l' → AreMuxFields l intake pending closing end → AreMuxFields l' intake pending closing end
-fields_noticed n l l' intake pending closing end (inl took) fields =
-    let mid : LinesState = record l { notices = took.later } in
-    record {
-      rings = settles_rings mid l' took.settles ∙ fields.rings;
-      going = fields.going;
-      begun = begun_same l.scheduler l'.scheduler pending (settles_begun mid l' took.settles) fields.begun;
-      closed = λ e. subst IsClosed (sym (none_settles mid l' (fields.closed e).none took.settles)) (fields.closed e);
-    }
-fields_noticed n l l' intake pending closing end (inr hopeless) fields =
-    fields_settled l l' hopeless.scheduler intake pending closing end hopeless.settles
-    (ap (λ (s : SchedulerState). s.peer.capacities) hopeless.gives_up.after) (ap (λ (s : SchedulerState). s.begun) hopeless.gives_up.after)
-    (λ e. none_given_up l.scheduler n.channel hopeless.gives_up.call l'.scheduler hopeless.gives_up.first (fields.closed e)) fields
+closed_noticed : (n : Notice) (l l' : LinesState) → NoticesNext n l l' → IsClosed l.scheduler → IsClosed l'.scheduler
+closed_noticed n l l' (inl took) closed = subst IsClosed (sym (none_settles (record l { notices = took.later }) l' closed.none took.settles)) closed
+closed_noticed n l l' (inr hopeless) closed = none_given_up l.scheduler n.channel hopeless.gives_up.call l'.scheduler hopeless.gives_up.first closed
 
-pub fields_after_notice : (X : Type 0) (o : Option Notice) (l l' : LinesState) (intake : IntakeState) (pending : List ℕ) (closing : Bool) (end : Option End) →
-    IfSome o (λ n. NoticesNext n l l') → IfNone o ((l' ≡ l) × X) → AreMuxFields l intake pending closing end → AreMuxFields l' intake pending closing end
-fields_after_notice X None l l' intake pending closing end some none fields = subst (λ (x : LinesState). AreMuxFields x intake pending closing end) (sym none.0) fields
-fields_after_notice X (Some n) l l' intake pending closing end some none fields = fields_noticed n l l' intake pending closing end some fields
+-- a session of which a notice was taken
+pub fields_noticed : (n : Notice) (o : OwedState) (l mid : LinesState) (o' : OwedState) (l' : LinesState) (intake : IntakeState) (pending : List ℕ) (closing : Bool) (end : Option End) →
+    NoticesNext n l mid → FlushesUnless closing o mid o' l' → (closing ≡ false → IsFlushed o' l'.scheduler) → AreMuxFields l o intake pending closing end → AreMuxFields l' o' intake pending closing end
+fields_noticed n o l mid o' l' intake pending closing end next flushes flushed fields =
+    let first = notices_put n l mid next in
+    let puts = flush_put closing o mid o' l' flushes in
+    record {
+      rings = flush_rings closing o mid o' l' flushes ∙ (ap (λ (p : PeerState). p.capacities) first.1.peer ∙ (enter_all-rings first.0 l.scheduler.peer ∙ fields.rings));
+      going = fields.going;
+      begun = begun_same l.scheduler l'.scheduler pending (puts.1.begun ∙ first.1.begun) fields.begun;
+      flushed = flushed;
+      closed = λ e. closed_flushed closing o mid o' l' e flushes (closed_noticed n l mid next (fields.closed e));
+    }

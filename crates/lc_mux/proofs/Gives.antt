@@ -1,5 +1,5 @@
 -- What was written, at one time and another.
-use Rattle.std.proofs.Common.{◌≡◌, Bool, ℕ, zero, suc, ◌+◌, ◌-◌, ◌<◌, ◌≤◌, List, [], ◌∷◌, ◌++◌, length, take, drop, Some, inl, inr, refl, sym, ap, ◌∙◌, subst, append_assoc, arith}
+use Rattle.std.proofs.Common.{◌≡◌, Bool, ℕ, zero, suc, ◌+◌, ◌-◌, ◌<◌, ◌≤◌, List, [], ◌∷◌, ◌++◌, length, take, drop, None, Some, inl, inr, refl, sym, ap, ◌∙◌, subst, append_assoc, arith}
 use Rattle.std.specs.List.{flat_map, slice_get, AllByRecursion}
 use Rattle.std.proofs.lemmas.List.{append-nil, length-take, length-drop, drop-drop, take_at, drop_at, take-append-drop}
 use Rattle.std.proofs.lemmas.List.Concat.{flat_map-append, flat_map-cons}
@@ -14,10 +14,12 @@ use Rattle.lc_peer.specs.Peer.{PeerState}
 use Rattle.lc_peer.specs.Calls.{next}
 use Rattle.lc_lines.specs.Outbound.{message_len}
 use Rattle.lc_lines.specs.Scheduler.{SchedulerState, write, begun_by}
-use Rattle.lc_lines.specs.Lines.{LinesState, Settles, with_scheduler}
+use Rattle.lc_lines.specs.Lines.{LinesState, with_scheduler}
 use Rattle.lc_mux.specs.Mux.{text_of, IsBegun, max_head}
-use Rattle.lc_mux.specs.Writing.{put_all, TakesFrame, MovesBy, Gives}
-use Rattle.lc_mux.proofs.Puts.{put_all-append, put_all-queue, put_all-version, settles_put, settles_begun, takes_put}
+use Rattle.lc_owed.specs.Owed.{OwedState}
+use Rattle.lc_mux.specs.Flushing.{FlushesUnless, SettlesAndFlushes}
+use Rattle.lc_mux.specs.Writing.{Entry, enter_all, frames_of, TakesFrame, MovesBy, Gives}
+use Rattle.lc_mux.proofs.Puts.{enter_all-append, enter_all-queue, enter_all-version, frames_of-append, frames_of-queue, flush_put, flows_put, flows_begun, takes_put}
 
 -- the bytes of frames in a version
 abbrev bytes_of : Version → List Frame → List ℕ
@@ -30,6 +32,10 @@ first_of (w ∷ ws) f e = cc
 pub valid_first : (version : Version) (ws : List Frame) (f : Frame) → AllByRecursion (IsValid version) ws → slice_get ws 0 ≡ Some f → IsValid version f
 valid_first version [] f all e = cc
 valid_first version (w ∷ ws) f all e = let same : w ≡ f = cc in subst (IsValid version) same all.0
+
+pub none_first : (ws : List Frame) → slice_get ws 0 ≡ None → length ws ≡ 0
+none_first [] e = refl
+none_first (w ∷ ws) e = cc
 
 -- the bytes of a frame are those of its message, and few more
 record HasHead (version : Version) (f : Frame) : Type 0 where
@@ -49,26 +55,27 @@ has_head version (Finish c) = record { all = omega arith; few = omega arith }
 pub some_bytes : (version : Version) (f : Frame) → 0 < length (encoding version f)
 some_bytes version f = omega arith
 
-moves_then : (closing : Bool) (m n : ℕ) (a b c : LinesState) → MovesBy closing m a b → MovesBy closing n b c → (k : ℕ) × MovesBy closing k a c
-moves_then closing zero n a b c first later = (n, subst (λ (x : LinesState). MovesBy closing n x c) first later)
-moves_then closing (suc m) n a b c first later =
-    let rest = moves_then closing m n first.0 b c first.1.1 later in
-    (suc rest.0, (first.0, (first.1.0, rest.1)))
+moves_then : (closing : Bool) (m n : ℕ) (o : OwedState) (a : LinesState) (o1 : OwedState) (b : LinesState) (o2 : OwedState) (c : LinesState) → MovesBy closing m o a o1 b → MovesBy closing n o1 b o2 c → (k : ℕ) × MovesBy closing k o a o2 c
+moves_then closing zero n o a o1 b o2 c first later =
+    (n, subst (λ (x : OwedState). MovesBy closing n x a o2 c) first.0 (subst (λ (x : LinesState). MovesBy closing n o1 x o2 c) first.1 later))
+moves_then closing (suc m) n o a o1 b o2 c first later =
+    let rest = moves_then closing m n first.0 first.1.0 o1 b o2 c first.1.1.1 later in
+    (suc rest.0, (first.0, (first.1.0, (first.1.1.0, rest.1))))
 
 -- nothing was written, and nothing changed
-pub gives_none : (closing : Bool) (l : LinesState) (pending : List ℕ) → Gives closing [] l pending l pending
-gives_none closing l pending = record {
+pub gives_none : (closing : Bool) (o : OwedState) (l : LinesState) (pending : List ℕ) → Gives closing [] o l pending o l pending
+gives_none closing o l pending = record {
   entered = [];
   gone = [];
   bytes = sym (append-nil (text_of l pending));
   queue = append-nil l.scheduler.peer.waiting;
   peer = refl;
   count = 0;
-  moves = refl;
+  moves = (refl, refl);
 }
 
-version_after : {closing : Bool} {x : List ℕ} {l : LinesState} {p : List ℕ} {l' : LinesState} {p' : List ℕ} → Gives closing x l p l' p' → l'.scheduler.peer.version ≡ l.scheduler.peer.version
-version_after {closing} {x} {l} {p} {l'} {p'} g = ap (λ (q : PeerState). q.version) g.peer ∙ put_all-version g.entered l.scheduler.peer
+version_after : {closing : Bool} {x : List ℕ} {o : OwedState} {l : LinesState} {p : List ℕ} {o' : OwedState} {l' : LinesState} {p' : List ℕ} → Gives closing x o l p o' l' p' → l'.scheduler.peer.version ≡ l.scheduler.peer.version
+version_after {closing} {x} {o} {l} {p} {o'} {l'} {p'} g = ap (λ (q : PeerState). q.version) g.peer ∙ enter_all-version g.entered l.scheduler.peer
 
 bytes_then : (version : Version) (x y t0 t1 t2 : List ℕ) (a b : List Frame) → x ++ t1 ≡ t0 ++ bytes_of version a → y ++ t2 ≡ t1 ++ bytes_of version b → (x ++ y) ++ t2 ≡ t0 ++ bytes_of version (a ++ b)
 bytes_then version x y t0 t1 t2 a b first later =
@@ -87,54 +94,66 @@ queue_then w0 w1 w2 a b g h first later =
     ∙ (ap (λ (z : List Frame). g ++ z) later
     ∙ sym (append_assoc g h w2))))
 
-peer_then : (p q r : PeerState) (a b : List Frame) → q ≡ record (put_all a p) { waiting = q.waiting } → r ≡ record (put_all b q) { waiting = r.waiting } → r ≡ record (put_all (a ++ b) p) { waiting = r.waiting }
+peer_then : (p q r : PeerState) (a b : List Entry) → q ≡ record (enter_all a p) { waiting = q.waiting } → r ≡ record (enter_all b q) { waiting = r.waiting } → r ≡ record (enter_all (a ++ b) p) { waiting = r.waiting }
 peer_then p q r a b first later =
     later
-    ∙ (ap (λ (x : PeerState). record (put_all b x) { waiting = r.waiting }) first
-    ∙ (ap (λ (x : PeerState). record x { waiting = r.waiting }) (put_all-queue b (put_all a p) q.waiting)
-    ∙ ap (λ (x : PeerState). record x { waiting = r.waiting }) (sym (put_all-append a b p))))
+    ∙ (ap (λ (x : PeerState). record (enter_all b x) { waiting = r.waiting }) first
+    ∙ (ap (λ (x : PeerState). record x { waiting = r.waiting }) (enter_all-queue b (enter_all a p) q.waiting)
+    ∙ ap (λ (x : PeerState). record x { waiting = r.waiting }) (sym (enter_all-append a b p))))
 
-pub gives_then : {closing : Bool} {x y : List ℕ} {l m n : LinesState} {p q r : List ℕ} → Gives closing x l p m q → Gives closing y m q n r → Gives closing (x ++ y) l p n r
-gives_then {closing} {x} {y} {l} {m} {n} {p} {q} {r} s t =
-    let later : y ++ text_of n r ≡ text_of m q ++ bytes_of l.scheduler.peer.version t.entered = t.bytes ∙ ap (λ (v : Version). text_of m q ++ bytes_of v t.entered) (version_after s) in
-    let moves = moves_then closing s.count t.count l m n s.moves t.moves in
+-- the frames of calls, and of those behind them
+frames_then : (p q : PeerState) (a b : List Entry) → q ≡ record (enter_all a p) { waiting = q.waiting } → frames_of a p ++ frames_of b q ≡ frames_of (a ++ b) p
+frames_then p q a b first =
+    ap (λ (x : List Frame). frames_of a p ++ x) (ap (frames_of b) first ∙ frames_of-queue b (enter_all a p) q.waiting)
+    ∙ sym (frames_of-append a b p)
+
+pub gives_then : {closing : Bool} {x y : List ℕ} {o o1 o2 : OwedState} {l m n : LinesState} {p q r : List ℕ} → Gives closing x o l p o1 m q → Gives closing y o1 m q o2 n r → Gives closing (x ++ y) o l p o2 n r
+gives_then {closing} {x} {y} {o} {o1} {o2} {l} {m} {n} {p} {q} {r} s t =
+    let v = l.scheduler.peer.version in
+    let a = frames_of s.entered l.scheduler.peer in
+    let b = frames_of t.entered m.scheduler.peer in
+    let all : a ++ b ≡ frames_of (s.entered ++ t.entered) l.scheduler.peer = frames_then l.scheduler.peer m.scheduler.peer s.entered t.entered s.peer in
+    let later : y ++ text_of n r ≡ text_of m q ++ bytes_of v b = t.bytes ∙ ap (λ (w : Version). text_of m q ++ bytes_of w b) (version_after s) in
+    let moves = moves_then closing s.count t.count o l o1 m o2 n s.moves t.moves in
     record {
       entered = s.entered ++ t.entered;
       gone = s.gone ++ t.gone;
-      bytes = bytes_then l.scheduler.peer.version x y (text_of l p) (text_of m q) (text_of n r) s.entered t.entered s.bytes later;
-      queue = queue_then l.scheduler.peer.waiting m.scheduler.peer.waiting n.scheduler.peer.waiting s.entered t.entered s.gone t.gone s.queue t.queue;
+      bytes = bytes_then v x y (text_of l p) (text_of m q) (text_of n r) a b s.bytes later ∙ ap (λ (z : List Frame). text_of l p ++ bytes_of v z) all;
+      queue = ap (λ (z : List Frame). l.scheduler.peer.waiting ++ z) (sym all)
+          ∙ queue_then l.scheduler.peer.waiting m.scheduler.peer.waiting n.scheduler.peer.waiting a b s.gone t.gone s.queue t.queue;
       peer = peer_then l.scheduler.peer m.scheduler.peer n.scheduler.peer s.entered t.entered s.peer t.peer;
       count = moves.0;
       moves = moves.1;
     }
 
 -- the same bytes, by another name
-pub gives_as : {closing : Bool} {x y : List ℕ} {l m : LinesState} {p q : List ℕ} → x ≡ y → Gives closing x l p m q → Gives closing y l p m q
-gives_as {closing} {x} {y} {l} {m} {p} {q} e g = subst (λ (z : List ℕ). Gives closing z l p m q) e g
+pub gives_as : {closing : Bool} {x y : List ℕ} {o o' : OwedState} {l m : LinesState} {p q : List ℕ} → x ≡ y → Gives closing x o l p o' m q → Gives closing y o l p o' m q
+gives_as {closing} {x} {y} {o} {o'} {l} {m} {p} {q} e g = subst (λ (z : List ℕ). Gives closing z o l p o' m q) e g
 
--- the first frame left the queue, and then calls put these frames
-record Leaves (f : Frame) (entered : List Frame) (l l' : LinesState) : Type 0 where
-  pub queue : l.scheduler.peer.waiting ++ entered ≡ (f ∷ []) ++ l'.scheduler.peer.waiting
-  pub peer : l'.scheduler.peer ≡ record (put_all entered l.scheduler.peer) { waiting = l'.scheduler.peer.waiting }
-  pub bytes : bytes_of l.scheduler.peer.version l.scheduler.peer.waiting ++ bytes_of l.scheduler.peer.version entered ≡ encoding l.scheduler.peer.version f ++ bytes_of l'.scheduler.peer.version l'.scheduler.peer.waiting
+-- the first frame left the queue, and then these calls entered frames
+record Leaves (f : Frame) (entered : List Entry) (l l' : LinesState) : Type 0 where
+  pub queue : l.scheduler.peer.waiting ++ frames_of entered l.scheduler.peer ≡ (f ∷ []) ++ l'.scheduler.peer.waiting
+  pub peer : l'.scheduler.peer ≡ record (enter_all entered l.scheduler.peer) { waiting = l'.scheduler.peer.waiting }
+  pub bytes : bytes_of l.scheduler.peer.version l.scheduler.peer.waiting ++ bytes_of l.scheduler.peer.version (frames_of entered l.scheduler.peer) ≡ encoding l.scheduler.peer.version f ++ bytes_of l'.scheduler.peer.version l'.scheduler.peer.waiting
   pub begun : l'.scheduler.begun ≡ message_len f
 
-leaves : (closing : Bool) (f : Frame) (l l' : LinesState) → next l.scheduler.peer ≡ Some f → TakesFrame closing l l' → (entered : List Frame) × Leaves f entered l l'
-leaves closing f l l' first takes =
+leaves : (closing : Bool) (f : Frame) (o : OwedState) (l : LinesState) (o' : OwedState) (l' : LinesState) → next l.scheduler.peer ≡ Some f → TakesFrame closing o l o' l' → (entered : List Entry) × Leaves f entered l l'
+leaves closing f o l o' l' first takes =
     let p = l.scheduler.peer in
-    let puts = takes_put closing l l' takes in
-    let b = puts.0 in
-    let is : l'.scheduler.peer ≡ record (put_all b p) { waiting = drop 1 p.waiting ++ b } = puts.1.peer ∙ put_all-queue b p (drop 1 p.waiting) in
+    let puts = takes_put closing o l o' l' takes in
+    let a = puts.0 in
+    let b = frames_of a p in
+    let is : l'.scheduler.peer ≡ record (enter_all a p) { waiting = drop 1 p.waiting ++ b } = puts.1.peer ∙ enter_all-queue a p (drop 1 p.waiting) in
     let waiting : l'.scheduler.peer.waiting ≡ drop 1 p.waiting ++ b = ap (λ (q : PeerState). q.waiting) is in
-    let version : l'.scheduler.peer.version ≡ p.version = ap (λ (q : PeerState). q.version) is ∙ put_all-version b p in
+    let version : l'.scheduler.peer.version ≡ p.version = ap (λ (q : PeerState). q.version) is ∙ enter_all-version a p in
     let head : p.waiting ≡ f ∷ drop 1 p.waiting = first_of p.waiting f first in
     let behind : bytes_of l'.scheduler.peer.version l'.scheduler.peer.waiting ≡ bytes_of p.version (drop 1 p.waiting) ++ bytes_of p.version b =
     ap (λ (v : Version). bytes_of v l'.scheduler.peer.waiting) version ∙ (ap (bytes_of p.version) waiting ∙ flat_map-append (encoding p.version) (drop 1 p.waiting) b) in
     let front : bytes_of p.version p.waiting ≡ encoding p.version f ++ bytes_of p.version (drop 1 p.waiting) = ap (bytes_of p.version) head ∙ flat_map-cons (encoding p.version) f (drop 1 p.waiting) in (
-      b,
+      a,
       record {
         queue = ap (λ (ws : List Frame). ws ++ b) head ∙ ap (λ (ws : List Frame). f ∷ ws) (sym waiting);
-        peer = is ∙ ap (λ (ws : List Frame). record (put_all b p) { waiting = ws }) (sym waiting);
+        peer = is ∙ ap (λ (ws : List Frame). record (enter_all a p) { waiting = ws }) (sym waiting);
         bytes = ap (λ (x : List ℕ). x ++ bytes_of p.version b) front
             ∙ (append_assoc (encoding p.version f) (bytes_of p.version (drop 1 p.waiting)) (bytes_of p.version b)
             ∙ ap (λ (x : List ℕ). encoding p.version f ++ x) (sym behind));
@@ -146,76 +165,88 @@ begun_frame : (version : Version) (f : Frame) (s : SchedulerState) → s.begun �
 begun_frame version f s e = let head = has_head version f in record { all = omega (arith, e, head.all); few = omega (arith, e, head.few) }
 
 -- the next frame is begun
-pub gives_begin : (closing : Bool) (l l' : LinesState) (pending pending' : List ℕ) (f : Frame) → pending ≡ [] → next l.scheduler.peer ≡ Some f → TakesFrame closing l l' → pending' ≡ encoding l.scheduler.peer.version f → Gives closing [] l pending l' pending'
-gives_begin closing l l' pending pending' f nothing first takes is =
-    let out = leaves closing f l l' first takes in
+pub gives_begin : (closing : Bool) (o : OwedState) (l : LinesState) (o' : OwedState) (l' : LinesState) (pending pending' : List ℕ) (f : Frame) → pending ≡ [] → next l.scheduler.peer ≡ Some f → TakesFrame closing o l o' l' → pending' ≡ encoding l.scheduler.peer.version f → Gives closing [] o l pending o' l' pending'
+gives_begin closing o l o' l' pending pending' f nothing first takes is =
+    let out = leaves closing f o l o' l' first takes in
     let v = l.scheduler.peer.version in
     record {
       entered = out.0;
       gone = f ∷ [];
       bytes = ap (λ (x : List ℕ). x ++ bytes_of l'.scheduler.peer.version l'.scheduler.peer.waiting) is
-          ∙ (sym out.1.bytes ∙ ap (λ (x : List ℕ). (x ++ bytes_of v l.scheduler.peer.waiting) ++ bytes_of v out.0) (sym nothing));
+          ∙ (sym out.1.bytes ∙ ap (λ (x : List ℕ). (x ++ bytes_of v l.scheduler.peer.waiting) ++ bytes_of v (frames_of out.0 l.scheduler.peer)) (sym nothing));
       queue = out.1.queue;
       peer = out.1.peer;
       count = 1;
-      moves = (l', (inl takes, refl));
+      moves = (o', (l', (inr (inl takes), (refl, refl))));
     }
 
-pub begun_begin : (closing : Bool) (l l' : LinesState) (pending' : List ℕ) (f : Frame) → next l.scheduler.peer ≡ Some f → TakesFrame closing l l' → pending' ≡ encoding l.scheduler.peer.version f → IsBegun l'.scheduler pending'
-begun_begin closing l l' pending' f first takes is =
-    let out = leaves closing f l l' first takes in
+pub begun_begin : (closing : Bool) (o : OwedState) (l : LinesState) (o' : OwedState) (l' : LinesState) (pending' : List ℕ) (f : Frame) → next l.scheduler.peer ≡ Some f → TakesFrame closing o l o' l' → pending' ≡ encoding l.scheduler.peer.version f → IsBegun l'.scheduler pending'
+begun_begin closing o l o' l' pending' f first takes is =
+    let out = leaves closing f o l o' l' first takes in
     subst (IsBegun l'.scheduler) (sym is) (begun_frame l.scheduler.peer.version f l'.scheduler out.1.begun)
 
--- so many bytes of what was left were written
-pub gives_rest : (closing : Bool) (n : ℕ) (l l' : LinesState) (pending pending' : List ℕ) → pending' ≡ drop n pending → Settles (with_scheduler l (write l.scheduler (length pending'))) l' → Gives closing (take n pending) l pending l' pending'
-gives_rest closing n l l' pending pending' is settles =
+-- frames entered, and these bytes of what was left were written
+gives_by : (closing : Bool) (o : OwedState) (l : LinesState) (o' : OwedState) (l' : LinesState) (written pending pending' : List ℕ) (entered : List Entry) →
+    l'.scheduler.peer ≡ enter_all entered l.scheduler.peer → written ++ pending' ≡ pending → MovesBy closing 1 o l o' l' → Gives closing written o l pending o' l' pending'
+gives_by closing o l o' l' written pending pending' entered is whole moves =
     let p = l.scheduler.peer in
-    let puts = settles_put (with_scheduler l (write l.scheduler (length pending'))) l' settles in
-    let b = puts.0 in
-    let peer : l'.scheduler.peer ≡ record (put_all b p) { waiting = p.waiting ++ b } = puts.1.peer ∙ put_all-queue b p p.waiting in
+    let b = frames_of entered p in
+    let peer : l'.scheduler.peer ≡ record (enter_all entered p) { waiting = p.waiting ++ b } = is ∙ enter_all-queue entered p p.waiting in
     let waiting : l'.scheduler.peer.waiting ≡ p.waiting ++ b = ap (λ (q : PeerState). q.waiting) peer in
-    let version : l'.scheduler.peer.version ≡ p.version = ap (λ (q : PeerState). q.version) peer ∙ put_all-version b p in
+    let version : l'.scheduler.peer.version ≡ p.version = ap (λ (q : PeerState). q.version) peer ∙ enter_all-version entered p in
     let behind : bytes_of l'.scheduler.peer.version l'.scheduler.peer.waiting ≡ bytes_of p.version p.waiting ++ bytes_of p.version b =
     ap (λ (v : Version). bytes_of v l'.scheduler.peer.waiting) version ∙ (ap (bytes_of p.version) waiting ∙ flat_map-append (encoding p.version) p.waiting b) in
-    let whole : take n pending ++ pending' ≡ pending = ap (λ (x : List ℕ). take n pending ++ x) is ∙ take-append-drop n pending in
     record {
-      entered = b;
+      entered = entered;
       gone = [];
-      bytes = sym (append_assoc (take n pending) pending' (bytes_of l'.scheduler.peer.version l'.scheduler.peer.waiting))
+      bytes = sym (append_assoc written pending' (bytes_of l'.scheduler.peer.version l'.scheduler.peer.waiting))
           ∙ (ap (λ (x : List ℕ). x ++ bytes_of l'.scheduler.peer.version l'.scheduler.peer.waiting) whole
           ∙ (ap (λ (x : List ℕ). pending ++ x) behind
           ∙ sym (append_assoc pending (bytes_of p.version p.waiting) (bytes_of p.version b))));
       queue = sym waiting;
-      peer = peer ∙ ap (λ (ws : List Frame). record (put_all b p) { waiting = ws }) (sym waiting);
+      peer = peer ∙ ap (λ (ws : List Frame). record (enter_all entered p) { waiting = ws }) (sym waiting);
       count = 1;
-      moves = (l', (inr (length pending', settles), refl));
+      moves = moves;
     }
 
-pub begun_rest : (n : ℕ) (l l' : LinesState) (pending pending' : List ℕ) → pending' ≡ drop n pending → Settles (with_scheduler l (write l.scheduler (length pending'))) l' → IsBegun l.scheduler pending → IsBegun l'.scheduler pending'
-begun_rest n l l' pending pending' is settles h =
-    let begun = settles_begun (with_scheduler l (write l.scheduler (length pending'))) l' settles in
+-- what is due was put
+pub gives_flush : (closing : Bool) (o : OwedState) (l : LinesState) (o' : OwedState) (l' : LinesState) (pending : List ℕ) → FlushesUnless closing o l o' l' → Gives closing [] o l pending o' l' pending
+gives_flush closing o l o' l' pending flushes =
+    let puts = flush_put closing o l o' l' flushes in
+    gives_by closing o l o' l' [] pending pending puts.0 puts.1.peer refl (o', (l', (inl flushes, (refl, refl))))
+
+-- so many bytes of what was left were written
+pub gives_rest : (closing : Bool) (n : ℕ) (o : OwedState) (l : LinesState) (o' : OwedState) (l' : LinesState) (pending pending' : List ℕ) → pending' ≡ drop n pending → SettlesAndFlushes closing o (with_scheduler l (write l.scheduler (length pending'))) o' l' → Gives closing (take n pending) o l pending o' l' pending'
+gives_rest closing n o l o' l' pending pending' is flows =
+    let puts = flows_put closing o (with_scheduler l (write l.scheduler (length pending'))) o' l' flows in
+    let whole : take n pending ++ pending' ≡ pending = ap (λ (x : List ℕ). take n pending ++ x) is ∙ take-append-drop n pending in
+    gives_by closing o l o' l' (take n pending) pending pending' puts.0 puts.1.peer whole (o', (l', (inr (inr (length pending', flows)), (refl, refl))))
+
+pub begun_rest : (closing : Bool) (n : ℕ) (o : OwedState) (l : LinesState) (o' : OwedState) (l' : LinesState) (pending pending' : List ℕ) → pending' ≡ drop n pending → SettlesAndFlushes closing o (with_scheduler l (write l.scheduler (length pending'))) o' l' → IsBegun l.scheduler pending → IsBegun l'.scheduler pending'
+begun_rest closing n o l o' l' pending pending' is flows h =
+    let begun = flows_begun closing o (with_scheduler l (write l.scheduler (length pending'))) o' l' flows in
     let len : length pending' ≡ length pending - n = ap length is ∙ length-drop n pending in
     record { all = omega (arith, begun); few = omega (arith, begun, h.all, h.few, len) }
 
 -- the next frame was written whole
-pub gives_whole : (closing : Bool) (l m l' : LinesState) (pending : List ℕ) (f : Frame) → pending ≡ [] → next l.scheduler.peer ≡ Some f → TakesFrame closing l m → Settles (with_scheduler m (write m.scheduler 0)) l' → Gives closing (encoding l.scheduler.peer.version f) l pending l' pending
-gives_whole closing l m l' pending f nothing first takes settles' =
-    let out = leaves closing f l m first takes in
-    let left : Gives closing (encoding l.scheduler.peer.version f) l [] m [] = record {
+pub gives_whole : (closing : Bool) (o : OwedState) (l : LinesState) (o1 : OwedState) (m : LinesState) (o' : OwedState) (l' : LinesState) (pending : List ℕ) (f : Frame) → pending ≡ [] → next l.scheduler.peer ≡ Some f → TakesFrame closing o l o1 m → SettlesAndFlushes closing o1 (with_scheduler m (write m.scheduler 0)) o' l' → Gives closing (encoding l.scheduler.peer.version f) o l pending o' l' pending
+gives_whole closing o l o1 m o' l' pending f nothing first takes flows =
+    let out = leaves closing f o l o1 m first takes in
+    let left : Gives closing (encoding l.scheduler.peer.version f) o l [] o1 m [] = record {
       entered = out.0;
       gone = f ∷ [];
       bytes = sym out.1.bytes;
       queue = out.1.queue;
       peer = out.1.peer;
       count = 1;
-      moves = (m, (inl takes, refl));
+      moves = (o1, (m, (inr (inl takes), (refl, refl))));
     } in
-    let all = gives_as (append-nil (encoding l.scheduler.peer.version f)) (gives_then left (gives_rest closing 0 m l' [] [] refl settles')) in
-    subst (λ (p : List ℕ). Gives closing (encoding l.scheduler.peer.version f) l p l' p) (sym nothing) all
+    let all = gives_as (append-nil (encoding l.scheduler.peer.version f)) (gives_then left (gives_rest closing 0 o1 m o' l' [] [] refl flows)) in
+    subst (λ (p : List ℕ). Gives closing (encoding l.scheduler.peer.version f) o l p o' l' p) (sym nothing) all
 
-pub begun_whole : (m l' : LinesState) (pending : List ℕ) → pending ≡ [] → Settles (with_scheduler m (write m.scheduler 0)) l' → IsBegun l'.scheduler pending
-begun_whole m l' pending nothing settles =
-    let begun = settles_begun (with_scheduler m (write m.scheduler 0)) l' settles in
+pub begun_whole : (closing : Bool) (o : OwedState) (m : LinesState) (o' : OwedState) (l' : LinesState) (pending : List ℕ) → pending ≡ [] → SettlesAndFlushes closing o (with_scheduler m (write m.scheduler 0)) o' l' → IsBegun l'.scheduler pending
+begun_whole closing o m o' l' pending nothing flows =
+    let begun = flows_begun closing o (with_scheduler m (write m.scheduler 0)) o' l' flows in
     let none = ap length nothing in
     record { all = omega (arith, begun, none); few = omega (arith, none) }
 

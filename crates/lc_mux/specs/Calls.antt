@@ -18,6 +18,11 @@ Answers None by None = by None
 Answers None by (Some (Refused refusal)) = by (Some refusal)
 Answers None by (Some (Over end)) = ⊥
 
+-- by what a call is refused, if its lines refused it
+abbrev pub refusal_of : Option CallError → Option Refusal
+refusal_of (Some (Refused refusal)) = Some refusal
+refusal_of answer = None
+
 -- a call is refused by this, if by anything
 abbrev pub IsAnswer : Option Refusal → Option Refusal → Type 0
 IsAnswer refusal answer = answer ≡ refusal

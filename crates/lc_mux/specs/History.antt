@@ -1,16 +1,22 @@
 -- The law of the outbound stream: over any run of calls the bytes that were written are the first of those of the frames that the peer put, in their order, behind the greeting. That a message is on the stream once, whole, as it was sent, follows from it.
 use Rattle.std.specs.Prelude.{◌≡◌, ℕ, List, [], ◌++◌, length}
 use Rattle.std.specs.List.{flat_map}
+use Rattle.lc_frame.specs.declared.channel.Channel.{Channel}
 use Rattle.lc_frame.specs.declared.frame.Frame.{Frame}
 use Rattle.lc_frame.specs.Version.{greeting}
 use Rattle.lc_frame.specs.Encoding.{encoding}
 use Rattle.lc_frame.specs.Channel.{channel_count}
 use Rattle.lc_peer.specs.declared.config.Config.{Config}
+use Rattle.lc_peer.specs.declared.delivery.Delivery.{Delivery}
+use Rattle.lc_peer.specs.Calls.{take_on}
 use Rattle.lc_peer.specs.Streams.{Streams, IsPeerOf, new_streams}
+use Rattle.lc_lines.specs.declared.scheduler.Notice.{Notice}
 use Rattle.lc_lines.specs.Scheduler.{SchedulerState}
-use Rattle.lc_lines.specs.Lines.{Settles, with_scheduler}
+use Rattle.lc_owed.specs.Owed.{OwedState}
 use Rattle.lc_mux.specs.Mux.{MuxState, text, new_mux}
-use Rattle.lc_mux.specs.Writing.{put_all, Gives}
+use Rattle.lc_mux.specs.Flushing.{Changes, Owes, DeliversAndFlushes, NoticesAndFlushes}
+use Rattle.lc_mux.specs.Ends.{close}
+use Rattle.lc_mux.specs.Writing.{Entry, enter_all, Gives}
 
 -- what was done with a session: the bytes that its writes gave, and the two streams of its peer
 pub record History : Type 0 where
@@ -43,11 +49,31 @@ Continues written m m' = (h : History) → IsMuxOf h m → (h' : History) × (Go
 
 -- a write continues so, whatever calls proceed meanwhile
 abbrev pub WritesContinue : Type 0
-WritesContinue = (m m' : MuxState) (written : List ℕ) → Gives m.closing written m.lines m.pending m'.lines m'.pending → Continues written m m'
+WritesContinue = (m m' : MuxState) (written : List ℕ) → Gives m.closing written m.owed m.lines m.pending m'.owed m'.lines m'.pending → Continues written m m'
 
--- a call that puts frames, if any, and lets calls proceed, continues so, and writes nothing
+-- a call that puts frames, if any, lets calls proceed, and flushes what is pending, continues so, and writes nothing
 abbrev pub CallsContinue : Type 0
-CallsContinue = (m m' : MuxState) (s : SchedulerState) (frames : List Frame) → s.peer ≡ put_all frames m.lines.scheduler.peer → Settles (with_scheduler m.lines s) m'.lines → m'.pending ≡ m.pending → Continues [] m m'
+CallsContinue = (m m' : MuxState) (s : SchedulerState) (entered : List Entry) → s.peer ≡ enter_all entered m.lines.scheduler.peer → Changes s m m' → m'.pending ≡ m.pending → Continues [] m m'
+
+-- so does a control call, which flushes what is pending
+abbrev pub ControlsContinue : Type 0
+ControlsContinue = (m m' : MuxState) (o : OwedState) → Owes o m m' → m'.pending ≡ m.pending → Continues [] m m'
+
+-- so does a delivery, by which frames arrive
+abbrev pub DeliveriesContinue : Type 0
+DeliveriesContinue = (m m' : MuxState) (piece : List ℕ) (d : Delivery) → DeliversAndFlushes piece d m m' → m'.pending ≡ m.pending → Continues [] m m'
+
+-- so does a take
+abbrev pub TakesContinue : Type 0
+TakesContinue = (m m' : MuxState) (c : Channel) → Changes (record m.lines.scheduler { peer = take_on m.lines.scheduler.peer c }) m m' → m'.pending ≡ m.pending → Continues [] m m'
+
+-- so does a notice that is taken
+abbrev pub NoticesContinue : Type 0
+NoticesContinue = (m m' : MuxState) (notice : Notice) → NoticesAndFlushes notice m m' → m'.pending ≡ m.pending → Continues [] m m'
+
+-- so does the close of a session
+abbrev pub ClosesContinue : Type 0
+ClosesContinue = (m : MuxState) → Continues [] m (close m)
 
 -- what continues on and on continues
 abbrev pub ContinuesOn : Type 0

@@ -1,5 +1,5 @@
 //! Laws over the definitions, each the contract of a function that does nothing.
-ghost use Rattle.lc_mux.specs.History.{WritesContinue, CallsContinue, ContinuesOn, WrittenIsFirst, NewContinues};
+ghost use Rattle.lc_mux.specs.History.{WritesContinue, CallsContinue, ControlsContinue, DeliveriesContinue, TakesContinue, NoticesContinue, ClosesContinue, ContinuesOn, WrittenIsFirst, NewContinues};
 
 /// A new session is that of a history in which nothing was done.
 pub fn new_sessions_continue()
@@ -11,9 +11,34 @@ pub fn writes_continue()
     ensures { WritesContinue }
 {}
 
-/// A call that puts frames and lets calls proceed puts these frames behind all others, and writes nothing.
+/// A call puts frames, if any, behind all others, and so do the calls that proceed then and what is due; it writes nothing.
 pub fn calls_continue()
     ensures { CallsContinue }
+{}
+
+/// So does a control call.
+pub fn controls_continue()
+    ensures { ControlsContinue }
+{}
+
+/// So does a delivery, by which frames arrive.
+pub fn deliveries_continue()
+    ensures { DeliveriesContinue }
+{}
+
+/// So does a take.
+pub fn takes_continue()
+    ensures { TakesContinue }
+{}
+
+/// So does a notice that is taken.
+pub fn notices_continue()
+    ensures { NoticesContinue }
+{}
+
+/// So does the close of a session, which puts the finishes.
+pub fn closes_continue()
+    ensures { ClosesContinue }
 {}
 
 /// Over any run of calls the stream continues by what all of them wrote.

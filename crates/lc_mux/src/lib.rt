@@ -1,13 +1,18 @@
 //! A session as one machine.
 //!
-//! A [`Mux`] is the send scheduler of a session with both of its streams, and with how the session ends. It has no
-//! thread, no lock and no transport: bytes that arrive are delivered to it, and it writes bytes into a buffer.
+//! A [`Mux`] is the send scheduler of a session with its pending control frames, with both of its streams, and with how
+//! the session ends. It has no thread, no lock and no transport: bytes that arrive are delivered to it, and it writes bytes
+//! into a buffer.
+//!
+//! Behind each change calls proceed that can, and then the control frames are put that are due. So between two calls no
+//! control frame is pending while a slot is free for it that no permit owns.
 //!
 //! A session ends in order once both sides have finished all their channels and ended their streams; an [`End`] says
 //! why else it is over. The first end stays.
 #![tactic(auto)]
 
 mod end;
+mod flushing;
 pub mod laws;
 mod mux;
 mod pending;

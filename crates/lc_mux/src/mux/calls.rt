@@ -1,24 +1,23 @@
-//! The calls of senders, and control calls: those of the lines, while the session takes them.
+//! The calls of senders: those of the lines, while the session takes them.
 ghost use Rattle.std.specs.Prelude.{◌≡◌, None, false, length, IfOk, OnOk, OnErr};
 ghost use Rattle.std.specs.Result.{result_err};
 ghost use Rattle.lc_book.specs.Client.{spend_refusal};
-ghost use Rattle.lc_peer.specs.Calls.{due};
 ghost use Rattle.lc_peer.specs.Peer.{client};
 ghost use Rattle.lc_lines.specs.declared.queue.Ask.TheVariants.{Offer};
-ghost use Rattle.lc_lines.specs.Scheduler.{start, join, complete, complete_progress, IsCompleteAnswer, progress_of, IsCallAnswer, IsAttemptAnswer, attempt, try_send, for_good, IsReserveAnswer, reserve, try_reserve, IsReservedAnswer, send_reserved, frame_of_control, control_refusal, honour_refusal, honour, put_frame, IsBoundAnswer, bound_progress, start_bound};
-ghost use Rattle.lc_lines.specs.Lines.{Settles, with_scheduler};
+ghost use Rattle.lc_lines.specs.Scheduler.{start, join, complete, complete_progress, IsCompleteAnswer, progress_of, IsCallAnswer, IsAttemptAnswer, attempt, try_send, for_good, IsReserveAnswer, reserve, try_reserve, IsReservedAnswer, IsHonoured, send_reserved, IsBoundAnswer, bound_progress, start_bound};
 ghost use Rattle.lc_mux.specs.Ends.{call_over};
-ghost use Rattle.lc_mux.specs.Calls.{Answers, send_over, IsAnswer};
+ghost use Rattle.lc_mux.specs.Flushing.{Changes};
+ghost use Rattle.lc_mux.specs.Calls.{Answers, refusal_of, send_over, IsAnswer};
 
 use super::Mux;
 use crate::end::{CallError, End};
-use lc_book::Refusal;
+use crate::flushing::flush_unless;
 use lc_frame::Channel;
-use lc_lines::{Attempt, Bound, Control, Progress};
+use lc_lines::{Attempt, Bound, Progress};
 
 impl Mux {
     // Why no call is made any more: the session is over, or this side closed it.
-    fn judge_call(&self) -> Result<(), End>
+    pub(super) fn judge_call(&self) -> Result<(), End>
         ensures answer { result_err result ≡ call_over self.now }
         ensures open { OnOk result (self.now.closing ≡ false) }
     {
@@ -53,11 +52,12 @@ impl Mux {
         ensures answer { Answers (send_over self.old channel (length body.now)) (IsCallAnswer self.old.lines.scheduler.peer channel (length body.now)) (result_err result) }
         ensures progress { IfOk result (λ progress. progress ≡ progress_of self.old.lines.scheduler channel (length body.now)) }
         ensures refused { OnErr result (self.new ≡ self.old) }
-        ensures starts { OnOk result (Settles (with_scheduler self.old.lines (start self.old.lines.scheduler channel ticket body.now)) self.new.lines) }
-        ensures rest { self.new ≡ record self.old { lines = self.new.lines } }
+        ensures starts { OnOk result (Changes (start self.old.lines.scheduler channel ticket body.now) self.old self.new) }
+        ensures rest { self.new ≡ record self.old { lines = self.new.lines; owed = self.new.owed } }
     {
         self.judge_send(channel, body.len())?;
         let progress = self.lines.send(channel, ticket, body)?;
+        flush_unless(self.closing, &mut self.owed, &mut self.lines);
         Ok(progress)
     }
 
@@ -66,11 +66,12 @@ impl Mux {
         ensures answer { Answers (send_over self.old channel (length body.now)) (IsAttemptAnswer self.old.lines.scheduler channel (length body.now)) (result_err result) }
         ensures attempt { IfOk result (λ answer. answer ≡ attempt self.old.lines.scheduler channel (length body.now)) }
         ensures refused { OnErr result (self.new ≡ self.old) }
-        ensures sends { OnOk result (Settles (with_scheduler self.old.lines (try_send self.old.lines.scheduler channel body.now)) self.new.lines) }
-        ensures rest { self.new ≡ record self.old { lines = self.new.lines } }
+        ensures sends { OnOk result (Changes (try_send self.old.lines.scheduler channel body.now) self.old self.new) }
+        ensures rest { self.new ≡ record self.old { lines = self.new.lines; owed = self.new.owed } }
     {
         self.judge_send(channel, body.len())?;
         let answer = self.lines.try_send(channel, body)?;
+        flush_unless(self.closing, &mut self.owed, &mut self.lines);
         Ok(answer)
     }
 
@@ -78,11 +79,12 @@ impl Mux {
     pub fn offer(&mut self, channel: Channel, ticket: u64, len: usize) -> Result<(), CallError>
         ensures answer { Answers (send_over self.old channel len) (IsCallAnswer self.old.lines.scheduler.peer channel len) (result_err result) }
         ensures refused { OnErr result (self.new ≡ self.old) }
-        ensures joins { OnOk result (Settles (with_scheduler self.old.lines (join self.old.lines.scheduler channel (record { ticket = ticket; ask = Offer len }))) self.new.lines) }
-        ensures rest { self.new ≡ record self.old { lines = self.new.lines } }
+        ensures joins { OnOk result (Changes (join self.old.lines.scheduler channel (record { ticket = ticket; ask = Offer len })) self.old self.new) }
+        ensures rest { self.new ≡ record self.old { lines = self.new.lines; owed = self.new.owed } }
     {
         self.judge_send(channel, len)?;
         self.lines.offer(channel, ticket, len)?;
+        flush_unless(self.closing, &mut self.owed, &mut self.lines);
         Ok(())
     }
 
@@ -96,11 +98,12 @@ impl Mux {
         ensures answer { Answers (send_over self.old channel (length body.now)) (IsCompleteAnswer self.old.lines.scheduler channel ticket (length body.now)) (result_err result) }
         ensures progress { IfOk result (λ progress. progress ≡ complete_progress self.old.lines.scheduler channel ticket (length body.now)) }
         ensures refused { OnErr result (self.new ≡ self.old) }
-        ensures completes { OnOk result (Settles (with_scheduler self.old.lines (complete self.old.lines.scheduler channel ticket body.now)) self.new.lines) }
-        ensures rest { self.new ≡ record self.old { lines = self.new.lines } }
+        ensures completes { OnOk result (Changes (complete self.old.lines.scheduler channel ticket body.now) self.old self.new) }
+        ensures rest { self.new ≡ record self.old { lines = self.new.lines; owed = self.new.owed } }
     {
         self.judge_send(channel, body.len())?;
         let progress = self.lines.complete(channel, ticket, body)?;
+        flush_unless(self.closing, &mut self.owed, &mut self.lines);
         Ok(progress)
     }
 
@@ -114,11 +117,12 @@ impl Mux {
         ensures answer { Answers (send_over self.old channel len) (IsReserveAnswer self.old.lines.scheduler channel len) (result_err result) }
         ensures progress { IfOk result (λ progress. progress ≡ progress_of self.old.lines.scheduler channel len) }
         ensures refused { OnErr result (self.new ≡ self.old) }
-        ensures reserves { OnOk result (Settles (with_scheduler self.old.lines (reserve self.old.lines.scheduler channel ticket len)) self.new.lines) }
-        ensures rest { self.new ≡ record self.old { lines = self.new.lines } }
+        ensures reserves { OnOk result (Changes (reserve self.old.lines.scheduler channel ticket len) self.old self.new) }
+        ensures rest { self.new ≡ record self.old { lines = self.new.lines; owed = self.new.owed } }
     {
         self.judge_send(channel, len)?;
         let progress = self.lines.reserve(channel, ticket, len)?;
+        flush_unless(self.closing, &mut self.owed, &mut self.lines);
         Ok(progress)
     }
 
@@ -127,11 +131,12 @@ impl Mux {
         ensures answer { Answers (send_over self.old channel len) (IsAnswer (for_good (spend_refusal (client self.old.lines.scheduler.peer channel) len))) (result_err result) }
         ensures attempt { IfOk result (λ answer. answer ≡ attempt self.old.lines.scheduler channel len) }
         ensures refused { OnErr result (self.new ≡ self.old) }
-        ensures reserves { OnOk result (Settles (with_scheduler self.old.lines (try_reserve self.old.lines.scheduler channel len)) self.new.lines) }
-        ensures rest { self.new ≡ record self.old { lines = self.new.lines } }
+        ensures reserves { OnOk result (Changes (try_reserve self.old.lines.scheduler channel len) self.old self.new) }
+        ensures rest { self.new ≡ record self.old { lines = self.new.lines; owed = self.new.owed } }
     {
         self.judge_send(channel, len)?;
         let answer = self.lines.try_reserve(channel, len)?;
+        flush_unless(self.closing, &mut self.owed, &mut self.lines);
         Ok(answer)
     }
 
@@ -142,13 +147,15 @@ impl Mux {
         len: usize,
         body: &[u8],
     ) -> Result<(), CallError>
+        ensures honoured { call_over self.old ≡ None → IsHonoured self.old.lines.scheduler channel len (length body.now) (refusal_of (result_err result)) }
         ensures answer { Answers (call_over self.old) (IsReservedAnswer self.old.lines.scheduler channel len (length body.now)) (result_err result) }
         ensures refused { OnErr result (self.new ≡ self.old) }
-        ensures sends { OnOk result (Settles (with_scheduler self.old.lines (send_reserved self.old.lines.scheduler channel len body.now)) self.new.lines) }
-        ensures rest { self.new ≡ record self.old { lines = self.new.lines } }
+        ensures sends { OnOk result (Changes (send_reserved self.old.lines.scheduler channel len body.now) self.old self.new) }
+        ensures rest { self.new ≡ record self.old { lines = self.new.lines; owed = self.new.owed } }
     {
         self.judge_call()?;
         self.lines.send_reserved(channel, len, body)?;
+        flush_unless(self.closing, &mut self.owed, &mut self.lines);
         Ok(())
     }
 
@@ -162,36 +169,12 @@ impl Mux {
         ensures answer { Answers (call_over self.old) (IsBoundAnswer self.old.lines.scheduler channel bound) (result_err result) }
         ensures progress { IfOk result (λ progress. progress ≡ bound_progress self.old.lines.scheduler channel bound) }
         ensures refused { OnErr result (self.new ≡ self.old) }
-        ensures bounds { OnOk result (Settles (with_scheduler self.old.lines (start_bound self.old.lines.scheduler channel ticket bound)) self.new.lines) }
-        ensures rest { self.new ≡ record self.old { lines = self.new.lines } }
+        ensures bounds { OnOk result (Changes (start_bound self.old.lines.scheduler channel ticket bound) self.old self.new) }
+        ensures rest { self.new ≡ record self.old { lines = self.new.lines; owed = self.new.owed } }
     {
         self.judge_call()?;
         let progress = self.lines.bound(channel, ticket, bound)?;
+        flush_unless(self.closing, &mut self.owed, &mut self.lines);
         Ok(progress)
-    }
-
-    /// A control call, as [`Lines::control`](lc_lines::Lines::control).
-    pub fn control(&mut self, control: Control) -> Result<(), CallError>
-        ensures answer { Answers (call_over self.old) (IsAnswer (control_refusal self.old.lines.scheduler (frame_of_control control))) (result_err result) }
-        ensures refused { OnErr result (self.new ≡ self.old) }
-        ensures puts { OnOk result (Settles (with_scheduler self.old.lines (put_frame self.old.lines.scheduler (frame_of_control control))) self.new.lines) }
-        ensures rest { self.new ≡ record self.old { lines = self.new.lines } }
-    {
-        self.judge_call()?;
-        self.lines.control(control)?;
-        Ok(())
-    }
-
-    /// Honours the plead that a channel keeps, as [`Lines::honour`](lc_lines::Lines::honour).
-    pub fn honour(&mut self, channel: Channel) -> Result<Option<u32>, CallError>
-        ensures answer { Answers (call_over self.old) (IsAnswer (honour_refusal self.old.lines.scheduler channel)) (result_err result) }
-        ensures amount { IfOk result (λ amount. amount ≡ due self.old.lines.scheduler.peer channel) }
-        ensures refused { OnErr result (self.new ≡ self.old) }
-        ensures honours { OnOk result (Settles (with_scheduler self.old.lines (honour self.old.lines.scheduler channel)) self.new.lines) }
-        ensures rest { self.new ≡ record self.old { lines = self.new.lines } }
-    {
-        self.judge_call()?;
-        let amount = self.lines.honour(channel)?;
-        Ok(amount)
     }
 }

@@ -9,11 +9,12 @@ ghost use Rattle.lc_peer.specs.Peer.{inbox};
 ghost use Rattle.lc_lines.specs.Permits.{is_permit};
 ghost use Rattle.lc_lines.specs.Queue.{waits};
 ghost use Rattle.lc_lines.specs.Scheduler.{IsSettled, NoneIsHopeless, queue, aside, cancel, give_back};
-ghost use Rattle.lc_lines.specs.Lines.{Settles, NoticesNext, with_scheduler};
 ghost use Rattle.lc_mux.specs.Calls.{Answers, IsAnswer, take_over};
+ghost use Rattle.lc_mux.specs.Flushing.{Changes, NoticesAndFlushes};
 
 use super::Mux;
 use crate::end::{CallError, End};
+use crate::flushing::flush_unless;
 use lc_frame::Channel;
 use lc_lines::Notice;
 use lc_peer::Take;
@@ -42,13 +43,14 @@ impl Mux {
         ensures value { IfOk result (λ take. take ≡ take_answer (inbox self.old.lines.scheduler.peer channel)) }
         ensures refused { OnErr result ((self.new ≡ self.old) × (buffer.new ≡ buffer.old)) }
         ensures buffer { OnOk result (buffer.new ≡ with_front (front (inbox self.old.lines.scheduler.peer channel).ring) buffer.old) }
-        ensures takes { OnOk result (Settles (with_scheduler self.old.lines (record self.old.lines.scheduler { peer = take_on self.old.lines.scheduler.peer channel })) self.new.lines) }
-        ensures rest { self.new ≡ record self.old { lines = self.new.lines } }
+        ensures takes { OnOk result (Changes (record self.old.lines.scheduler { peer = take_on self.old.lines.scheduler.peer channel }) self.old self.new) }
+        ensures rest { self.new ≡ record self.old { lines = self.new.lines; owed = self.new.owed } }
     {
         self.judge_take()?;
         // Its contract says that every channel has its books.
         let _peer = self.lines.peer();
         let take = self.lines.take_into(channel, buffer)?;
+        flush_unless(self.closing, &mut self.owed, &mut self.lines);
         Ok(take)
     }
 
@@ -66,13 +68,14 @@ impl Mux {
         ensures over { result_err result ≡ take_over self.old }
         ensures value { IfOk result (λ take. take ≡ take_answer (inbox self.old.lines.scheduler.peer channel)) }
         ensures refused { OnErr result (self.new ≡ self.old) }
-        ensures takes { OnOk result (Settles (with_scheduler self.old.lines (record self.old.lines.scheduler { peer = take_on self.old.lines.scheduler.peer channel })) self.new.lines) }
-        ensures rest { self.new ≡ record self.old { lines = self.new.lines } }
+        ensures takes { OnOk result (Changes (record self.old.lines.scheduler { peer = take_on self.old.lines.scheduler.peer channel }) self.old self.new) }
+        ensures rest { self.new ≡ record self.old { lines = self.new.lines; owed = self.new.owed } }
     {
         self.judge_take()?;
         // Its contract says that every channel has its books.
         let _peer = self.lines.peer();
         let take = self.lines.pop(channel);
+        flush_unless(self.closing, &mut self.owed, &mut self.lines);
         Ok(take)
     }
 
@@ -81,13 +84,15 @@ impl Mux {
     pub fn cancel(&mut self, channel: Channel, ticket: u64) -> bool
         ensures closing { self.old.closing ≡ true → (result ≡ false) × (self.new ≡ self.old) }
         ensures waited { self.old.closing ≡ false → result ≡ waits ticket (queue self.old.lines.scheduler channel).calls }
-        ensures after { self.old.closing ≡ false → Settles (with_scheduler self.old.lines (cancel self.old.lines.scheduler channel ticket)) self.new.lines }
-        ensures rest { self.new ≡ record self.old { lines = self.new.lines } }
+        ensures after { self.old.closing ≡ false → Changes (cancel self.old.lines.scheduler channel ticket) self.old self.new }
+        ensures rest { self.new ≡ record self.old { lines = self.new.lines; owed = self.new.owed } }
     {
         if self.closing {
             return false;
         }
-        self.lines.cancel(channel, ticket)
+        let waited = self.lines.cancel(channel, ticket);
+        flush_unless(self.closing, &mut self.owed, &mut self.lines);
+        waited
     }
 
     /// Gives back a permit of so many bytes, as [`Lines::give_back`](lc_lines::Lines::give_back). Once this side closed the
@@ -95,22 +100,26 @@ impl Mux {
     pub fn give_back(&mut self, channel: Channel, len: usize) -> bool
         ensures closing { self.old.closing ≡ true → (result ≡ false) × (self.new ≡ self.old) }
         ensures answer { self.old.closing ≡ false → result ≡ is_permit (aside self.old.lines.scheduler channel) len }
-        ensures after { self.old.closing ≡ false → Settles (with_scheduler self.old.lines (give_back self.old.lines.scheduler channel len)) self.new.lines }
-        ensures rest { self.new ≡ record self.old { lines = self.new.lines } }
+        ensures after { self.old.closing ≡ false → Changes (give_back self.old.lines.scheduler channel len) self.old self.new }
+        ensures rest { self.new ≡ record self.old { lines = self.new.lines; owed = self.new.owed } }
     {
         if self.closing {
             return false;
         }
-        self.lines.give_back(channel, len)
+        let was_out = self.lines.give_back(channel, len);
+        flush_unless(self.closing, &mut self.owed, &mut self.lines);
+        was_out
     }
 
     /// The next notice, as [`Lines::next_notice`](lc_lines::Lines::next_notice). Calls that the end or the close of the
     /// session gives up have none: their caller learns it from [`Mux::over`].
     pub fn next_notice(&mut self) -> Option<Notice>
-        ensures some { IfSome result (λ notice. NoticesNext notice self.old.lines self.new.lines) }
+        ensures some { IfSome result (λ notice. NoticesAndFlushes notice self.old self.new) }
         ensures none { IfNone result ((self.new ≡ self.old) × (IsSettled self.new.lines.scheduler × NoneIsHopeless self.new.lines.scheduler)) }
-        ensures rest { self.new ≡ record self.old { lines = self.new.lines } }
+        ensures rest { self.new ≡ record self.old { lines = self.new.lines; owed = self.new.owed } }
     {
-        self.lines.next_notice()
+        let notice = self.lines.next_notice()?;
+        flush_unless(self.closing, &mut self.owed, &mut self.lines);
+        Some(notice)
     }
 }

@@ -2,33 +2,53 @@
 ghost use Rattle.std.specs.Prelude.{◌≡◌, ◌<◌, ◌≤◌, ◌++◌, [], length, take, drop, is_some, true, false};
 ghost use Rattle.lc_mux.specs.Mux.{text, text_of, IsBegun};
 ghost use Rattle.lc_mux.specs.Ends.{over};
+ghost use Rattle.lc_mux.specs.Flushing.{SettlesAndFlushes};
 ghost use Rattle.lc_mux.specs.Writing.{TakesFrame, Gives};
+ghost use Rattle.lc_lines.specs.Scheduler.{write};
+ghost use Rattle.lc_lines.specs.Lines.{with_scheduler};
 ghost use Rattle.lc_lines.specs.Closing.{IsClosed};
+ghost use Rattle.lc_owed.specs.Flush.{IsFlushed};
 ghost use Rattle.lc_peer.specs.Calls.{next};
 
 use super::Mux;
+use crate::flushing::flush_unless;
 use crate::pending::Pending;
 use lc_frame::Frame;
 use lc_lines::Lines;
+use lc_owed::Owed;
 
-// The first frame leaves the outbound queue, if there is one. Where the session closes, its slot lets one more channel be
-// finished.
-fn take_frame(lines: &mut Lines, closing: bool) -> Option<Frame>
+// The first frame leaves the outbound queue, if there is one. Its slot lets what is due be put; where the session closes,
+// it lets one more channel be finished.
+fn take_frame(closing: bool, owed: &mut Owed, lines: &mut Lines) -> Option<Frame>
     ensures value { result ≡ next lines.old.scheduler.peer }
-    ensures takes { TakesFrame closing lines.old lines.new }
+    ensures takes { TakesFrame closing owed.old lines.old owed.new lines.new }
+    ensures flushed { closing ≡ false → IsFlushed owed.new lines.new.scheduler }
     ensures closed { closing ≡ true → IsClosed lines.new.scheduler }
 {
     let frame = lines.next_out();
     if closing {
         lines.close();
+    } else {
+        owed.flush(lines);
     }
     frame
 }
 
+// Of the message that left the outbound queue last so many bytes are unwritten.
+fn note_written(closing: bool, owed: &mut Owed, lines: &mut Lines, left: usize)
+    ensures writes { SettlesAndFlushes closing owed.old (with_scheduler lines.old (write lines.old.scheduler left)) owed.new lines.new }
+    ensures flushed { closing ≡ false → IsFlushed owed.new lines.new.scheduler }
+    ensures closed { closing ≡ true → IsClosed lines.old.scheduler → IsClosed lines.new.scheduler }
+{
+    lines.note_written(left);
+    flush_unless(closing, owed, lines);
+}
+
 // Where nothing is left of a frame or of the greeting, the first frame that is queued is begun, if there is one.
-fn begin_next(lines: &mut Lines, pending: &mut Pending, closing: bool)
-    ensures gives { Gives closing [] lines.old pending.old lines.new pending.new }
+fn begin_next(closing: bool, owed: &mut Owed, lines: &mut Lines, pending: &mut Pending)
+    ensures gives { Gives closing [] owed.old lines.old pending.old owed.new lines.new pending.new }
     ensures begun { IsBegun lines.old.scheduler pending.old → IsBegun lines.new.scheduler pending.new }
+    ensures flushed { closing ≡ false → IsFlushed owed.old lines.old.scheduler → IsFlushed owed.new lines.new.scheduler }
     ensures closed { closing ≡ true → IsClosed lines.old.scheduler → IsClosed lines.new.scheduler }
     ensures ready { pending.new ≡ [] → text_of lines.new pending.new ≡ [] }
 {
@@ -40,38 +60,40 @@ fn begin_next(lines: &mut Lines, pending: &mut Pending, closing: bool)
     if peer.waiting() == 0 {
         return;
     }
-    match take_frame(lines, closing) {
+    match take_frame(closing, owed, lines) {
         Some(frame) => pending.begin(version, &frame),
         None => unreachable!(),
     }
 }
 
 // What is left of the greeting or of the frame that was begun, which may be the next one, as far as there is room.
-fn give_begun(lines: &mut Lines, pending: &mut Pending, closing: bool, out: &mut [u8]) -> usize
+fn give_begun(closing: bool, owed: &mut Owed, lines: &mut Lines, pending: &mut Pending, out: &mut [u8]) -> usize
     requires { 0 < length out.old }
     ensures count { result ≤ length out.old }
     ensures behind { drop result out.new ≡ drop result out.old }
-    ensures gives { Gives closing (take result out.new) lines.old pending.old lines.new pending.new }
+    ensures gives { Gives closing (take result out.new) owed.old lines.old pending.old owed.new lines.new pending.new }
     ensures begun { IsBegun lines.old.scheduler pending.old → IsBegun lines.new.scheduler pending.new }
+    ensures flushed { closing ≡ false → IsFlushed owed.old lines.old.scheduler → IsFlushed owed.new lines.new.scheduler }
     ensures closed { closing ≡ true → IsClosed lines.old.scheduler → IsClosed lines.new.scheduler }
     ensures none { result ≡ 0 → text_of lines.new pending.new ≡ [] }
 {
-    begin_next(lines, pending, closing);
+    begin_next(closing, owed, lines, pending);
     let count = pending.give(out);
     if count == 0 {
         return 0;
     }
-    lines.note_written(pending.len());
+    note_written(closing, owed, lines, pending.len());
     count
 }
 
 // The next frame, whole, where nothing is left of one before it and it has room, else nothing. It is encoded where it
 // goes, without a copy in between.
-fn give_whole(lines: &mut Lines, pending: &Pending, closing: bool, out: &mut [u8]) -> usize
+fn give_whole(closing: bool, owed: &mut Owed, lines: &mut Lines, pending: &Pending, out: &mut [u8]) -> usize
     ensures count { result ≤ length out.old }
     ensures behind { drop result out.new ≡ drop result out.old }
-    ensures gives { Gives closing (take result out.new) lines.old pending.now lines.new pending.now }
+    ensures gives { Gives closing (take result out.new) owed.old lines.old pending.now owed.new lines.new pending.now }
     ensures begun { IsBegun lines.old.scheduler pending.now → IsBegun lines.new.scheduler pending.now }
+    ensures flushed { closing ≡ false → IsFlushed owed.old lines.old.scheduler → IsFlushed owed.new lines.new.scheduler }
     ensures closed { closing ≡ true → IsClosed lines.old.scheduler → IsClosed lines.new.scheduler }
 {
     let peer = lines.peer();
@@ -85,41 +107,43 @@ fn give_whole(lines: &mut Lines, pending: &Pending, closing: bool, out: &mut [u8
         },
         None => return 0,
     };
-    let _gone = take_frame(lines, closing);
-    lines.note_written(0);
+    let _gone = take_frame(closing, owed, lines);
+    note_written(closing, owed, lines, 0);
     count
 }
 
 // The next frame whole, or what is left of one and of the greeting, as far as there is room.
-fn give_next(lines: &mut Lines, pending: &mut Pending, closing: bool, out: &mut [u8]) -> usize
+fn give_next(closing: bool, owed: &mut Owed, lines: &mut Lines, pending: &mut Pending, out: &mut [u8]) -> usize
     requires { 0 < length out.old }
     ensures count { result ≤ length out.old }
     ensures behind { drop result out.new ≡ drop result out.old }
-    ensures gives { Gives closing (take result out.new) lines.old pending.old lines.new pending.new }
+    ensures gives { Gives closing (take result out.new) owed.old lines.old pending.old owed.new lines.new pending.new }
     ensures begun { IsBegun lines.old.scheduler pending.old → IsBegun lines.new.scheduler pending.new }
+    ensures flushed { closing ≡ false → IsFlushed owed.old lines.old.scheduler → IsFlushed owed.new lines.new.scheduler }
     ensures closed { closing ≡ true → IsClosed lines.old.scheduler → IsClosed lines.new.scheduler }
     ensures none { result ≡ 0 → text_of lines.new pending.new ≡ [] }
 {
-    let count = give_whole(lines, pending, closing, out);
+    let count = give_whole(closing, owed, lines, pending, out);
     if count > 0 {
         return count;
     }
-    give_begun(lines, pending, closing, out)
+    give_begun(closing, owed, lines, pending, out)
 }
 
 // As many bytes as there are and have room.
-fn give(lines: &mut Lines, pending: &mut Pending, closing: bool, out: &mut [u8]) -> usize
+fn give(closing: bool, owed: &mut Owed, lines: &mut Lines, pending: &mut Pending, out: &mut [u8]) -> usize
     ensures count { result ≤ length out.old }
     ensures behind { drop result out.new ≡ drop result out.old }
-    ensures gives { Gives closing (take result out.new) lines.old pending.old lines.new pending.new }
+    ensures gives { Gives closing (take result out.new) owed.old lines.old pending.old owed.new lines.new pending.new }
     ensures begun { IsBegun lines.old.scheduler pending.old → IsBegun lines.new.scheduler pending.new }
+    ensures flushed { closing ≡ false → IsFlushed owed.old lines.old.scheduler → IsFlushed owed.new lines.new.scheduler }
     ensures closed { closing ≡ true → IsClosed lines.old.scheduler → IsClosed lines.new.scheduler }
     ensures all { result < length out.old → text_of lines.new pending.new ≡ [] }
 {
     let mut done = 0;
     'frames: while done < out.len() {
         let (_, room) = out.split_at_mut(done);
-        let count = give_next(lines, pending, closing, room);
+        let count = give_next(closing, owed, lines, pending, room);
         if count == 0 {
             return done;
         }
@@ -129,22 +153,24 @@ fn give(lines: &mut Lines, pending: &mut Pending, closing: bool, out: &mut [u8])
 }
 
 impl Mux {
-    /// Writes the next bytes of the outbound stream to the front of a buffer, as many as there are and have room, and lets
-    /// each call proceed that can. The answer is how many. A message that is partly written counts as unwritten for the
+    /// Puts what is due, and writes the next bytes of the outbound stream to the front of a buffer, as many as there are and
+    /// have room. Behind each frame that leaves the outbound queue each call proceeds that can, and then what is due is put.
+    /// The answer is how many. A message that is partly written counts as unwritten for the
     /// bound on queued bytes. Where the session is over nothing is written, and nothing changes.
     pub fn write(&mut self, out: &mut [u8]) -> usize
         ensures over { is_some (over self.old) ≡ true → (result ≡ 0) × (self.new ≡ self.old) }
         ensures count { result ≤ length out.old }
         ensures behind { drop result out.new ≡ drop result out.old }
-        ensures gives { Gives self.old.closing (take result out.new) self.old.lines self.old.pending self.new.lines self.new.pending }
+        ensures gives { Gives self.old.closing (take result out.new) self.old.owed self.old.lines self.old.pending self.new.owed self.new.lines self.new.pending }
         ensures closed { self.new.closing ≡ true → IsClosed self.new.lines.scheduler }
         ensures unwritten { IsBegun self.new.lines.scheduler self.new.pending }
         ensures all { is_some (over self.old) ≡ false → result < length out.old → text self.new ≡ [] }
-        ensures rest { self.new ≡ record self.old { lines = self.new.lines; pending = self.new.pending } }
+        ensures rest { self.new ≡ record self.old { lines = self.new.lines; owed = self.new.owed; pending = self.new.pending } }
     {
         if self.over().is_some() {
             return 0;
         }
-        give(&mut self.lines, &mut self.pending, self.closing, out)
+        flush_unless(self.closing, &mut self.owed, &mut self.lines);
+        give(self.closing, &mut self.owed, &mut self.lines, &mut self.pending, out)
     }
 }

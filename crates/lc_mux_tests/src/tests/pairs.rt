@@ -1,11 +1,14 @@
-//! Two sessions over one transport. A case names a side, `near` or `far`: `issue SIDE CHANNEL AMOUNT`, `send SIDE CHANNEL
-//! TICKET LENGTH`, `carry SIDE BYTES` (so many bytes at most that the side writes are delivered to the other), `take SIDE
+//! Two sessions over one transport. A case names a side, `near` or `far`: `issue SIDE CHANNEL AMOUNT`, and so `limit`,
+//! `plead` and `absolve`; `honour SIDE CHANNEL`; `at-once SIDE CHANNEL` (its policies issue and honour without a call);
+//! `owed SIDE CHANNEL` (what is pending there: the issue, the limit, the plead, where 99 is none, the absolve, and whether
+//! an honour is); `notice SIDE`; `send SIDE CHANNEL TICKET LENGTH`, `carry SIDE BYTES` (so many bytes at most that the side writes are delivered to the other), `take SIDE
 //! CHANNEL`, `close SIDE`, `abort SIDE`, `fail SIDE`, `ended SIDE` (the inbound stream of the side), `done SIDE`
 //! (whether its outbound stream ends).
-use super::laws::issue_and_write;
+use super::laws::{answer_and_close, issue_and_write, notice};
 use lc_frame::{Channel, Version};
 use lc_lines::Progress;
 use lc_mux::{CallError, End, Mux};
+use lc_owed::{IssuePolicy, PleadPolicy};
 use lc_peer::{Config, PeerFault, Take};
 use std::alloc::Global;
 use std::mem;
@@ -20,15 +23,19 @@ struct Pair {
     far: Mux,
 }
 
+// A session whose caller issues and honours.
 fn side(alloc: Global, version: Version) -> Result<Mux, PeerFault> {
-    Mux::new(
-        alloc,
-        Config {
-            version,
-            capacities: [64; 7],
-            slots: 14,
-        },
-    )
+    let config = Config {
+        version,
+        capacities: [64; 7],
+        slots: 14,
+    };
+    let mut mux = Mux::new(alloc, config)?;
+    for channel in Channel::ALL {
+        mux.set_issue_policy(channel, IssuePolicy::ByCaller);
+        mux.set_plead_policy(channel, PleadPolicy::ByCaller);
+    }
+    Ok(mux)
 }
 
 fn number(words: &mut SplitWhitespace) -> Option<usize> {
@@ -79,6 +86,44 @@ impl Pair {
         }
     }
 
+    // A control call that has a number.
+    fn control(&mut self, alloc: Global, verb: &str, words: &mut SplitWhitespace) -> Option<String> {
+        let (channel, number) = (channel(words)?, number(words)?);
+        let amount = u32::try_from(number).ok()?;
+        let called = match verb {
+            "plead" => self.near.plead(channel, amount),
+            "absolve" => self.near.absolve(channel, amount),
+            _ => self.near.limit_receiving(channel, number as u64),
+        };
+        match called {
+            Ok(()) => text(alloc, "accepted"),
+            Err(answer) => error(alloc, answer),
+        }
+    }
+
+    fn honour(&mut self, alloc: Global, words: &mut SplitWhitespace) -> Option<String> {
+        match self.near.honour(channel(words)?) {
+            Ok(()) => text(alloc, "accepted"),
+            Err(answer) => error(alloc, answer),
+        }
+    }
+
+    // From here on a channel issues all room at once, and honours each plead.
+    fn at_once(&mut self, alloc: Global, words: &mut SplitWhitespace) -> Option<String> {
+        let channel = channel(words)?;
+        self.near.set_issue_policy(channel, IssuePolicy::AtOnce);
+        self.near.set_plead_policy(channel, PleadPolicy::AtOnce);
+        text(alloc, "set")
+    }
+
+    // What is pending on a channel: the issue, the limit, the target of the plead, the absolve, and whether an honour is.
+    fn owed(&self, alloc: Global, words: &mut SplitWhitespace) -> Option<String> {
+        let owed = self.near.owed(channel(words)?);
+        let limit = owed.limit.unwrap_or(99);
+        let plead = owed.plead.unwrap_or(99);
+        format!(in alloc; "{} {limit} {plead} {} {}", owed.issue, owed.absolve, owed.honour).ok()
+    }
+
     fn send(&mut self, alloc: Global, words: &mut SplitWhitespace) -> Option<String> {
         let (channel, ticket) = (channel(words)?, number(words)?);
         let body = memory(alloc, number(words)?)?;
@@ -86,6 +131,13 @@ impl Pair {
             Ok(Progress::Proceeded) => text(alloc, "proceeded"),
             Ok(Progress::Waits) => text(alloc, "waits"),
             Err(answer) => error(alloc, answer),
+        }
+    }
+
+    fn notice(&mut self, alloc: Global) -> Option<String> {
+        match notice(&mut self.near) {
+            Some(notice) => format!(in alloc; "{}", notice.ticket).ok(),
+            None => text(alloc, "none"),
         }
     }
 
@@ -119,6 +171,11 @@ impl Pair {
     fn act(&mut self, alloc: Global, verb: &str, words: &mut SplitWhitespace) -> Option<String> {
         match verb {
             "issue" => return self.issue(alloc, words),
+            "limit" | "plead" | "absolve" => return self.control(alloc, verb, words),
+            "honour" => return self.honour(alloc, words),
+            "at-once" => return self.at_once(alloc, words),
+            "owed" => return self.owed(alloc, words),
+            "notice" => return self.notice(alloc),
             "send" => return self.send(alloc, words),
             "carry" => return self.carry(alloc, words),
             "take" => return self.take(alloc, words),
@@ -208,6 +265,47 @@ abort far => aborted
 take far 1 => aborted
 carry near 0 => aborted
 ";
+
+// Of 14 slots, 7 are for control frames. Once they are taken, calls of one kind and channel are joined to one frame, which
+// enters as soon as slots are free, the issue first and less of the limit behind it.
+const OWED: &str = "issue near 0 1 => issued
+issue near 1 1 => issued
+issue near 2 1 => issued
+issue near 3 1 => issued
+issue near 4 1 => issued
+issue near 5 1 => issued
+owed near 5 => 0 99 99 0 false
+issue near 6 1 => issued
+owed near 6 => 0 99 99 0 false
+issue near 6 2 => issued
+limit near 6 20 => accepted
+issue near 6 3 => issued
+plead near 6 3 => accepted
+plead near 6 6 => refused 11
+issue near 6 62 => refused 9
+owed near 6 => 5 17 3 0 false
+carry near 9 => 9 1
+owed near 6 => 0 17 3 0 false
+carry near 12 => 12 2
+owed near 6 => 0 99 99 0 false
+carry near 100 => 37 7
+send far 6 1 2 => proceeded
+absolve far 6 9 => refused 6
+honour far 6 => accepted
+carry far 100 => 16 2
+send far 6 2 5 => waits
+take near 6 => 2
+at-once near 6 => set
+carry near 100 => 5 1
+notice far => 2
+notice far => none
+";
+
+#[test]
+fn control_frames_wait_for_slots(rt: HostRuntime) -> Result<(), Fail> {
+    plays(&rt, rt.alloc(), Version::Two, OWED)?;
+    Ok(())
+}
 
 #[test]
 fn both_sides_close(rt: HostRuntime) -> Result<(), Fail> {

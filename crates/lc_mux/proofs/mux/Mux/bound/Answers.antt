@@ -1,6 +1,8 @@
-use Rattle.std.proofs.Common.{◌≡◌, false, ap, ◌∙◌}
+use Rattle.std.proofs.Common.{◌≡◌, false, ap, ◌∙◌, subst}
 use Rattle.lc_lines.specs.Scheduler.{start_bound}
 use Rattle.lc_mux.specs.Mux.{MuxState}
+use Rattle.lc_lines.specs.Lines.{with_scheduler}
+use Rattle.lc_mux.specs.Flushing.{SettlesAndFlushes}
 use Rattle.lc_mux.proofs.Called.{start_bound_put}
 use Rattle.lc_mux.proofs.Closed.{fields_called}
 use Rattle.lc_mux.proofs.mux.Mux.bound.Goals as goal
@@ -10,4 +12,9 @@ invariant_of-self-2 c =
     let i = c.self.inside in
     let s = i.lines.scheduler in
     let going : i.closing ≡ false = ap (λ (m : MuxState). m.closing) c.self.view_is ∙ c.in_ok-judge_call.ensures.open in
-    fields_called i.lines c.bound.new.self (start_bound s c.args.channel c.args.ticket c.args.bound) i.intake i.pending i.closing i.end c.in_ok-progress.ensures.bounds (start_bound_put s c.args.channel c.args.ticket c.args.bound) going c.self.invariant
+    fields_called i.owed i.lines c.flush_unless.new.owed c.flush_unless.new.lines (start_bound s c.args.channel c.args.ticket c.args.bound) i.intake i.pending i.closing i.end (c.bound.new.self, (c.in_ok-progress.ensures.bounds, c.flush_unless.ensures.flushes)) (start_bound_put s c.args.channel c.args.ticket c.args.bound) going c.flush_unless.ensures.flushed c.self.invariant
+
+pub returns-clause-bounds : goal.returns-clause-bounds
+returns-clause-bounds c =
+    subst (λ (x : MuxState). SettlesAndFlushes x.closing x.owed (with_scheduler x.lines (start_bound x.lines.scheduler c.args.channel c.args.ticket c.args.bound)) c.flush_unless.new.owed c.flush_unless.new.lines) c.self.view_is
+    (c.bound.new.self, (c.in_ok-progress.ensures.bounds, c.flush_unless.ensures.flushes))

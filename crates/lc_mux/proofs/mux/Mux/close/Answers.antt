@@ -16,13 +16,14 @@ invariant_of-self c =
       rings = ap (λ (x : SchedulerState). x.peer.capacities) is ∙ (close_rings s ∙ c.self.invariant.rings);
       going = c.self.invariant.going;
       begun = begun_same s c.close.new.self.scheduler c.self.inside.pending (ap (λ (x : SchedulerState). x.begun) is ∙ (close_put s).1.begun) c.self.invariant.begun;
+      flushed = λ e. cc;
       closed = λ _. c.close.ensures.closed;
     }
 
 pub returns-clause-after : goal.returns-clause-after
 returns-clause-after c =
     let i = c.self.inside in
-    let m : MuxState = record { lines = i.lines; intake = i.intake; pending = i.pending; closing = i.closing; input_ended = i.input_ended; end = i.end } in
+    let m : MuxState = record { lines = i.lines; owed = i.owed; intake = i.intake; pending = i.pending; closing = i.closing; input_ended = i.input_ended; end = i.end } in
     let going : is_some (over c.args.self.now) ≡ false = cc (c.over.ensures, c.is_some.ensures, c.if-is_some.false) in
     subst (λ (x : MuxState). record m { lines = c.close.new.self; closing = true } ≡ close x) c.self.view_is
     (ap (λ (l : LinesState). record m { lines = l; closing = true }) c.close.ensures.after ∙ closes_to m (subst (λ (x : MuxState). is_some (over x) ≡ false) (sym c.self.view_is) going))

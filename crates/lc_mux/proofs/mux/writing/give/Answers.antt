@@ -6,8 +6,9 @@ pub frames-init : goal.frames-init
 frames-init c = record {
   within = omega arith;
   behind = refl;
-  gives = gives_none c.args.closing c.args.lines.now c.args.pending.now;
+  gives = gives_none c.args.closing c.args.owed.now c.args.lines.now c.args.pending.now;
   begun = λ h. h;
+  flushed = λ e h. h;
   closed = λ e h. h;
 }
 
@@ -22,6 +23,7 @@ frames-preserved c =
       behind = behind_then c.frames.done c.give_next-count.result c.args.out.now c.frames.out _ _ _ le cut.front cut.back at.behind gave.behind;
       gives = gives_as (written_then c.frames.done c.give_next-count.result c.frames.out _ c.give_next-count.new.out le cut.front) (gives_then at.gives gave.gives);
       begun = λ h. gave.begun (at.begun h);
+      flushed = λ e h. gave.flushed e (at.flushed e h);
       closed = λ e h. gave.closed e (at.closed e h);
     }
 
