@@ -1,6 +1,6 @@
 -- What a session keeps, where its lines change.
 use Rattle.std.proofs.Common.{◌≡◌, ◌-◌, ℕ, Bool, true, false, List, [], ◌∷◌, length, Option, Some, None, inl, inr, refl, sym, ap, ◌∙◌, subst, arith}
-use Rattle.std.specs.Prelude.{nat_lt, is_some, slice_get, IfSome, IfNone}
+use Rattle.std.specs.Prelude.{nat_lt, is_some, slice_get}
 use Rattle.lc_frame.specs.declared.channel.Channel.{Channel}
 use Rattle.lc_frame.specs.declared.frame.Frame.{Frame}
 use Rattle.lc_frame.specs.declared.version.Version.{Version}

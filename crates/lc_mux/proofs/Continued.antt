@@ -21,7 +21,6 @@ use Rattle.lc_peer.specs.Streams.{Streams, IsPeerOf, IsEndOf, then_put, then_hon
 use Rattle.lc_peer.proofs.StreamsKept.{calls_keep_streams, new_peers_are_of_streams}
 use Rattle.lc_lines.specs.Lines.{with_scheduler}
 use Rattle.lc_mux.specs.Mux.{MuxState, text}
-use Rattle.lc_owed.specs.Owed.{OwedState}
 use Rattle.lc_mux.specs.Writing.Entry.{puts, honours}
 use Rattle.lc_mux.specs.Writing.{Entry, enter, frames_by, enter_all, frames_of}
 use Rattle.lc_mux.specs.History as history

@@ -67,7 +67,13 @@ fn begin_next(closing: bool, owed: &mut Owed, lines: &mut Lines, pending: &mut P
 }
 
 // What is left of the greeting or of the frame that was begun, which may be the next one, as far as there is room.
-fn give_begun(closing: bool, owed: &mut Owed, lines: &mut Lines, pending: &mut Pending, out: &mut [u8]) -> usize
+fn give_begun(
+    closing: bool,
+    owed: &mut Owed,
+    lines: &mut Lines,
+    pending: &mut Pending,
+    out: &mut [u8],
+) -> usize
     requires { 0 < length out.old }
     ensures count { result ≤ length out.old }
     ensures behind { drop result out.new ≡ drop result out.old }
@@ -88,7 +94,13 @@ fn give_begun(closing: bool, owed: &mut Owed, lines: &mut Lines, pending: &mut P
 
 // The next frame, whole, where nothing is left of one before it and it has room, else nothing. It is encoded where it
 // goes, without a copy in between.
-fn give_whole(closing: bool, owed: &mut Owed, lines: &mut Lines, pending: &Pending, out: &mut [u8]) -> usize
+fn give_whole(
+    closing: bool,
+    owed: &mut Owed,
+    lines: &mut Lines,
+    pending: &Pending,
+    out: &mut [u8],
+) -> usize
     ensures count { result ≤ length out.old }
     ensures behind { drop result out.new ≡ drop result out.old }
     ensures gives { Gives closing (take result out.new) owed.old lines.old pending.now owed.new lines.new pending.now }
@@ -113,7 +125,13 @@ fn give_whole(closing: bool, owed: &mut Owed, lines: &mut Lines, pending: &Pendi
 }
 
 // The next frame whole, or what is left of one and of the greeting, as far as there is room.
-fn give_next(closing: bool, owed: &mut Owed, lines: &mut Lines, pending: &mut Pending, out: &mut [u8]) -> usize
+fn give_next(
+    closing: bool,
+    owed: &mut Owed,
+    lines: &mut Lines,
+    pending: &mut Pending,
+    out: &mut [u8],
+) -> usize
     requires { 0 < length out.old }
     ensures count { result ≤ length out.old }
     ensures behind { drop result out.new ≡ drop result out.old }
@@ -131,7 +149,13 @@ fn give_next(closing: bool, owed: &mut Owed, lines: &mut Lines, pending: &mut Pe
 }
 
 // As many bytes as there are and have room.
-fn give(closing: bool, owed: &mut Owed, lines: &mut Lines, pending: &mut Pending, out: &mut [u8]) -> usize
+fn give(
+    closing: bool,
+    owed: &mut Owed,
+    lines: &mut Lines,
+    pending: &mut Pending,
+    out: &mut [u8],
+) -> usize
     ensures count { result ≤ length out.old }
     ensures behind { drop result out.new ≡ drop result out.old }
     ensures gives { Gives closing (take result out.new) owed.old lines.old pending.old owed.new lines.new pending.new }
@@ -171,6 +195,12 @@ impl Mux {
             return 0;
         }
         flush_unless(self.closing, &mut self.owed, &mut self.lines);
-        give(self.closing, &mut self.owed, &mut self.lines, &mut self.pending, out)
+        give(
+            self.closing,
+            &mut self.owed,
+            &mut self.lines,
+            &mut self.pending,
+            out,
+        )
     }
 }

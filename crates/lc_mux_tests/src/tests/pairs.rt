@@ -87,7 +87,12 @@ impl Pair {
     }
 
     // A control call that has a number.
-    fn control(&mut self, alloc: Global, verb: &str, words: &mut SplitWhitespace) -> Option<String> {
+    fn control(
+        &mut self,
+        alloc: Global,
+        verb: &str,
+        words: &mut SplitWhitespace,
+    ) -> Option<String> {
         let (channel, number) = (channel(words)?, number(words)?);
         let amount = u32::try_from(number).ok()?;
         let called = match verb {
@@ -121,7 +126,11 @@ impl Pair {
         let owed = self.near.owed(channel(words)?);
         let limit = owed.limit.unwrap_or(99);
         let plead = owed.plead.unwrap_or(99);
-        format!(in alloc; "{} {limit} {plead} {} {}", owed.issue, owed.absolve, owed.honour).ok()
+        format!(in alloc;
+            "{} {limit} {plead} {} {}",
+            owed.issue, owed.absolve, owed.honour
+        )
+        .ok()
     }
 
     fn send(&mut self, alloc: Global, words: &mut SplitWhitespace) -> Option<String> {
