@@ -68,7 +68,8 @@ use std::time::{Duration, Instant};
 ///   for bytes of the queue at most until the driver has written what is queued.
 /// - **Fairness.** Between two messages of a channel that always has a waiting call, other channels write fewer
 ///   messages than the session has slots, provided that tasks are polled before the driver writes again. For blocked
-///   threads with messages of up to 4,096 bytes this always holds, since the session completes their calls itself.
+///   threads with messages of up to 4,096 bytes this always holds, since the session completes their calls itself. A
+///   longer message of a thread that is notified and comes too late is completed the next time.
 ///
 /// # How it ends
 ///

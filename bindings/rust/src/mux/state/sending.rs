@@ -1,10 +1,10 @@
 //! Senders: what a message lacks, which waiting call proceeds next, and how that call is notified.
 //!
 //! The first waiting call of a channel *can proceed* once it has its guarantees, there is a slot for it, and its
-//! bytes fit into the queue. After [`State::settle`] each such call was completed, if a thread made it for a short
-//! message or a permit, or else notified, apart from calls whose bytes do not fit beside those of calls that were just
-//! notified: these follow at the next pull of the writing half. So a future that is not polled delays its own channel
-//! alone.
+//! bytes fit into the queue. After [`State::settle`] each such call was completed, if a thread made it for a permit, for
+//! a short message or for one that came too late before, or else notified, apart from calls whose bytes do not fit
+//! beside those of calls that were just notified: these follow at the next pull of the writing half. So a future that is
+//! not polled delays its own channel alone.
 use super::line::{Left, Place, Waiter};
 use super::{bit, channels, keep, State, ALL};
 use crate::mux::events::{Event, Stall};
@@ -18,8 +18,8 @@ use std::task::{Poll, Waker};
 /// and more would only stay there until the driver writes.
 const MOST_QUEUED: usize = 65_536;
 
-/// The longest message that is sent on behalf of a thread. A longer one would be copied under the lock by a call of
-/// another channel, or by the writing half, which can write meanwhile.
+/// The longest message that is sent on behalf of a thread that was not notified before. A longer one would be copied
+/// under the lock by a call of another channel, or by the writing half, which can write meanwhile.
 const MOST_COMPLETED: usize = 4_096;
 
 /// The bytes of a message.
@@ -102,11 +102,11 @@ impl Ask<'_> {
         }
     }
 
-    // The request in a form that another thread can complete.
-    fn left(self) -> Option<Left> {
+    // The request in a form that another thread can complete, unless its message is longer than `most`.
+    fn left(self, most: usize) -> Option<Left> {
         match self {
             Ask::Part(_) => None,
-            Ask::Message(body) => (body.len() <= MOST_COMPLETED).then(|| body.left()),
+            Ask::Message(body) => (body.len() <= most).then(|| body.left()),
             Ask::Permit(_) => Some(Left::Permit),
         }
     }
@@ -120,6 +120,13 @@ pub(crate) struct Call<'a> {
     /// leaked, does none of that.
     pub is_thread: bool,
     pub ticket: Option<u64>,
+}
+
+impl Call<'_> {
+    // The request of a thread's call, which another thread may complete.
+    fn left(&self, most: usize) -> Option<Left> {
+        self.is_thread.then(|| self.ask.left(most)).flatten()
+    }
 }
 
 impl State {
@@ -594,6 +601,9 @@ impl State {
         match known {
             Some(waiter) => {
                 waiter.len = call.ask.len();
+                // Short messages, which are completed, might take the bytes of a long one before its thread is back,
+                // again and again.
+                waiter.left = call.left(usize::MAX);
                 keep(&mut waiter.waker, waker, &mut self.wakes);
             }
             None => line.push(Place::Call(Waiter {
@@ -601,7 +611,7 @@ impl State {
                 len: call.ask.len(),
                 least: call.ask.least(),
                 waker: Some(waker.clone()),
-                left: call.is_thread.then(|| call.ask.left()).flatten(),
+                left: call.left(MOST_COMPLETED),
             })),
         }
     }

@@ -918,6 +918,27 @@ fn a_thread_does_not_wait_for_a_task() {
     assert_eq!(thread.poll(&mut state), DONE);
 }
 
+/// A thread that was notified finds its bytes taken by a short message. It is not notified again: its message is sent on
+/// its behalf, before those of channels that sent later.
+#[test]
+fn short_messages_of_threads_do_not_starve_a_long_one() {
+    let mut state = rich(64);
+    assert!(is_sent(&mut state, Data, 65_536));
+    let mut long = Waits::thread(&mut state, Overlap, 65_536);
+    let mut short = Waits::thread(&mut state, Capability, 1);
+    pull(&mut state, 1 << 20);
+    assert!(long.is_woken());
+    assert_eq!(short.poll(&mut state), DONE);
+    assert!(long.poll(&mut state).is_pending());
+    let mut short = Waits::thread(&mut state, Capability, 1);
+    pull(&mut state, 1 << 20);
+    assert_eq!(state.bytes.messages(), 65_536);
+    assert!(long.is_woken() && !short.is_woken());
+    assert_eq!(long.poll(&mut state), DONE);
+    pull(&mut state, 1 << 20);
+    assert_eq!(short.poll(&mut state), DONE);
+}
+
 /// A notified task reserves no bytes: a call that is made before takes them, and the task waits again, before all channels
 /// that sent later.
 #[test]
