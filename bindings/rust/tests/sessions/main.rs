@@ -15,6 +15,7 @@ mod watchdog;
 mod answers;
 mod batches;
 mod cases;
+mod clones;
 mod config;
 mod control;
 mod endings;

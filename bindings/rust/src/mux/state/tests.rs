@@ -939,6 +939,25 @@ fn short_messages_of_threads_do_not_starve_a_long_one() {
     assert_eq!(short.poll(&mut state), DONE);
 }
 
+#[test]
+fn a_thread_that_came_too_late_is_answered_at_the_end() {
+    for reason in [Closed::Local, Closed::Aborted] {
+        let mut state = rich(64);
+        assert!(is_sent(&mut state, Data, 65_536));
+        let mut long = Waits::thread(&mut state, Overlap, 65_536);
+        pull(&mut state, 1 << 20);
+        assert!(is_sent(&mut state, Data, 1));
+        assert!(long.poll(&mut state).is_pending());
+        match reason {
+            Closed::Local => state.close(),
+            _ => state.fail(reason.clone()),
+        }
+        drop(std::mem::take(&mut state.wakes));
+        assert!(long.is_woken());
+        assert_eq!(long.poll(&mut state), Poll::Ready(Err(reason.into())));
+    }
+}
+
 /// A notified task reserves no bytes: a call that is made before takes them, and the task waits again, before all channels
 /// that sent later.
 #[test]
