@@ -62,7 +62,7 @@ export class Incoming {
     const { buffered, room } = this.#peer[RING](this.channel);
     this.#stats.buffered(buffered);
     if (room > 0) {
-      this.#link.owes(this);
+      this.#link.frees(this);
     }
     for (let taken; this.#calls.first !== undefined && (taken = this.#take()) !== null; ) {
       this.#calls.shift().resolve(this.#answer(taken));
@@ -141,7 +141,7 @@ export class Incoming {
   #take() {
     const taken = this.#peer.take(this.channel);
     if (isMessage(taken)) {
-      this.#link.owes(this);
+      this.#link.frees(this);
     }
     return taken;
   }

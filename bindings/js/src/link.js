@@ -30,6 +30,9 @@ export class Link {
   #receivers;
   // The directions of channels that may have pending control frames, in the order in which they got them.
   #owing = new Set();
+  // The receivers whose rings may have room to issue by policy: it is issued when the writing half takes frames again, or
+  // waits for one.
+  #freed = new Set();
   #isStirred = false;
   // The number of messages so far.
   #turns = 0;
@@ -84,7 +87,7 @@ export class Link {
   close() {
     if (!this.isClosing && this.reason === null) {
       this.change(() => {
-        this.#flush(); // no guarantees are issued after this
+        this.#issueFreed(); // and no guarantees are issued after this
         this.#senders.forEach(it => {
           it.finishOnce();
           this.owes(it); // also what is pending behind a call that is about to be refused
@@ -137,8 +140,8 @@ export class Link {
   }
 
   /**
-   * Makes a change that only frees bytes of a ring. An active writing half issues at its next write all bytes that
-   * are free by then, in one frame.
+   * Makes a change that only frees room of a ring. An active writing half issues at its next write all room that is free
+   * by then, in one frame.
    */
   take(call) {
     try {
@@ -150,10 +153,18 @@ export class Link {
     }
   }
 
-  /** Makes a call that does not wait, after pending control frames were enqueued. */
+  /** Makes a call of a sender that does not wait, after pending control frames were enqueued. */
   control(call) {
     return this.change(() => {
       this.#flush();
+      return call();
+    });
+  }
+
+  /** Makes a call of a receiver that does not wait, after the room that was freed was issued. */
+  controlRoom(call) {
+    return this.change(() => {
+      this.#issueFreed();
       return call();
     });
   }
@@ -162,6 +173,11 @@ export class Link {
   owes(end) {
     this.#owing.add(end);
     this.#isStirred = true;
+  }
+
+  /** Records that the ring of a receiver has, or may have, room to issue by policy. */
+  frees(receiver) {
+    this.#freed.add(receiver);
   }
 
   /** Whether there is a slot for a control frame. */
@@ -203,6 +219,9 @@ export class Link {
   /** The scheduler: enqueues pending control frames, and completes the sends that can proceed. */
   settle() {
     try {
+      if (this.#isIdle) {
+        this.#issueFreed();
+      }
       while (this.reason === null && this.#goOn());
       if (this.#isIdle && this.reason === null && this.#peer.wantsWrite()) {
         this.#ring();
@@ -232,6 +251,13 @@ export class Link {
     const next = this.#next();
     next?.complete();
     return next !== null || this.#isStirred;
+  }
+
+  // Issues the room that was freed, behind the control frames that are pending.
+  #issueFreed() {
+    this.#freed.forEach(it => this.owes(it));
+    this.#freed.clear();
+    this.#flush();
   }
 
   // Enqueues the pending control frames of each direction, as long as there are slots.
@@ -340,7 +366,7 @@ export class Link {
   }
 
   #pull() {
-    this.#flush();
+    this.#issueFreed();
     const piece = this.#peer.write(PIECE);
     this.#slots.leave(piece.length, this.#peer.slotsLeft());
     return piece;

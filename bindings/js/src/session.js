@@ -51,7 +51,7 @@ export class SessionChannel {
   }
 
   get pleaded() {
-    return this.#look(() => this.#sender.pleaded, null);
+    return this.#unlessOver(() => this.#link.control(() => this.#sender.pleaded), null);
   }
 
   honour() {
@@ -59,31 +59,31 @@ export class SessionChannel {
   }
 
   get held() {
-    return this.#look(() => this.#sender.held, 0);
+    return this.#unlessOver(() => this.#link.control(() => this.#sender.held), 0);
   }
 
   get room() {
-    return this.#look(() => this.#receiver.room, 0);
+    return this.#unlessOver(() => this.#link.controlRoom(() => this.#receiver.room), 0);
   }
 
   issue(amount) {
     const given = u32(amount, 'the amount');
-    this.#link.control(() => this.#receiver.issue(given));
+    this.#link.controlRoom(() => this.#receiver.issue(given));
   }
 
   setIssuePolicy(policy) {
     const judged = issuePolicyOf(policy, this.#receiver.capacity);
-    this.#link.control(() => this.#receiver.setPolicy(judged));
+    this.#link.controlRoom(() => this.#receiver.setPolicy(judged));
   }
 
   plead(target) {
     const most = u32(target, 'the target');
-    this.#link.control(() => this.#receiver.plead(most));
+    this.#link.controlRoom(() => this.#receiver.plead(most));
   }
 
   limitReceiving(bound) {
     const most = boundOf(bound);
-    this.#link.control(() => this.#receiver.limit(most));
+    this.#link.controlRoom(() => this.#receiver.limit(most));
   }
 
   values(options) {
@@ -115,8 +115,8 @@ export class SessionChannel {
   }
 
   // A session that is over has freed its peer.
-  #look(at, none) {
-    return this.#link.reason === null ? this.#link.control(at) : none;
+  #unlessOver(look, none) {
+    return this.#link.reason === null ? look() : none;
   }
 }
 

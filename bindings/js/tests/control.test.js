@@ -85,6 +85,34 @@ test('room of messages that are received while a write is under way is one issue
   assert.deepEqual(await there.written(), ['issue 1 2', 'issue 1 8']);
 });
 
+test('nothing but the next write issues room that is freed while a write is under way', async () => {
+  const there = await begin();
+  await there.written();
+  for (let k = 1; k <= 3; k += 1) {
+    there.other.send(Data, bytes(k));
+  }
+  there.other.issue(Overlap, 9);
+  await there.put();
+  const { promise, resolve } = later();
+  there.hold = promise;
+  await there.data.receive();
+  await settled(); // the driver writes its issue
+  const overlap = there.session.channel(Overlap);
+  await there.data.receive();
+  await overlap.send(bytes(1));
+  await there.data.receive();
+  const controller = new AbortController();
+  const waits = overlap.send(bytes(9), { signal: controller.signal });
+  controller.abort();
+  await assert.rejects(waits);
+  there.other.issue(Overlap, 1);
+  await there.put();
+  overlap.absolve(1);
+  there.hold = undefined;
+  resolve();
+  assert.deepEqual(await there.written(), ['issue 1 1', 'send 2 1', 'absolve 2 1', 'issue 1 5']);
+});
+
 test('a plead bounds what the policy issues, until it is set anew', async () => {
   const { data, other, written, put } = await begin();
   await written();

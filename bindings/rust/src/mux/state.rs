@@ -113,6 +113,9 @@ pub(crate) struct State {
     owing_in: u8,
     owing_out: u8,
     first: usize,
+    /// Channels whose ring may have room to issue by policy, as bits: it is issued when the writing half takes frames
+    /// again, or waits for one.
+    freed: u8,
     /// Channels by their first waiting call, as bits. `stale`: the call may have changed and is evaluated again.
     /// `able`: the call has its guarantees. `hopeless`: the call will never proceed. `notified`: the call was woken
     /// to proceed, and was neither polled nor dropped since. `fresh`: it was notified after the writing half last
@@ -184,6 +187,7 @@ impl State {
             owing_in: ALL,
             owing_out: ALL,
             first: 0,
+            freed: 0,
             stale: 0,
             able: 0,
             hopeless: 0,
@@ -228,7 +232,7 @@ impl State {
     }
 
     pub fn server(&mut self, channel: Channel) -> ServerBook {
-        self.flush();
+        self.issue_freed();
         self.peer.server(channel)
     }
 
@@ -286,7 +290,10 @@ impl State {
 
     // The scheduler: enqueues pending control frames, and completes or notifies the calls that can proceed.
     fn settle(&mut self) {
-        self.flush();
+        match self.is_idle {
+            true => self.issue_freed(),
+            false => self.flush(),
+        }
         self.wake_senders();
         if self.is_idle && self.peer.wants_write() {
             self.wake_writer();
@@ -300,7 +307,7 @@ impl State {
 
     // Marks every channel to be evaluated again.
     fn look_everywhere(&mut self) {
-        (self.owing_in, self.owing_out, self.stale) = (ALL, ALL, ALL);
+        (self.freed, self.owing_out, self.stale) = (ALL, ALL, ALL);
     }
 
     /// Copies the next outbound bytes to the front of an empty buffer. They end before a long message, which is
@@ -310,9 +317,9 @@ impl State {
             return Pulled::Over(closed.clone());
         }
         self.is_idle = false;
-        match mem::take(&mut self.is_lent) {
-            true => self.count_sent(),
-            false => self.flush(),
+        self.issue_freed();
+        if mem::take(&mut self.is_lent) {
+            self.count_sent();
         }
         if !self.slots.is_empty() {
             self.fresh = 0;
@@ -509,7 +516,7 @@ impl State {
         if self.is_closing() {
             return;
         }
-        self.flush(); // no guarantees are issued after this
+        self.issue_freed(); // no guarantees are issued after this
         self.push_finishes();
         self.closing = true;
         self.wake_waiting();

@@ -189,6 +189,21 @@ fn room_that_is_freed_meanwhile_is_issued_as_one() {
     assert_eq!(bytes, [issues, finishes()].concat());
 }
 
+/// Neither a message that is sent nor a frame that arrives issues the room earlier. It is issued behind what is queued.
+#[test]
+fn room_that_is_freed_meanwhile_is_issued_by_the_next_pull_alone() {
+    let mut hand = Hand::started(with_slots(16));
+    let mut receiver = took_three(&mut hand);
+    let sender = hand.mux.take_sender(Overlap).unwrap();
+    hand.feed(&frames("issue 2 9, send 1 64646464"));
+    sender.try_send(b"x").unwrap();
+    assert_eq!(receiver.try_recv(), Ok(Some(b"dddd".to_vec())));
+    assert!(sender.try_send(&[7; 9]).is_err());
+    sender.absolve(1).unwrap();
+    let due = "issue 1 1, send 2 78, absolve 2 1, issue 1 9";
+    assert_eq!(hand.written(), frames(due));
+}
+
 /// Freed bytes are issued when the caller queries the receiver, and before the caller's own control frames.
 #[test]
 fn room_that_is_freed_is_issued_before_all_else() {

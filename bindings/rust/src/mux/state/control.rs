@@ -6,6 +6,7 @@ use super::bytes::{AMOUNT, BOUND, FINISH};
 use super::line::Place;
 use super::{at, bit, channels as channels_of, State};
 use crate::{CallError, Channel, IssuePolicy, Peer, PleadPolicy, Refusal, Version};
+use std::mem;
 
 /// The largest bound of a limit, which is also the most guarantees that a channel ever has: it limits nothing.
 const NO_LIMIT: u64 = 1 << 62;
@@ -167,7 +168,7 @@ impl State {
     /// Issues guarantees.
     pub fn issue(&mut self, channel: Channel, amount: u32) -> Result<(), CallError> {
         self.is_open()?;
-        self.flush();
+        self.issue_freed();
         let owed = &self.inc[channel].owed;
         match owed.limit {
             Some(left) if u64::from(amount) > left => {
@@ -202,7 +203,7 @@ impl State {
 
     /// Returns the bytes that may be issued beside the pending issue.
     pub fn room(&mut self, channel: Channel) -> u32 {
-        self.flush();
+        self.issue_freed();
         let room = self.peer.server(channel).room;
         room.saturating_sub(self.inc[channel].owed.issue.into()) as u32
     }
@@ -210,7 +211,7 @@ impl State {
     /// Limits issuing.
     pub fn limit_receiving(&mut self, channel: Channel, bound: u64) -> Result<(), CallError> {
         self.is_open()?;
-        self.flush();
+        self.issue_freed();
         but_for_a_slot(self.peer.would_limit_receiving(channel, bound))?;
         let left = self.left_to_issue(channel);
         match left {
@@ -231,7 +232,7 @@ impl State {
     /// Asks the sender to hold no more than the target. No policy issues above it from then on.
     pub fn plead(&mut self, channel: Channel, target: u32) -> Result<(), CallError> {
         self.is_open()?;
-        self.flush();
+        self.issue_freed();
         but_for_a_slot(self.peer.would_plead(channel, target))?;
         let inc = &mut self.inc[channel];
         inc.owed.plead = Some(target);
@@ -242,7 +243,7 @@ impl State {
 
     /// Sets the issue policy, and drops the target of earlier pleads.
     pub fn set_issue_policy(&mut self, channel: Channel, policy: IssuePolicy) {
-        self.flush();
+        self.issue_freed();
         let inc = &mut self.inc[channel];
         inc.policy = policy;
         inc.most = None;
@@ -268,7 +269,7 @@ impl State {
     }
 
     fn wants_write(&mut self) -> bool {
-        self.flush();
+        self.issue_freed();
         self.peer.wants_write()
     }
 
@@ -355,6 +356,12 @@ impl State {
         if self.follow_queue() {
             self.bytes.enter_control(len);
         }
+    }
+
+    /// Issues the room that was freed, behind the control frames that are pending.
+    pub(super) fn issue_freed(&mut self) {
+        self.owing_in |= mem::take(&mut self.freed);
+        self.flush();
     }
 
     // Enqueues pending control frames, in round-robin order of the channels, as long as there are slots.

@@ -136,7 +136,7 @@ impl State {
     // Marks the freed bytes to be issued. An active writing half issues at its next pull all bytes that are free by
     // then, in one frame.
     fn freed(&mut self, channel: Channel) {
-        self.owing_in |= bit(channel);
+        self.freed |= bit(channel);
         if self.is_idle {
             self.settle();
         }
