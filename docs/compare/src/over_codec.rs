@@ -145,7 +145,12 @@ pub async fn server(stream: impl Stream, mut gate: Gate) -> Answer<Served> {
     let (mut works, mut running) = (JoinSet::new(), HashMap::new());
     let slots = Arc::new(Semaphore::new(WORKS));
     let (mut file, mut is_whole, mut cancelled) = (File::default(), false, 0);
-    while let Some(frame) = reader.next().await {
+    loop {
+        let frame = tokio::select! {
+            Some(frame) = reader.next() => frame,
+            Some(_) = works.join_next() => continue, // which drops it
+            else => break,
+        };
         let (kind, number, bytes) = parts(frame?)?;
         match kind {
             REQUEST => {
@@ -168,7 +173,6 @@ pub async fn server(stream: impl Stream, mut gate: Gate) -> Answer<Served> {
             _ => return Err("the frame has no known kind".into()),
         }
     }
-    while works.join_next().await.is_some() {}
     match is_whole {
         true => Ok(Served { cancelled, file }),
         false => Err("the connection was cut".into()),
