@@ -12,6 +12,7 @@ mod watchdog;
 mod answers;
 mod bytes;
 mod cancelled;
+mod clones;
 mod copies;
 mod endings;
 mod ends;
