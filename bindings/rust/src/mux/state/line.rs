@@ -23,6 +23,8 @@ pub(super) struct Waiter {
     pub waker: Option<Waker>,
     /// The request that another thread may complete on behalf of this one.
     pub left: Option<Left>,
+    /// Whether it was notified and came too late: its slot or its bytes were taken, so it waits again.
+    pub is_late: bool,
 }
 
 /// The request of a blocked thread, which the holder of the lock completes on its behalf. The thread lends the
@@ -70,6 +72,17 @@ impl Line {
     /// Returns whether the call of this ticket waits.
     pub fn has(&self, ticket: u64) -> bool {
         self.places.iter().any(|place| place.has(ticket))
+    }
+
+    /// Returns whether the call of this ticket waits again since it came too late.
+    pub fn is_late(&self, ticket: Option<u64>) -> bool {
+        let waiter = self
+            .places
+            .iter()
+            .find(|place| ticket.is_some_and(|it| place.has(it)));
+        waiter
+            .and_then(Place::call)
+            .is_some_and(|waiter| waiter.is_late)
     }
 
     pub fn has_calls(&self) -> bool {

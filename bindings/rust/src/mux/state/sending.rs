@@ -164,12 +164,13 @@ impl State {
             return Poll::Ready(Ok(()));
         }
         let is_first = self.is_first(channel, call.ticket);
+        let was_notified = is_first && self.notified & bit(channel) != 0;
         let was_fresh = is_first && self.came(channel);
         let answer = match self.go(channel, call.ask, call.ticket) {
             Ok(()) => Ok(()),
             Err(TrySendError::Failed(error)) => Err(error),
             Err(TrySendError::Full(needs)) => {
-                self.wait(channel, call, waker);
+                self.wait(channel, call, waker, was_notified);
                 if is_first {
                     self.front_needs(channel, needs);
                 }
@@ -206,11 +207,20 @@ impl State {
         polled.map_ok(|()| len)
     }
 
-    // The length of the next part of a stream: at least 1, which it waits for, and else what can be sent at once.
+    // The length of the next part of a stream: at least 1, which it waits for, and else what can be sent at once. A part
+    // that came too late before has no more bytes than have room, which other channels' messages might take again and
+    // again before its thread or task is back.
     fn part(&self, channel: Channel, len: usize, ticket: Option<u64>) -> usize {
-        let left = self.out[channel].line.left_before(ticket);
+        let line = &self.out[channel].line;
+        let left = line.left_before(ticket);
         let may = left.unwrap_or(u64::MAX).min(self.free(channel));
-        len.min(usize::try_from(may).unwrap_or(usize::MAX)).max(1)
+        let room = match line.is_late(ticket) {
+            true => self.bytes_left(),
+            false => usize::MAX,
+        };
+        len.min(usize::try_from(may).unwrap_or(usize::MAX))
+            .min(room)
+            .max(1)
     }
 
     /// Returns the length of the longest message of the channel.
@@ -493,6 +503,14 @@ impl State {
         !self.slots.is_empty() && channels(self.fresh).any(is_passed)
     }
 
+    // The length of the longest message that fits into the queue.
+    fn bytes_left(&self) -> usize {
+        match self.bytes.messages() {
+            0 => usize::MAX,
+            taken => MOST_QUEUED.saturating_sub(taken),
+        }
+    }
+
     fn has_bytes(&self, len: usize) -> bool {
         self.has_bytes_beside(0, len)
     }
@@ -593,7 +611,8 @@ impl State {
         }
     }
 
-    fn wait(&mut self, channel: Channel, call: &mut Call, waker: &Waker) {
+    // The call waits, or waits again: then it was too late if it was notified.
+    fn wait(&mut self, channel: Channel, call: &mut Call, waker: &Waker, was_notified: bool) {
         let new = self.next_ticket();
         let ticket = *call.ticket.get_or_insert(new);
         let line = &mut self.out[channel].line;
@@ -601,9 +620,12 @@ impl State {
         match known {
             Some(waiter) => {
                 waiter.len = call.ask.len();
-                // Short messages, which are completed, might take the bytes of a long one before its thread is back,
-                // again and again.
-                waiter.left = call.left(usize::MAX);
+                waiter.is_late |= was_notified;
+                if waiter.is_late {
+                    // Short messages, which are completed, might take the bytes of a long one before its thread is
+                    // back, again and again.
+                    waiter.left = call.left(usize::MAX);
+                }
                 keep(&mut waiter.waker, waker, &mut self.wakes);
             }
             None => line.push(Place::Call(Waiter {
@@ -612,6 +634,7 @@ impl State {
                 least: call.ask.least(),
                 waker: Some(waker.clone()),
                 left: call.left(MOST_COMPLETED),
+                is_late: false,
             })),
         }
     }

@@ -939,6 +939,31 @@ fn short_messages_of_threads_do_not_starve_a_long_one() {
     assert_eq!(short.poll(&mut state), DONE);
 }
 
+/// A part of a stream that was notified finds its bytes taken by a short message. The next time it takes the bytes that
+/// another short message leaves.
+#[test]
+fn short_messages_of_threads_do_not_starve_a_stream() {
+    let mut state = rich(64);
+    assert!(is_sent(&mut state, Data, 65_536));
+    let (bytes, waker) = (vec![7; 65_536], Waker::from(Arc::<Flag>::default()));
+    let mut ticket = None;
+    let mut write =
+        |state: &mut State| state.poll_send_part(Overlap, &mut ticket, (&bytes, 65_536), &waker);
+    assert!(write(&mut state).is_pending());
+    for is_late in [true, false] {
+        let mut short = Waits::thread(&mut state, Capability, 1_000);
+        pull(&mut state, 1 << 20);
+        assert_eq!(short.poll(&mut state), DONE);
+        match is_late {
+            true => assert!(write(&mut state).is_pending()),
+            false => assert_eq!(write(&mut state), Poll::Ready(Ok(64_536))),
+        }
+    }
+    assert!(write(&mut state).is_pending());
+    pull(&mut state, 1 << 20);
+    assert_eq!(write(&mut state), Poll::Ready(Ok(65_536)));
+}
+
 #[test]
 fn a_thread_that_came_too_late_is_answered_at_the_end() {
     for reason in [Closed::Local, Closed::Aborted] {
