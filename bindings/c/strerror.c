@@ -33,6 +33,14 @@ const char *lcmux_strerror(uint32_t code) {
     case LCMUX_EMPTY: return "no message waits";
     case LCMUX_ENDED: return "no message waits, and none will come";
     case LCMUX_NEVER: return "the message can never be sent";
+    case LCMUX_WAITS: return "the call waits";
+    case LCMUX_NO_NOTICE: return "no notice is there";
+    case LCMUX_NOTIFIED: return "the offered message can be sent";
+    case LCMUX_CLOSED_HERE: return "this side closed the session";
+    case LCMUX_CLOSED_THERE: return "the peer closed the session";
+    case LCMUX_CUT: return "the stream ended before the peer finished";
+    case LCMUX_ABORTED: return "the session was aborted";
+    case LCMUX_TRANSPORT_FAILED: return "the transport failed";
     case LCMUX_V1_NOT_GUARANTEED: return "a message longer than the guarantees outstanding";
     case LCMUX_V2_SENT_PAST_LIMIT: return "a message beyond the limit on sending";
     case LCMUX_V3_ABSOLVED_TOO_MUCH: return "more guarantees absolved than are outstanding";

@@ -118,6 +118,22 @@ export declare const Code: {
   readonly Ended: 49;
   /** The message can never be sent. {@link Peer.needs} returns `never` instead. */
   readonly Never: 50;
+  /** A call of a session of C waits: no call of this package returns it. */
+  readonly Waits: 51;
+  /** No notice of a session of C is available: no call of this package returns it. */
+  readonly NoNotice: 52;
+  /** The outcome of an offer to a session of C: no call of this package returns it. */
+  readonly Notified: 53;
+  /** This side closed a session of C: no call of this package returns it. */
+  readonly ClosedHere: 64;
+  /** The peer closed a session of C: no call of this package returns it. */
+  readonly ClosedThere: 65;
+  /** A session of C was cut: no call of this package returns it. */
+  readonly Cut: 66;
+  /** A session of C was aborted: no call of this package returns it. */
+  readonly Aborted: 67;
+  /** The transport of a session of C failed: no call of this package returns it. */
+  readonly TransportFailed: 68;
   /** Violation V1. The message is longer than the outstanding guarantees. */
   readonly NotGuaranteed: 101;
   /** Violation V2. The message is longer than the sender's limit allows. */

@@ -54,6 +54,38 @@ ended = 49
 abbrev pub never : ℕ
 never = 50
 
+-- the code of a call that waits
+abbrev pub waits : ℕ
+waits = 51
+
+-- the code where no notice is there
+abbrev pub no_notice : ℕ
+no_notice = 52
+
+-- the outcome of an offer whose message can be sent
+abbrev pub notified : ℕ
+notified = 53
+
+-- the code of a session that this side closed
+abbrev pub closed_here : ℕ
+closed_here = 64
+
+-- the code of a session that the peer closed
+abbrev pub closed_there : ℕ
+closed_there = 65
+
+-- the code of a session that was cut
+abbrev pub cut : ℕ
+cut = 66
+
+-- the code of a session that this side aborted
+abbrev pub aborted : ℕ
+aborted = 67
+
+-- the code of a session whose transport failed
+abbrev pub transport_failed : ℕ
+transport_failed = 68
+
 -- codes: end
 
 -- the answer that is a code alone

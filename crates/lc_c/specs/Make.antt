@@ -1,4 +1,4 @@
--- What makes a peer behind a handle, and why there is none. That the format has two versions is this project's own, and so are all bounds.
+-- What makes a peer or a session behind a handle, and why there is none. That the format has two versions is this project's own, and so are all bounds.
 use Rattle.std.specs.Prelude.{◌≡◌, ◌==◌, ◌⊎◌, Bool, true, false, ℕ, if◌then◌else◌, Option, Some, None}
 use Rattle.std.specs.Option.{option_map}
 use Rattle.lc_frame.specs.declared.version.Version.{Version}
@@ -10,7 +10,7 @@ use Rattle.lc_book.specs.declared.fault.Refusal.TheVariants as refusals
 use Rattle.lc_peer.specs.declared.config.Config.{Config}
 use Rattle.lc_peer.specs.declared.config.PeerFault.{PeerFault}
 use Rattle.lc_peer.specs.declared.config.PeerFault.TheVariants.{BadCapacity, BadSlots, OutOfMemory}
-use Rattle.lc_peer.specs.Config.{config_fault, new_peer}
+use Rattle.lc_peer.specs.Config.{new_peer}
 use Rattle.lc_c.specs.declared.answer.LcmuxAnswer.{LcmuxAnswer}
 use Rattle.lc_c.specs.declared.make.LcmuxConfig.{LcmuxConfig}
 use Rattle.lc_c.specs.Side.{Side}
@@ -39,21 +39,25 @@ abbrev pub fault_or_done : Option PeerFault → LcmuxAnswer
 fault_or_done None = only done
 fault_or_done (Some fault) = fault_answer fault
 
+-- the configuration that C hands in, where there is a version of its number
+abbrev pub config_of : LcmuxConfig → Option Config
+config_of config = option_map (config_in config) (version_at config.version)
+
 -- the same, by the configuration, where there is a version of the number; else that there is none
-abbrev pub bounds_answer : Option Config → LcmuxAnswer
-bounds_answer None = only bad_version
-bounds_answer (Some config) = fault_or_done (config_fault config)
+abbrev pub bounds_answer : (Config → Option PeerFault) → Option Config → LcmuxAnswer
+bounds_answer fault None = only bad_version
+bounds_answer fault (Some config) = fault_or_done (fault config)
 
--- what the making of a peer answers where there is memory: a full handle comes first, then the version, then the bounds
-abbrev pub make_answer : Option Side → LcmuxConfig → LcmuxAnswer
-make_answer (Some side) config = only has_peer
-make_answer None config = bounds_answer (option_map (config_in config) (version_at config.version))
+-- what the making answers where there is memory, by what is wrong with a configuration: a full handle comes first, then the version, then the bounds
+abbrev pub make_answer : {A : Type 0} → (Config → Option PeerFault) → Option A → LcmuxConfig → LcmuxAnswer
+make_answer fault (Some side) config = only has_peer
+make_answer fault None config = bounds_answer fault (config_of config)
 
--- what the making of a peer answers: that, or want of memory where nothing else is wrong
-abbrev pub MakeAnswers : Option Side → LcmuxConfig → LcmuxAnswer → Type 0
-MakeAnswers held config answer = (answer ≡ make_answer held config) ⊎ ((make_answer held config ≡ only done) × (answer ≡ fault_answer OutOfMemory))
+-- what the making answers: that, or want of memory where nothing else is wrong
+abbrev pub MakeAnswers : {A : Type 0} → (Config → Option PeerFault) → Option A → LcmuxConfig → LcmuxAnswer → Type 0
+MakeAnswers fault held config answer = (answer ≡ make_answer fault held config) ⊎ ((make_answer fault held config ≡ only done) × (answer ≡ fault_answer OutOfMemory))
 
--- what stands behind the handle then: a new peer where it was made, else what stood there
-abbrev pub made : Bool → Option Side → LcmuxConfig → Option Side
-made true held config = option_map (λ version. new_c_peer (config_in config version)) (version_at config.version)
-made false held config = held
+-- what stands behind the handle then: a new one of the configuration where it was made, else what stood there
+abbrev pub made : {A : Type 0} → (Config → A) → Bool → Option A → LcmuxConfig → Option A
+made new true held config = option_map new (config_of config)
+made new false held config = held

@@ -26,6 +26,14 @@ own_sentence = sentence_in
     ∷ (48, codes "no message waits")
     ∷ (49, codes "no message waits, and none will come")
     ∷ (50, codes "the message can never be sent")
+    ∷ (51, codes "the call waits")
+    ∷ (52, codes "no notice is there")
+    ∷ (53, codes "the offered message can be sent")
+    ∷ (64, codes "this side closed the session")
+    ∷ (65, codes "the peer closed the session")
+    ∷ (66, codes "the stream ended before the peer finished")
+    ∷ (67, codes "the session was aborted")
+    ∷ (68, codes "the transport failed")
     ∷ [])
 
 -- codes: end

@@ -48,6 +48,30 @@ pub(crate) const ENDED: u32 = 49;
 
 /// The message can never be sent.
 pub(crate) const NEVER: u32 = 50;
+
+/// The call waits, and its ticket is noticed.
+pub(crate) const WAITS: u32 = 51;
+
+/// No notice is there.
+pub(crate) const NO_NOTICE: u32 = 52;
+
+/// The message of an offer can be sent.
+pub(crate) const NOTIFIED: u32 = 53;
+
+/// This side closed the session.
+pub(crate) const CLOSED_HERE: u32 = 64;
+
+/// The peer closed the session.
+pub(crate) const CLOSED_THERE: u32 = 65;
+
+/// The peer's stream ended before all its channels were finished.
+pub(crate) const CUT: u32 = 66;
+
+/// This side aborted the session.
+pub(crate) const ABORTED: u32 = 67;
+
+/// A read or a write of the transport failed.
+pub(crate) const TRANSPORT_FAILED: u32 = 68;
 // codes: end
 
 /// A code alone.

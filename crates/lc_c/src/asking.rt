@@ -207,7 +207,7 @@ pub extern "C" fn lcmux_peer_would_honour(
     }
 }
 
-fn needs_shown(needs: Needs) -> LcmuxAnswer
+pub(crate) fn needs_shown(needs: Needs) -> LcmuxAnswer
     ensures { result ≡ needs_shown needs }
 {
     match needs {
@@ -244,7 +244,7 @@ pub extern "C" fn lcmux_peer_needs(
 }
 
 // An answer that is a number.
-fn told(number: u64) -> LcmuxAnswer
+pub(crate) fn told(number: u64) -> LcmuxAnswer
     ensures { result ≡ told number }
 {
     LcmuxAnswer { code: DONE, number }

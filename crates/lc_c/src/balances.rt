@@ -16,10 +16,10 @@ use std::alloc::Global;
 pub const NO_LIMIT: u64 = u64::MAX;
 
 /// The size of [`LcmuxClient`].
-const CLIENT_SIZE: u64 = 80;
+pub(crate) const CLIENT_SIZE: u64 = 80;
 
 /// The size of [`LcmuxServer`].
-const SERVER_SIZE: u64 = 104;
+pub(crate) const SERVER_SIZE: u64 = 104;
 
 /// The balances of a channel at its client, in bytes of messages.
 #[repr(C)]
@@ -75,7 +75,7 @@ pub(crate) fn flag(is: bool) -> u64
 }
 
 // The target of a plead.
-fn or_no_plead(asked: Option<u32>) -> u64
+pub(crate) fn or_no_plead(asked: Option<u32>) -> u64
     ensures { result ≡ or_no_limit asked }
 {
     match asked {
@@ -84,7 +84,7 @@ fn or_no_plead(asked: Option<u32>) -> u64
     }
 }
 
-fn client_shown(size: u64, book: &ClientBook) -> LcmuxClient
+pub(crate) fn client_shown(size: u64, book: &ClientBook) -> LcmuxClient
     ensures { result ≡ client_shown size book.now }
 {
     LcmuxClient {
@@ -101,7 +101,7 @@ fn client_shown(size: u64, book: &ClientBook) -> LcmuxClient
     }
 }
 
-fn server_shown(size: u64, book: &ServerBook) -> LcmuxServer
+pub(crate) fn server_shown(size: u64, book: &ServerBook) -> LcmuxServer
     ensures { result ≡ server_shown size book.now }
 {
     LcmuxServer {

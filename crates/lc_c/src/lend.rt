@@ -44,7 +44,7 @@ impl LcmuxPiece {
 
 impl LcmuxFront {
     // Each piece is where its slice lies, and as long.
-    fn of(first: &[u8], rest: &[u8]) -> LcmuxFront
+    pub(crate) fn of(first: &[u8], rest: &[u8]) -> LcmuxFront
         ensures first { (result.first.bytes ≡ block_ptr first.entry.ref_ptr.0 first.entry.ref_ptr.1) × (result.first.len ≡ length first.now) }
         ensures rest { (result.rest.bytes ≡ block_ptr rest.entry.ref_ptr.0 rest.entry.ref_ptr.1) × (result.rest.len ≡ length rest.now) }
     {
@@ -56,7 +56,7 @@ impl LcmuxFront {
 }
 
 // The first message of a channel where it lies, and no byte where none waits.
-fn lend(peer: &Peer, channel: Channel) -> LcmuxFront
+pub(crate) fn lend(peer: &Peer, channel: Channel) -> LcmuxFront
     ensures message { result.first.len + result.rest.len ≡ (front_answer peer.now channel).number }
     ensures first { 0 < result.rest.len → 0 < result.first.len }
 {

@@ -1,9 +1,9 @@
 //! Making a peer behind a handle, and freeing it.
 ghost use Rattle.std.specs.Prelude.{◌≡◌, None, IfOk, is_some, if◌then◌else◌};
 ghost use Rattle.std.specs.Result.{result_err};
-ghost use Rattle.lc_peer.specs.Config.{IsNewAnswer};
+ghost use Rattle.lc_peer.specs.Config.{IsNewAnswer, config_fault};
 ghost use Rattle.lc_c.specs.Answers.{only, done, no_peer, is_done};
-ghost use Rattle.lc_c.specs.Make.{fault_answer, new_c_peer, MakeAnswers, made, version_at};
+ghost use Rattle.lc_c.specs.Make.{fault_answer, new_c_peer, MakeAnswers, made, version_at, config_of};
 
 use crate::answer::{
     BAD_CAPACITY, BAD_SLOTS, BAD_VERSION, DONE, HAS_PEER, LcmuxAnswer, NO_PEER, only, refused,
@@ -39,8 +39,20 @@ fn version_at(number: u32) -> Option<Version>
     }
 }
 
-// Why there is no peer.
-fn fault_answer(fault: PeerFault) -> LcmuxAnswer
+/// The configuration that C hands in, where there is a version of its number.
+pub(crate) fn config_of(config: &LcmuxConfig) -> Option<Config>
+    ensures { result ≡ config_of config.now }
+{
+    let version = version_at(config.version)?;
+    Some(Config {
+        version,
+        capacities: config.capacities,
+        slots: config.slots,
+    })
+}
+
+/// Why there is no peer, or no session.
+pub(crate) fn fault_answer(fault: PeerFault) -> LcmuxAnswer
     ensures { result ≡ fault_answer fault }
 {
     match fault {
@@ -85,8 +97,8 @@ pub extern "C" fn lcmux_peer_new(
     config: &LcmuxConfig,
     peer: &mut LcmuxPeer,
 ) -> LcmuxAnswer
-    ensures answer { MakeAnswers peer.old.slot.held config.now result }
-    ensures after { peer.new.slot.held ≡ made (is_done result) peer.old.slot.held config.now }
+    ensures answer { MakeAnswers config_fault peer.old.slot.held config.now result }
+    ensures after { peer.new.slot.held ≡ made new_c_peer (is_done result) peer.old.slot.held config.now }
 {
     match open(peer, alloc) {
         Some(side) => {
@@ -95,14 +107,9 @@ pub extern "C" fn lcmux_peer_new(
         }
         None => {}
     }
-    let version = match version_at(config.version) {
-        Some(version) => version,
+    let bounds = match config_of(config) {
+        Some(bounds) => bounds,
         None => return only(BAD_VERSION),
-    };
-    let bounds = Config {
-        version,
-        capacities: config.capacities,
-        slots: config.slots,
     };
     match new_c_peer(alloc, bounds) {
         Ok(side) => {

@@ -9,16 +9,16 @@ use crate::peer::{LcmuxPeer, open};
 use lc_frame::Channel;
 use std::alloc::Global;
 
-/// What stands behind a handle and a number: a side, which is out of the handle, and a channel, or
-/// the answer of a call that comes to none.
+/// What stands behind a handle and a number: a side or a session, which is out of the handle, and a
+/// channel, or the answer of a call that comes to none.
 #[derive(Drop)]
-pub(crate) enum Target {
+pub(crate) enum Target<T> {
     Barred(LcmuxAnswer),
-    At(Box<CPeer>, Channel),
+    At(Box<T>, Channel),
 }
 
-// The channel of a number.
-fn channel_of(number: u32) -> Option<Channel>
+/// The channel of a number.
+pub(crate) fn channel_of(number: u32) -> Option<Channel>
     ensures { result ≡ channel_at number }
 {
     match u8::try_from(number) {
@@ -27,7 +27,7 @@ fn channel_of(number: u32) -> Option<Channel>
     }
 }
 
-pub(crate) fn reach(handle: &mut LcmuxPeer, alloc: Global, number: u32) -> Target
+pub(crate) fn reach(handle: &mut LcmuxPeer, alloc: Global, number: u32) -> Target<CPeer>
     ensures { Reaches result handle.old.slot.held (channel_at number) handle.new.slot.held }
 {
     match open(handle, alloc) {

@@ -12,7 +12,7 @@ use lc_peer::{Peer, Take};
 use std::alloc::Global;
 
 // What a take answers: the number is the length of the message that was taken.
-fn shown(take: Take) -> LcmuxAnswer
+pub(crate) fn shown(take: Take) -> LcmuxAnswer
     ensures { result ≡ take_shown take }
 {
     match take {

@@ -34,6 +34,14 @@ fn own_sentence(code: u32) -> Option<&'static str>
         48 => "no message waits",
         49 => "no message waits, and none will come",
         50 => "the message can never be sent",
+        51 => "the call waits",
+        52 => "no notice is there",
+        53 => "the offered message can be sent",
+        64 => "this side closed the session",
+        65 => "the peer closed the session",
+        66 => "the stream ended before the peer finished",
+        67 => "the session was aborted",
+        68 => "the transport failed",
         // codes: end
         _ => return None,
     };

@@ -30,7 +30,7 @@ pub(crate) fn code_of(stop: Option<Stop>) -> u32
     }
 }
 
-fn shown(delivery: Delivery) -> LcmuxDelivery
+pub(crate) fn shown(delivery: Delivery) -> LcmuxDelivery
     ensures { result ≡ shown delivery }
 {
     LcmuxDelivery {
