@@ -39,9 +39,9 @@
  * these two out. The other codes of a call are listed in the order in which they are checked.
  * lcmux_peer_deliver returns a struct of its own.
  *
- * Structs with a size. lcmux_client, lcmux_server, lcmux_ready and lcmux_error begin with their size, which the
- * program sets by a macro such as LCMUX_CLIENT_INIT, so that a later version can add fields at the end. The sizes of
- * version 0.1, which are 80, 104, 288 and 64 bytes, stay accepted: a later version then leaves its later fields out.
+ * Structs with a size. lcmux_client, lcmux_server, lcmux_ready, lcmux_error, lcmux_notice and lcmux_owed begin with
+ * their size, which the program sets by a macro such as LCMUX_CLIENT_INIT, so that a later version can add fields at
+ * the end. The sizes of version 0.1, which are 80, 104, 288, 64, 32 and 56 bytes, stay accepted: a later version then leaves its later fields out.
  * With a larger size the call leaves the bytes behind the fields that it knows unchanged. A smaller size is refused
  * by LCMUX_BAD_SIZE. An element of the array in lcmux_ready cannot grow, since the size is that of the whole struct.
  * All other structs, such as lcmux_front and lcmux_next, have no size and get no further fields.
@@ -180,6 +180,28 @@ enum {
 
     /** lcmux_peer_needs of a message that can never be sent. */
     LCMUX_NEVER = 50,
+
+    /* Results of a session's calls, and the outcomes of waiting ones. */
+
+    /** The call of a session waits: lcmux_mux_next_notice returns its ticket once it proceeded. */
+    LCMUX_WAITS = 51,
+    /** No notice is available now. */
+    LCMUX_NO_NOTICE = 52,
+    /** The outcome of an offer: its message can be sent, by lcmux_mux_complete. */
+    LCMUX_NOTIFIED = 53,
+
+    /* Ends of a session. */
+
+    /** This side closed the session. */
+    LCMUX_CLOSED_HERE = 64,
+    /** The peer closed the session: it finished all its channels and ended its stream. */
+    LCMUX_CLOSED_THERE = 65,
+    /** The peer's stream ended before the peer had finished all its channels, or within a frame. */
+    LCMUX_CUT = 66,
+    /** This side aborted the session. */
+    LCMUX_ABORTED = 67,
+    /** The transport failed: the program called lcmux_mux_fail. */
+    LCMUX_TRANSPORT_FAILED = 68,
 
     /* Violations: an inbound frame broke a rule of the protocol. The session is over. */
 
@@ -593,6 +615,239 @@ lcmux_answer lcmux_peer_client(const lcmux_peer *peer, uint32_t channel, lcmux_c
  *
  *  Codes: LCMUX_BAD_SIZE. */
 lcmux_answer lcmux_peer_server(const lcmux_peer *peer, uint32_t channel, lcmux_server *balances) LCMUX_NONNULL;
+
+/** A session as one machine: a peer with its send scheduler, its pending control frames, and how it ends. It has no
+ *  thread, no lock and no transport, as a peer: bytes that arrive are delivered to it, and it writes bytes into a buffer.
+ *
+ *  A call of a sender either proceeds at once or waits in its channel's wait queue, under a ticket, a number that the
+ *  program chooses. lcmux_mux_next_notice returns the tickets of the calls that proceeded. A program takes all notices
+ *  after each call that changes the session: after a delivery, after a write, and after its own calls. The order in which
+ *  calls proceed, and what each call returns once the session ends, are those of docs/reference/sessions.md.
+ *
+ *  A control call, such as lcmux_mux_issue, is accepted whatever is queued: its frame is pending until a slot is free.
+ *
+ *  What the head of this file says of the handle of a peer holds for that of a session: the same preconditions, and the
+ *  same codes, LCMUX_NO_PEER for an empty handle among them. A call that the session no longer accepts returns the code
+ *  of the end: LCMUX_CLOSED_HERE, LCMUX_CLOSED_THERE, LCMUX_CUT, LCMUX_ABORTED, LCMUX_TRANSPORT_FAILED, a violation or a
+ *  fault. The lists of the calls leave these out, too; they come before the other codes. */
+typedef struct lcmux_mux {
+    /** Distinguishes an empty handle. */
+    uint64_t mark;
+    /** The memory of the session. */
+    void *at;
+} lcmux_mux;
+
+/** An empty handle, to initialise a handle or to assign to it. */
+#ifdef __cplusplus
+#define LCMUX_MUX_EMPTY {0, 0}
+#else
+#define LCMUX_MUX_EMPTY ((lcmux_mux){0, 0})
+#endif
+
+/** What became of a call that waited. */
+typedef struct lcmux_notice {
+    /** The size of the struct, which the program sets: LCMUX_NOTICE_INIT. */
+    uint64_t size;
+    /** The ticket of the call. */
+    uint64_t ticket;
+    /** Its channel. */
+    uint64_t channel;
+    /** LCMUX_OK: the message or the bound of the call entered the outbound queue, or its permit is granted. LCMUX_NOTIFIED:
+     *  the message of the offer can be sent, by lcmux_mux_complete. LCMUX_NEVER: the call will never proceed, and is given
+     *  up. */
+    uint64_t outcome;
+} lcmux_notice;
+
+/** The initial value of an lcmux_notice. */
+#define LCMUX_NOTICE_INIT {sizeof(lcmux_notice), 0, 0, 0}
+
+/** The control frames of a channel that were accepted and lack a slot. */
+typedef struct lcmux_owed {
+    /** The size of the struct, which the program sets: LCMUX_OWED_INIT. */
+    uint64_t size;
+    /** The guarantees of the pending issue. */
+    uint64_t issue;
+    /** The pending limit on receiving, or LCMUX_NONE. */
+    uint64_t limit_receiving;
+    /** The target of the pending plead, or LCMUX_NONE. */
+    uint64_t plead;
+    /** The guarantees of the pending absolve. */
+    uint64_t absolve;
+    /** 1 if an honour is pending, else 0. */
+    uint64_t honour;
+    /** The most guarantees that may be issued beside the pending issue. */
+    uint64_t room;
+} lcmux_owed;
+
+/** The initial value of an lcmux_owed. */
+#define LCMUX_OWED_INIT {sizeof(lcmux_owed), 0, LCMUX_NONE, LCMUX_NONE, 0, 0, 0}
+
+/** The marks of lcmux_mux_set_issue_policy: issue all room as soon as there is any, and never without a call. */
+#define LCMUX_AT_ONCE UINT32_MAX
+#define LCMUX_BY_CALLER 0
+
+/** Makes a session behind an empty handle, with at least 14 slots. It issues all room at once and honours each plead at
+ *  once, unless other policies are set before the first call that changes it. In version 2 the preface of the stream is
+ *  pending from then on.
+ *
+ *  Codes: LCMUX_HAS_PEER, LCMUX_BAD_VERSION, LCMUX_BAD_SLOTS if there are fewer than 14 slots, LCMUX_BAD_CAPACITY,
+ *  LCMUX_BAD_SLOTS, LCMUX_OUT_OF_MEMORY. The handle is unchanged then. */
+lcmux_answer lcmux_mux_new(const lcmux_config *config, lcmux_mux *mux) LCMUX_NONNULL;
+
+/** Frees the session, with its messages, frames and waiting calls, and empties the handle. If the handle is empty, or mux
+ *  is NULL, it does nothing and returns LCMUX_NO_PEER. */
+lcmux_answer lcmux_mux_free(lcmux_mux *mux);
+
+/** Processes the next chunk of the inbound stream, as lcmux_peer_deliver; then each waiting call proceeds that can. A
+ *  violation or a fault ends the session. Once no bytes are taken any more, because the session is over, or because the
+ *  peer ended its stream in order, the call consumes nothing and returns the code of that end.
+ *
+ *  Codes: the violations, from LCMUX_V1_NOT_GUARANTEED on; the faults, apart from LCMUX_F4_TRUNCATED. */
+lcmux_delivery lcmux_mux_deliver(lcmux_mux *mux, const uint8_t *piece, size_t len) LCMUX_NONNULL_PEER;
+
+/** The inbound stream ended. Unless the peer has finished all its channels, and the stream ended between two frames, the
+ *  session is cut. */
+lcmux_answer lcmux_mux_end_input(lcmux_mux *mux) LCMUX_NONNULL;
+
+/** Copies the next outbound bytes to the front of buffer, as lcmux_peer_write. Behind each frame that leaves the outbound
+ *  queue each waiting call proceeds that can. Once the session is over nothing is written. Number: how many bytes. */
+lcmux_answer lcmux_mux_write(lcmux_mux *mux, uint8_t *buffer, size_t len) LCMUX_NONNULL_PEER;
+
+/** Returns whether the outbound stream ends here: this side closed the session, has finished all channels, and has written
+ *  all bytes. Number: 1 or 0. */
+lcmux_answer lcmux_mux_is_done_writing(const lcmux_mux *mux) LCMUX_NONNULL;
+
+/** Sends a message. If it cannot enter the outbound queue at once, the call waits with a copy of it.
+ *
+ *  Codes: LCMUX_CHANNEL_FINISHED, LCMUX_EMPTY_BODY, LCMUX_BODY_TOO_LONG, LCMUX_PAST_SEND_LIMIT, LCMUX_OUT_OF_MEMORY;
+ *  LCMUX_WAITS. */
+lcmux_answer lcmux_mux_send(lcmux_mux *mux, uint32_t channel, uint64_t ticket, const uint8_t *body, size_t len) LCMUX_NONNULL_PEER;
+
+/** Sends a message if it can enter the outbound queue at once, behind all calls of its channel that wait.
+ *
+ *  Codes: LCMUX_CHANNEL_FINISHED, LCMUX_EMPTY_BODY, LCMUX_BODY_TOO_LONG, LCMUX_PAST_SEND_LIMIT, LCMUX_OUT_OF_MEMORY; and
+ *  what it lacks: LCMUX_NEVER, LCMUX_NO_GUARANTEE, whose number is how many guarantees are missing, or LCMUX_QUEUE_FULL, a
+ *  slot, bytes or its turn. */
+lcmux_answer lcmux_mux_try_send(lcmux_mux *mux, uint32_t channel, const uint8_t *body, size_t len) LCMUX_NONNULL_PEER;
+
+/** Offers a message of this length: the call waits without a copy of it. Its notice LCMUX_NOTIFIED says that it can be
+ *  sent; then the program calls lcmux_mux_complete, or gives the offer up by lcmux_mux_cancel.
+ *
+ *  Codes: LCMUX_CHANNEL_FINISHED, LCMUX_EMPTY_BODY, LCMUX_BODY_TOO_LONG, LCMUX_PAST_SEND_LIMIT, LCMUX_OUT_OF_MEMORY. */
+lcmux_answer lcmux_mux_offer(lcmux_mux *mux, uint32_t channel, uint64_t ticket, size_t len) LCMUX_NONNULL;
+
+/** Sends the message of an offer, if the offer is the first call of its channel and the message can proceed now; else the
+ *  offer waits on at its place.
+ *
+ *  Codes: LCMUX_CHANNEL_FINISHED, LCMUX_EMPTY_BODY, LCMUX_BODY_TOO_LONG, LCMUX_PAST_SEND_LIMIT, LCMUX_OUT_OF_MEMORY;
+ *  LCMUX_WAITS. */
+lcmux_answer lcmux_mux_complete(lcmux_mux *mux, uint32_t channel, uint64_t ticket, const uint8_t *body, size_t len) LCMUX_NONNULL_PEER;
+
+/** Gives up the first waiting call of a ticket: it sent nothing and spent nothing. Number: 1 if there was one, else 0. */
+lcmux_answer lcmux_mux_cancel(lcmux_mux *mux, uint32_t channel, uint64_t ticket) LCMUX_NONNULL;
+
+/** Reserves a permit for a message of this length: a slot, and as many guarantees. It is granted with LCMUX_OK, or with the
+ *  notice of a call that waits, and held until lcmux_mux_send_reserved or lcmux_mux_give_back.
+ *
+ *  Codes: LCMUX_CHANNEL_FINISHED, LCMUX_EMPTY_BODY, LCMUX_BODY_TOO_LONG, LCMUX_PAST_SEND_LIMIT, LCMUX_OUT_OF_MEMORY;
+ *  LCMUX_WAITS. */
+lcmux_answer lcmux_mux_reserve(lcmux_mux *mux, uint32_t channel, uint64_t ticket, size_t len) LCMUX_NONNULL;
+
+/** Reserves a permit if it can be granted at once.
+ *
+ *  Codes: LCMUX_CHANNEL_FINISHED, LCMUX_EMPTY_BODY, LCMUX_BODY_TOO_LONG, LCMUX_PAST_SEND_LIMIT; and what it lacks, as
+ *  lcmux_mux_try_send. */
+lcmux_answer lcmux_mux_try_reserve(lcmux_mux *mux, uint32_t channel, size_t len) LCMUX_NONNULL;
+
+/** Sends a message by a permit of `reserved` bytes, which is used up. With any other code than LCMUX_OK it is still out.
+ *
+ *  Codes: LCMUX_CHANNEL_FINISHED, LCMUX_EMPTY_BODY, LCMUX_BODY_TOO_LONG, LCMUX_PAST_SEND_LIMIT, LCMUX_NO_GUARANTEE if the
+ *  message is longer than the permit or no such permit is out, LCMUX_OUT_OF_MEMORY. */
+lcmux_answer lcmux_mux_send_reserved(lcmux_mux *mux, uint32_t channel, size_t reserved, const uint8_t *body, size_t len) LCMUX_NONNULL_PEER;
+
+/** Gives a permit of this length back. Number: 1 if such a permit was out, else 0. */
+lcmux_answer lcmux_mux_give_back(lcmux_mux *mux, uint32_t channel, size_t reserved) LCMUX_NONNULL;
+
+/** Limits sending to at most the bound, behind the waiting calls and the permits of the channel.
+ *
+ *  Codes: LCMUX_CHANNEL_FINISHED, LCMUX_BOUND_TOO_LARGE, LCMUX_LIMIT_RAISED, LCMUX_OUT_OF_MEMORY; LCMUX_WAITS. */
+lcmux_answer lcmux_mux_limit_sending(lcmux_mux *mux, uint32_t channel, uint64_t ticket, uint64_t bound) LCMUX_NONNULL;
+
+/** Finishes the channel, behind its waiting calls and its permits. In version 1 a limit of 0 on sending does that.
+ *
+ *  Codes: LCMUX_WRONG_VERSION, LCMUX_CHANNEL_FINISHED, LCMUX_OUT_OF_MEMORY; LCMUX_WAITS. */
+lcmux_answer lcmux_mux_finish(lcmux_mux *mux, uint32_t channel, uint64_t ticket) LCMUX_NONNULL;
+
+/** Issues guarantees, beside the pending issue.
+ *
+ *  Codes: LCMUX_CHANNEL_FINISHED, LCMUX_ZERO_AMOUNT, LCMUX_PAST_RECEIVE_LIMIT, LCMUX_NO_ROOM, LCMUX_TOTAL_REACHED. */
+lcmux_answer lcmux_mux_issue(lcmux_mux *mux, uint32_t channel, uint32_t amount) LCMUX_NONNULL;
+
+/** Limits issuing to at most the bound, behind the pending issue.
+ *
+ *  Codes: LCMUX_CHANNEL_FINISHED, LCMUX_BOUND_TOO_LARGE, LCMUX_LIMIT_RAISED. */
+lcmux_answer lcmux_mux_limit_receiving(lcmux_mux *mux, uint32_t channel, uint64_t bound) LCMUX_NONNULL;
+
+/** Pleads: asks the sender to absolve guarantees until it holds at most the target. No policy issues above that.
+ *
+ *  Codes: LCMUX_CHANNEL_FINISHED, LCMUX_NOTHING_TO_ASK. */
+lcmux_answer lcmux_mux_plead(lcmux_mux *mux, uint32_t channel, uint32_t target) LCMUX_NONNULL;
+
+/** Absolves guarantees that no permit holds.
+ *
+ *  Codes: LCMUX_CHANNEL_FINISHED, LCMUX_ZERO_AMOUNT, LCMUX_NOT_HELD. */
+lcmux_answer lcmux_mux_absolve(lcmux_mux *mux, uint32_t channel, uint32_t amount) LCMUX_NONNULL;
+
+/** Honours the plead that is kept, once permits no longer hold what that absolves.
+ *
+ *  Codes: LCMUX_CHANNEL_FINISHED. */
+lcmux_answer lcmux_mux_honour(lcmux_mux *mux, uint32_t channel) LCMUX_NONNULL;
+
+/** Sets when room of the channel is issued without a call: while fewer guarantees are outstanding than low_water, or by
+ *  LCMUX_AT_ONCE, or by LCMUX_BY_CALLER. It holds from the next change of the session on. */
+lcmux_answer lcmux_mux_set_issue_policy(lcmux_mux *mux, uint32_t channel, uint32_t low_water) LCMUX_NONNULL;
+
+/** Sets whether a plead on the channel is honoured without a call, by 1, or by calls alone, by 0. */
+lcmux_answer lcmux_mux_set_plead_policy(lcmux_mux *mux, uint32_t channel, uint32_t at_once) LCMUX_NONNULL;
+
+/** Returns the pending control frames of a channel in a struct whose size is set. With a code other than LCMUX_OK the
+ *  struct is unchanged.
+ *
+ *  Codes: LCMUX_BAD_SIZE. */
+lcmux_answer lcmux_mux_owed(const lcmux_mux *mux, uint32_t channel, lcmux_owed *owed) LCMUX_NONNULL;
+
+/** Returns the next notice in a struct whose size is set, and drops it. With a code other than LCMUX_OK nothing is
+ *  dropped, and the struct is unchanged. Calls that the end of the session or lcmux_mux_close gives up have no notice.
+ *
+ *  Codes: LCMUX_BAD_SIZE; LCMUX_NO_NOTICE. */
+lcmux_answer lcmux_mux_next_notice(lcmux_mux *mux, lcmux_notice *notice) LCMUX_NONNULL;
+
+/** As lcmux_peer_take, lcmux_peer_front_len, lcmux_peer_front and lcmux_peer_pop. Messages that arrived can be taken
+ *  after the session is over, too, unless it was aborted: then the code is LCMUX_ABORTED. */
+lcmux_answer lcmux_mux_take(lcmux_mux *mux, uint32_t channel, uint8_t *buffer, size_t len) LCMUX_NONNULL_PEER;
+lcmux_answer lcmux_mux_front_len(const lcmux_mux *mux, uint32_t channel) LCMUX_NONNULL;
+lcmux_answer lcmux_mux_front(const lcmux_mux *mux, uint32_t channel, lcmux_front *message) LCMUX_NONNULL;
+lcmux_answer lcmux_mux_pop(lcmux_mux *mux, uint32_t channel) LCMUX_NONNULL;
+
+/** Closes the session, unless it is over. No message is accepted from then on; waiting calls and permits are given up,
+ *  without notices, and fail by LCMUX_CLOSED_HERE. What entered the outbound queue is written, and each channel is
+ *  finished. The session is over once the peer has done the same. */
+lcmux_answer lcmux_mux_close(lcmux_mux *mux) LCMUX_NONNULL;
+
+/** Aborts the session, unless it is over: nothing is written from then on, and no message can be taken. */
+lcmux_answer lcmux_mux_abort(lcmux_mux *mux) LCMUX_NONNULL;
+
+/** Ends the session, unless it is over, because the transport failed. */
+lcmux_answer lcmux_mux_fail(lcmux_mux *mux) LCMUX_NONNULL;
+
+/** Returns the code of the end of the session, and LCMUX_OK while it is not over. LCMUX_CLOSED_HERE is the end in order:
+ *  both sides have finished all their channels and ended their streams. */
+lcmux_answer lcmux_mux_over(const lcmux_mux *mux) LCMUX_NONNULL;
+
+/** As lcmux_peer_client, lcmux_peer_server and lcmux_peer_slots_left. */
+lcmux_answer lcmux_mux_client(const lcmux_mux *mux, uint32_t channel, lcmux_client *balances) LCMUX_NONNULL;
+lcmux_answer lcmux_mux_server(const lcmux_mux *mux, uint32_t channel, lcmux_server *balances) LCMUX_NONNULL;
+lcmux_answer lcmux_mux_slots_left(const lcmux_mux *mux) LCMUX_NONNULL;
 
 /** Returns LCMUX_VERSION_NUMBER of the linked library. A program that may be linked with another version than that of
  *  this header compares the two before it makes a peer. */
