@@ -164,7 +164,7 @@ static void senders(lcmux_mux *mux) {
 
 /* Control calls, what is pending of them while no slot is free, and the policies. */
 static void controls(lcmux_mux *mux) {
-    lcmux_owed owed = LCMUX_OWED_INIT, due = {sizeof owed, 5, 60, 9, 0, 0, 85};
+    lcmux_owed owed = LCMUX_OWED_INIT, due = {.size = sizeof owed, .issue = 5, .limit_receiving = 60, .plead = 9, .room = 85};
     lcmux_client client = LCMUX_CLIENT_INIT;
     lcmux_server server = LCMUX_SERVER_INIT;
     begin(mux);
