@@ -17,7 +17,7 @@ use Rattle.lc_mux.specs.declared.end.End.{End}
 use Rattle.lc_mux.specs.declared.end.CallError.{CallError}
 use Rattle.lc_mux.specs.Mux.{MuxState}
 use Rattle.lc_mux.specs.Calls.{Answers, IsAnswer, take_over}
-use Rattle.lc_mux.specs.Flushing.{Changes, NoticesAndFlushes}
+use Rattle.lc_mux.specs.Flushing.{Changes, NoticesAndPuts}
 use Rattle.lc_c.specs.declared.answer.LcmuxAnswer.{LcmuxAnswer}
 use Rattle.lc_c.specs.declared.mux.session.CMux.{CMux}
 use Rattle.lc_c.specs.declared.mux.taking.LcmuxNotice.{LcmuxNotice}
@@ -75,7 +75,7 @@ pub record NoticesSome (shown shown' : LcmuxNotice) (old new : CMux) (answer : L
   pub said : Option Notice
   pub is : answer ≡ (if is_some said then only done else only no_notice)
   pub shows : shown' ≡ option_map_or (notice_shown shown.size) said shown
-  pub some : IfSome said (λ notice. NoticesAndFlushes notice old.mux new.mux)
+  pub some : IfSome said (λ notice. NoticesAndPuts notice old.mux new.mux)
   pub none : IfNone said ((new.mux ≡ old.mux) × (IsSettled new.mux.lines.scheduler × NoneIsHopeless new.mux.lines.scheduler))
   pub rest : Keeps old new
 

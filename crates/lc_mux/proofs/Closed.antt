@@ -28,9 +28,9 @@ use Rattle.lc_mux.specs.Mux.{MuxState, AreMuxFields, IsBegun}
 use Rattle.lc_owed.specs.Owed.{OwedState}
 use Rattle.lc_owed.specs.Flush.{IsFlushed}
 use Rattle.lc_mux.specs.Ends.{end_of_stop, over, close}
-use Rattle.lc_mux.specs.Flushing.{FlushesUnless, SettlesAndFlushes}
+use Rattle.lc_mux.specs.Flushing.{PutsUnless, FlushesUnless, SettlesAndPuts}
 use Rattle.lc_mux.proofs.Called.{PutsSome}
-use Rattle.lc_mux.proofs.Puts.{enter_all-rings, none_settles, notices_put, close_put, flush_put, flush_rings, flows_put, closed_flush}
+use Rattle.lc_mux.proofs.Puts.{enter_all-rings, none_settles, notices_put, close_put, unless_put, flush_put, flush_rings, flows_put, closed_unless}
 
 arrivals_same_by : {X : Type 0} (of : PeerState → X) (p : PeerState) (v : Option Violation) (later : Arrival) → of later.peer ≡ of p → of (arrive_unless p v later).peer ≡ of p
 arrivals_same_by of p None later h = h
@@ -72,9 +72,9 @@ closed_same l l' q same version settles closed =
     let is = none_settles (with_scheduler l (record l.scheduler { peer = q })) l' none settles in
     subst IsClosed (sym is) (record { none = none; finished = λ c. same_done l.scheduler q c same version (closed.finished c) })
 
--- a flush leaves all closed
-pub closed_flushed : (closing : Bool) (o : OwedState) (l : LinesState) (o' : OwedState) (l' : LinesState) → closing ≡ true → FlushesUnless closing o l o' l' → IsClosed l.scheduler → IsClosed l'.scheduler
-closed_flushed closing o l o' l' e flushes closed = subst (λ (x : LinesState). IsClosed x.scheduler) (sym (closed_flush closing o l o' l' e flushes)) closed
+-- what is put then leaves all closed
+pub closed_put : (closing : Bool) (o : OwedState) (l : LinesState) (o' : OwedState) (l' : LinesState) → closing ≡ true → PutsUnless closing o l o' l' → IsClosed l.scheduler → IsClosed l'.scheduler
+closed_put closing o l o' l' e puts closed = subst (λ (x : LinesState). IsClosed x.scheduler) (sym (closed_unless closing o l o' l' e puts)) closed
 
 pub begun_same : (s s' : SchedulerState) (pending : List ℕ) → s'.begun ≡ s.begun → IsBegun s pending → IsBegun s' pending
 begun_same s s' pending same h = record { all = omega (arith, same, h.all); few = omega (arith, same, h.few) }
@@ -86,7 +86,7 @@ pub record IsKept (closing : Bool) (o : OwedState) (l : LinesState) : Type 0 whe
 
 -- a session whose lines changed so
 pub fields_changed : (o : OwedState) (l : LinesState) (o' : OwedState) (l' : LinesState) (s : SchedulerState) (intake : IntakeState) (pending : List ℕ) (closing : Bool) (end : Option End) →
-    SettlesAndFlushes closing o (with_scheduler l s) o' l' → s.peer.capacities ≡ l.scheduler.peer.capacities → s.begun ≡ l.scheduler.begun → IsKept closing o' l' →
+    SettlesAndPuts closing o (with_scheduler l s) o' l' → s.peer.capacities ≡ l.scheduler.peer.capacities → s.begun ≡ l.scheduler.begun → IsKept closing o' l' →
     AreMuxFields l o intake pending closing end → AreMuxFields l' o' intake pending closing end
 fields_changed o l o' l' s intake pending closing end flows rings begun kept fields =
     let puts = flows_put closing o (with_scheduler l s) o' l' flows in
@@ -113,7 +113,7 @@ kept_open closing o l going flushed = record { flushed = flushed; closed = never
 
 -- a session that does not close, where frames entered
 pub fields_called : (o : OwedState) (l : LinesState) (o' : OwedState) (l' : LinesState) (s : SchedulerState) (intake : IntakeState) (pending : List ℕ) (closing : Bool) (end : Option End) →
-    SettlesAndFlushes closing o (with_scheduler l s) o' l' → PutsSome l.scheduler s → closing ≡ false → (closing ≡ false → IsFlushed o' l'.scheduler) → AreMuxFields l o intake pending closing end → AreMuxFields l' o' intake pending closing end
+    SettlesAndPuts closing o (with_scheduler l s) o' l' → PutsSome l.scheduler s → closing ≡ false → (closing ≡ false → IsFlushed o' l'.scheduler) → AreMuxFields l o intake pending closing end → AreMuxFields l' o' intake pending closing end
 fields_called o l o' l' s intake pending closing end flows puts going flushed fields =
     fields_changed o l o' l' s intake pending closing end flows (ap (λ (p : PeerState). p.capacities) puts.1.peer ∙ enter_all-rings puts.0 l.scheduler.peer) puts.1.begun (kept_open closing o' l' going flushed) fields
 
@@ -132,14 +132,14 @@ fields_owed o0 o l o' l' intake pending closing end flushes going flushed fields
 
 -- a session of which a message was taken
 pub fields_taken : (o : OwedState) (l mid : LinesState) (o' : OwedState) (l' : LinesState) (c : Channel) (intake : IntakeState) (pending : List ℕ) (closing : Bool) (end : Option End) →
-    length l.scheduler.peer.channels ≡ channel_count → Settles (with_scheduler l (record l.scheduler { peer = take_on l.scheduler.peer c })) mid → FlushesUnless closing o mid o' l' → (closing ≡ false → IsFlushed o' l'.scheduler) →
+    length l.scheduler.peer.channels ≡ channel_count → Settles (with_scheduler l (record l.scheduler { peer = take_on l.scheduler.peer c })) mid → PutsUnless closing o mid o' l' → (closing ≡ false → IsFlushed o' l'.scheduler) →
     AreMuxFields l o intake pending closing end → AreMuxFields l' o' intake pending closing end
-fields_taken o l mid o' l' c intake pending closing end places settles flushes flushed fields =
+fields_taken o l mid o' l' c intake pending closing end places settles due flushed fields =
     let s : SchedulerState = record l.scheduler { peer = take_on l.scheduler.peer c } in
-    fields_changed o l o' l' s intake pending closing end (mid, (settles, flushes)) refl refl
+    fields_changed o l o' l' s intake pending closing end (mid, (settles, due)) refl refl
     (record {
       flushed = flushed;
-      closed = λ e. closed_flushed closing o mid o' l' e flushes (closed_same l mid (take_on l.scheduler.peer c) (take_keeps l.scheduler.peer c places) refl settles (fields.closed e));
+      closed = λ e. closed_put closing o mid o' l' e due (closed_same l mid (take_on l.scheduler.peer c) (take_keeps l.scheduler.peer c places) refl settles (fields.closed e));
     }) fields
 
 no_first : (calls : List Call) (call : Call) → calls ≡ [] → slice_get calls 0 ≡ Some call → ⊥
@@ -154,14 +154,14 @@ closed_noticed n l l' (inr hopeless) closed = none_given_up l.scheduler n.channe
 
 -- a session of which a notice was taken
 pub fields_noticed : (n : Notice) (o : OwedState) (l mid : LinesState) (o' : OwedState) (l' : LinesState) (intake : IntakeState) (pending : List ℕ) (closing : Bool) (end : Option End) →
-    NoticesNext n l mid → FlushesUnless closing o mid o' l' → (closing ≡ false → IsFlushed o' l'.scheduler) → AreMuxFields l o intake pending closing end → AreMuxFields l' o' intake pending closing end
-fields_noticed n o l mid o' l' intake pending closing end next flushes flushed fields =
+    NoticesNext n l mid → PutsUnless closing o mid o' l' → (closing ≡ false → IsFlushed o' l'.scheduler) → AreMuxFields l o intake pending closing end → AreMuxFields l' o' intake pending closing end
+fields_noticed n o l mid o' l' intake pending closing end next due flushed fields =
     let first = notices_put n l mid next in
-    let puts = flush_put closing o mid o' l' flushes in
+    let puts = unless_put closing o mid o' l' due in
     record {
-      rings = flush_rings closing o mid o' l' flushes ∙ (ap (λ (p : PeerState). p.capacities) first.1.peer ∙ (enter_all-rings first.0 l.scheduler.peer ∙ fields.rings));
+      rings = ap (λ (p : PeerState). p.capacities) puts.1.peer ∙ (enter_all-rings puts.0 mid.scheduler.peer ∙ (ap (λ (p : PeerState). p.capacities) first.1.peer ∙ (enter_all-rings first.0 l.scheduler.peer ∙ fields.rings)));
       going = fields.going;
       begun = begun_same l.scheduler l'.scheduler pending (puts.1.begun ∙ first.1.begun) fields.begun;
       flushed = flushed;
-      closed = λ e. closed_flushed closing o mid o' l' e flushes (closed_noticed n l mid next (fields.closed e));
+      closed = λ e. closed_put closing o mid o' l' e due (closed_noticed n l mid next (fields.closed e));
     }

@@ -19,13 +19,14 @@ use Rattle.lc_mux.specs.Ends.{over}
 use Rattle.std.specs.Prelude.{is_some}
 use Rattle.lc_peer.specs.Streams.{Streams, IsPeerOf, IsEndOf, then_put, then_honours, then_arrives, then_takes}
 use Rattle.lc_peer.proofs.StreamsKept.{calls_keep_streams, new_peers_are_of_streams}
+use Rattle.lc_lines.specs.Scheduler.{SchedulerState}
 use Rattle.lc_lines.specs.Lines.{with_scheduler}
 use Rattle.lc_mux.specs.Mux.{MuxState, text}
 use Rattle.lc_mux.specs.Writing.Entry.{puts, honours}
 use Rattle.lc_mux.specs.Writing.{Entry, enter, frames_by, enter_all, frames_of}
 use Rattle.lc_mux.specs.History as history
 use Rattle.lc_mux.specs.History.{History, outbound, IsMuxOf, GoesOn, Continues}
-use Rattle.lc_mux.proofs.Puts.{enter_all-append, enter_all-queue, enter_all-version, puts_then, flush_put, flows_put, notices_put, close_put}
+use Rattle.lc_mux.proofs.Puts.{settles_put, unless_put, enter_all-append, enter_all-queue, enter_all-version, puts_then, flush_put, flows_put, notices_put, close_put}
 use Rattle.lc_mux.proofs.Closed.{arrivals_version, arrivals_waiting}
 
 -- these streams one step further by a call of the peer, and by such calls one after another
@@ -152,7 +153,7 @@ closes_continue m =
 pub notices_continue : history.NoticesContinue
 notices_continue m m' notice is pending =
     let first = notices_put notice m.lines is.0 is.1.0 in
-    let rest = flush_put m.closing m.owed is.0 m'.owed m'.lines is.1.1 in
+    let rest = unless_put m.closing m.owed is.0 m'.owed m'.lines is.1.1 in
     let all = puts_then first.0 rest.0 m.lines.scheduler is.0.scheduler m'.lines.scheduler first.1 rest.1 in
     continues_with m m' (first.0 ++ rest.0) all.peer pending
 
@@ -246,8 +247,11 @@ deliveries_continue m m' piece d is pending =
     let version = ap (λ (x : PeerState). x.version) came.delivers.peer ∙ arrivals_version p frames in
     let waiting = ap (λ (x : PeerState). x.waiting) came.delivers.peer ∙ arrivals_waiting p frames in
     let first = continues_at m q version waiting (λ s h. subst (Becomes s) (sym came.delivers.peer) (streams_arrive frames s p h)) in
-    let later = calls_continue (with_peer m q) m' (record m.lines.scheduler { peer = q }) [] refl (is.0, (came.settles, is.1.1)) pending in
-    runs_continue m (with_peer m q) m' [] [] first later
+    let s : SchedulerState = record m.lines.scheduler { peer = q } in
+    let behind = settles_put (with_scheduler m.lines s) is.0 came.settles in
+    let rest = flush_put m.closing m.owed is.0 m'.owed m'.lines is.1.1 in
+    let all = puts_then behind.0 rest.0 s is.0.scheduler m'.lines.scheduler behind.1 rest.1 in
+    runs_continue m (with_peer m q) m' [] [] first (continues_with (with_peer m q) m' (behind.0 ++ rest.0) all.peer pending)
 
 pub takes_continue : history.TakesContinue
 takes_continue m m' c changes pending =

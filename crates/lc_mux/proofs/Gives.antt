@@ -17,7 +17,7 @@ use Rattle.lc_lines.specs.Scheduler.{SchedulerState, write, begun_by}
 use Rattle.lc_lines.specs.Lines.{LinesState, with_scheduler}
 use Rattle.lc_mux.specs.Mux.{text_of, IsBegun, max_head}
 use Rattle.lc_owed.specs.Owed.{OwedState}
-use Rattle.lc_mux.specs.Flushing.{FlushesUnless, SettlesAndFlushes}
+use Rattle.lc_mux.specs.Flushing.{FlushesUnless, SettlesAndPuts}
 use Rattle.lc_mux.specs.Writing.{Entry, enter_all, frames_of, TakesFrame, MovesBy, Gives}
 use Rattle.lc_mux.proofs.Puts.{enter_all-append, enter_all-queue, enter_all-version, frames_of-append, frames_of-queue, flush_put, flows_put, flows_begun, takes_put}
 
@@ -216,20 +216,20 @@ gives_flush closing o l o' l' pending flushes =
     gives_by closing o l o' l' [] pending pending puts.0 puts.1.peer refl (o', (l', (inl flushes, (refl, refl))))
 
 -- so many bytes of what was left were written
-pub gives_rest : (closing : Bool) (n : ℕ) (o : OwedState) (l : LinesState) (o' : OwedState) (l' : LinesState) (pending pending' : List ℕ) → pending' ≡ drop n pending → SettlesAndFlushes closing o (with_scheduler l (write l.scheduler (length pending'))) o' l' → Gives closing (take n pending) o l pending o' l' pending'
+pub gives_rest : (closing : Bool) (n : ℕ) (o : OwedState) (l : LinesState) (o' : OwedState) (l' : LinesState) (pending pending' : List ℕ) → pending' ≡ drop n pending → SettlesAndPuts closing o (with_scheduler l (write l.scheduler (length pending'))) o' l' → Gives closing (take n pending) o l pending o' l' pending'
 gives_rest closing n o l o' l' pending pending' is flows =
     let puts = flows_put closing o (with_scheduler l (write l.scheduler (length pending'))) o' l' flows in
     let whole : take n pending ++ pending' ≡ pending = ap (λ (x : List ℕ). take n pending ++ x) is ∙ take-append-drop n pending in
     gives_by closing o l o' l' (take n pending) pending pending' puts.0 puts.1.peer whole (o', (l', (inr (inr (length pending', flows)), (refl, refl))))
 
-pub begun_rest : (closing : Bool) (n : ℕ) (o : OwedState) (l : LinesState) (o' : OwedState) (l' : LinesState) (pending pending' : List ℕ) → pending' ≡ drop n pending → SettlesAndFlushes closing o (with_scheduler l (write l.scheduler (length pending'))) o' l' → IsBegun l.scheduler pending → IsBegun l'.scheduler pending'
+pub begun_rest : (closing : Bool) (n : ℕ) (o : OwedState) (l : LinesState) (o' : OwedState) (l' : LinesState) (pending pending' : List ℕ) → pending' ≡ drop n pending → SettlesAndPuts closing o (with_scheduler l (write l.scheduler (length pending'))) o' l' → IsBegun l.scheduler pending → IsBegun l'.scheduler pending'
 begun_rest closing n o l o' l' pending pending' is flows h =
     let begun = flows_begun closing o (with_scheduler l (write l.scheduler (length pending'))) o' l' flows in
     let len : length pending' ≡ length pending - n = ap length is ∙ length-drop n pending in
     record { all = omega (arith, begun); few = omega (arith, begun, h.all, h.few, len) }
 
 -- the next frame was written whole
-pub gives_whole : (closing : Bool) (o : OwedState) (l : LinesState) (o1 : OwedState) (m : LinesState) (o' : OwedState) (l' : LinesState) (pending : List ℕ) (f : Frame) → pending ≡ [] → next l.scheduler.peer ≡ Some f → TakesFrame closing o l o1 m → SettlesAndFlushes closing o1 (with_scheduler m (write m.scheduler 0)) o' l' → Gives closing (encoding l.scheduler.peer.version f) o l pending o' l' pending
+pub gives_whole : (closing : Bool) (o : OwedState) (l : LinesState) (o1 : OwedState) (m : LinesState) (o' : OwedState) (l' : LinesState) (pending : List ℕ) (f : Frame) → pending ≡ [] → next l.scheduler.peer ≡ Some f → TakesFrame closing o l o1 m → SettlesAndPuts closing o1 (with_scheduler m (write m.scheduler 0)) o' l' → Gives closing (encoding l.scheduler.peer.version f) o l pending o' l' pending
 gives_whole closing o l o1 m o' l' pending f nothing first takes flows =
     let out = leaves closing f o l o1 m first takes in
     let left : Gives closing (encoding l.scheduler.peer.version f) o l [] o1 m [] = record {
@@ -244,7 +244,7 @@ gives_whole closing o l o1 m o' l' pending f nothing first takes flows =
     let all = gives_as (append-nil (encoding l.scheduler.peer.version f)) (gives_then left (gives_rest closing 0 o1 m o' l' [] [] refl flows)) in
     subst (λ (p : List ℕ). Gives closing (encoding l.scheduler.peer.version f) o l p o' l' p) (sym nothing) all
 
-pub begun_whole : (closing : Bool) (o : OwedState) (m : LinesState) (o' : OwedState) (l' : LinesState) (pending : List ℕ) → pending ≡ [] → SettlesAndFlushes closing o (with_scheduler m (write m.scheduler 0)) o' l' → IsBegun l'.scheduler pending
+pub begun_whole : (closing : Bool) (o : OwedState) (m : LinesState) (o' : OwedState) (l' : LinesState) (pending : List ℕ) → pending ≡ [] → SettlesAndPuts closing o (with_scheduler m (write m.scheduler 0)) o' l' → IsBegun l'.scheduler pending
 begun_whole closing o m o' l' pending nothing flows =
     let begun = flows_begun closing o (with_scheduler m (write m.scheduler 0)) o' l' flows in
     let none = ap length nothing in

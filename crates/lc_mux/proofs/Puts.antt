@@ -17,8 +17,8 @@ use Rattle.lc_owed.specs.declared.due.Due.{Due}
 use Rattle.lc_owed.specs.declared.due.Due.TheVariants.{Put, Honour}
 use Rattle.lc_owed.specs.Owed.{OwedState, by_policies}
 use Rattle.lc_owed.specs.Due.{put_due, without_due}
-use Rattle.lc_owed.specs.Flush.{Goes, Went}
-use Rattle.lc_mux.specs.Flushing.{FlushesUnless, SettlesAndFlushes}
+use Rattle.lc_owed.specs.Flush.{Goes, Went, PutsAll}
+use Rattle.lc_mux.specs.Flushing.{PutsUnless, FlushesUnless, SettlesAndPuts}
 use Rattle.lc_mux.specs.Writing.Entry.{puts, honours}
 use Rattle.lc_mux.specs.Writing.{Entry, enter, frames_by, enter_all, frames_of, TakesFrame}
 
@@ -151,17 +151,24 @@ went_put (d ∷ later) o l o' l' h =
     let rest = went_put later (without_due o d) mid o' l' h.1.1.1 in
     (first.0 ++ rest.0, puts_then first.0 rest.0 l.scheduler mid.scheduler l'.scheduler first.1 rest.1)
 
+all_put : (o : OwedState) (l : LinesState) (o' : OwedState) (l' : LinesState) → PutsAll o l o' l' → (entered : List Entry) × Puts entered l.scheduler l'.scheduler
+all_put o l o' l' h = went_put h.went o l h.rest l' h.steps
+
+pub unless_put : (closing : Bool) (o : OwedState) (l : LinesState) (o' : OwedState) (l' : LinesState) → PutsUnless closing o l o' l' → (entered : List Entry) × Puts entered l.scheduler l'.scheduler
+unless_put true o l o' l' h = ([], record { peer = ap (λ (x : LinesState). x.scheduler.peer) h.1; begun = ap (λ (x : LinesState). x.scheduler.begun) h.1 })
+unless_put false o l o' l' h = all_put o l o' l' h
+
 pub flush_put : (closing : Bool) (o : OwedState) (l : LinesState) (o' : OwedState) (l' : LinesState) → FlushesUnless closing o l o' l' → (entered : List Entry) × Puts entered l.scheduler l'.scheduler
 flush_put true o l o' l' h = ([], record { peer = ap (λ (x : LinesState). x.scheduler.peer) h.1; begun = ap (λ (x : LinesState). x.scheduler.begun) h.1 })
-flush_put false o l o' l' h = went_put h.went (by_policies o l.scheduler) l h.rest l' h.steps
+flush_put false o l o' l' h = all_put (by_policies o l.scheduler) l o' l' h
 
-pub flows_put : (closing : Bool) (o : OwedState) (l : LinesState) (o' : OwedState) (l' : LinesState) → SettlesAndFlushes closing o l o' l' → (entered : List Entry) × Puts entered l.scheduler l'.scheduler
+pub flows_put : (closing : Bool) (o : OwedState) (l : LinesState) (o' : OwedState) (l' : LinesState) → SettlesAndPuts closing o l o' l' → (entered : List Entry) × Puts entered l.scheduler l'.scheduler
 flows_put closing o l o' l' h =
     let first = settles_put l h.0 h.1.0 in
-    let rest = flush_put closing o h.0 o' l' h.1.1 in
+    let rest = unless_put closing o h.0 o' l' h.1.1 in
     (first.0 ++ rest.0, puts_then first.0 rest.0 l.scheduler h.0.scheduler l'.scheduler first.1 rest.1)
 
-pub flows_begun : (closing : Bool) (o : OwedState) (l : LinesState) (o' : OwedState) (l' : LinesState) → SettlesAndFlushes closing o l o' l' → l'.scheduler.begun ≡ l.scheduler.begun
+pub flows_begun : (closing : Bool) (o : OwedState) (l : LinesState) (o' : OwedState) (l' : LinesState) → SettlesAndPuts closing o l o' l' → l'.scheduler.begun ≡ l.scheduler.begun
 flows_begun closing o l o' l' h = (flows_put closing o l o' l' h).1.begun
 
 pub flush_rings : (closing : Bool) (o : OwedState) (l : LinesState) (o' : OwedState) (l' : LinesState) → FlushesUnless closing o l o' l' → l'.scheduler.peer.capacities ≡ l.scheduler.peer.capacities
@@ -209,12 +216,12 @@ pub none_settles : (l l' : LinesState) → NoneWaits l.scheduler → Settles l l
 none_settles l l' none h = none_ran h.runs.ran l.scheduler l'.scheduler none h.runs.steps
 
 -- what is written leaves all closed, and so does whatever changes where all is closed
-pub closed_flush : (closing : Bool) (o : OwedState) (l : LinesState) (o' : OwedState) (l' : LinesState) → closing ≡ true → FlushesUnless closing o l o' l' → l' ≡ l
-closed_flush true o l o' l' e h = h.1
-closed_flush false o l o' l' e h = cc
+pub closed_unless : (closing : Bool) (o : OwedState) (l : LinesState) (o' : OwedState) (l' : LinesState) → closing ≡ true → PutsUnless closing o l o' l' → l' ≡ l
+closed_unless true o l o' l' e h = h.1
+closed_unless false o l o' l' e h = cc
 
-pub closed_write : (n : ℕ) (closing : Bool) (o : OwedState) (l : LinesState) (o' : OwedState) (l' : LinesState) → closing ≡ true → IsClosed l.scheduler → SettlesAndFlushes closing o (with_scheduler l (write l.scheduler n)) o' l' → IsClosed l'.scheduler
+pub closed_write : (n : ℕ) (closing : Bool) (o : OwedState) (l : LinesState) (o' : OwedState) (l' : LinesState) → closing ≡ true → IsClosed l.scheduler → SettlesAndPuts closing o (with_scheduler l (write l.scheduler n)) o' l' → IsClosed l'.scheduler
 closed_write n closing o l o' l' e closed h =
     let same = none_settles (with_scheduler l (write l.scheduler n)) h.0 (λ c. record { calls = (closed.none c).calls; permits = (closed.none c).permits }) h.1.0 in
     let is : IsClosed h.0.scheduler = subst IsClosed (sym same) (record { none = λ c. record { calls = (closed.none c).calls; permits = (closed.none c).permits }; finished = closed.finished }) in
-    subst (λ (x : LinesState). IsClosed x.scheduler) (sym (closed_flush closing o h.0 o' l' e h.1.1)) is
+    subst (λ (x : LinesState). IsClosed x.scheduler) (sym (closed_unless closing o h.0 o' l' e h.1.1)) is

@@ -14,7 +14,7 @@ use Rattle.lc_lines.specs.declared.scheduler.Notice.{Notice}
 use Rattle.lc_lines.specs.Scheduler.{SchedulerState}
 use Rattle.lc_owed.specs.Owed.{OwedState}
 use Rattle.lc_mux.specs.Mux.{MuxState, text, new_mux}
-use Rattle.lc_mux.specs.Flushing.{Changes, Owes, DeliversAndFlushes, NoticesAndFlushes}
+use Rattle.lc_mux.specs.Flushing.{Changes, Owes, DeliversAndFlushes, NoticesAndPuts}
 use Rattle.lc_mux.specs.Ends.{close}
 use Rattle.lc_mux.specs.Writing.{Entry, enter_all, Gives}
 
@@ -69,7 +69,7 @@ TakesContinue = (m m' : MuxState) (c : Channel) → Changes (record m.lines.sche
 
 -- so does a notice that is taken
 abbrev pub NoticesContinue : Type 0
-NoticesContinue = (m m' : MuxState) (notice : Notice) → NoticesAndFlushes notice m m' → m'.pending ≡ m.pending → Continues [] m m'
+NoticesContinue = (m m' : MuxState) (notice : Notice) → NoticesAndPuts notice m m' → m'.pending ≡ m.pending → Continues [] m m'
 
 -- so does the close of a session
 abbrev pub ClosesContinue : Type 0

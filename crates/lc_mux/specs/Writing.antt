@@ -11,7 +11,7 @@ use Rattle.lc_lines.specs.Closing.{close}
 use Rattle.lc_lines.specs.Lines.{LinesState, Settles, with_scheduler}
 use Rattle.lc_owed.specs.Owed.{OwedState}
 use Rattle.lc_mux.specs.Mux.{text_of}
-use Rattle.lc_mux.specs.Flushing.{FlushesUnless, SettlesAndFlushes}
+use Rattle.lc_mux.specs.Flushing.{FlushesUnless, SettlesAndPuts}
 
 -- an own call of a peer: it puts a frame, or honours the plead of a channel
 pub data Entry : Type 0 where
@@ -40,14 +40,14 @@ frames_of (e ∷ later) p = frames_by e p ++ frames_of later (enter e p)
 
 -- the first frame leaves the outbound queue, and then calls proceed and what is due is put; or where the session closes, more channels are finished after that
 abbrev pub TakesFrame : Bool → OwedState → LinesState → OwedState → LinesState → Type 0
-TakesFrame false o l o' l' = SettlesAndFlushes false o (with_scheduler l (take_frame l.scheduler)) o' l'
+TakesFrame false o l o' l' = SettlesAndPuts false o (with_scheduler l (take_frame l.scheduler)) o' l'
 TakesFrame true o l o' l' = (o' ≡ o) × ((between : LinesState) × (Settles (with_scheduler l (take_frame l.scheduler)) between × (l' ≡ with_scheduler between (close between.scheduler))))
 
 -- of the message that left the outbound queue last at most so many bytes are unwritten, and then calls proceed and what is due is put
 abbrev pub Writes : Bool → OwedState → LinesState → OwedState → LinesState → Type 0
-Writes closing o l o' l' = (left : ℕ) × SettlesAndFlushes closing o (with_scheduler l (write l.scheduler left)) o' l'
+Writes closing o l o' l' = (left : ℕ) × SettlesAndPuts closing o (with_scheduler l (write l.scheduler left)) o' l'
 
--- what is due is put, a frame leaves the outbound queue, or more of the message that left it last is written
+-- the policies make their calls and what is due is put, a frame leaves the outbound queue, or more of the message that left it last is written
 abbrev pub Moves : Bool → OwedState → LinesState → OwedState → LinesState → Type 0
 Moves closing o l o' l' = FlushesUnless closing o l o' l' ⊎ (TakesFrame closing o l o' l' ⊎ Writes closing o l o' l')
 

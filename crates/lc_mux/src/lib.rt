@@ -5,7 +5,8 @@
 //! into a buffer.
 //!
 //! Behind each change calls proceed that can, and then the control frames are put that are due. So between two calls no
-//! control frame is pending while a slot is free for it that no permit owns.
+//! control frame is pending while a slot is free for it that no permit owns. Policies make their calls where bytes arrive,
+//! with a control call, and where a write begins: so the room of several takes is issued in one frame.
 //!
 //! A session ends in order once both sides have finished all their channels and ended their streams; an [`End`] says
 //! why else it is over. The first end stays.

@@ -123,8 +123,8 @@ impl Owed {
         }
     }
 
-    // What is due is put or dropped, one after another, until nothing is due or no slot is free.
-    fn put_all(&mut self, lines: &mut Lines)
+    /// As [`Owed::flush`], where the policies make no calls.
+    pub fn put_all(&mut self, lines: &mut Lines)
         ensures puts { PutsAll self.old lines.old self.new lines.new }
         ensures end { IsFlushed self.new lines.new.scheduler }
     {

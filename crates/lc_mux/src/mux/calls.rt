@@ -11,7 +11,7 @@ ghost use Rattle.lc_mux.specs.Calls.{Answers, refusal_of, send_over, IsAnswer};
 
 use super::Mux;
 use crate::end::{CallError, End};
-use crate::flushing::flush_unless;
+use crate::flushing::put_unless;
 use lc_frame::Channel;
 use lc_lines::{Attempt, Bound, Progress};
 
@@ -57,7 +57,7 @@ impl Mux {
     {
         self.judge_send(channel, body.len())?;
         let progress = self.lines.send(channel, ticket, body)?;
-        flush_unless(self.closing, &mut self.owed, &mut self.lines);
+        put_unless(self.closing, &mut self.owed, &mut self.lines);
         Ok(progress)
     }
 
@@ -71,7 +71,7 @@ impl Mux {
     {
         self.judge_send(channel, body.len())?;
         let answer = self.lines.try_send(channel, body)?;
-        flush_unless(self.closing, &mut self.owed, &mut self.lines);
+        put_unless(self.closing, &mut self.owed, &mut self.lines);
         Ok(answer)
     }
 
@@ -84,7 +84,7 @@ impl Mux {
     {
         self.judge_send(channel, len)?;
         self.lines.offer(channel, ticket, len)?;
-        flush_unless(self.closing, &mut self.owed, &mut self.lines);
+        put_unless(self.closing, &mut self.owed, &mut self.lines);
         Ok(())
     }
 
@@ -103,7 +103,7 @@ impl Mux {
     {
         self.judge_send(channel, body.len())?;
         let progress = self.lines.complete(channel, ticket, body)?;
-        flush_unless(self.closing, &mut self.owed, &mut self.lines);
+        put_unless(self.closing, &mut self.owed, &mut self.lines);
         Ok(progress)
     }
 
@@ -122,7 +122,7 @@ impl Mux {
     {
         self.judge_send(channel, len)?;
         let progress = self.lines.reserve(channel, ticket, len)?;
-        flush_unless(self.closing, &mut self.owed, &mut self.lines);
+        put_unless(self.closing, &mut self.owed, &mut self.lines);
         Ok(progress)
     }
 
@@ -136,7 +136,7 @@ impl Mux {
     {
         self.judge_send(channel, len)?;
         let answer = self.lines.try_reserve(channel, len)?;
-        flush_unless(self.closing, &mut self.owed, &mut self.lines);
+        put_unless(self.closing, &mut self.owed, &mut self.lines);
         Ok(answer)
     }
 
@@ -155,7 +155,7 @@ impl Mux {
     {
         self.judge_call()?;
         self.lines.send_reserved(channel, len, body)?;
-        flush_unless(self.closing, &mut self.owed, &mut self.lines);
+        put_unless(self.closing, &mut self.owed, &mut self.lines);
         Ok(())
     }
 
@@ -174,7 +174,7 @@ impl Mux {
     {
         self.judge_call()?;
         let progress = self.lines.bound(channel, ticket, bound)?;
-        flush_unless(self.closing, &mut self.owed, &mut self.lines);
+        put_unless(self.closing, &mut self.owed, &mut self.lines);
         Ok(progress)
     }
 }

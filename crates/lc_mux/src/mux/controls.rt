@@ -99,7 +99,7 @@ impl Mux {
     }
 
     /// Sets when a channel's receiver issues without a call, as [`Owed::set_issue_policy`](lc_owed::Owed::set_issue_policy).
-    /// Policies make calls from the next change on, [`Mux::write`] among them.
+    /// It holds from the next delivery, control call or [`Mux::write`] on.
     pub fn set_issue_policy(&mut self, channel: Channel, policy: IssuePolicy)
         ensures { self.new ≡ record self.old { owed = with_issue_policy self.old.owed channel policy } }
     {
@@ -107,8 +107,8 @@ impl Mux {
     }
 
     /// Sets when a channel's sender honours a plead without a call, as
-    /// [`Owed::set_plead_policy`](lc_owed::Owed::set_plead_policy). Policies make calls from the next change on,
-    /// [`Mux::write`] among them.
+    /// [`Owed::set_plead_policy`](lc_owed::Owed::set_plead_policy). It holds from the next delivery, control call or
+    /// [`Mux::write`] on.
     pub fn set_plead_policy(&mut self, channel: Channel, policy: PleadPolicy)
         ensures { self.new ≡ record self.old { owed = with_plead_policy self.old.owed channel policy } }
     {

@@ -10,11 +10,11 @@ ghost use Rattle.lc_lines.specs.Permits.{is_permit};
 ghost use Rattle.lc_lines.specs.Queue.{waits};
 ghost use Rattle.lc_lines.specs.Scheduler.{IsSettled, NoneIsHopeless, queue, aside, cancel, give_back};
 ghost use Rattle.lc_mux.specs.Calls.{Answers, IsAnswer, take_over};
-ghost use Rattle.lc_mux.specs.Flushing.{Changes, NoticesAndFlushes};
+ghost use Rattle.lc_mux.specs.Flushing.{Changes, NoticesAndPuts};
 
 use super::Mux;
 use crate::end::{CallError, End};
-use crate::flushing::flush_unless;
+use crate::flushing::put_unless;
 use lc_frame::Channel;
 use lc_lines::Notice;
 use lc_peer::Take;
@@ -37,7 +37,8 @@ impl Mux {
     }
 
     /// Takes the first message of a channel into the front of the buffer, unless this side aborted the session. Refused
-    /// where the message is longer; then nothing changed.
+    /// where the message is longer; then nothing changed. The room that a take frees is issued by policy at the next
+    /// [`Mux::write`] at the latest, in one frame with that of other takes.
     pub fn take_into(&mut self, channel: Channel, buffer: &mut [u8]) -> Result<Take, CallError>
         ensures answer { Answers (take_over self.old) (IsAnswer (take_refusal (inbox self.old.lines.scheduler.peer channel) (length buffer.old))) (result_err result) }
         ensures value { IfOk result (λ take. take ≡ take_answer (inbox self.old.lines.scheduler.peer channel)) }
@@ -50,7 +51,7 @@ impl Mux {
         // Its contract says that every channel has its books.
         let _peer = self.lines.peer();
         let take = self.lines.take_into(channel, buffer)?;
-        flush_unless(self.closing, &mut self.owed, &mut self.lines);
+        put_unless(self.closing, &mut self.owed, &mut self.lines);
         Ok(take)
     }
 
@@ -75,7 +76,7 @@ impl Mux {
         // Its contract says that every channel has its books.
         let _peer = self.lines.peer();
         let take = self.lines.pop(channel);
-        flush_unless(self.closing, &mut self.owed, &mut self.lines);
+        put_unless(self.closing, &mut self.owed, &mut self.lines);
         Ok(take)
     }
 
@@ -91,7 +92,7 @@ impl Mux {
             return false;
         }
         let waited = self.lines.cancel(channel, ticket);
-        flush_unless(self.closing, &mut self.owed, &mut self.lines);
+        put_unless(self.closing, &mut self.owed, &mut self.lines);
         waited
     }
 
@@ -107,19 +108,19 @@ impl Mux {
             return false;
         }
         let was_out = self.lines.give_back(channel, len);
-        flush_unless(self.closing, &mut self.owed, &mut self.lines);
+        put_unless(self.closing, &mut self.owed, &mut self.lines);
         was_out
     }
 
     /// The next notice, as [`Lines::next_notice`](lc_lines::Lines::next_notice). Calls that the end or the close of the
     /// session gives up have none: their caller learns it from [`Mux::over`].
     pub fn next_notice(&mut self) -> Option<Notice>
-        ensures some { IfSome result (λ notice. NoticesAndFlushes notice self.old self.new) }
+        ensures some { IfSome result (λ notice. NoticesAndPuts notice self.old self.new) }
         ensures none { IfNone result ((self.new ≡ self.old) × (IsSettled self.new.lines.scheduler × NoneIsHopeless self.new.lines.scheduler)) }
         ensures rest { self.new ≡ record self.old { lines = self.new.lines; owed = self.new.owed } }
     {
         let notice = self.lines.next_notice()?;
-        flush_unless(self.closing, &mut self.owed, &mut self.lines);
+        put_unless(self.closing, &mut self.owed, &mut self.lines);
         Some(notice)
     }
 }

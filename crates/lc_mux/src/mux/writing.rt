@@ -2,7 +2,7 @@
 ghost use Rattle.std.specs.Prelude.{◌≡◌, ◌<◌, ◌≤◌, ◌++◌, [], length, take, drop, is_some, true, false};
 ghost use Rattle.lc_mux.specs.Mux.{text, text_of, IsBegun};
 ghost use Rattle.lc_mux.specs.Ends.{over};
-ghost use Rattle.lc_mux.specs.Flushing.{SettlesAndFlushes};
+ghost use Rattle.lc_mux.specs.Flushing.{SettlesAndPuts};
 ghost use Rattle.lc_mux.specs.Writing.{TakesFrame, Gives};
 ghost use Rattle.lc_lines.specs.Scheduler.{write};
 ghost use Rattle.lc_lines.specs.Lines.{with_scheduler};
@@ -11,7 +11,7 @@ ghost use Rattle.lc_owed.specs.Flush.{IsFlushed};
 ghost use Rattle.lc_peer.specs.Calls.{next};
 
 use super::Mux;
-use crate::flushing::flush_unless;
+use crate::flushing::{flush_unless, put_unless};
 use crate::pending::Pending;
 use lc_frame::Frame;
 use lc_lines::Lines;
@@ -29,19 +29,19 @@ fn take_frame(closing: bool, owed: &mut Owed, lines: &mut Lines) -> Option<Frame
     if closing {
         lines.close();
     } else {
-        owed.flush(lines);
+        owed.put_all(lines);
     }
     frame
 }
 
 // Of the message that left the outbound queue last so many bytes are unwritten.
 fn note_written(closing: bool, owed: &mut Owed, lines: &mut Lines, left: usize)
-    ensures writes { SettlesAndFlushes closing owed.old (with_scheduler lines.old (write lines.old.scheduler left)) owed.new lines.new }
+    ensures writes { SettlesAndPuts closing owed.old (with_scheduler lines.old (write lines.old.scheduler left)) owed.new lines.new }
     ensures flushed { closing ≡ false → IsFlushed owed.new lines.new.scheduler }
     ensures closed { closing ≡ true → IsClosed lines.old.scheduler → IsClosed lines.new.scheduler }
 {
     lines.note_written(left);
-    flush_unless(closing, owed, lines);
+    put_unless(closing, owed, lines);
 }
 
 // Where nothing is left of a frame or of the greeting, the first frame that is queued is begun, if there is one.
@@ -177,10 +177,10 @@ fn give(
 }
 
 impl Mux {
-    /// Puts what is due, and writes the next bytes of the outbound stream to the front of a buffer, as many as there are and
-    /// have room. Behind each frame that leaves the outbound queue each call proceeds that can, and then what is due is put.
-    /// The answer is how many. A message that is partly written counts as unwritten for the
-    /// bound on queued bytes. Where the session is over nothing is written, and nothing changes.
+    /// Writes the next bytes of the outbound stream to the front of a buffer, as many as there are and have room, once the
+    /// policies made their calls and what is due was put. Behind each frame that leaves the outbound queue each call
+    /// proceeds that can, and then what is due is put. The answer is how many. A message that is partly written counts as
+    /// unwritten for the bound on queued bytes. Where the session is over nothing is written, and nothing changes.
     pub fn write(&mut self, out: &mut [u8]) -> usize
         ensures over { is_some (over self.old) ≡ true → (result ≡ 0) × (self.new ≡ self.old) }
         ensures count { result ≤ length out.old }

@@ -2,7 +2,7 @@ use Rattle.std.proofs.Common.{◌≡◌, false, ap, ◌∙◌, subst}
 use Rattle.lc_lines.specs.Scheduler.{start_bound}
 use Rattle.lc_mux.specs.Mux.{MuxState}
 use Rattle.lc_lines.specs.Lines.{with_scheduler}
-use Rattle.lc_mux.specs.Flushing.{SettlesAndFlushes}
+use Rattle.lc_mux.specs.Flushing.{SettlesAndPuts}
 use Rattle.lc_mux.proofs.Called.{start_bound_put}
 use Rattle.lc_mux.proofs.Closed.{fields_called}
 use Rattle.lc_mux.proofs.mux.Mux.bound.Goals as goal
@@ -12,9 +12,9 @@ invariant_of-self-2 c =
     let i = c.self.inside in
     let s = i.lines.scheduler in
     let going : i.closing ≡ false = ap (λ (m : MuxState). m.closing) c.self.view_is ∙ c.in_ok-judge_call.ensures.open in
-    fields_called i.owed i.lines c.flush_unless.new.owed c.flush_unless.new.lines (start_bound s c.args.channel c.args.ticket c.args.bound) i.intake i.pending i.closing i.end (c.bound.new.self, (c.in_ok-progress.ensures.bounds, c.flush_unless.ensures.flushes)) (start_bound_put s c.args.channel c.args.ticket c.args.bound) going c.flush_unless.ensures.flushed c.self.invariant
+    fields_called i.owed i.lines c.put_unless.new.owed c.put_unless.new.lines (start_bound s c.args.channel c.args.ticket c.args.bound) i.intake i.pending i.closing i.end (c.bound.new.self, (c.in_ok-progress.ensures.bounds, c.put_unless.ensures.puts)) (start_bound_put s c.args.channel c.args.ticket c.args.bound) going c.put_unless.ensures.flushed c.self.invariant
 
 pub returns-clause-bounds : goal.returns-clause-bounds
 returns-clause-bounds c =
-    subst (λ (x : MuxState). SettlesAndFlushes x.closing x.owed (with_scheduler x.lines (start_bound x.lines.scheduler c.args.channel c.args.ticket c.args.bound)) c.flush_unless.new.owed c.flush_unless.new.lines) c.self.view_is
-    (c.bound.new.self, (c.in_ok-progress.ensures.bounds, c.flush_unless.ensures.flushes))
+    subst (λ (x : MuxState). SettlesAndPuts x.closing x.owed (with_scheduler x.lines (start_bound x.lines.scheduler c.args.channel c.args.ticket c.args.bound)) c.put_unless.new.owed c.put_unless.new.lines) c.self.view_is
+    (c.bound.new.self, (c.in_ok-progress.ensures.bounds, c.put_unless.ensures.puts))
