@@ -1,6 +1,5 @@
 /* Runs the cases of schedules.txt over a session. `schedules FILE` prints the first answer of each case that is not the
- * one of its line, and at last how many cases and answers there were. schedules.stdout has what it prints: in these cases
- * the session differs from the rules, as docs/reference/c.md says. */
+ * one of its line, and at last how many cases and answers there were. */
 #include "lcmux.h"
 
 #include <inttypes.h>
@@ -23,7 +22,7 @@ static lcmux_mux mux = LCMUX_MUX_EMPTY;
 static unsigned version;
 static uint8_t chunk[CHUNK];
 static size_t chunk_len, preface_len;
-static bool has_ended, has_limit[LCMUX_CHANNELS];
+static bool has_ended;
 static uint32_t waiting[CALLS], tickets, bounds, slots;
 /* The answer, and why calls failed that waited, by their tickets. */
 static char said[1 << 14], failed[CALLS][16];
@@ -178,20 +177,21 @@ static void take(uint32_t channel) {
 }
 
 /* A bound is made or waits. */
-static bool say_bound(uint32_t code) {
+static void say_bound(uint32_t code) {
     say("%s", name_of(code == LCMUX_WAITS ? LCMUX_OK : code));
-    return code == LCMUX_OK || code == LCMUX_WAITS;
 }
 
 static void limit(uint32_t channel, uint64_t bound) {
-    has_limit[channel] |= say_bound(lcmux_mux_limit_sending(&mux, channel, BOUND + ++bounds, bound).code) && bound == 0;
+    say_bound(lcmux_mux_limit_sending(&mux, channel, BOUND + ++bounds, bound).code);
 }
 
 /* Version 1 has no Finish: there a limit of 0 ends a channel, once. */
 static void finish(uint32_t channel) {
+    lcmux_client client = LCMUX_CLIENT_INIT;
+    lcmux_mux_client(&mux, channel, &client);
     if (version == 2)
         say_bound(lcmux_mux_finish(&mux, channel, BOUND + ++bounds).code);
-    else if (has_limit[channel] && lcmux_mux_over(&mux).code == LCMUX_OK)
+    else if (client.send_left == 0 && lcmux_mux_over(&mux).code == LCMUX_OK)
         say("refused 15");
     else
         limit(channel, 0);
@@ -246,7 +246,6 @@ static bool begin(const char *line) {
     slots = config.slots;
     chunk_len = tickets = bounds = 0;
     preface_len = version == 2 ? sizeof preface : 0;
-    memset(has_limit, 0, sizeof has_limit);
     has_ended = false;
     for (uint32_t channel = 0; channel < LCMUX_CHANNELS && !strstr(line, "issues"); channel++)
         lcmux_mux_set_issue_policy(&mux, channel, LCMUX_BY_CALLER);
@@ -298,6 +297,9 @@ int main(int argc, char **argv) {
     }
     fclose(file);
     lcmux_mux_free(&mux);
-    printf("%u cases, %u answers: %u cases differ\n", cases, answers, wrong);
-    return 0;
+    if (wrong)
+        printf("%u cases of %u differ\n", wrong, cases);
+    else
+        printf("%u cases, %u answers\n", cases, answers);
+    return wrong > 0;
 }
