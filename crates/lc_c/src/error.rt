@@ -7,15 +7,14 @@ ghost use Rattle.lc_c.specs.Errors.{allowed_by, with_head, ShowsError, ErrorBehi
 
 use crate::answer::{LcmuxAnswer, NO_PEER, only, sized};
 use crate::balances::{NO_LIMIT, or_no_limit};
-use crate::c_peer::CPeer;
 use crate::peer::{LcmuxPeer, open};
 use crate::wire::code_of;
 use lc_frame::Channel;
-use lc_peer::{FrameHead, Peer, Stop};
+use lc_peer::{FrameHead, Peer, RingIntake, Stop};
 use std::alloc::Global;
 
 /// The size of [`LcmuxError`].
-const ERROR_SIZE: u64 = 64;
+pub(crate) const ERROR_SIZE: u64 = 64;
 
 /// What broke the rules of the inbound stream, and where; [`NO_LIMIT`] stands for what is not there.
 #[repr(C)]
@@ -69,22 +68,23 @@ fn with_head(error: LcmuxError, head: FrameHead, allowed: Option<u64>) -> LcmuxE
     }
 }
 
-fn error_shown(size: u64, side: &CPeer) -> LcmuxError
-    ensures { ShowsError size side.now result }
+/// The error of an inbound stream, of which so many bytes were taken.
+pub(crate) fn error_shown(size: u64, peer: &Peer, intake: &RingIntake, taken: u64) -> LcmuxError
+    ensures { ShowsError size peer.now intake.now taken result }
 {
-    let stop = side.intake.stop();
+    let stop = intake.stop();
     let error = LcmuxError {
         size,
         code: u64::from(code_of(stop)),
-        offset: side.taken.saturating_sub(side.intake.begun() as u64),
+        offset: taken.saturating_sub(intake.begun() as u64),
         kind: NO_LIMIT,
         channel: NO_LIMIT,
         number: NO_LIMIT,
         allowed: NO_LIMIT,
-        byte: byte_or_none(side.intake.bad_byte()),
+        byte: byte_or_none(intake.bad_byte()),
     };
-    match side.intake.offending() {
-        Some(head) => with_head(error, head, allowed_by(&side.peer, head.channel, stop)),
+    match intake.offending() {
+        Some(head) => with_head(error, head, allowed_by(peer, head.channel, stop)),
         None => error,
     }
 }
@@ -106,7 +106,7 @@ pub extern "C" fn lcmux_peer_error(
         Some(side) => {
             let answer = sized(error.size, ERROR_SIZE);
             if error.size >= ERROR_SIZE {
-                *error = error_shown(error.size, &side);
+                *error = error_shown(error.size, &side.peer, &side.intake, side.taken);
             }
             *peer = LcmuxPeer::of(side);
             answer

@@ -33,4 +33,4 @@ pub use taking::{
     LcmuxNotice, lcmux_mux_front, lcmux_mux_front_len, lcmux_mux_next_notice, lcmux_mux_pop,
     lcmux_mux_take,
 };
-pub use wire::{lcmux_mux_deliver, lcmux_mux_write};
+pub use wire::{lcmux_mux_deliver, lcmux_mux_error, lcmux_mux_write};

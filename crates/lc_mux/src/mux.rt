@@ -93,6 +93,14 @@ impl Mux {
         self.lines.peer()
     }
 
+    /// What is held of the inbound stream, and where it broke the rules.
+    #[inline]
+    pub fn intake(&self) -> &RingIntake
+        ensures { result.now ≡ self.now.intake }
+    {
+        &self.intake
+    }
+
     /// The next bytes of the inbound stream arrive, then each call proceeds that can, and then what is due is put. A
     /// violation or a fault ends the session. Where the session is over, or its inbound stream has ended, no byte is taken,
     /// and nothing changes.

@@ -4,6 +4,7 @@ ghost use Rattle.std.specs.Result.{result_err};
 ghost use Rattle.lc_mux.specs.Ends.{input_over, end_of_stop};
 ghost use Rattle.lc_mux.specs.Flushing.{DeliversAndFlushes};
 ghost use Rattle.lc_c.specs.Answers.{only, no_peer};
+ghost use Rattle.lc_c.specs.Errors.{MuxErrorBehind};
 ghost use Rattle.lc_c.specs.Streams.{count_on};
 ghost use Rattle.lc_c.specs.Reach.{CalledAlone};
 ghost use Rattle.lc_c.specs.MuxStreams.{DeliversTo, Writes, nowhere};
@@ -11,8 +12,9 @@ ghost use Rattle.lc_c.specs.MuxStreams.{DeliversTo, Writes, nowhere};
 use super::reach::{LcmuxMux, open};
 use super::session::CMux;
 use super::shown::delivery_shown;
-use crate::answer::{LcmuxAnswer, NO_PEER, only};
+use crate::answer::{LcmuxAnswer, NO_PEER, only, sized};
 use crate::asking::told;
+use crate::error::{ERROR_SIZE, LcmuxError, error_shown};
 use crate::wire::LcmuxDelivery;
 use lc_mux::End;
 use lc_peer::Delivery;
@@ -76,6 +78,31 @@ pub extern "C" fn lcmux_mux_write(
             let count = session.mux.write(buffer);
             *mux = LcmuxMux::of(session);
             told(count as u64)
+        }
+    }
+}
+
+/// Why the inbound stream was given up, and where, as `lcmux_peer_error`. Code 39, where the struct is too short, and stays
+/// as it was.
+#[unsafe(no_mangle)]
+pub extern "C" fn lcmux_mux_error(
+    alloc: Global,
+    mux: &mut LcmuxMux,
+    error: &mut LcmuxError,
+) -> LcmuxAnswer
+    ensures error { MuxErrorBehind mux.old.slot.held error.old error.new result }
+    ensures same { mux.new.slot.held ≡ mux.old.slot.held }
+{
+    match open(mux, alloc) {
+        None => only(NO_PEER),
+        Some(session) => {
+            let answer = sized(error.size, ERROR_SIZE);
+            if error.size >= ERROR_SIZE {
+                let (peer, intake) = (session.mux.peer(), session.mux.intake());
+                *error = error_shown(error.size, peer, intake, session.taken);
+            }
+            *mux = LcmuxMux::of(session);
+            answer
         }
     }
 }
