@@ -705,6 +705,11 @@ lcmux_answer lcmux_mux_free(lcmux_mux *mux);
  *  Codes: the violations, from LCMUX_V1_NOT_GUARANTEED on; the faults, apart from LCMUX_F4_TRUNCATED. */
 lcmux_delivery lcmux_mux_deliver(lcmux_mux *mux, const uint8_t *piece, size_t len) LCMUX_NONNULL_PEER;
 
+/** Returns why the inbound stream broke the rules, and where, as lcmux_peer_error.
+ *
+ *  Codes: LCMUX_BAD_SIZE. */
+lcmux_answer lcmux_mux_error(const lcmux_mux *mux, lcmux_error *error) LCMUX_NONNULL;
+
 /** The inbound stream ended. Unless the peer has finished all its channels, and the stream ended between two frames, the
  *  session is cut. */
 lcmux_answer lcmux_mux_end_input(lcmux_mux *mux) LCMUX_NONNULL;

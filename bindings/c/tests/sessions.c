@@ -88,14 +88,15 @@ static void all_answer(lcmux_mux *mux, uint32_t channel, uint32_t code) {
 static void empty_handle(lcmux_mux *mux) {
     uint8_t buffer[4] = "abcd";
     lcmux_notice notice = {sizeof notice, 5, 6, 7};
+    lcmux_error error = {.size = sizeof error, .byte = 7};
     lcmux_delivery delivery = lcmux_mux_deliver(mux, buffer, 4);
     must(delivery.code == LCMUX_NO_PEER && delivery.taken == 0 && delivery.frames == 0, "deliver");
     lcmux_answer answers[] = {lcmux_mux_write(mux, buffer, 4), lcmux_mux_end_input(mux), lcmux_mux_is_done_writing(mux),
                               lcmux_mux_next_notice(mux, &notice), lcmux_mux_close(mux), lcmux_mux_abort(mux), lcmux_mux_fail(mux),
-                              lcmux_mux_over(mux), lcmux_mux_slots_left(mux), lcmux_mux_free(mux), lcmux_mux_free(NULL)};
+                              lcmux_mux_over(mux), lcmux_mux_slots_left(mux), lcmux_mux_error(mux, &error), lcmux_mux_free(mux), lcmux_mux_free(NULL)};
     for (size_t k = 0; k < sizeof answers / sizeof *answers; k++)
         is(answers[k], LCMUX_NO_PEER, 0, "a call on an empty handle");
-    must(notice.ticket == 5 && memcmp(buffer, "abcd", 4) == 0, "fills nothing");
+    must(notice.ticket == 5 && error.byte == 7 && memcmp(buffer, "abcd", 4) == 0, "fills nothing");
     all_answer(mux, 1, LCMUX_NO_PEER);
     all_answer(mux, 9, LCMUX_NO_PEER);
 }
@@ -105,6 +106,7 @@ static void refusals(lcmux_mux *mux) {
     lcmux_config few = {1, 13, {1, 1, 1, 1, 1, 1, 0}}, bad = {1, 14, {1, 1, 1, 1, 1, 1, 0}};
     lcmux_notice notice = {31, 5, 6, 7};
     lcmux_owed owed = {.size = 55, .absolve = 7};
+    lcmux_error error = {.size = 63, .byte = 7};
     is(lcmux_mux_new(&few, mux), LCMUX_BAD_SLOTS, 0, "too few slots come first");
     is(lcmux_mux_new(&bad, mux), LCMUX_BAD_CAPACITY, 6, "then a bad ring");
     few.version = 3;
@@ -113,11 +115,12 @@ static void refusals(lcmux_mux *mux) {
     is(lcmux_mux_new(&bad, mux), LCMUX_HAS_PEER, 0, "a full handle");
     all_answer(mux, 7, LCMUX_NO_CHANNEL);
     is(lcmux_mux_owed(mux, 1, &owed), LCMUX_BAD_SIZE, 56, "a struct that is too short");
+    is(lcmux_mux_error(mux, &error), LCMUX_BAD_SIZE, 64, "the same of an error");
     arrive(mux, "LCM\2\x21\0\0\0\1", 9, 1);
     is(lcmux_mux_send(mux, 1, 3, zeros, 2), LCMUX_WAITS, 0, "send");
     arrive(mux, "\x21\0\0\0\1", 5, 1);
     is(lcmux_mux_next_notice(mux, &notice), LCMUX_BAD_SIZE, 32, "a notice that is too short");
-    must(owed.absolve == 7 && notice.ticket == 5, "is not filled");
+    must(owed.absolve == 7 && error.byte == 7 && notice.ticket == 5, "is not filled");
     notices(mux, 3, 1, LCMUX_OK, "nor is it lost");
     no_notice(mux, "and it is taken once");
     is(lcmux_mux_send(mux, 1, 1, NULL, 0), LCMUX_EMPTY_BODY, 0, "no message");
@@ -242,6 +245,7 @@ static void is_over(lcmux_mux *mux, uint32_t code, const char *what) {
 }
 
 static void ends(lcmux_mux *mux) {
+    lcmux_error error = LCMUX_ERROR_INIT;
     begin(mux);
     is(lcmux_mux_over(mux), LCMUX_OK, 0, "it goes on");
     is(lcmux_mux_abort(mux), LCMUX_OK, 0, "abort");
@@ -252,6 +256,13 @@ static void ends(lcmux_mux *mux) {
     begin(mux);
     is(lcmux_mux_end_input(mux), LCMUX_OK, 0, "end");
     is_over(mux, LCMUX_CUT, "cut");
+    begin(mux);
+    is(lcmux_mux_issue(mux, 2, 3), LCMUX_OK, 0, "issue");
+    must(lcmux_mux_deliver(mux, (const uint8_t *)"LCM\2\x12\0\0\0\1a\x32\0\0\0\7", 15).code == LCMUX_V3_ABSOLVED_TOO_MUCH, "a violation");
+    is(lcmux_mux_error(mux, &error), LCMUX_OK, 0, "where");
+    must(error.code == LCMUX_V3_ABSOLVED_TOO_MUCH && error.offset == 10 && error.kind == 3 && error.channel == 2, "at its frame");
+    must(error.number == 7 && error.allowed == 2 && error.byte == LCMUX_NONE, "and what was allowed");
+    is_over(mux, LCMUX_V3_ABSOLVED_TOO_MUCH, "violated");
     begin(mux);
     must(lcmux_mux_deliver(mux, (const uint8_t *)"LCM\2\x11\0\0\0\1a", 10).code == LCMUX_V1_NOT_GUARANTEED, "a violation");
     is_over(mux, LCMUX_V1_NOT_GUARANTEED, "violated");
