@@ -72,6 +72,7 @@ static bool pull_byte(void) {
 /* The driver takes the frames that are queued, and none that enters the queue meanwhile: a byte at a time, since a write
  * with more room gives those, too. */
 static void pull(void) {
+    lcmux_mux_write(&mux, chunk + chunk_len, 0); /* issues the room that was freed */
     uint64_t frames = slots - lcmux_mux_slots_left(&mux).number;
     while (chunk_len < preface_len && pull_byte())
         continue;
