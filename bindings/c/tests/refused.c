@@ -60,6 +60,44 @@ static char run(const lcmux_config *config) {
     return sent.code == LCMUX_OK ? '-' : 's';
 }
 
+/* The same of a session: 'n' for new, 'w' for a call that waits or goes at once, '-' for none. A call whose request was
+ * refused does not wait. */
+static char run_mux(void) {
+    static const uint8_t arrives[] = {'L', 'C', 'M', 2, 0x21, 0, 0, 0, 5};
+    lcmux_config config = {2, 14, {8, 8, 8, 8, 8, 8, 8}};
+    lcmux_mux mux = LCMUX_MUX_EMPTY;
+    lcmux_notice notice = LCMUX_NOTICE_INIT;
+    requests = live = 0;
+    if (lcmux_mux_new(&config, &mux).code != LCMUX_OK) {
+        must(live == 0, "what was made of a session is given back");
+        must(lcmux_mux_over(&mux).code == LCMUX_NO_PEER, "its handle stays empty");
+        return 'n';
+    }
+    must(lcmux_mux_set_issue_policy(&mux, 1, LCMUX_BY_CALLER).code == LCMUX_OK, "a policy");
+    must(lcmux_mux_deliver(&mux, arrives, sizeof arrives).frames == 1, "guarantees arrive at a session");
+    /* Five guarantees: the second message goes at once where the first was refused, and so does the limit where the offer
+     * was, behind which it waits. */
+    uint32_t first = lcmux_mux_send(&mux, 1, 1, (const uint8_t *)"hello", 5).code;
+    uint32_t second = lcmux_mux_send(&mux, 1, 2, (const uint8_t *)"later", 5).code;
+    uint32_t offer = lcmux_mux_offer(&mux, 2, 3, 4).code;
+    uint32_t permit = lcmux_mux_reserve(&mux, 3, 4, 4).code;
+    uint32_t limit = lcmux_mux_limit_sending(&mux, 2, 5, 9).code;
+    const uint32_t none = LCMUX_OUT_OF_MEMORY;
+    int refused = (first == none) + (second == none) + (offer == none) + (permit == none) + (limit == none);
+    must(refused == (requests >= refuse), "the call whose request was refused says so, and no other");
+    must(first == none || first == LCMUX_OK, "a message that goes at once");
+    must(second == none || second == (first == none ? LCMUX_OK : LCMUX_WAITS), "a message that waits");
+    must(offer == none || offer == LCMUX_OK, "an offer");
+    must(permit == none || permit == LCMUX_WAITS, "a permit that waits");
+    must(limit == none || limit == (offer == none ? LCMUX_OK : LCMUX_WAITS), "a limit that waits");
+    must(lcmux_mux_next_notice(&mux, &notice).code == LCMUX_NO_NOTICE, "a call that was refused has no notice");
+    must(lcmux_mux_cancel(&mux, 1, 2).number == (second == LCMUX_WAITS), "it does not wait");
+    must(lcmux_mux_cancel(&mux, 2, 3).number == (offer == LCMUX_OK), "nor does an offer");
+    must(lcmux_mux_cancel(&mux, 3, 4).number == (permit == LCMUX_WAITS), "nor does a permit");
+    must(lcmux_mux_free(&mux).code == LCMUX_OK && live == 0, "all of a session is given back");
+    return refused ? 'w' : '-';
+}
+
 static void empty_handle(lcmux_peer *peer) {
     uint8_t buffer[8] = "unused";
     lcmux_client client = {.held = 1}; /* its size is not looked at */
@@ -352,6 +390,11 @@ int main(void) {
         *(where == 'n' ? &made : &sent) += 1;
     must(requests + 1 == refuse, "each request was refused once");
     printf("refused requests: %d of new, %d of send\n", made, sent);
+    made = sent = 0;
+    for (refuse = 1; (where = run_mux()) != '-'; refuse++)
+        *(where == 'n' ? &made : &sent) += 1;
+    must(requests + 1 == refuse, "each request of a session was refused once");
+    printf("refused requests of a session: %d of new, %d of senders\n", made, sent);
 
     refuse = 0;
     front_is_sent(&config);
