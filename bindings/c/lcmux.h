@@ -828,7 +828,8 @@ lcmux_answer lcmux_mux_owed(const lcmux_mux *mux, uint32_t channel, lcmux_owed *
 lcmux_answer lcmux_mux_next_notice(lcmux_mux *mux, lcmux_notice *notice) LCMUX_NONNULL;
 
 /** As lcmux_peer_take, lcmux_peer_front_len, lcmux_peer_front and lcmux_peer_pop. Messages that arrived can be taken
- *  after the session is over, too, unless it was aborted: then the code is LCMUX_ABORTED. */
+ *  after the session is over, too, unless it was aborted: then the code is LCMUX_ABORTED. After any other failure a channel
+ *  that the peer had not finished returns LCMUX_EMPTY behind its last message; lcmux_mux_over returns the reason. */
 lcmux_answer lcmux_mux_take(lcmux_mux *mux, uint32_t channel, uint8_t *buffer, size_t len) LCMUX_NONNULL_PEER;
 lcmux_answer lcmux_mux_front_len(const lcmux_mux *mux, uint32_t channel) LCMUX_NONNULL;
 lcmux_answer lcmux_mux_front(const lcmux_mux *mux, uint32_t channel, lcmux_front *message) LCMUX_NONNULL;
