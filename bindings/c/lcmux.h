@@ -22,8 +22,8 @@
  * Preconditions that the library cannot check:
  *  - a handle is LCMUX_PEER_EMPTY at first, only this library changes its two fields, and no copy of it is
  *    used beside it or after it (to move a peer, copy the handle and empty the old one);
- *  - no pointer is NULL, apart from that of a buffer of length 0 and the handle of lcmux_peer_free, and a
- *    buffer is as long as its length says;
+ *  - no pointer is NULL, apart from that of a buffer of length 0 and the handle of lcmux_peer_free or
+ *    lcmux_mux_free, and a buffer is as long as its length says;
  *  - no buffer overlaps the handle, the output of the same call or another buffer of it. A message that
  *    lcmux_peer_front borrows may be the body of lcmux_peer_send, also on the same peer: a send only reads it
  *    and changes no ring buffer;
@@ -41,9 +41,10 @@
  *
  * Structs with a size. lcmux_client, lcmux_server, lcmux_ready, lcmux_error, lcmux_notice and lcmux_owed begin with
  * their size, which the program sets by a macro such as LCMUX_CLIENT_INIT, so that a later version can add fields at
- * the end. The sizes of version 0.1, which are 80, 104, 288, 64, 32 and 56 bytes, stay accepted: a later version then leaves its later fields out.
- * With a larger size the call leaves the bytes behind the fields that it knows unchanged. A smaller size is refused
- * by LCMUX_BAD_SIZE. An element of the array in lcmux_ready cannot grow, since the size is that of the whole struct.
+ * the end. The sizes of version 0.1, which are 80, 104, 288, 64, 32 and 56 bytes, stay accepted: a later version then
+ * leaves its later fields out. With a larger size the call leaves the bytes behind the fields that it knows unchanged.
+ * A smaller size is refused by LCMUX_BAD_SIZE. An element of the array in lcmux_ready cannot grow, since the size is
+ * that of the whole struct.
  * All other structs, such as lcmux_front and lcmux_next, have no size and get no further fields.
  *
  * Backpressure. These refusals can pass:
@@ -72,8 +73,9 @@
  * done so, too. A session of the libraries for Rust and JavaScript reports a stream that ends with an
  * unfinished channel as cut. A side that has read the end of the peer's stream may still have bytes to write.
  *
- * Memory. Only lcmux_peer_new and lcmux_peer_send allocate, by the three functions of heap.c. A program may
- * replace them: see lcmux_heap.h. Receive memory is bounded: seven ring buffers and one frame buffer.
+ * Memory. Only lcmux_peer_new and lcmux_peer_send allocate, and of a session lcmux_mux_new and the calls that
+ * may return LCMUX_OUT_OF_MEMORY, by the three functions of heap.c. A program may replace them: see lcmux_heap.h.
+ * Receive memory is bounded: seven ring buffers and one frame buffer.
  *
  * The library is for Linux, in the C calling convention of the processor: x86-64 with SSE4.2 (x86-64-v2), or
  * aarch64.
