@@ -824,7 +824,8 @@ lcmux_answer lcmux_mux_set_plead_policy(lcmux_mux *mux, uint32_t channel, uint32
 lcmux_answer lcmux_mux_owed(const lcmux_mux *mux, uint32_t channel, lcmux_owed *owed) LCMUX_NONNULL;
 
 /** Returns the next notice in a struct whose size is set, and drops it. With a code other than LCMUX_OK nothing is
- *  dropped, and the struct is unchanged. Calls that the end of the session or lcmux_mux_close gives up have no notice.
+ *  dropped, and the struct is unchanged. Calls that the end of the session or lcmux_mux_close gives up have no notice,
+ *  unless lcmux_mux_cancel or lcmux_mux_give_back is called after a failure: these let the calls behind them proceed.
  *
  *  Codes: LCMUX_BAD_SIZE; LCMUX_NO_NOTICE. */
 lcmux_answer lcmux_mux_next_notice(lcmux_mux *mux, lcmux_notice *notice) LCMUX_NONNULL;
